@@ -1,0 +1,62 @@
+-- Facts for one answer of the top call.
+use Rattle.std.specs.Prelude.{ℕ, List, ⊤}
+use Rattle.arc_base.specs.declared.place.Place.{Place}
+use Rattle.arc_base.specs.declared.place.Code.{Code}
+use Rattle.arc_top.specs.declared.top.Answer.{Answer}
+use Rattle.arc_top.specs.declared.top.Answer.TheVariants.{Done, Usage, NoFile, TooLong, Refused, ReadFault, StoreFault, Memory}
+
+abbrev pub OnDone : Answer → Type 0 → Type 0
+OnDone Done P = P
+OnDone _ P = ⊤
+
+abbrev pub OnUsage : Answer → Type 0 → Type 0
+OnUsage Usage P = P
+OnUsage _ P = ⊤
+
+-- the words were a command
+abbrev pub OnCommand : Answer → Type 0 → Type 0
+OnCommand Usage P = ⊤
+OnCommand _ P = P
+
+abbrev pub IfNoFile : Answer → (List ℕ → Type 0) → Type 0
+IfNoFile (NoFile name) P = P name
+IfNoFile _ P = ⊤
+
+abbrev pub IfTooLong : Answer → (List ℕ → Type 0) → Type 0
+IfTooLong (TooLong name) P = P name
+IfTooLong _ P = ⊤
+
+abbrev pub IfRefused : Answer → (Code → Place → Type 0) → Type 0
+IfRefused (Refused code at) P = P code at
+IfRefused _ P = ⊤
+
+abbrev pub OnReadFault : Answer → Type 0 → Type 0
+OnReadFault ReadFault P = P
+OnReadFault _ P = ⊤
+
+abbrev pub OnStoreFault : Answer → Type 0 → Type 0
+OnStoreFault StoreFault P = P
+OnStoreFault _ P = ⊤
+
+-- nothing was stored
+abbrev pub OnKept : Answer → Type 0 → Type 0
+OnKept Done P = ⊤
+OnKept StoreFault P = ⊤
+OnKept Memory P = ⊤
+OnKept _ P = P
+
+-- no load failed
+abbrev pub OnLoaded : Answer → Type 0 → Type 0
+OnLoaded ReadFault P = ⊤
+OnLoaded _ P = P
+
+-- no store failed
+abbrev pub OnStored : Answer → Type 0 → Type 0
+OnStored StoreFault P = ⊤
+OnStored _ P = P
+
+-- all was done, or memory was wanting
+abbrev pub IsDoneOrMemory : Answer → Type 0
+IsDoneOrMemory Done = ⊤
+IsDoneOrMemory Memory = ⊤
+IsDoneOrMemory _ = ⊥

@@ -1,0 +1,7 @@
+pub mod Source
+pub mod Elf
+pub mod Command
+pub mod Code
+pub mod Answer
+pub mod Report
+pub mod Top

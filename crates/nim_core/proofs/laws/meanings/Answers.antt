@@ -1,0 +1,8 @@
+use Rattle.nim_core.proofs.Ends.{meaning_steady, meaning_sound}
+use Rattle.nim_core.proofs.laws.meanings.Goals as goal
+
+pub returns-clause-steady : goal.returns-clause-steady
+returns-clause-steady c = meaning_steady
+
+pub returns-clause-sound : goal.returns-clause-sound
+returns-clause-sound c = meaning_sound

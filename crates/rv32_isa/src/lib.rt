@@ -1,0 +1,12 @@
+//! RV32IM: instructions and their words, images, and the machine.
+#![tactic(auto)]
+
+mod image;
+mod instr;
+mod laws;
+mod machine;
+
+pub use image::{HookAt, Image};
+pub use instr::{Instr, decode, encode};
+pub use laws::machines;
+pub use machine::{FaultKind, Machine, Stepped, step};
