@@ -6,3 +6,4 @@ pub mod BigStep
 pub mod Outside
 pub mod Codes
 pub mod InMemory
+pub mod Stops

@@ -4,13 +4,12 @@ ghost use Rattle.arc_base.specs.Behaviour.{Agrees};
 ghost use Rattle.nim_core.specs.Program.{program_of, stmt_of};
 ghost use Rattle.nim_core.specs.Meaning.{meaning};
 ghost use Rattle.rv32_isa.specs.Row.{IsInRange};
-ghost use Rattle.rv32_isa.specs.Words.{word_bytes};
 ghost use Rattle.rv32_isa.specs.Image.{image_of};
 ghost use Rattle.rv32_isa.specs.Machine.{machine};
 ghost use Rattle.arc_top.specs.Code.{code_bytes, load_code, write_code, exit_code, texts, text_of, stmt_code, stmts_code};
 
+use crate::words::push_word;
 use arc_base::{Bytes, Items, Memory};
-use byteorder::{ByteOrder, LittleEndian};
 use nim_core::{Program, Stmt};
 use rv32_isa::{Image, Instr, encode};
 use std::alloc::Global;
@@ -30,15 +29,6 @@ const STANDARD_OUTPUT: u32 = 1;
 
 /// Where the data begins.
 const DATA_AT: u32 = 0x10_0000;
-
-/// A word, the lowest byte first.
-pub fn push_word(bytes: &mut Bytes, n: u32) -> Result<(), Memory>
-    ensures { OnOk result (bytes.new ≡ bytes.old ++ word_bytes n) }
-{
-    let mut piece = [0u8; 4];
-    LittleEndian::write_u32(&mut piece, n);
-    bytes.append(&piece)
-}
 
 // An instruction.
 fn emit(code: &mut Bytes, i: Instr) -> Result<(), Memory>

@@ -2,7 +2,7 @@
 ghost use Rattle.std.specs.Prelude.{◌≡◌, ◌++◌, List, ℕ, length, IfOk, OnOk};
 ghost use Rattle.arc_top.specs.Elf.{half_bytes, halves, words, header, segments, description, note, file_of, elf_bytes, IsFile, Elf, File};
 
-use crate::code::push_word;
+use crate::words::push_word;
 use arc_base::{Bytes, Items, Memory};
 use byteorder::{ByteOrder, LittleEndian};
 use nim_core::{Act, Plan};

@@ -8,6 +8,7 @@ mod elf;
 mod report;
 mod source;
 mod top;
+mod words;
 
 pub use compile::{NotCompiled, compile};
 pub use top::{Answer, FileName, nimarc};
