@@ -1,9 +1,11 @@
 -- Facts for one answer of the top call.
-use Rattle.std.specs.Prelude.{ℕ, List, ⊤}
+use Rattle.std.specs.Prelude.{◌≡◌, ℕ, List, ⊤}
 use Rattle.arc_base.specs.declared.place.Place.{Place}
 use Rattle.arc_base.specs.declared.place.Code.{Code}
-use Rattle.arc_top.specs.declared.top.Answer.{Answer}
-use Rattle.arc_top.specs.declared.top.Answer.TheVariants.{Done, Usage, NoFile, TooLong, Refused, ReadFault, StoreFault, Memory}
+use Rattle.arc_top.specs.declared.compiler.NotCompiled.{NotCompiled}
+use Rattle.arc_top.specs.declared.compiler.NotCompiled.TheVariants as why
+use Rattle.arc_top.specs.declared.answer.Answer.{Answer}
+use Rattle.arc_top.specs.declared.answer.Answer.TheVariants.{Done, Usage, NoFile, TooLong, Refused, ReadFault, StoreFault, Memory}
 
 abbrev pub OnDone : Answer → Type 0 → Type 0
 OnDone Done P = P
@@ -60,3 +62,17 @@ abbrev pub IsDoneOrMemory : Answer → Type 0
 IsDoneOrMemory Done = ⊤
 IsDoneOrMemory Memory = ⊤
 IsDoneOrMemory _ = ⊥
+
+-- an answer of a load
+abbrev pub IsLoadAnswer : Answer → Type 0
+IsLoadAnswer (NoFile name) = ⊤
+IsLoadAnswer (TooLong name) = ⊤
+IsLoadAnswer ReadFault = ⊤
+IsLoadAnswer Memory = ⊤
+IsLoadAnswer _ = ⊥
+
+-- the answer for a source that was not compiled
+abbrev pub IsRefusal : NotCompiled → Answer → Type 0
+IsRefusal why.TooLong answer = ⊥
+IsRefusal (why.Refused code at) answer = answer ≡ Refused code at
+IsRefusal why.Memory answer = answer ≡ Memory

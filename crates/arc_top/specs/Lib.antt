@@ -4,4 +4,5 @@ pub mod Command
 pub mod Code
 pub mod Answer
 pub mod Report
+pub mod Compile
 pub mod Top

@@ -1,21 +1,39 @@
 -- The line on standard error of an answer.
-use Rattle.std.specs.Prelude.{ℕ, List, [], ◌∷◌, ◌++◌, codes, decimal}
-use Rattle.arc_base.specs.declared.place.Place.{Place}
+use Rattle.std.specs.Prelude.{◌≡◌, ℕ, List, [], ◌∷◌, ◌++◌, take, codes, decimal, Option, Result, OnOk, OnErr}
+use Rattle.arc_base.specs.Outside.{Grown, Rose}
 use Rattle.arc_base.specs.Codes.{code_text}
-use Rattle.arc_top.specs.declared.top.Answer.{Answer}
-use Rattle.arc_top.specs.declared.top.Answer.TheVariants.{Done, Usage, NoFile, TooLong, Refused, ReadFault, StoreFault, Memory}
+use Rattle.arc_top.specs.declared.answer.Answer.{Answer}
+use Rattle.arc_top.specs.declared.answer.Answer.TheVariants.{Done, Usage, NoFile, TooLong, Refused, ReadFault, StoreFault, Memory}
 
--- a place in the module of that name, as NAME:LINE:COLUMN
-abbrev pub place_text : (name : List ℕ) → Place → List ℕ
-place_text name at = name ++ (codes ":" ++ (decimal at.line ++ (codes ":" ++ decimal at.column)))
+-- pieces, one after another
+abbrev pub joined : List (List ℕ) → List ℕ
+joined [] = []
+joined (piece ∷ pieces) = piece ++ joined pieces
 
--- the text of an answer, where the main module has that name; nothing for Done
-abbrev pub text_of : (name : List ℕ) → Answer → List ℕ
-text_of main Done = []
-text_of main Usage = codes "usage: nimarc check|build|run|exec|mean|plan|gen\n"
-text_of main (NoFile name) = codes "nimarc: no file " ++ (name ++ codes "\n")
-text_of main (TooLong name) = codes "nimarc: too long " ++ (name ++ codes "\n")
-text_of main (Refused code at) = place_text main at ++ (codes ": " ++ (code_text code ++ codes "\n"))
-text_of main ReadFault = codes "nimarc: read fault\n"
-text_of main StoreFault = codes "nimarc: store fault\n"
-text_of main Memory = codes "nimarc: out of memory\n"
+-- the line of a refusal, as NAME:LINE:COLUMN: CODE
+abbrev pub refusal_pieces : (name line column code : List ℕ) → List (List ℕ)
+refusal_pieces name line column code = name ∷ codes ":" ∷ line ∷ codes ":" ∷ column ∷ codes ": " ∷ code ∷ codes "\n" ∷ []
+
+abbrev pub refusal_report : (name line column code : List ℕ) → List ℕ
+refusal_report name line column code = joined (refusal_pieces name line column code)
+
+-- the pieces of the line of an answer, where the main module has that name; none for Done
+abbrev pub pieces_of : (main : List ℕ) → Answer → List (List ℕ)
+pieces_of main Done = []
+pieces_of main Usage = codes "usage: nimarc check|build|run|exec|mean|plan|gen\n" ∷ []
+pieces_of main (NoFile name) = codes "nimarc: no file " ∷ name ∷ codes "\n" ∷ []
+pieces_of main (TooLong name) = codes "nimarc: too long " ∷ name ∷ codes "\n" ∷ []
+pieces_of main (Refused code at) = refusal_pieces main (decimal at.line) (decimal at.column) (code_text code)
+pieces_of main ReadFault = codes "nimarc: read fault\n" ∷ []
+pieces_of main StoreFault = codes "nimarc: store fault\n" ∷ []
+pieces_of main Memory = codes "nimarc: out of memory\n" ∷ []
+
+abbrev pub report_of : (main : List ℕ) → Answer → List ℕ
+report_of main answer = joined (pieces_of main answer)
+
+-- all bytes were put, or a front of them and the count of faults rose
+pub record Says {T E : Type 0} (old new : Option (List ℕ)) (before now : ℕ) (result : Result T E) (bytes : List ℕ) : Type 0 where
+  pub whole : OnOk result (Grown old new bytes)
+  pub same : OnOk result (now ≡ before)
+  pub front : (n : ℕ) × Grown old new (take n bytes)
+  pub rose : OnErr result (Rose before now)

@@ -16,7 +16,7 @@ abbrev pub empty_plan : Plan
 empty_plan = record { sites = []; sinks = []; skips = [] }
 
 -- THE HEADLINE. The source is one program and the bytes are one file. For every input and every number of steps the
--- machine on the file's image agrees with the meaning of the program. The plan in the file is empty.
+-- machine on the file's image agrees with the meaning of the program. The plan in the file is empty, and it has no hooks.
 pub record Compiled (source bytes : List ℕ) : Type 0 where
   pub program : Program
   pub file : File
@@ -27,6 +27,8 @@ pub record Compiled (source bytes : List ℕ) : Type 0 where
   pub agrees : (input : List ℕ) → Agrees (machine file.image input) (meaning program input)
   pub plan : file.plan ≡ empty_plan
   pub heap : file.image.heap ≡ 16777216
+  pub stack : file.image.stack ≡ 65536
+  pub hooks : file.image.hooks ≡ []
 
 -- the longest source
 abbrev pub source_most : ℕ
@@ -37,6 +39,7 @@ pub record Built (old new : Held) (main out : List ℕ) : Type 0 where
   pub source : List ℕ
   pub bytes : List ℕ
   pub main_is : old main ≡ Some source
+  pub within : length source ≤ source_most
   pub out_is : new out ≡ Some bytes
   pub compiled : Compiled source bytes
   pub others : (name : List ℕ) → name ≢ out → new name ≡ old name
@@ -60,14 +63,23 @@ HasLongFile (Some held) name = (bytes : List ℕ) × (held name ≡ Some bytes) 
 -- where told, the source in the file is refused with this code at this place
 abbrev pub HasRefused : Option Held → List ℕ → Code → Place → Type 0
 HasRefused None name code at = ⊤
-HasRefused (Some held) name code at = (source : List ℕ) × (held name ≡ Some source) × Refuses source code at
+HasRefused (Some held) name code at = (source : List ℕ) × (held name ≡ Some source) × (length source ≤ source_most) × Refuses source code at
 
--- told, the source in the file is within the limit and is a program
+-- the bytes are those of a source that is within the limit and is a program
+abbrev pub IsProgram : List ℕ → Type 0
+IsProgram source = (length source ≤ source_most) × ((program : Program) × Reads source program)
+
+-- where told, the file has the bytes of a program
 abbrev pub HasProgram : Option Held → List ℕ → Type 0
-HasProgram None name = ⊥
-HasProgram (Some held) name = (source : List ℕ) × (held name ≡ Some source) × (length source ≤ source_most) × ((program : Program) × Reads source program)
+HasProgram None name = ⊤
+HasProgram (Some held) name = (source : List ℕ) × (held name ≡ Some source) × IsProgram source
 
--- where told, the same
-abbrev pub MayHaveProgram : Option Held → List ℕ → Type 0
-MayHaveProgram None name = ⊤
-MayHaveProgram (Some held) name = HasProgram (Some held) name
+-- where told, these are the bytes of the file
+abbrev pub HasSource : Option Held → List ℕ → List ℕ → Type 0
+HasSource None name source = ⊤
+HasSource (Some held) name source = held name ≡ Some source
+
+-- it is told that the file has the bytes of a program
+abbrev pub TellsProgram : Option Held → List ℕ → Type 0
+TellsProgram None name = ⊥
+TellsProgram (Some held) name = HasProgram (Some held) name

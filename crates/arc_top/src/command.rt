@@ -3,6 +3,7 @@ ghost use Rattle.std.specs.Prelude.{◌≡◌, ⊤, IfSome, IfNone, map, string_
 ghost use Rattle.arc_top.specs.Command.{is_option, IsBuild, IsCommand};
 
 /// The names of a build: of the main module, and of the file to be stored.
+#[derive(Clone, Copy, Debug)]
 pub struct Build<'a> {
     pub main: &'a str,
     pub out: &'a str,

@@ -1,14 +1,16 @@
 //! The compiler: from the words of a command to what is stored and said.
 #![tactic(auto)]
 
+mod answer;
 mod code;
 mod command;
-mod compile;
+mod compiler;
 mod elf;
 mod report;
 mod source;
 mod top;
 mod words;
 
-pub use compile::{NotCompiled, compile};
-pub use top::{Answer, FileName, nimarc};
+pub use answer::{Answer, FileName};
+pub use compiler::{NotCompiled, compile};
+pub use top::nimarc;

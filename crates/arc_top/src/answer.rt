@@ -1,0 +1,59 @@
+// What the compiler answers.
+ghost use Rattle.std.specs.Prelude.{◌≡◌, IfOk};
+
+use arc_base::{Bytes, Code, Memory, Place};
+use std::alloc::Global;
+use std::marker::Model;
+
+/// The name of a file: a list of bytes, which contracts see as one.
+#[derive(Debug, Drop)]
+pub struct FileName {
+    name: Bytes,
+}
+
+impl Model for FileName {
+    ghost use Rattle.std.specs.Prelude.{List, ℕ};
+
+    ghost Value = { List ℕ };
+
+    ghost view = { λ n. n.name };
+}
+
+impl FileName {
+    /// A copy of a name.
+    pub fn new(alloc: Global, name: &str) -> Result<Self, Memory>
+        ensures { IfOk result (λ n. n ≡ name.now) }
+    {
+        let mut own = Bytes::new(alloc);
+        own.append(name.as_bytes())?;
+        Ok(FileName { name: own })
+    }
+
+    /// The bytes of the name.
+    pub fn as_bytes(&self) -> &[u8]
+        ensures { result.now ≡ self.now }
+    {
+        self.name.as_slice()
+    }
+}
+
+/// What the compiler answers to a command.
+#[derive(Debug, Drop)]
+pub enum Answer {
+    /// The command did all of it.
+    Done,
+    /// The words are no command.
+    Usage,
+    /// There is no file of that name.
+    NoFile(FileName),
+    /// The file of that name is longer than a source may be.
+    TooLong(FileName),
+    /// The source is refused, with a code and a place in the main module.
+    Refused { code: Code, at: Place },
+    /// A file could not be read.
+    ReadFault,
+    /// A file could not be stored.
+    StoreFault,
+    /// No memory was found.
+    Memory,
+}
