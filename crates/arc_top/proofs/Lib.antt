@@ -1,0 +1,2 @@
+pub mod FilesWords
+pub mod Files
