@@ -37,6 +37,15 @@ word_only m n x y fits_m fits_n e =
     let parts : (word_bytes m ≡ word_bytes n) × (x ≡ y) = parts_only (word_bytes m) (word_bytes n) x y refl e in
     (same_word m n fits_m fits_n parts.0, parts.1)
 
+-- past as many words
+pub past_words : (ms ns : List ℕ) (x y : List ℕ) → length ms ≡ length ns → words ms ++ x ≡ words ns ++ y → x ≡ y
+past_words [] [] x y n e = e
+past_words [] (m ∷ ns) x y n e = absurd (omega arith)
+past_words (m ∷ ms) [] x y n e = absurd (omega arith)
+past_words (m ∷ ms) (n ∷ ns) x y k e =
+    let rest = past_word m n (words ms ++ x) (words ns ++ y) (sym (append_assoc (word_bytes m) (words ms) x) ∙ e ∙ append_assoc (word_bytes n) (words ns) y) in
+    past_words ms ns x y (omega arith) rest
+
 nothing_is_word : (n : ℕ) (x : List ℕ) → [] ≡ word_bytes n ++ x → ⊥
 unfolding word_bytes
 nothing_is_word n x e = cc
