@@ -11,7 +11,7 @@ use Rattle.rv32_isa.specs.declared.image.HookAt.{HookAt}
 use Rattle.rv32_isa.specs.Words.{word_bytes}
 use Rattle.rv32_isa.specs.Hooks.{code_at}
 use Rattle.rv32_isa.specs.Image.{Image, IsImage, statics_at, heap_at, stack_at}
-use Rattle.arc_top.specs.Elf.{File, words, header, segment, segments, counted, hook_words, act_number, site_words, sink_words, skip_words, description, note, elf_bytes, IsFile, Elf}
+use Rattle.arc_top.specs.Elf.{File, words, header, segment, segments, hook_words, act_number, site_words, sink_words, skip_words, description, note, elf_bytes, IsFile, Elf}
 use Rattle.arc_top.proofs.FilesWords.{parts_only, past_word, past_words, word_only, words_only, counted_only}
 
 -- ---- values that are equal by their fields

@@ -23,19 +23,24 @@ const FORMAT: u32 = 1;
 
 /// The sizes of the header and of a program header, and how many of those there are.
 const HEADER_SIZE: u16 = 52;
+
 const SEGMENT_SIZE: u16 = 32;
+
 const SEGMENTS: u16 = 5;
 
 /// Where the note stands in the file: after the headers.
-const NOTE_OFFSET: u32 = 212;
+const NOTE_OFFSET: u32 = HEADER_SIZE as u32 + SEGMENTS as u32 * SEGMENT_SIZE as u32;
 
 /// The kinds of a program header: bytes of memory, and a note.
 const LOAD: u32 = 1;
+
 const NOTE: u32 = 4;
 
 /// What may be done with bytes of memory.
 const READ: u32 = 4;
+
 const READ_WRITE: u32 = 6;
+
 const READ_EXECUTE: u32 = 5;
 
 /// Each program header has this alignment.
@@ -43,8 +48,11 @@ const ALIGNMENT: u32 = 4;
 
 /// Where the regions of memory begin.
 const CODE_AT: u32 = 0x1_0000;
+
 const STATICS_AT: u32 = 0x10_0000;
+
 const HEAP_AT: u32 = 0x20_0000;
+
 const STACK_AT: u32 = 0x200_0000;
 
 /// The name of the note, `NimArc`, with its end and a zero to a multiple of 4 bytes.
@@ -85,19 +93,19 @@ fn push_header(file: &mut Bytes) -> Result<(), Memory>
     push_halves(file, &[HEADER_SIZE, SEGMENT_SIZE, SEGMENTS, 0, 0, 0])
 }
 
-fn push_segment(file: &mut Bytes, s: &Segment) -> Result<(), Memory>
-    ensures { OnOk result (file.new ≡ file.old ++ segment s.now.kind s.now.offset s.now.address s.now.in_file s.now.in_memory s.now.flags) }
+fn push_segment(file: &mut Bytes, entry: &Segment) -> Result<(), Memory>
+    ensures { OnOk result (file.new ≡ file.old ++ segment entry.now.kind entry.now.offset entry.now.address entry.now.in_file entry.now.in_memory entry.now.flags) }
 {
     push_words(
         file,
         &[
-            s.kind,
-            s.offset,
-            s.address,
-            s.address,
-            s.in_file,
-            s.in_memory,
-            s.flags,
+            entry.kind,
+            entry.offset,
+            entry.address,
+            entry.address,
+            entry.in_file,
+            entry.in_memory,
+            entry.flags,
             ALIGNMENT,
         ],
     )
@@ -121,7 +129,7 @@ fn push_zeros(file: &mut Bytes, address: u32, size: u32) -> Result<(), Memory>
 }
 
 // A region whose bytes stand in the file.
-fn push_bytes(
+fn push_stored(
     file: &mut Bytes,
     offset: u32,
     address: u32,
@@ -143,17 +151,16 @@ fn push_bytes(
     )
 }
 
-// The program headers, where the note has `n` bytes.
-fn push_segments(file: &mut Bytes, n: u32, image: &Image) -> Result<(), Memory>
-    requires { n ≤ 2097152 }
-    ensures { OnOk result (file.new ≡ file.old ++ segments n (image_of image.now)) }
+fn push_segments(file: &mut Bytes, note_size: u32, image: &Image) -> Result<(), Memory>
+    requires { note_size ≤ 2097152 }
+    ensures { OnOk result (file.new ≡ file.old ++ segments note_size (image_of image.now)) }
 {
     let code = image.code.as_slice().len() as u32;
     let statics = image.statics.as_slice().len() as u32;
-    push_bytes(file, NOTE_OFFSET + n, CODE_AT, code, READ_EXECUTE)?;
-    push_bytes(
+    push_stored(file, NOTE_OFFSET + note_size, CODE_AT, code, READ_EXECUTE)?;
+    push_stored(
         file,
-        NOTE_OFFSET + n + code,
+        NOTE_OFFSET + note_size + code,
         STATICS_AT,
         statics,
         READ_WRITE,
@@ -166,7 +173,7 @@ fn push_segments(file: &mut Bytes, n: u32, image: &Image) -> Result<(), Memory>
             kind: NOTE,
             offset: NOTE_OFFSET,
             address: 0,
-            in_file: n,
+            in_file: note_size,
             in_memory: 0,
             flags: READ,
         },

@@ -5,4 +5,4 @@ use Rattle.arc_top.proofs.Files.{elf_only}
 use Rattle.arc_top.proofs.elf.write.Goals as goal
 
 pub returns-clause-only : goal.returns-clause-only
-returns-clause-only c = λ other said. elf_only c.append-3.new.self (file_of c.args.file.now) other (record { spelled = grind (arith, common_steps); allowed = c.requires }) said
+returns-clause-only c = λ other said. elf_only _ (file_of c.args.file.now) other (record { spelled = grind (arith, common_steps); allowed = c.requires }) said
