@@ -1,2 +1,4 @@
 pub mod Pieces
 pub mod WordLists
+pub mod FilesWords
+pub mod Files
