@@ -1,4 +1,4 @@
+pub mod Files
+pub mod FilesWords
 pub mod Pieces
 pub mod WordLists
-pub mod FilesWords
-pub mod Files
