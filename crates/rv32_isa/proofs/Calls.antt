@@ -44,6 +44,10 @@ exit_is s input status number status_is =
     let a : call s input ≡ Exits (reg s 10 % 256) = ap (call_number s input) number in
     a ∙ ap Exits status_is
 
+-- behind a call that was answered
+pub before_answered : (s : State) (value off : ℕ) (is : List Instr) → Before s off (Ecall ∷ is) → Before (answered s value) (off + 4) is
+before_answered s value off is h = before_next s (answered s value) off Ecall is h refl refl
+
 module _ (hooks : List HookAt) (c : ℕ) where
   -- the bytes are shown, and the machine goes on behind the call
   pub write_run : (r : Run) (off : ℕ) (is : List Instr) (stream : Stream) (bytes : List ℕ) (a : Meter Event) → Before r.state off (Ecall ∷ is) → AsksWrite r.state stream bytes → arrival hooks ((r.state.pc + 4) % 2 ^ 32) ≡ [] → Comes (step hooks) c 1 r a (onto r (answered r.state (reg r.state 12))) (told (writes stream bytes) a)
@@ -53,9 +57,6 @@ module _ (hooks : List HookAt) (c : ℕ) where
       let showed : step hooks r ≡ Goes (writes stream bytes ++ arrival hooks ((r.state.pc + 4) % 2 ^ 32)) 1 next = did ∙ ap (λ x. shows hooks (called r.state x)) (write_is r.state r.input stream bytes asks) in
       let goes : step hooks r ≡ Goes (writes stream bytes) 1 next = showed ∙ ap (λ es. Goes (writes stream bytes ++ es) 1 next) quiet ∙ ap (λ es. Goes es 1 next) (append-nil (writes stream bytes)) in
       line (step hooks) c 1 r next (writes stream bytes) 1 a (told (writes stream bytes) a) goes refl (omega arith) (omega arith) (omega arith)
-
-  pub before_write : (s : State) (off : ℕ) (is : List Instr) → Before s off (Ecall ∷ is) → Before (answered s (reg s 12)) (off + 4) is
-  before_write s off is h = before_next s (answered s (reg s 12)) off Ecall is h refl refl
 
   -- the machine exits
   pub exit_run : (r : Run) (off : ℕ) (is : List Instr) (status : ℕ) (a : Meter Event) → Before r.state off (Ecall ∷ is) → reg r.state 17 ≡ 93 → reg r.state 10 % 256 ≡ status → Halts (step hooks) c 1 r a status [] a
