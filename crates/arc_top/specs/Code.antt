@@ -1,5 +1,6 @@
 -- The code of a program and its data. No public contract speaks of it.
 use Rattle.std.specs.Prelude.{◌≡◌, ℕ, ◌+◌, ◌/◌, ◌%◌, List, [], ◌∷◌, ◌++◌, length}
+use Rattle.std.specs.List.{flat_map}
 use Rattle.nim_core.specs.Program.{Stmt, Echo}
 use Rattle.nim_core.specs.Meaning.{line_of}
 use Rattle.rv32_isa.specs.declared.instr.Instr.{Instr}
@@ -9,8 +10,7 @@ use Rattle.rv32_isa.specs.Row.{word_of}
 
 -- the bytes of instructions
 abbrev pub code_bytes : List Instr → List ℕ
-code_bytes [] = []
-code_bytes (i ∷ is) = word_bytes (word_of i) ++ code_bytes is
+code_bytes is = flat_map (λ i. word_bytes (word_of i)) is
 
 -- a constant in a register
 abbrev pub load_code : ℕ → ℕ → List Instr

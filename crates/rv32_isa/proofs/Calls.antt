@@ -1,0 +1,89 @@
+-- Calls of the environment: a write of bytes that may be loaded, and an exit.
+use Rattle.std.proofs.Common.{◌≡◌, ℕ, suc, ◌+◌, ◌-◌, ◌*◌, ◌%◌, ◌^◌, ◌<◌, ◌≤◌, List, [], ◌∷◌, ◌++◌, length, take, drop, Option, Some, None, Bool, true, false, refl, sym, ap, ◌∙◌, arith, append_assoc, append-nil, length-append}
+use Rattle.std.specs.Prelude.{min, nat_le, ◌==◌, ◌&&◌, if◌then◌else◌}
+use Rattle.std.proofs.lemmas.Bool.{le-leb, lt-leb, and_from, and_right, ne_eqb, cond-true, cond-false}
+use Rattle.std.proofs.Math.Seq.{drop-append_seam, take-append_seam}
+use Rattle.arc_base.specs.declared.outside.Stream.{Stream}
+use Rattle.arc_base.specs.Event.{Event, writes}
+use Rattle.arc_base.specs.Stepping.{Goes, Ends}
+use Rattle.arc_base.specs.BigStep.{Meter, told}
+use Rattle.arc_base.proofs.Follows.{Comes, Halts, line, line_halts}
+use Rattle.rv32_isa.specs.declared.instr.Instr.{Instr}
+use Rattle.rv32_isa.specs.declared.instr.Instr.TheVariants.{Ecall}
+use Rattle.rv32_isa.specs.declared.image.HookAt.{HookAt}
+use Rattle.rv32_isa.specs.declared.machine.FaultKind.TheVariants.{OutOfRange, BadCall}
+use Rattle.rv32_isa.specs.Hooks.{code_at}
+use Rattle.rv32_isa.specs.Image.{statics_at, heap_at, stack_at}
+use Rattle.rv32_isa.specs.State.{State, reg, skip, lies_in, part, part_of, or_else, readable}
+use Rattle.rv32_isa.specs.Steps as leads
+use Rattle.rv32_isa.specs.Machine.{Call, Answers, Exits, Fails, Run, answered, stream_of, write_bytes, write_call, read_call, call, arrival, called, shows, step}
+use Rattle.rv32_isa.proofs.Fetch.{Before, before_next, Quiet, obeyed}
+use Rattle.rv32_isa.proofs.Straight.{onto}
+
+-- a call, by its number
+abbrev call_number : State → List ℕ → ℕ → Call
+call_number s input number =
+    if number == 93 then Exits (reg s 10 % 256) else
+    if number == 64 then write_call s input (stream_of (reg s 10)) else
+    if number == 63 then if reg s 10 == 0 then read_call s input else Fails BadCall else
+    Fails BadCall
+
+-- the registers ask for a write of these bytes
+pub record AsksWrite (s : State) (stream : Stream) (bytes : List ℕ) : Type 0 where
+  pub number : reg s 17 ≡ 64
+  pub stream_is : stream_of (reg s 10) ≡ Some stream
+  pub bytes_are : readable s (reg s 11) (reg s 12) ≡ Some bytes
+
+pub write_is : (s : State) (input : List ℕ) (stream : Stream) (bytes : List ℕ) → AsksWrite s stream bytes → call s input ≡ Answers (answered s (reg s 12)) input (writes stream bytes)
+write_is s input stream bytes h =
+    let a : call s input ≡ write_call s input (stream_of (reg s 10)) = ap (call_number s input) h.number in
+    a ∙ ap (write_call s input) h.stream_is ∙ ap (write_bytes s input stream) h.bytes_are
+
+pub exit_is : (s : State) (input : List ℕ) (status : ℕ) → reg s 17 ≡ 93 → reg s 10 % 256 ≡ status → call s input ≡ Exits status
+exit_is s input status number status_is =
+    let a : call s input ≡ Exits (reg s 10 % 256) = ap (call_number s input) number in
+    a ∙ ap Exits status_is
+
+-- behind a call that was answered
+pub before_answered : (s : State) (value off : ℕ) (is : List Instr) → Before s off (Ecall ∷ is) → Before (answered s value) (off + 4) is
+before_answered s value off is h = before_next s (answered s value) off Ecall is h refl refl
+
+module _ (hooks : List HookAt) (c : ℕ) where
+  -- the bytes are shown, and the machine goes on behind the call
+  pub write_run : (r : Run) (off : ℕ) (is : List Instr) (stream : Stream) (bytes : List ℕ) (a : Meter Event) → Before r.state off (Ecall ∷ is) → AsksWrite r.state stream bytes → arrival hooks ((r.state.pc + 4) % 2 ^ 32) ≡ [] → Comes (step hooks) c 1 r a (onto r (answered r.state (reg r.state 12))) (told (writes stream bytes) a)
+  write_run r off is stream bytes a h asks quiet =
+      let next = onto r (answered r.state (reg r.state 12)) in
+      let did : step hooks r ≡ shows hooks (called r.state (call r.state r.input)) = obeyed hooks r off Ecall is leads.Calls h refl in
+      let showed : step hooks r ≡ Goes (writes stream bytes ++ arrival hooks ((r.state.pc + 4) % 2 ^ 32)) 1 next = did ∙ ap (λ x. shows hooks (called r.state x)) (write_is r.state r.input stream bytes asks) in
+      let goes : step hooks r ≡ Goes (writes stream bytes) 1 next = showed ∙ ap (λ es. Goes (writes stream bytes ++ es) 1 next) quiet ∙ ap (λ es. Goes es 1 next) (append-nil (writes stream bytes)) in
+      line (step hooks) c 1 r next (writes stream bytes) 1 a (told (writes stream bytes) a) goes refl (omega arith) (omega arith) (omega arith)
+
+  -- the machine exits
+  pub exit_run : (r : Run) (off : ℕ) (is : List Instr) (status : ℕ) (a : Meter Event) → Before r.state off (Ecall ∷ is) → reg r.state 17 ≡ 93 → reg r.state 10 % 256 ≡ status → Halts (step hooks) c 1 r a status [] a
+  exit_run r off is status a h number status_is =
+      let did : step hooks r ≡ shows hooks (called r.state (call r.state r.input)) = obeyed hooks r off Ecall is leads.Calls h refl in
+      let ends : step hooks r ≡ Ends [] 1 status [] = did ∙ ap (λ x. shows hooks (called r.state x)) (exit_is r.state r.input status number status_is) in
+      line_halts (step hooks) c 1 r [] 1 status [] a a ends (append-nil a.out) (omega arith)
+
+-- ---- bytes that stand in the data
+
+pub statics_read : (s : State) (pre bytes post : List ℕ) → s.statics ≡ pre ++ (bytes ++ post) → 0 < length bytes → length s.code ≤ 524288 → readable s (statics_at + length pre) (length bytes) ≡ Some bytes
+statics_read s pre bytes post stand some small =
+    let at = statics_at + length pre in
+    let size = length bytes in
+    let total : length s.statics ≡ length pre + (length bytes + length post) = ap length stand ∙ length-append pre (bytes ++ post) ∙ ap (λ n. length pre + n) (length-append bytes post) in
+    let not_code : lies_in code_at s.code at size ≡ false = and_right (nat_le code_at at) (nat_le (at + size) (code_at + length s.code)) (lt-leb (at + size) (code_at + length s.code) (omega arith)) in
+    let inside : lies_in statics_at s.statics at size ≡ true = and_from _ _ (le-leb statics_at at (omega arith)) (le-leb (at + size) (statics_at + length s.statics) (omega arith)) in
+    let others = or_else (part_of heap_at s.heap at size) (part_of stack_at s.stack at size) in
+    let off : at - statics_at ≡ length pre = omega arith in
+    let cut : part statics_at s.statics at size ≡ bytes =
+    ap (λ n. take size (drop n s.statics)) off
+    ∙ ap (λ l. take size (drop (length pre) l)) stand
+    ∙ ap (take size) (drop-append_seam pre (bytes ++ post))
+    ∙ take-append_seam bytes post in
+    let not_none : (size == 0) ≡ false = ne_eqb size 0 (λ e. omega arith) in
+    let first : part_of code_at s.code at size ≡ None = cond-false (lies_in code_at s.code at size) (Some (part code_at s.code at size)) None not_code in
+    let second : part_of statics_at s.statics at size ≡ Some bytes = cond-true (lies_in statics_at s.statics at size) (Some (part statics_at s.statics at size)) None inside ∙ ap Some cut in
+    cond-false (size == 0) (Some []) (or_else (part_of code_at s.code at size) (or_else (part_of statics_at s.statics at size) others)) not_none
+    ∙ ap (λ o. or_else o (or_else (part_of statics_at s.statics at size) others)) first
+    ∙ ap (λ o. or_else o others) second

@@ -1,0 +1,5 @@
+pub mod Words
+pub mod Fetch
+pub mod Registers
+pub mod Straight
+pub mod Calls
