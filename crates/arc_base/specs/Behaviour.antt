@@ -1,7 +1,8 @@
 -- What is seen of a meaning after a number of steps, and when two meanings agree.
 use Rattle.std.specs.Prelude.{◌≡◌, ◌≢◌, ℕ, ◌+◌, ◌*◌, ◌≤◌, List, ◌++◌}
 
--- How a run stands. At an end there is its status, and for each ref type the number of objects that are still live.
+-- How a run stands. At an end there is its status, and the number of objects
+-- of each ref type, in order of their type numbers, that are still live.
 pub data Phase : Type 0 where
   Running : Phase
   Ended : (status : ℕ) (live : List ℕ) → Phase

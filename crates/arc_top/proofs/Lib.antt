@@ -1,4 +1,11 @@
-pub mod Files
-pub mod FilesWords
 pub mod Pieces
 pub mod WordLists
+pub mod FilesWords
+pub mod Files
+pub mod Lines
+pub mod Reading
+pub mod Emits
+pub mod Images
+pub mod Runs
+pub mod Verdicts
+pub mod PlainFiles

@@ -5,6 +5,7 @@ use Rattle.arc_base.specs.Event.{Event, writes}
 use Rattle.arc_base.specs.Behaviour.{Agrees}
 use Rattle.arc_base.specs.BigStep.{Meter, ticked, told}
 use Rattle.arc_base.proofs.Follows.{Comes, Halts, Follows, WillEnd, comes_on, comes_halts, follows_paid, follows_then, follows_here, agrees_by_units}
+use Rattle.nim_core.specs.declared.plan.Plan.{Plan}
 use Rattle.nim_core.specs.Program.{Stmt, Echo, Program}
 use Rattle.nim_core.specs.Meaning.{line_of, exec, exec_all, meaning}
 use Rattle.nim_core.proofs.Ends.{meaning_sound}
@@ -180,9 +181,9 @@ image_ready stmts image input is =
       data_small = is.data_small;
     }
 
--- the image of a program, on any input, agrees with what the program means
-pub image_agrees : (program : Program) (image : Image) → IsImageOf program.start image → (input : List ℕ) → Agrees (machine image input) (meaning program input)
-image_agrees program image is input =
+-- the image of a program, on any input, agrees with what the program means under any plan and heap
+pub image_agrees : (program : Program) (image : Image) → IsImageOf program.start image → (plan : Plan) (heap : ℕ) (input : List ℕ) → Agrees (machine image input) (meaning program plan heap input)
+image_agrees program image is plan heap input =
     let none_begins = λ (pc : ℕ). ap (λ hooks. arrival hooks pc) is.hooks in
-    agrees_by_units (step image.hooks) pace 0 last same (λ _. 0) (λ _. []) (start image input) (λ n. exec_all program.start (record { units = n; out = []; work = 0 })) (meaning_sound program input)
+    agrees_by_units (step image.hooks) pace 0 last same (λ _. 0) (λ _. []) (start image input) (λ n. exec_all program.start (record { units = n; out = []; work = 0 })) (meaning_sound program plan heap input)
     (λ n. stmts_follow image.hooks none_begins program.start (start image input) 0 [] is.padding (record { units = n; out = []; work = 0 }) (image_ready program.start image input is))

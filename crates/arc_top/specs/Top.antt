@@ -16,7 +16,8 @@ abbrev pub empty_plan : Plan
 empty_plan = record { sites = []; sinks = []; skips = [] }
 
 -- THE HEADLINE. The source is one program and the bytes are one file. For every input and every number of steps the
--- machine on the file's image agrees with the meaning of the program. The plan in the file is empty, and it has no hooks.
+-- machine on the file's image agrees with the meaning of the program under the file's plan and heap. The plan is empty, and
+-- there are no hooks.
 pub record Compiled (source bytes : List ℕ) : Type 0 where
   pub program : Program
   pub file : File
@@ -24,7 +25,7 @@ pub record Compiled (source bytes : List ℕ) : Type 0 where
   pub reads_only : (other : Program) → Reads source other → other ≡ program
   pub elf : Elf bytes file
   pub elf_only : (other : File) → Elf bytes other → other ≡ file
-  pub agrees : (input : List ℕ) → Agrees (machine file.image input) (meaning program input)
+  pub agrees : (input : List ℕ) → Agrees (machine file.image input) (meaning program file.plan file.image.heap input)
   pub plan : file.plan ≡ empty_plan
   pub heap : file.image.heap ≡ 16777216
   pub stack : file.image.stack ≡ 65536

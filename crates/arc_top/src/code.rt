@@ -1,6 +1,7 @@
 // From a program to its image. Each text stands in the data, and is written from there.
 ghost use Rattle.std.specs.Prelude.{◌≡◌, ◌≤◌, ◌<◌, ◌+◌, ◌*◌, ◌^◌, ◌%◌, ◌++◌, [], ◌∷◌, List, ℕ, length, map, IfOk, OnOk};
 ghost use Rattle.arc_base.specs.Behaviour.{Agrees};
+ghost use Rattle.nim_core.specs.declared.plan.Plan.{Plan};
 ghost use Rattle.nim_core.specs.Program.{program_of, stmt_of};
 ghost use Rattle.nim_core.specs.Meaning.{meaning};
 ghost use Rattle.rv32_isa.specs.Row.{IsInRange};
@@ -151,7 +152,7 @@ pub fn lower(alloc: Global, program: &Program, heap: u32, stack: u32) -> Result<
     requires stack_whole { stack % 16 ≡ 0 }
     requires stack_least { 65536 ≤ stack }
     requires stack_most { stack ≤ 268435456 }
-    ensures agrees { IfOk result (λ image. (input : List ℕ) → Agrees (machine (image_of image) input) (meaning (program_of program.now) input)) }
+    ensures agrees { IfOk result (λ image. (plan : Plan) (input : List ℕ) → Agrees (machine (image_of image) input) (meaning (program_of program.now) plan heap input)) }
     ensures sizes { IfOk result (λ image. (image.heap ≡ heap) × (image.stack ≡ stack)) }
     ensures hooks { IfOk result (λ image. image.hooks ≡ []) }
 {

@@ -16,12 +16,12 @@ use Rattle.rv32_isa.specs.Hooks.{code_at}
 use Rattle.rv32_isa.specs.Image.{statics_at, heap_at, stack_at}
 use Rattle.rv32_isa.specs.State.{State, reg, skip, lies_in, part, part_of, or_else, readable}
 use Rattle.rv32_isa.specs.Steps as leads
-use Rattle.rv32_isa.specs.Machine.{Call, Answers, Exits, Fails, Run, answered, stream_of, write_bytes, write_call, read_call, call, arrival, called, shows, step}
+use Rattle.rv32_isa.specs.Machine.{Reply, Answers, Exits, Fails, Run, answered, stream_of, write_bytes, write_call, read_call, call, arrival, called, shows, step}
 use Rattle.rv32_isa.proofs.Fetch.{Before, before_next, Quiet, obeyed}
 use Rattle.rv32_isa.proofs.Straight.{onto}
 
 -- a call, by its number
-abbrev call_number : State → List ℕ → ℕ → Call
+abbrev call_number : State → List ℕ → ℕ → Reply
 call_number s input number =
     if number == 93 then Exits (reg s 10 % 256) else
     if number == 64 then write_call s input (stream_of (reg s 10)) else

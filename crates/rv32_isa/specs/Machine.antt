@@ -15,11 +15,11 @@ use Rattle.rv32_isa.specs.Steps as leads
 
 -- ---- calls of the environment: the number in a7, the arguments in a0, a1 and a2, the answer in a0
 
--- what a call comes to: it goes on with what it showed and the input that is left, the machine exits, or it faults
-pub data Call : Type 0 where
-  Answers : (next : State) (input : List ℕ) (shown : List Event) → Call
-  Exits : (status : ℕ) → Call
-  Fails : (kind : FaultKind) → Call
+-- the environment's reply: the run goes on with what it showed and the input that is left, the machine exits, or it faults
+pub data Reply : Type 0 where
+  Answers : (next : State) (input : List ℕ) (shown : List Event) → Reply
+  Exits : (status : ℕ) → Reply
+  Fails : (kind : FaultKind) → Reply
 
 abbrev pub answered : State → ℕ → State
 answered s value = skip (with_reg s 10 value)
@@ -28,23 +28,23 @@ answered s value = skip (with_reg s 10 value)
 abbrev pub stream_of : ℕ → Option Stream
 stream_of number = if number == 1 then Some Out else if number == 2 then Some Err else None
 
-abbrev pub write_bytes : State → List ℕ → Stream → Option (List ℕ) → Call
+abbrev pub write_bytes : State → List ℕ → Stream → Option (List ℕ) → Reply
 write_bytes s input stream None = Fails OutOfRange
 write_bytes s input stream (Some bytes) = Answers (answered s (reg s 12)) input (writes stream bytes)
 
-abbrev pub write_call : State → List ℕ → Option Stream → Call
+abbrev pub write_call : State → List ℕ → Option Stream → Reply
 write_call s input None = Fails BadCall
 write_call s input (Some stream) = write_bytes s input stream (readable s (reg s 11) (reg s 12))
 
 -- call 63 with a0 = 0: reads at most a2 bytes of input to a1
-abbrev pub read_bytes : State → List ℕ → ℕ → Call
+abbrev pub read_bytes : State → List ℕ → ℕ → Reply
 read_bytes s input count = Answers (answered (filled s (reg s 11) (take count input)) count) (drop count input) []
 
-abbrev pub read_call : State → List ℕ → Call
+abbrev pub read_call : State → List ℕ → Reply
 read_call s input = if writable s (reg s 11) (reg s 12) then read_bytes s input (min (reg s 12) (length input)) else Fails OutOfRange
 
 -- call 93: exits with the low eight bits of a0
-abbrev pub call : State → List ℕ → Call
+abbrev pub call : State → List ℕ → Reply
 call s input =
     if reg s 17 == 93 then Exits (reg s 10 % 256) else
     if reg s 17 == 64 then write_call s input (stream_of (reg s 10)) else
@@ -58,24 +58,24 @@ pub record Run : Type 0 where
   pub state : State
   pub input : List ℕ
 
--- how a run stands after a step: it goes on with what it showed, or it is over, and then nothing else changed
-pub data Turn : Type 0 where
-  On : (next : Run) (shown : List Event) → Turn
-  Exited : (status : ℕ) → Turn
-  Faulted : (kind : FaultKind) (pc word : ℕ) → Turn
+-- what a step of a run comes to: it goes on with what it showed, or it is over, and then nothing else changed
+pub data Advance : Type 0 where
+  On : (next : Run) (shown : List Event) → Advance
+  Exited : (status : ℕ) → Advance
+  Faulted : (kind : FaultKind) (pc word : ℕ) → Advance
 
-abbrev pub called : State → Call → Turn
+abbrev pub called : State → Reply → Advance
 called s (Answers next input shown) = On (record { state = next; input = input }) shown
 called s (Exits status) = Exited status
 called s (Fails kind) = Faulted kind s.pc 0x73
 
-abbrev pub led : Run → Outcome → Turn
+abbrev pub led : Run → Outcome → Advance
 led r (leads.Goes next) = On (record { state = next; input = r.input }) []
 led r leads.Calls = called r.state (call r.state r.input)
 led r (leads.Faults kind pc word) = Faulted kind pc word
 
-abbrev pub turn : Run → Turn
-turn r = led r (outcome r.state)
+abbrev pub advance : Run → Advance
+advance r = led r (outcome r.state)
 
 -- the hook that begins at an address
 abbrev pub arrival : List HookAt → ℕ → List Event
@@ -83,13 +83,13 @@ arrival [] pc = []
 arrival (hook ∷ hooks) pc = if hook.addr == pc then Hook hook.kind hook.of ∷ [] else arrival hooks pc
 
 -- a step, whose work is one: what it showed, and the call of a user's hook where it leaves the program counter at one
-abbrev pub shows : List HookAt → Turn → Next Event Run
+abbrev pub shows : List HookAt → Advance → Next Event Run
 shows hooks (On next shown) = Goes (shown ++ arrival hooks next.state.pc) 1 next
 shows hooks (Exited status) = Ends [] 1 status []
 shows hooks (Faulted kind pc word) = Faults
 
 abbrev pub step : List HookAt → Run → Next Event Run
-step hooks r = shows hooks (turn r)
+step hooks r = shows hooks (advance r)
 
 abbrev pub start : Image → List ℕ → Run
 start image input = record { state = first_state image; input = input }
@@ -105,7 +105,7 @@ pub data Standing : Type 0 where
   HasExited : (status : ℕ) (at : Run) → Standing
   HasFaulted : (kind : FaultKind) (pc word : ℕ) (at : Run) → Standing
 
-abbrev pub stood : (Run → Standing) → Run → Turn → Standing
+abbrev pub stood : (Run → Standing) → Run → Advance → Standing
 stood go r (On next shown) = go next
 stood go r (Exited status) = HasExited status r
 stood go r (Faulted kind pc word) = HasFaulted kind pc word r
@@ -113,4 +113,4 @@ stood go r (Faulted kind pc word) = HasFaulted kind pc word r
 -- an instruction that exits or faults leaves the state and the input as they were
 abbrev pub standing : ℕ → Run → Standing
 standing zero r = Runs r
-standing (suc n) r = stood (standing n) r (turn r)
+standing (suc n) r = stood (standing n) r (advance r)

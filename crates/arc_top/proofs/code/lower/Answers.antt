@@ -37,4 +37,4 @@ invariant_of-result-clause-statics_most c = (sizes (goal.at.invariant_of-result-
 pub returns-clause-agrees : goal.returns-clause-agrees
 returns-clause-agrees c =
     let d = (goal.at.returns-clause-agrees c).In_ok-pad in
-    λ input. image_agrees (program_of c.args.program.now) _ (made_image (program_of c.args.program.now).start _ c.requires.texts (made d) c.new.ensures) input
+    λ plan input. image_agrees (program_of c.args.program.now) _ (made_image (program_of c.args.program.now).start _ c.requires.texts (made d) c.new.ensures) plan c.args.heap input
