@@ -32,22 +32,23 @@ pub words_of_sinks : (sinks : List ℕ) → flat_map sink_words sinks ≡ sinks
 words_of_sinks [] = refl
 words_of_sinks (sink ∷ sinks) = let rest = words_of_sinks sinks in cc
 
-after : (P : ℕ → Type 0) (xs ys : List ℕ) → AllByRecursion P (xs ++ ys) → AllByRecursion P ys
-after P [] ys all = all
-after P (x ∷ xs) ys all = after P xs ys all.1
+-- what holds of each item holds of each in the second part
+AllByRecursion-append : (P : ℕ → Type 0) (xs ys : List ℕ) → AllByRecursion P (xs ++ ys) → AllByRecursion P ys
+AllByRecursion-append P [] ys all = all
+AllByRecursion-append P (x ∷ xs) ys all = AllByRecursion-append P xs ys all.1
 
-pub record Counts (file : File) : Type 0 where
+pub record CountsFit (file : File) : Type 0 where
   pub hooks : length file.image.hooks < 2 ^ 32
   pub sites : length file.plan.sites < 2 ^ 32
   pub sinks : length file.plan.sinks < 2 ^ 32
   pub skips : length file.plan.skips < 2 ^ 32
 
-pub counts : (file : File) → IsFile file → Counts file
-counts file is =
+pub counts_fit : (file : File) → IsFile file → CountsFit file
+counts_fit file is =
     let hooks = is.words.1 in
-    let sites = after (λ n. n < 2 ^ 32) (flat_map hook_words file.image.hooks) _ hooks.1 in
-    let sinks = after (λ n. n < 2 ^ 32) (flat_map site_words file.plan.sites) _ sites.1 in
-    let skips = after (λ n. n < 2 ^ 32) (flat_map sink_words file.plan.sinks) _ sinks.1 in
+    let sites = AllByRecursion-append (λ n. n < 2 ^ 32) (flat_map hook_words file.image.hooks) _ hooks.1 in
+    let sinks = AllByRecursion-append (λ n. n < 2 ^ 32) (flat_map site_words file.plan.sites) _ sites.1 in
+    let skips = AllByRecursion-append (λ n. n < 2 ^ 32) (flat_map sink_words file.plan.sinks) _ sinks.1 in
     record { hooks = hooks.0; sites = sites.0; sinks = sinks.0; skips = skips.0 }
 
 -- ---- the program headers

@@ -76,3 +76,14 @@ abbrev pub IsRefusal : NotCompiled → Answer → Type 0
 IsRefusal why.TooLong answer = ⊥
 IsRefusal (why.Refused code at) answer = answer ≡ Refused code at
 IsRefusal why.Memory answer = answer ≡ Memory
+
+-- the status with which a command ends that was answered so
+abbrev pub status_of : Answer → ℕ
+status_of Done = 0
+status_of Usage = 64
+status_of (Refused code at) = 65
+status_of (NoFile name) = 66
+status_of (TooLong name) = 66
+status_of Memory = 69
+status_of ReadFault = 74
+status_of StoreFault = 74

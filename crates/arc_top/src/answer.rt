@@ -1,5 +1,6 @@
 // What the compiler answers.
 ghost use Rattle.std.specs.Prelude.{◌≡◌, IfOk};
+ghost use Rattle.arc_top.specs.Answer.{status_of};
 
 use arc_base::{Bytes, Code, Memory, Place};
 use std::alloc::Global;
@@ -56,4 +57,20 @@ pub enum Answer {
     StoreFault,
     /// No memory was found.
     Memory,
+}
+
+impl Answer {
+    /// The status with which the command ends: 0 where all was done, and else one of BSD's `sysexits`.
+    pub fn status(&self) -> u8
+        ensures { result ≡ status_of self.now }
+    {
+        match self {
+            Answer::Done => 0,
+            Answer::Usage => 64,
+            Answer::Refused { .. } => 65,
+            Answer::NoFile(_) | Answer::TooLong(_) => 66,
+            Answer::Memory => 69,
+            Answer::ReadFault | Answer::StoreFault => 74,
+        }
+    }
 }

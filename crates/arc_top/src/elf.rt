@@ -21,44 +21,52 @@ const RISC_V: u16 = 243;
 /// The version of the format of files.
 const FORMAT: u32 = 1;
 
-/// The sizes of the header and of a program header, and how many of those there are.
+/// The size of the header.
 const HEADER_SIZE: u16 = 52;
 
+/// The size of a program header.
 const SEGMENT_SIZE: u16 = 32;
 
+/// How many program headers there are.
 const SEGMENTS: u16 = 5;
 
 /// Where the note stands in the file: after the headers.
 const NOTE_OFFSET: u32 = HEADER_SIZE as u32 + SEGMENTS as u32 * SEGMENT_SIZE as u32;
 
-/// The kinds of a program header: bytes of memory, and a note.
+/// The kind of a program header of memory.
 const LOAD: u32 = 1;
 
+/// The kind of a program header of a note.
 const NOTE: u32 = 4;
 
-/// What may be done with bytes of memory.
+/// The flags of a note.
 const READ: u32 = 4;
 
+/// The flags of data, heap and stack.
 const READ_WRITE: u32 = 6;
 
+/// The flags of code.
 const READ_EXECUTE: u32 = 5;
 
 /// Each program header has this alignment.
 const ALIGNMENT: u32 = 4;
 
-/// Where the regions of memory begin.
+/// Where code begins.
 const CODE_AT: u32 = 0x1_0000;
 
+/// Where data begins.
 const STATICS_AT: u32 = 0x10_0000;
 
+/// Where the heap begins.
 const HEAP_AT: u32 = 0x20_0000;
 
+/// Where the stack begins.
 const STACK_AT: u32 = 0x200_0000;
 
-/// The name of the note, `NimArc`, with its end and a zero to a multiple of 4 bytes.
-const NAME: [u8; 8] = [0x4e, 0x69, 0x6d, 0x41, 0x72, 0x63, 0, 0];
+/// The name of the note, with the zero that ends it and one that fills it up to 8 bytes.
+const NAME: [u8; 8] = *b"NimArc\0\0";
 
-/// The size of the name with its end.
+/// The size of the name, with the zero that ends it.
 const NAME_SIZE: u32 = 7;
 
 /// The type of the note.

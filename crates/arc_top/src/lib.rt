@@ -13,4 +13,5 @@ mod words;
 
 pub use answer::{Answer, FileName};
 pub use compiler::{NotCompiled, compile};
+pub use report::put_report;
 pub use top::nimarc;
