@@ -47,9 +47,6 @@ pub record IsReading (source : List ℕ) (program : List Stmt) (rest : List ℕ)
   pub counted : number ≡ length front + 1
   pub few : length front + length rest ≤ length source
 
-pub begins : (source : List ℕ) (program : List Stmt) → program ≡ [] → IsReading source program source 1
-begins source program e = record { front = []; lines = refl; gives = e; counted = refl; few = omega arith }
-
 pub goes_on : (source text line rest : List ℕ) (old new : List Stmt) (number : ℕ) → IsReading source old text number → lines_of text ≡ line ∷ lines_of rest → length rest < length text → (stmts : List Stmt) × LineGives line stmts × (new ≡ old ++ stmts) → IsReading source new rest (number + 1)
 goes_on source text line rest old new number h e shorter adds =
     let size = length-append h.front (line ∷ []) in
@@ -67,9 +64,25 @@ other_found source text line rest program number h e other =
     let all : lines_of source ≡ h.front ++ line ∷ lines_of rest = h.lines ∙ ap (λ l. h.front ++ l) e in
     (length h.front, subst (λ l. FirstOther l (length h.front)) (sym all) (other_next h.front line (lines_of rest) program h.gives other), h.counted)
 
--- a refusal at the next line
-pub refuses : (source text line rest : List ℕ) (program : List Stmt) (number : ℕ) (code : Code) (at : Place) → IsReading source program text number → lines_of text ≡ line ∷ lines_of rest → IsOther line × (code ≡ Syntax) × (at.module ≡ 0) × (at.line ≡ number) × (at.column ≡ 1) → Refuses source code at
-refuses source text line rest program number code at h e told =
+-- where nothing is left, the source is the program
+pub whole : (source rest : List ℕ) (program : Program) (number : ℕ) → IsReading source program.start rest number → rest ≡ [] → Reads source program
+whole source rest program number h e =
+    let all : lines_of source ≡ h.front = h.lines ∙ ap (λ l. h.front ++ lines_of l) e ∙ append-nil h.front in
+    subst (λ l. LinesGive l program.start) (sym all) h.gives
+
+-- a list without length
+pub no_bytes : (bytes : List ℕ) → (length bytes == 0) ≡ true → bytes ≡ []
+no_bytes bytes none = nil_from_length bytes (eqb-true (length bytes) 0 none)
+
+-- ---- refusals
+
+-- a refusal at the line of another form
+abbrev pub RefusesLine : List ℕ → ℕ → Code → Place → Type 0
+RefusesLine line number code at = IsOther line × (code ≡ Syntax) × (at.module ≡ 0) × (at.line ≡ number) × (at.column ≡ 1)
+
+-- what is refused at the next line is refused of the source
+pub refuses : (source text line rest : List ℕ) (program : List Stmt) (number : ℕ) (stop : Stop) → IsReading source program text number → lines_of text ≡ line ∷ lines_of rest → OnRefusal stop (RefusesLine line number) → OnRefusal stop (Refuses source)
+refuses source text line rest program number (Refused code at) h e told =
     let found = other_found source text line rest program number h e told.0 in
     record {
       syntax = told.1;
@@ -77,25 +90,17 @@ refuses source text line rest program number code at h e told =
       first = (found.0, found.1, told.3 ∙ found.2);
       start = told.4;
     }
+refuses source text line rest program number Memory h e told = tt
 
--- where nothing is left, the source is the program
-pub whole : (source rest : List ℕ) (program : Program) (number : ℕ) → IsReading source program.start rest number → rest ≡ [] → Reads source program
-whole source rest program number h e =
-    let all : lines_of source ≡ h.front = h.lines ∙ ap (λ l. h.front ++ lines_of l) e ∙ append-nil h.front in
-    subst (λ l. LinesGive l program.start) (sym all) h.gives
+-- the source reads as no program
+abbrev pub IsNoProgram : List ℕ → Code → Place → Type 0
+IsNoProgram source _ _ = (program : Program) → Reads source program → ⊥
 
--- ---- what an error says
-
--- a fact of a refusal makes another
-pub refusal_says : (stop : Stop) (P Q : Code → Place → Type 0) → ((code : Code) (at : Place) → P code at → Q code at) → OnRefusal stop P → OnRefusal stop Q
-refusal_says (Refused code at) P Q gives fact = gives code at fact
-refusal_says Memory P Q gives fact = tt
+pub no_program : (source : List ℕ) (stop : Stop) → OnRefusal stop (Refuses source) → OnRefusal stop (IsNoProgram source)
+no_program source (Refused code at) refused = λ program reads. read_not_refused source program code at reads refused
+no_program source Memory told = tt
 
 -- an error that is handed on keeps what is known of it
 pub handed_on : {T E : Type 0} (result : Result T E) (error : E) (P : E → Type 0) → IsErrAnd result (λ other. other ≡ error) → P error → IfErr result P
 handed_on (Ok x) error P same fact = absurd same
 handed_on (Err other) error P same fact = subst P (sym same) fact
-
--- a list without length
-pub no_bytes : (bytes : List ℕ) → (length bytes == 0) ≡ true → bytes ≡ []
-no_bytes bytes none = nil_from_length bytes (eqb-true (length bytes) 0 none)

@@ -100,3 +100,6 @@ pub fn parse(alloc: Global, source: &[u8]) -> Result<Program, Stop>
     }
     Ok(program)
 }
+
+#[cfg(test)]
+mod tests;
