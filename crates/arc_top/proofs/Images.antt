@@ -1,5 +1,5 @@
 -- The parts of an image, put together.
-use Rattle.std.proofs.Common.{◌≡◌, ℕ, ◌+◌, ◌*◌, ◌%◌, ◌≤◌, List, [], ◌∷◌, ◌++◌, length, refl, ap, ◌∙◌, arith, length-append}
+use Rattle.std.proofs.Common.{◌≡◌, ℕ, ◌+◌, ◌*◌, ◌%◌, ◌≤◌, List, [], ◌∷◌, ◌++◌, length, ap, ◌∙◌, arith, length-append}
 use Rattle.nim_core.specs.Program.{Stmt, Echo}
 use Rattle.nim_core.specs.Meaning.{line_of}
 use Rattle.rv32_isa.specs.Image.{Image, statics_at}

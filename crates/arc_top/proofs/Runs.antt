@@ -1,5 +1,5 @@
 -- The image of a program does what the program does.
-use Rattle.std.proofs.Common.{◌≡◌, ◌≢◌, ℕ, suc, ◌+◌, ◌*◌, ◌%◌, ◌^◌, ◌<◌, ◌≤◌, List, [], ◌∷◌, ◌++◌, length, Some, refl, sym, ap, subst, ◌∙◌, arith, get_or, length-append, append_assoc}
+use Rattle.std.proofs.Common.{◌≡◌, ℕ, ◌+◌, ◌*◌, ◌%◌, ◌^◌, ◌<◌, ◌≤◌, List, [], ◌∷◌, ◌++◌, length, Some, refl, sym, ap, subst, ◌∙◌, arith, get_or, length-append, append_assoc}
 use Rattle.arc_base.specs.declared.outside.Stream.TheVariants.{Out}
 use Rattle.arc_base.specs.Event.{Event, writes}
 use Rattle.arc_base.specs.Behaviour.{Agrees}
@@ -11,7 +11,6 @@ use Rattle.nim_core.specs.Meaning.{line_of, exec, exec_all, meaning}
 use Rattle.nim_core.proofs.Ends.{meaning_sound}
 use Rattle.rv32_isa.specs.declared.image.HookAt.{HookAt}
 use Rattle.rv32_isa.specs.declared.instr.Instr.TheVariants.{Ecall}
-use Rattle.rv32_isa.specs.Hooks.{code_at}
 use Rattle.rv32_isa.specs.Image.{Image, statics_at}
 use Rattle.rv32_isa.specs.State.{State, first_state, reg, readable}
 use Rattle.rv32_isa.specs.Machine.{Run, arrival, answered, stream_of, step, start, machine}

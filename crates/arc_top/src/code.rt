@@ -1,5 +1,5 @@
 // From a program to its image. Each text stands in the data, and is written from there.
-ghost use Rattle.std.specs.Prelude.{◌≡◌, ◌≤◌, ◌<◌, ◌+◌, ◌*◌, ◌^◌, ◌%◌, ◌++◌, [], ◌∷◌, List, ℕ, length, map, IfOk, OnOk};
+ghost use Rattle.std.specs.Prelude.{◌≡◌, ◌≤◌, ◌<◌, ◌+◌, ◌^◌, ◌%◌, ◌++◌, [], ◌∷◌, List, ℕ, length, map, IfOk, OnOk};
 ghost use Rattle.arc_base.specs.Behaviour.{Agrees};
 ghost use Rattle.nim_core.specs.declared.plan.Plan.{Plan};
 ghost use Rattle.nim_core.specs.Program.{program_of, stmt_of};
@@ -17,12 +17,16 @@ use std::alloc::Global;
 
 /// The registers of a call of the environment: its number and its arguments.
 const NUMBER: u32 = 17;
+
 const ARGUMENT_0: u32 = 10;
+
 const ARGUMENT_1: u32 = 11;
+
 const ARGUMENT_2: u32 = 12;
 
 /// The calls that write bytes and that exit.
 const WRITE: u32 = 64;
+
 const EXIT: u32 = 93;
 
 /// The stream that `echo` writes to.

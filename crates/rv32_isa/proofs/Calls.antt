@@ -1,6 +1,6 @@
 -- Calls of the environment: a write of bytes that may be loaded, and an exit.
-use Rattle.std.proofs.Common.{◌≡◌, ℕ, suc, ◌+◌, ◌-◌, ◌*◌, ◌%◌, ◌^◌, ◌<◌, ◌≤◌, List, [], ◌∷◌, ◌++◌, length, take, drop, Option, Some, None, Bool, true, false, refl, sym, ap, ◌∙◌, arith, append_assoc, append-nil, length-append}
-use Rattle.std.specs.Prelude.{min, nat_le, ◌==◌, ◌&&◌, if◌then◌else◌}
+use Rattle.std.proofs.Common.{◌≡◌, ℕ, ◌+◌, ◌-◌, ◌%◌, ◌^◌, ◌<◌, ◌≤◌, List, [], ◌∷◌, ◌++◌, length, take, drop, Some, None, true, false, refl, ap, ◌∙◌, arith, append-nil, length-append}
+use Rattle.std.specs.Prelude.{nat_le, ◌==◌, if◌then◌else◌}
 use Rattle.std.proofs.lemmas.Bool.{le-leb, lt-leb, and_from, and_right, ne_eqb, cond-true, cond-false}
 use Rattle.std.proofs.Math.Seq.{drop-append_seam, take-append_seam}
 use Rattle.arc_base.specs.declared.outside.Stream.{Stream}
@@ -11,13 +11,13 @@ use Rattle.arc_base.proofs.Follows.{Comes, Halts, line, line_halts}
 use Rattle.rv32_isa.specs.declared.instr.Instr.{Instr}
 use Rattle.rv32_isa.specs.declared.instr.Instr.TheVariants.{Ecall}
 use Rattle.rv32_isa.specs.declared.image.HookAt.{HookAt}
-use Rattle.rv32_isa.specs.declared.machine.FaultKind.TheVariants.{OutOfRange, BadCall}
+use Rattle.rv32_isa.specs.declared.machine.FaultKind.TheVariants.{BadCall}
 use Rattle.rv32_isa.specs.Hooks.{code_at}
 use Rattle.rv32_isa.specs.Image.{statics_at, heap_at, stack_at}
-use Rattle.rv32_isa.specs.State.{State, reg, skip, lies_in, part, part_of, or_else, readable}
+use Rattle.rv32_isa.specs.State.{State, reg, lies_in, part, part_of, or_else, readable}
 use Rattle.rv32_isa.specs.Steps as leads
 use Rattle.rv32_isa.specs.Machine.{Reply, Answers, Exits, Fails, Run, answered, stream_of, write_bytes, write_call, read_call, call, arrival, called, shows, step}
-use Rattle.rv32_isa.proofs.Fetch.{Before, before_next, Quiet, obeyed}
+use Rattle.rv32_isa.proofs.Fetch.{Before, before_next, obeyed}
 use Rattle.rv32_isa.proofs.Straight.{onto}
 
 -- a call, by its number

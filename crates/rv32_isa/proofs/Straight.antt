@@ -1,6 +1,6 @@
 -- Runs of instructions that only write registers.
-use Rattle.std.proofs.Common.{◌≡◌, ◌≢◌, ℕ, zero, suc, ◌+◌, ◌-◌, ◌*◌, ◌/◌, ◌%◌, ◌^◌, ◌<◌, ◌≤◌, List, [], ◌∷◌, ◌++◌, length, refl, sym, ap, subst, ◌∙◌, arith, get_or}
-use Rattle.std.specs.Prelude.{nat_lt, if◌then◌else◌}
+use Rattle.std.proofs.Common.{◌≡◌, ◌≢◌, ℕ, zero, suc, ◌+◌, ◌-◌, ◌*◌, ◌/◌, ◌%◌, ◌^◌, ◌<◌, List, [], ◌∷◌, ◌++◌, length, refl, ap, subst, ◌∙◌, arith, get_or}
+use Rattle.std.specs.Prelude.{nat_lt}
 use Rattle.std.proofs.lemmas.Bool.{cond_both, ltb-true, ltb-false}
 use Rattle.arc_base.specs.Event.{Event}
 use Rattle.arc_base.specs.BigStep.{Meter}
@@ -14,7 +14,7 @@ use Rattle.rv32_isa.specs.Steps.{signed12, obey}
 use Rattle.rv32_isa.specs.Steps as leads
 use Rattle.rv32_isa.specs.Machine.{Run, step}
 use Rattle.rv32_isa.proofs.Registers.{put, IsRegs, put_regs, put_same, put_other}
-use Rattle.rv32_isa.proofs.Fetch.{Stands, stands_back, Before, next_place, before_next, Quiet, quiet_less, obeys}
+use Rattle.rv32_isa.proofs.Fetch.{stands_back, Before, next_place, before_next, Quiet, quiet_less, obeys}
 
 -- an instruction that only writes a register
 abbrev pub IsPlain : Instr → Type 0

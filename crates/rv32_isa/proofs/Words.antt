@@ -1,11 +1,10 @@
 -- The bytes of instructions stand for them.
-use Rattle.std.proofs.Common.{◌≡◌, ℕ, suc, ◌+◌, ◌*◌, ◌/◌, ◌%◌, ◌^◌, ◌<◌, List, [], ◌∷◌, ◌++◌, length, Some, refl, sym, ap, ◌∙◌, arith, length-append}
-use Rattle.std.specs.Prelude.{◌==◌, if◌then◌else◌}
+use Rattle.std.proofs.Common.{◌≡◌, ℕ, ◌+◌, ◌*◌, ◌/◌, ◌%◌, ◌^◌, ◌<◌, List, [], ◌∷◌, length, Some, refl, ap, ◌∙◌, arith, length-append}
 use Rattle.std.specs.List.{flat_map}
 use Rattle.rv32_isa.specs.declared.instr.Instr.{Instr}
 use Rattle.rv32_isa.specs.declared.instr.Instr.TheVariants.{Lui, Addi, Ecall}
 use Rattle.rv32_isa.specs.Words.{little, word_bytes}
-use Rattle.rv32_isa.specs.Row.{row, op_imm, system, IsInRange, word_of}
+use Rattle.rv32_isa.specs.Row.{row, IsInRange, word_of}
 
 pub little-word_bytes : (n : ℕ) → n < 2 ^ 32 → little (word_bytes n) ≡ n
 unfolding word_bytes

@@ -1,4 +1,4 @@
-use Rattle.std.proofs.Common.{◌≡◌, ◌++◌, sym, ap, ◌∙◌, drop, append_assoc, ◌+◌, length, map}
+use Rattle.std.proofs.Common.{◌++◌, sym, ap, ◌∙◌, drop, append_assoc, ◌+◌, length, map}
 use Rattle.nim_core.specs.Program.{stmt_of}
 use Rattle.arc_top.specs.Code.{code_bytes, texts, text_of, stmts_code}
 use Rattle.arc_top.proofs.Emits.{next_item, text_fits, code_step}

@@ -1,6 +1,5 @@
-use Rattle.std.proofs.Common.{◌≡◌, ◌++◌, ◌+◌, ◌%◌, ◌≤◌, [], List, ℕ, ap, ◌∙◌, length, map, subst, sym, arith}
+use Rattle.std.proofs.Common.{◌≡◌, ◌++◌, ◌+◌, ◌%◌, ◌≤◌, List, ℕ, ap, ◌∙◌, length, map, subst}
 use Rattle.nim_core.specs.Program.{program_of, stmt_of}
-use Rattle.rv32_isa.specs.Hooks.{HooksStand, code_at}
 use Rattle.arc_top.specs.Code.{code_bytes, texts, stmts_code}
 use Rattle.arc_top.proofs.Images.{IsMade, HasSizes, made_sizes, made_image}
 use Rattle.arc_top.proofs.Runs.{image_agrees}
