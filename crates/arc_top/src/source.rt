@@ -1,5 +1,5 @@
 // From a source to its program.
-ghost use Rattle.std.specs.Prelude.{◌≡◌, ◌≢◌, ◌≤◌, ◌<◌, ◌+◌, ◌-◌, ◌^◌, ◌++◌, [], ◌∷◌, List, ℕ, IsTrue, ◌↔◌, ◌==◌, All, position, length, IfSome, IfNone, IfOk, OnOk, IfErr};
+ghost use Rattle.std.specs.Prelude.{◌≡◌, ◌≢◌, ◌≤◌, ◌<◌, ◌-◌, ◌^◌, ◌++◌, [], ◌∷◌, List, ℕ, IsTrue, ◌↔◌, ◌==◌, All, position, length, IfSome, IfNone, IfOk, OnOk, IfErr};
 ghost use Rattle.arc_base.specs.Stops.{OnRefusal};
 ghost use Rattle.arc_base.specs.declared.place.Code.TheVariants.{Syntax};
 ghost use Rattle.nim_core.specs.Program.{Stmt as Node, Program as Tree, program_of};
