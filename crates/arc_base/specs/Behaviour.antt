@@ -1,5 +1,5 @@
 -- What is seen of a meaning after a number of steps, and when two meanings agree.
-use Rattle.std.specs.Prelude.{◌≡◌, ◌≢◌, ℕ, ◌+◌, ◌*◌, ◌≤◌, List, ◌++◌}
+use Rattle.std.specs.Prelude.{◌≡◌, ◌≢◌, ℕ, ◌≤◌, List, ◌++◌}
 
 -- How a run stands. At an end there is its status, and for each ref type the number of objects that are still live.
 pub data Phase : Type 0 where
