@@ -1,5 +1,5 @@
 -- What files, sources and sinks hold, where they tell it, and their counts of faults.
-use Rattle.std.specs.Prelude.{◌≡◌, ◌≢◌, ◌≤◌, ◌<◌, ℕ, ◌+◌, ◌-◌, ◌^◌, ◌⊎◌, min, List, [], ◌++◌, length, take, ⊤, Option, Some, None, Result, Ok, Err, OnErr, OnOk, MatchResult}
+use Rattle.std.specs.Prelude.{◌≡◌, ◌≢◌, ◌≤◌, ◌<◌, Bool, ℕ, ◌+◌, ◌-◌, ◌^◌, ◌⊎◌, min, List, [], ◌++◌, length, take, ⊤, Option, Some, None, Result, Ok, Err, OnErr, OnOk, MatchResult}
 use Rattle.arc_base.specs.declared.outside.Loaded.{Loaded}
 use Rattle.arc_base.specs.declared.outside.Loaded.TheVariants.{Whole, Absent, TooLong}
 use Rattle.arc_base.specs.declared.outside.FileFault.{FileFault}
@@ -69,3 +69,13 @@ Puts old new result piece = MatchResult result (λ n. Grown old new (take n piec
 -- a sink got all bytes, or its count of faults rose and it got a front of them
 abbrev pub Writes : Option (List ℕ) → Option (List ℕ) → ℕ → ℕ → List ℕ → Type 0
 Writes old new before now bytes = (Grown old new bytes × (now ≡ before)) ⊎ (Rose before now × ((n : ℕ) × Grown old new (take n bytes)))
+
+-- the counts of faults of files that tell nothing of their content
+pub record FileFaults : Type 0 where
+  pub load_faults : ℕ
+  pub store_faults : ℕ
+
+-- whether a source that tells no bytes has answered the end, and its count of faults
+pub record SourceFaults : Type 0 where
+  pub ended : Bool
+  pub faults : ℕ

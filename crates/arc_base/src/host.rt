@@ -1,5 +1,6 @@
 // The real files and streams. They tell nothing of content, and count their faults.
 ghost use Rattle.std.specs.Prelude.{None, [], ℕ, ◌≡◌, ◌≤◌, ◌+◌, IfOk, length};
+ghost use Rattle.std.specs.Prelude.{false};
 ghost use Rattle.arc_base.specs.Outside.{IsWithin};
 
 use crate::bytes::Bytes;
@@ -7,12 +8,13 @@ use crate::outside::{Failed, FileFault, Files, Loaded, Sink, Source};
 use std::alloc::Global;
 use std::fs::File;
 use std::io::{ErrorKind, Read, Write};
+use std::marker::Model;
 use std::{fs, rt};
 
 /// How many bytes a read of a file asks for at most.
 const PIECE: usize = 4096;
 
-/// The files of the system.
+/// The files of the system, which contracts see by their counts of faults.
 #[derive(Drop)]
 pub struct HostFiles<'a, R: rt::Files> {
     rt: &'a R,
@@ -20,9 +22,19 @@ pub struct HostFiles<'a, R: rt::Files> {
     store_faults: u64,
 }
 
+impl<'a, R: rt::Files> Model for HostFiles<'a, R> {
+    ghost use Rattle.arc_base.specs.Outside.{FileFaults};
+
+    ghost Value = { FileFaults };
+
+    ghost view = { λ f. record { load_faults = f.load_faults; store_faults = f.store_faults } };
+}
+
 impl<'a, R: rt::Files> HostFiles<'a, R> {
     /// Files with no fault so far.
-    pub fn new(rt: &'a R) -> Self {
+    pub fn new(rt: &'a R) -> Self
+        ensures { result ≡ record { load_faults = 0; store_faults = 0 } }
+    {
         HostFiles {
             rt,
             load_faults: 0,
@@ -106,9 +118,19 @@ pub struct HostSource<R: Read + Drop> {
     faults: u64,
 }
 
+impl<R: Read + Drop> Model for HostSource<R> {
+    ghost use Rattle.arc_base.specs.Outside.{SourceFaults};
+
+    ghost Value = { SourceFaults };
+
+    ghost view = { λ s. record { ended = s.ended; faults = s.faults } };
+}
+
 impl<R: Read + Drop> HostSource<R> {
     /// A source with no fault so far.
-    pub fn new(reader: R) -> Self {
+    pub fn new(reader: R) -> Self
+        ensures { result ≡ record { ended = false; faults = 0 } }
+    {
         HostSource {
             reader,
             ended: false,
@@ -141,16 +163,26 @@ impl<R: Read + Drop> Source for HostSource<R> {
     }
 }
 
-/// A sink over a writer of std.
+/// A sink over a writer of std, which contracts see as its count of faults.
 #[derive(Drop)]
 pub struct HostSink<W: Write + Drop> {
     writer: W,
     faults: u64,
 }
 
+impl<W: Write + Drop> Model for HostSink<W> {
+    ghost use Rattle.std.specs.Prelude.{ℕ};
+
+    ghost Value = { ℕ };
+
+    ghost view = { λ s. s.faults };
+}
+
 impl<W: Write + Drop> HostSink<W> {
     /// A sink with no fault so far.
-    pub fn new(writer: W) -> Self {
+    pub fn new(writer: W) -> Self
+        ensures { result ≡ 0 }
+    {
         HostSink { writer, faults: 0 }
     }
 }
@@ -158,7 +190,7 @@ impl<W: Write + Drop> HostSink<W> {
 impl<W: Write + Drop> Sink for HostSink<W> {
     ghost written = { λ s. None };
 
-    ghost faults = { λ s. s.faults };
+    ghost faults = { λ s. s };
 
     fn put(&mut self, piece: &[u8]) -> Result<usize, Failed> {
         match self.writer.write(piece) {

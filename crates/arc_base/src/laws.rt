@@ -9,5 +9,4 @@ pub fn agreement()
     ensures law { (low mid high : Behaviour Event) → Agrees low mid → Agrees mid high → Agrees low high }
     ensures pace { (c d k l : ℕ) (low mid high : Behaviour Event) → 1 ≤ d → PacedFrom c k low mid → PacedFrom d l mid high → PacedFrom (c * d) (l + k) low high }
     ensures itself { (b : Behaviour Event) → Steady b → Sound b → Agrees b b }
-{
-}
+{}

@@ -11,6 +11,6 @@ mod place;
 pub use bytes::{Bytes, Items, Memory};
 pub use host::{HostFiles, HostSink, HostSource};
 pub use laws::agreement;
-pub use memory::{SureFiles, SureSink, SureSource};
+pub use memory::{Faults, MemFiles, MemSink, MemSource, SureFiles, SureSink, SureSource};
 pub use outside::{Failed, FileFault, Files, Loaded, Sink, Source, Stream, put_all};
 pub use place::{Code, Place, Stop};
