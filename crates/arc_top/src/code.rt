@@ -12,7 +12,7 @@ ghost use Rattle.arc_top.specs.Code.{code_bytes, load_code, write_code, exit_cod
 use crate::words::push_word;
 use arc_base::{Bytes, Items, Memory};
 use nim_core::{Program, Stmt};
-use rv32_isa::{Image, Instr, encode};
+use rv32_isa::{Image, Instr, STATICS_AT, encode};
 use std::alloc::Global;
 
 /// The registers of a call of the environment: its number and its arguments.
@@ -31,9 +31,6 @@ const EXIT: u32 = 93;
 
 /// The stream that `echo` writes to.
 const STANDARD_OUTPUT: u32 = 1;
-
-/// Where the data begins.
-const DATA_AT: u32 = 0x10_0000;
 
 // An instruction.
 fn emit(code: &mut Bytes, i: Instr) -> Result<(), Memory>
@@ -110,7 +107,7 @@ fn emit_echo(code: &mut Bytes, statics: &mut Bytes, text: &[u8]) -> Result<(), M
     ensures code { OnOk result (code.new ≡ code.old ++ code_bytes (write_code (0x100000 + length statics.old) (length text.now + 1) ++ Instr.Ecall ∷ [])) }
     ensures statics { OnOk result (statics.new ≡ statics.old ++ (text.now ++ 10 ∷ [])) }
 {
-    let at = DATA_AT + statics.as_slice().len() as u32;
+    let at = STATICS_AT + statics.as_slice().len() as u32;
     emit_write(code, at, text.len() as u32 + 1)?;
     statics.append(text)?;
     statics.push(b'\n')

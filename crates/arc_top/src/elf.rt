@@ -6,7 +6,7 @@ ghost use Rattle.arc_top.specs.Elf.{words, header, segment, segments, counted, h
 use crate::words::{push_halves, push_word, push_words};
 use arc_base::{Bytes, Memory};
 use nim_core::{Act, Plan, SiteAct, SkipAt};
-use rv32_isa::{HookAt, Image};
+use rv32_isa::{CODE_AT, HEAP_AT, HookAt, Image, STACK_AT, STATICS_AT};
 use std::alloc::Global;
 
 /// The magic number, 32 bits with the lowest byte first, version 1, and nine zeros.
@@ -50,18 +50,6 @@ const READ_EXECUTE: u32 = 5;
 
 /// Each program header has this alignment.
 const ALIGNMENT: u32 = 4;
-
-/// Where code begins.
-const CODE_AT: u32 = 0x1_0000;
-
-/// Where data begins.
-const STATICS_AT: u32 = 0x10_0000;
-
-/// Where the heap begins.
-const HEAP_AT: u32 = 0x20_0000;
-
-/// Where the stack begins.
-const STACK_AT: u32 = 0x200_0000;
 
 /// The name of the note, with the zero that ends it and one that fills it up to 8 bytes.
 const NAME: [u8; 8] = *b"NimArc\0\0";

@@ -4,6 +4,18 @@ ghost use Rattle.rv32_isa.specs.Hooks.{HooksStand, HooksStand-prop, code_at};
 
 use arc_base::{Bytes, Items};
 
+/// Where the code region begins.
+pub const CODE_AT: u32 = 0x1_0000;
+
+/// Where the data region begins.
+pub const STATICS_AT: u32 = 0x10_0000;
+
+/// Where the heap begins.
+pub const HEAP_AT: u32 = 0x20_0000;
+
+/// Where the stack begins.
+pub const STACK_AT: u32 = 0x200_0000;
+
 /// A user's hook: its kind (destroy 0, wasMoved 1, sink 2, copy 3), the number of its type, and the
 /// address of its first instruction.
 #[derive(Clone, Copy, Debug, PartialEq, Eq)]

@@ -6,7 +6,7 @@ mod instr;
 mod laws;
 mod machine;
 
-pub use image::{HookAt, Image};
+pub use image::{CODE_AT, HEAP_AT, HookAt, Image, STACK_AT, STATICS_AT};
 pub use instr::{Instr, decode, encode};
 pub use laws::machines;
 pub use machine::{FaultKind, Machine, Stepped, step};

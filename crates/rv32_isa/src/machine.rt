@@ -7,19 +7,11 @@ ghost use Rattle.rv32_isa.specs.State.{readable, part_of, skip, with_reg, reg, f
 ghost use Rattle.rv32_isa.specs.Steps.{signed12};
 ghost use Rattle.rv32_isa.specs.Stepped.{StepIs};
 
-use crate::image::Image;
+use crate::image::{CODE_AT, HEAP_AT, Image, STACK_AT, STATICS_AT};
 use crate::instr::{Instr, decode};
 use arc_base::Memory;
 use std::alloc::Global;
 use std::marker::Model;
-
-const CODE_AT: usize = 0x1_0000;
-
-const STATICS_AT: usize = 0x10_0000;
-
-const HEAP_AT: usize = 0x20_0000;
-
-const STACK_AT: usize = 0x200_0000;
 
 /// Why the machine can't go on.
 #[derive(Clone, Copy, Debug, PartialEq, Eq)]
@@ -106,7 +98,15 @@ impl Machine {
         self.pc = self.pc.wrapping_add(4);
     }
 
-    /// The bytes of a range that may be loaded.
+    /// Goes to an address, a multiple of 4.
+    pub fn set_pc(&mut self, at: u32)
+        requires { at % 4 ≡ 0 }
+        ensures { self.new ≡ record self.old { pc = at } }
+    {
+        self.pc = at;
+    }
+
+    /// The bytes of a range that may be loaded: none where it is not empty and lies in no one region.
     pub fn readable(&self, at: u32, len: u32) -> Option<&[u8]>
         ensures { option_copied result ≡ readable self.now at len }
     {
@@ -114,16 +114,16 @@ impl Machine {
         if len == 0 {
             return Some(&[]);
         }
-        if let Some(found) = part(CODE_AT, &self.code, at, len) {
+        if let Some(found) = part(CODE_AT as usize, &self.code, at, len) {
             return Some(found);
         }
-        if let Some(found) = part(STATICS_AT, &self.statics, at, len) {
+        if let Some(found) = part(STATICS_AT as usize, &self.statics, at, len) {
             return Some(found);
         }
-        if let Some(found) = part(HEAP_AT, &self.heap, at, len) {
+        if let Some(found) = part(HEAP_AT as usize, &self.heap, at, len) {
             return Some(found);
         }
-        part(STACK_AT, &self.stack, at, len)
+        part(STACK_AT as usize, &self.stack, at, len)
     }
 }
 
@@ -156,7 +156,7 @@ impl Machine {
     {
         Ok(Machine {
             regs: [0; 32],
-            pc: 0x1_0000,
+            pc: CODE_AT,
             code: image.code.as_slice().to_vec(alloc)?,
             statics: image.statics.as_slice().to_vec(alloc)?,
             heap: vec![in alloc; 0; image.heap as usize]?,
@@ -170,7 +170,7 @@ pub fn step(m: &mut Machine) -> Stepped
     ensures { StepIs m.old result m.new }
 {
     let pc = m.pc;
-    let word = match part(CODE_AT, &m.code, pc as usize, 4) {
+    let word = match part(CODE_AT as usize, &m.code, pc as usize, 4) {
         Some(bytes) => word_at(bytes),
         None => {
             return Stepped::Fault {
@@ -226,9 +226,9 @@ impl Machine {
     {
         let (at, len) = (at as usize, len as usize);
         len == 0
-            || lies_in(STATICS_AT, self.statics.len(), at, len)
-            || lies_in(HEAP_AT, self.heap.len(), at, len)
-            || lies_in(STACK_AT, self.stack.len(), at, len)
+            || lies_in(STATICS_AT as usize, self.statics.len(), at, len)
+            || lies_in(HEAP_AT as usize, self.heap.len(), at, len)
+            || lies_in(STACK_AT as usize, self.stack.len(), at, len)
     }
 
     /// Puts bytes into a range.
@@ -241,12 +241,12 @@ impl Machine {
         if len == 0 {
             return;
         }
-        if lies_in(STATICS_AT, self.statics.len(), at, len) {
-            put(&mut self.statics, at - STATICS_AT, bytes);
-        } else if lies_in(HEAP_AT, self.heap.len(), at, len) {
-            put(&mut self.heap, at - HEAP_AT, bytes);
+        if lies_in(STATICS_AT as usize, self.statics.len(), at, len) {
+            put(&mut self.statics, at - STATICS_AT as usize, bytes);
+        } else if lies_in(HEAP_AT as usize, self.heap.len(), at, len) {
+            put(&mut self.heap, at - HEAP_AT as usize, bytes);
         } else {
-            put(&mut self.stack, at - STACK_AT, bytes);
+            put(&mut self.stack, at - STACK_AT as usize, bytes);
         }
     }
 }
