@@ -1,8 +1,6 @@
 -- Calls of the environment: a write of bytes that may be loaded, and an exit.
-use Rattle.std.proofs.Common.{◌≡◌, ℕ, ◌+◌, ◌-◌, ◌%◌, ◌^◌, ◌<◌, ◌≤◌, List, [], ◌∷◌, ◌++◌, length, take, drop, Some, None, true, false, refl, ap, ◌∙◌, arith, append-nil, length-append}
-use Rattle.std.specs.Prelude.{nat_le, ◌==◌, if◌then◌else◌}
-use Rattle.std.proofs.lemmas.Bool.{le-leb, lt-leb, and_from, and_right, ne_eqb, cond-true, cond-false}
-use Rattle.std.proofs.Math.Seq.{drop-append_seam, take-append_seam}
+use Rattle.std.proofs.Common.{◌≡◌, ℕ, ◌+◌, ◌%◌, ◌^◌, List, [], ◌∷◌, ◌++◌, Some, refl, ap, ◌∙◌, arith, append-nil}
+use Rattle.std.specs.Prelude.{◌==◌, if◌then◌else◌}
 use Rattle.arc_base.specs.declared.outside.Stream.{Stream}
 use Rattle.arc_base.specs.Event.{Event, writes}
 use Rattle.arc_base.specs.Stepping.{Goes, Ends}
@@ -12,9 +10,7 @@ use Rattle.rv32_isa.specs.declared.instr.Instr.{Instr}
 use Rattle.rv32_isa.specs.declared.instr.Instr.TheVariants.{Ecall}
 use Rattle.rv32_isa.specs.declared.image.HookAt.{HookAt}
 use Rattle.rv32_isa.specs.declared.machine.FaultKind.TheVariants.{BadCall}
-use Rattle.rv32_isa.specs.Hooks.{code_at}
-use Rattle.rv32_isa.specs.Image.{statics_at, heap_at, stack_at}
-use Rattle.rv32_isa.specs.State.{State, reg, lies_in, part, part_of, or_else, readable}
+use Rattle.rv32_isa.specs.State.{State, reg, readable}
 use Rattle.rv32_isa.specs.Steps as leads
 use Rattle.rv32_isa.specs.Machine.{Call, Answers, Exits, Fails, Run, answered, stream_of, write_bytes, write_call, read_call, call, arrival, called, shows, step}
 use Rattle.rv32_isa.proofs.Fetch.{Before, before_next, obeyed}
@@ -64,26 +60,3 @@ module _ (hooks : List HookAt) (c : ℕ) where
       let did : step hooks r ≡ shows hooks (called r.state (call r.state r.input)) = obeyed hooks r off Ecall is leads.Calls h refl in
       let ends : step hooks r ≡ Ends [] 1 status [] = did ∙ ap (λ x. shows hooks (called r.state x)) (exit_is r.state r.input status number status_is) in
       line_halts (step hooks) c 1 r [] 1 status [] a a ends (append-nil a.out) (omega arith)
-
--- ---- bytes that stand in the data
-
-pub statics_read : (s : State) (pre bytes post : List ℕ) → s.statics ≡ pre ++ (bytes ++ post) → 0 < length bytes → length s.code ≤ 524288 → readable s (statics_at + length pre) (length bytes) ≡ Some bytes
-statics_read s pre bytes post stand some small =
-    let at = statics_at + length pre in
-    let size = length bytes in
-    let total : length s.statics ≡ length pre + (length bytes + length post) = ap length stand ∙ length-append pre (bytes ++ post) ∙ ap (λ n. length pre + n) (length-append bytes post) in
-    let not_code : lies_in code_at s.code at size ≡ false = and_right (nat_le code_at at) (nat_le (at + size) (code_at + length s.code)) (lt-leb (at + size) (code_at + length s.code) (omega arith)) in
-    let inside : lies_in statics_at s.statics at size ≡ true = and_from _ _ (le-leb statics_at at (omega arith)) (le-leb (at + size) (statics_at + length s.statics) (omega arith)) in
-    let others = or_else (part_of heap_at s.heap at size) (part_of stack_at s.stack at size) in
-    let off : at - statics_at ≡ length pre = omega arith in
-    let cut : part statics_at s.statics at size ≡ bytes =
-    ap (λ n. take size (drop n s.statics)) off
-    ∙ ap (λ l. take size (drop (length pre) l)) stand
-    ∙ ap (take size) (drop-append_seam pre (bytes ++ post))
-    ∙ take-append_seam bytes post in
-    let not_none : (size == 0) ≡ false = ne_eqb size 0 (λ e. omega arith) in
-    let first : part_of code_at s.code at size ≡ None = cond-false (lies_in code_at s.code at size) (Some (part code_at s.code at size)) None not_code in
-    let second : part_of statics_at s.statics at size ≡ Some bytes = cond-true (lies_in statics_at s.statics at size) (Some (part statics_at s.statics at size)) None inside ∙ ap Some cut in
-    cond-false (size == 0) (Some []) (or_else (part_of code_at s.code at size) (or_else (part_of statics_at s.statics at size) others)) not_none
-    ∙ ap (λ o. or_else o (or_else (part_of statics_at s.statics at size) others)) first
-    ∙ ap (λ o. or_else o others) second
