@@ -2,27 +2,27 @@
 use Rattle.std.proofs.Common.{◌≡◌, ℕ, ◌+◌, ◌*◌, ◌%◌, ◌≤◌, List, [], ◌∷◌, ◌++◌, length, ap, ◌∙◌, arith, length-append}
 use Rattle.nim_core.specs.Program.{Stmt, Echo}
 use Rattle.nim_core.specs.Meaning.{line_of}
+use Rattle.rv32_isa.specs.declared.instr.Instr.TheVariants.{Ecall}
 use Rattle.rv32_isa.specs.Image.{Image, statics_at}
 use Rattle.rv32_isa.proofs.Words.{length-code}
-use Rattle.arc_top.specs.Code.{code_bytes, texts, stmts_code}
+use Rattle.arc_top.specs.Code.{code_bytes, exit_code, texts, stmts_code, program_code}
 use Rattle.arc_top.proofs.Runs.{IsImageOf}
 
--- seven instructions for each statement, and three for the end
-code_length : (stmts : List Stmt) (at : ℕ) → length (stmts_code stmts at) ≤ 3 + 7 * length (texts stmts)
-code_length [] at = omega arith
-code_length (Echo text ∷ stmts) at =
-    let h = code_length stmts (at + length (line_of text)) in
+-- seven instructions for each statement, and three for the exit
+stmts_length : (stmts : List Stmt) (at : ℕ) → length (stmts_code stmts at) ≤ 7 * length (texts stmts)
+stmts_length [] at = omega arith
+stmts_length (Echo text ∷ stmts) at =
+    let h = stmts_length stmts (at + length (line_of text)) in
     let e = length-append (line_of text) (texts stmts) in
     let f = length-append text (10 ∷ []) in
     omega arith
 
-code_some : (stmts : List Stmt) (at : ℕ) → 1 ≤ length (stmts_code stmts at)
-code_some [] at = omega arith
-code_some (Echo text ∷ stmts) at = omega arith
+code_length : (stmts : List Stmt) → length (program_code stmts) ≡ length (stmts_code stmts statics_at) + 3
+code_length stmts = length-append (stmts_code stmts statics_at) (exit_code ++ Ecall ∷ [])
 
 -- what the parts of an image are made of: code and texts, and zeros behind these
 pub record IsMade (stmts : List Stmt) (code statics : List ℕ) : Type 0 where
-  pub code_is : code ≡ code_bytes (stmts_code stmts statics_at)
+  pub code_is : code ≡ code_bytes (program_code stmts)
   pub padded : (zeros : List ℕ) × (statics ≡ texts stmts ++ zeros) × (length statics % 4 ≡ 0) × (length statics ≤ length (texts stmts) + 3)
 
 -- the sizes of such parts
@@ -35,9 +35,9 @@ pub record HasSizes (code statics : List ℕ) : Type 0 where
 
 pub made_sizes : (stmts : List Stmt) (code statics : List ℕ) → length (texts stmts) ≤ 4096 → IsMade stmts code statics → HasSizes code statics
 made_sizes stmts code statics small made =
-    let four : length code ≡ 4 * length (stmts_code stmts statics_at) = ap length made.code_is ∙ length-code (stmts_code stmts statics_at) in
-    let few = code_length stmts statics_at in
-    let some = code_some stmts statics_at in
+    let four : length code ≡ 4 * length (program_code stmts) = ap length made.code_is ∙ length-code (program_code stmts) in
+    let few = stmts_length stmts statics_at in
+    let all = code_length stmts in
     record {
       code_whole = omega arith;
       code_least = omega arith;

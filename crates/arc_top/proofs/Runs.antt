@@ -4,21 +4,23 @@ use Rattle.arc_base.specs.declared.outside.Stream.TheVariants.{Out}
 use Rattle.arc_base.specs.Event.{Event, writes}
 use Rattle.arc_base.specs.Behaviour.{Agrees}
 use Rattle.arc_base.specs.BigStep.{Meter, ticked, told}
-use Rattle.arc_base.proofs.Follows.{Comes, Halts, Follows, WillEnd, comes_on, comes_halts, follows_paid, follows_then, follows_here, agrees_by_units}
+use Rattle.arc_base.proofs.Follows.{Comes, Halts, Follows, WillEnd, comes_refl, comes_on, comes_halts, follows_paid, follows_then, follows_map, follows_here, agrees_by_units}
 use Rattle.nim_core.specs.declared.plan.Plan.{Plan}
 use Rattle.nim_core.specs.Program.{Stmt, Echo, Program}
 use Rattle.nim_core.specs.Meaning.{line_of, exec, exec_all, meaning}
 use Rattle.nim_core.proofs.Ends.{meaning_sound}
 use Rattle.rv32_isa.specs.declared.image.HookAt.{HookAt}
+use Rattle.rv32_isa.specs.declared.instr.Instr.{Instr}
 use Rattle.rv32_isa.specs.declared.instr.Instr.TheVariants.{Ecall}
 use Rattle.rv32_isa.specs.Image.{Image, statics_at}
 use Rattle.rv32_isa.specs.State.{State, first_state, reg, readable}
 use Rattle.rv32_isa.specs.Machine.{Run, arrival, answered, stream_of, step, start, machine}
-use Rattle.rv32_isa.proofs.Fetch.{AllInRange, Stands, stands_all, Before}
+use Rattle.rv32_isa.proofs.Fetch.{AllInRange, all_in_range-append, Stands, stands_all, Before}
 use Rattle.rv32_isa.proofs.Registers.{IsRegs, put, put_regs, put_same, put_other}
 use Rattle.rv32_isa.proofs.Straight.{regs_after, onto, after_plain, before_rest, plain_run, constant_regs, constant_same, constant_other}
-use Rattle.rv32_isa.proofs.Calls.{AsksWrite, write_run, before_answered, exit_run, statics_read}
-use Rattle.arc_top.specs.Code.{code_bytes, load_code, write_code, exit_code, text_of, texts, stmt_code, stmts_code}
+use Rattle.rv32_isa.proofs.Calls.{AsksWrite, write_run, before_answered, exit_run}
+use Rattle.rv32_isa.proofs.Data.{Holds, holds_front, holds_back, holds_within, holds_read}
+use Rattle.arc_top.specs.Code.{code_bytes, load_code, write_code, exit_code, text_of, texts, stmt_code, stmts_code, program_code}
 
 -- ---- the arguments of calls
 
@@ -73,12 +75,11 @@ exit_regs regs h =
 
 -- ---- statements
 
--- the machine is before the code of these statements, whose texts stand in its data between pre and post
-pub record IsReady (r : Run) (off : ℕ) (pre : List ℕ) (stmts : List Stmt) (post : List ℕ) : Type 0 where
-  pub before : Before r.state off (stmts_code stmts (statics_at + length pre))
+-- the machine is before these instructions, and has the image's data
+pub record IsReady (statics : List ℕ) (r : Run) (off : ℕ) (is : List Instr) : Type 0 where
+  pub before : Before r.state off is
   pub regs : IsRegs r.state.regs
-  pub data_is : r.state.statics ≡ pre ++ (texts stmts ++ post)
-  pub data_small : length r.state.statics ≤ 1048576
+  pub data_is : r.state.statics ≡ statics
 
 abbrev same : Meter Event → Meter Event
 same meter = meter
@@ -87,97 +88,116 @@ same meter = meter
 abbrev pace : ℕ
 pace = 7
 
--- the instructions of the end
+-- the instructions of the exit
 abbrev last : ℕ
 last = 3
 
-module _ (hooks : List HookAt) (none_begins : (pc : ℕ) → arrival hooks pc ≡ []) where
-  -- the machine is before the statements that follow
-  abbrev Next : (stmt : Stmt) (stmts : List Stmt) (off : ℕ) (pre post : List ℕ) → Unit {0} → Meter Event → Run → Type 0
-  Next stmt stmts off pre post answer meter s = IsReady s (off + 4 * length (stmt_code stmt (statics_at + length pre))) (pre ++ text_of stmt) stmts post
+module _ (hooks : List HookAt) (none_begins : (pc : ℕ) → arrival hooks pc ≡ []) (statics : List ℕ) (data_small : length statics ≤ 1048576) where
+  -- the machine is behind code from an offset on, and before the rest
+  abbrev Behind : (off : ℕ) (code rest : List Instr) → Unit {0} → Meter Event → Run → Type 0
+  Behind off code rest answer meter s = IsReady statics s (off + 4 * length code) rest
 
-  -- what a statement's code does
+  -- what the code of a statement does, whose text stands at an address
   abbrev StmtFollows : Stmt → Type 0
-  StmtFollows stmt = (stmts : List Stmt) (r : Run) (off : ℕ) (pre post : List ℕ) (a : Meter Event) → IsReady r off pre (stmt ∷ stmts) post → Follows (step hooks) pace same (Next stmt stmts off pre post) 0 r a (exec stmt a)
+  StmtFollows stmt = (at : ℕ) (rest : List Instr) (r : Run) (off : ℕ) (a : Meter Event) → Holds statics at (text_of stmt) → IsReady statics r off (stmt_code stmt at ++ rest) → Follows (step hooks) pace same (Behind off (stmt_code stmt at) rest) 0 r a (exec stmt a)
 
   echo_follows : (text : List ℕ) → StmtFollows (Echo text)
-  echo_follows text stmts r off pre post a h =
-      let at = statics_at + length pre in
+  echo_follows text at rest r off a text_in h =
       let bytes = line_of text in
-      let code = write_code at (length text + 1) in
-      let rest = stmts_code stmts (at + length bytes) in
-      let after = texts stmts ++ post in
-      let long : length bytes ≡ length text + 1 = length-append text (10 ∷ []) in
-      let data_is : r.state.statics ≡ pre ++ (bytes ++ after) = h.data_is ∙ ap (λ l. pre ++ l) (append_assoc bytes (texts stmts) post) in
-      let data_long : length r.state.statics ≡ length pre + (length bytes + length after) = ap length data_is ∙ length-append pre (bytes ++ after) ∙ ap (λ n. length pre + n) (length-append bytes after) in
+      let size = length text + 1 in
+      let code = write_code at size in
+      let long : length bytes ≡ size = length-append text (10 ∷ []) in
+      let within = holds_within statics at bytes text_in in
       let b = ticked a in
       let t = after_plain code r.state off in
       let before_call : Before t (off + 4 * 6) (Ecall ∷ rest) = before_rest r.state off code (Ecall ∷ rest) h.before in
       let arguments : Comes (step hooks) pace 6 r b (onto r t) b = plain_run hooks pace code (Ecall ∷ rest) r off b (tt, (tt, (tt, (tt, (tt, (tt, tt)))))) h.before (λ pc _ _. none_begins pc) in
-      let has = write_regs r.state.regs at (length text + 1) (omega (arith, h.data_small)) (omega (arith, h.data_small)) h.regs in
-      let read : readable t at (length text + 1) ≡ Some bytes = ap (readable t at) (sym long) ∙ statics_read t pre bytes after data_is (omega arith) h.before.small in
-      let writing = write_run hooks pace (onto r t) (off + 4 * 6) rest Out bytes b before_call (asks_write t at (length text + 1) bytes has read) (none_begins _) in
+      let has = write_regs r.state.regs at size (omega arith) (omega arith) h.regs in
+      let read : readable t at size ≡ Some bytes = ap (readable t at) (sym long) ∙ holds_read t statics at bytes h.data_is text_in (omega arith) h.before.small in
+      let writing = write_run hooks pace (onto r t) (off + 4 * 6) rest Out bytes b before_call (asks_write t at size bytes has read) (none_begins _) in
       let s = onto r (answered t (reg t 12)) in
       let d = told (writes Out bytes) b in
       let both : Comes (step hooks) pace (6 + 1) r b s d = comes_on (step hooks) pace 6 1 r (onto r t) s b b d arguments writing in
-      let pre_long : at + length bytes ≡ statics_at + length (pre ++ bytes) = omega (arith, length-append pre bytes) in
       let off_is : off + 4 * 6 + 4 ≡ off + 4 * 7 = omega arith in
-      let ready : IsReady s (off + 4 * 7) (pre ++ bytes) stmts post = record {
-        before = subst (λ n. Before s.state n (stmts_code stmts (statics_at + length (pre ++ bytes)))) off_is (subst (λ n. Before s.state (off + 4 * 6 + 4) (stmts_code stmts n)) pre_long (before_answered t (reg t 12) (off + 4 * 6) rest before_call));
+      let ready : IsReady statics s (off + 4 * 7) rest = record {
+        before = subst (λ n. Before s.state n rest) off_is (before_answered t (reg t 12) (off + 4 * 6) rest before_call);
         regs = put_regs t.regs 10 (reg t 12) has.good;
-        data_is = data_is ∙ sym (append_assoc pre bytes after);
-        data_small = h.data_small;
+        data_is = h.data_is;
       } in
-      follows_paid (step hooks) pace same (Next (Echo text) stmts off pre post) (6 + 1) 0 r a b (exec (Echo text) a) refl refl (omega arith) (s, both, ready)
+      follows_paid (step hooks) pace same (Behind off (stmt_code (Echo text) at) rest) (6 + 1) 0 r a b (exec (Echo text) a) refl refl (omega arith) (s, both, ready)
 
   stmt_follows : (stmt : Stmt) → StmtFollows stmt
   stmt_follows (Echo text) = echo_follows text
+
+  pub stmts_follow : (stmts : List Stmt) (at : ℕ) (rest : List Instr) (r : Run) (off : ℕ) (a : Meter Event) → Holds statics at (texts stmts) → IsReady statics r off (stmts_code stmts at ++ rest) → Follows (step hooks) pace same (Behind off (stmts_code stmts at) rest) 0 r a (exec_all stmts a)
+  stmts_follow [] at rest r off a texts_in h =
+      let e : off ≡ off + 4 * 0 = omega arith in
+      follows_here (step hooks) pace same (Behind off [] rest) r tt a (subst (λ n. IsReady statics r n rest) e h)
+  stmts_follow (stmt ∷ stmts) at rest r off a texts_in h =
+      let first = stmt_code stmt at in
+      let next = at + length (text_of stmt) in
+      let others = stmts_code stmts next in
+      let off_is : off + 4 * length first + 4 * length others ≡ off + 4 * length (first ++ others) = omega (arith, length-append first others) in
+      let text_in = holds_front statics at (text_of stmt) (texts stmts) texts_in in
+      let others_in = holds_back statics at (text_of stmt) (texts stmts) texts_in in
+      let one = stmt_follows stmt at (others ++ rest) r off a text_in (subst (IsReady statics r off) (append_assoc first others rest) h) in
+      subst (λ n. Follows (step hooks) pace same (λ _ _ s. IsReady statics s n rest) 0 r a (exec_all (stmt ∷ stmts) a)) off_is
+      (
+      follows_then (step hooks) pace same (Behind off first (others ++ rest)) (Behind (off + 4 * length first) others rest) 0 0 r a (exec stmt a) (λ _ b. exec_all stmts b) one
+      (λ _ b s _ ready. stmts_follow stmts next rest s (off + 4 * length first) b others_in ready)
+      )
 
   -- where the meaning has answered, the machine exits with status 0
   abbrev Done : Unit {0} → Meter Event → Run → Type 0
   Done = WillEnd (step hooks) pace same (λ _. 0) (λ _. []) last
 
-  end_halts : (r : Run) (off : ℕ) (pre post : List ℕ) (a : Meter Event) → IsReady r off pre [] post → Done tt a r
-  end_halts r off pre post a h =
+  exit_halts : (r : Run) (off : ℕ) (a : Meter Event) → IsReady statics r off (exit_code ++ Ecall ∷ []) → Done tt a r
+  exit_halts r off a h =
       let t = after_plain exit_code r.state off in
       let arguments : Comes (step hooks) pace 2 r a (onto r t) a = plain_run hooks pace exit_code (Ecall ∷ []) r off a (tt, (tt, tt)) h.before (λ pc _ _. none_begins pc) in
       let has = exit_regs r.state.regs h.regs in
       let exiting : Halts (step hooks) pace 1 (onto r t) a 0 [] a = exit_run hooks pace (onto r t) (off + 4 * 2) [] 0 a (before_rest r.state off exit_code (Ecall ∷ []) h.before) has.number (ap (λ n. n % 256) has.status) in
       comes_halts (step hooks) pace 2 1 r (onto r t) a a a 0 [] arguments exiting
 
-  pub stmts_follow : (stmts : List Stmt) (r : Run) (off : ℕ) (pre post : List ℕ) (a : Meter Event) → IsReady r off pre stmts post → Follows (step hooks) pace same Done 0 r a (exec_all stmts a)
-  stmts_follow [] r off pre post a h = follows_here (step hooks) pace same Done r tt a (end_halts r off pre post a h)
-  stmts_follow (stmt ∷ stmts) r off pre post a h =
-      follows_then (step hooks) pace same (Next stmt stmts off pre post) Done 0 0 r a (exec stmt a) (λ _ b. exec_all stmts b) (stmt_follows stmt stmts r off pre post a h)
-      (λ _ b s _ ready. stmts_follow stmts s (off + 4 * length (stmt_code stmt (statics_at + length pre))) (pre ++ text_of stmt) post b ready)
+  pub program_follows : (stmts : List Stmt) (r : Run) (a : Meter Event) → Holds statics statics_at (texts stmts) → IsReady statics r 0 (program_code stmts) → Follows (step hooks) pace same Done 0 r a (exec_all stmts a)
+  program_follows stmts r a texts_in h =
+      let code = stmts_code stmts statics_at in
+      let exit = exit_code ++ Ecall ∷ [] in
+      follows_map (step hooks) pace same (Behind 0 code exit) Done 0 0 r a (exec_all stmts a) (stmts_follow stmts statics_at exit r 0 a texts_in h)
+      (λ _ b s ready. (s, comes_refl (step hooks) pace s b, exit_halts s (0 + 4 * length code) b ready))
 
 -- ---- the image
 
-in_range : (stmts : List Stmt) (at : ℕ) → at + length (texts stmts) < 2 ^ 31 → AllInRange (stmts_code stmts at)
-in_range [] at fits = ((omega arith, omega arith, omega arith), ((omega arith, omega arith, omega arith), (tt, tt)))
-in_range (Echo text ∷ stmts) at fits =
+stmts_in_range : (stmts : List Stmt) (at : ℕ) → at + length (texts stmts) < 2 ^ 31 → AllInRange (stmts_code stmts at)
+stmts_in_range [] at fits = tt
+stmts_in_range (Echo text ∷ stmts) at fits =
     let long : length (texts (Echo text ∷ stmts)) ≡ length text + 1 + length (texts stmts) = length-append (line_of text) (texts stmts) ∙ ap (λ n. n + length (texts stmts)) (length-append text (10 ∷ [])) in
-    ((omega arith, omega arith, omega arith), ((omega arith, omega arith), ((omega arith, omega arith, omega arith), ((omega arith, omega arith), ((omega arith, omega arith, omega arith), ((omega arith, omega arith, omega arith), (tt, in_range stmts (at + length (line_of text)) (omega (arith, length-append text (10 ∷ []))))))))))
+    ((omega arith, omega arith, omega arith), ((omega arith, omega arith), ((omega arith, omega arith, omega arith), ((omega arith, omega arith), ((omega arith, omega arith, omega arith), ((omega arith, omega arith, omega arith), (tt, stmts_in_range stmts (at + length (line_of text)) (omega (arith, length-append text (10 ∷ []))))))))))
+
+exit_in_range : AllInRange (exit_code ++ Ecall ∷ [])
+exit_in_range = ((omega arith, omega arith, omega arith), ((omega arith, omega arith, omega arith), (tt, tt)))
 
 -- the image of statements
 pub record IsImageOf (stmts : List Stmt) (image : Image) : Type 0 where
-  pub code : image.code ≡ code_bytes (stmts_code stmts statics_at)
+  pub code : image.code ≡ code_bytes (program_code stmts)
   pub padding : List ℕ
   pub data_is : image.statics ≡ texts stmts ++ padding
   pub hooks : image.hooks ≡ []
   pub code_small : length image.code ≤ 524288
   pub data_small : length image.statics ≤ 1048576
 
-image_ready : (stmts : List Stmt) (image : Image) (input : List ℕ) → (is : IsImageOf stmts image) → IsReady (start image input) 0 [] stmts is.padding
+image_holds : (stmts : List Stmt) (image : Image) → IsImageOf stmts image → Holds image.statics statics_at (texts stmts)
+image_holds stmts image is = record { pre = []; post = is.padding; data_is = is.data_is; at_is = refl }
+
+image_ready : (stmts : List Stmt) (image : Image) (input : List ℕ) → IsImageOf stmts image → IsReady image.statics (start image input) 0 (program_code stmts)
 unfolding first_state
 image_ready stmts image input is =
     let total : length image.statics ≡ length (texts stmts) + length is.padding = ap length is.data_is ∙ length-append (texts stmts) is.padding in
-    let stands = stands_all (stmts_code stmts statics_at) (in_range stmts statics_at (omega (arith, total, is.data_small))) in
+    let fits = all_in_range-append (stmts_code stmts statics_at) (exit_code ++ Ecall ∷ []) (stmts_in_range stmts statics_at (omega (arith, total, is.data_small))) exit_in_range in
     record {
-      before = record { place = omega arith; code = subst (λ c. Stands c 0 (stmts_code stmts statics_at)) (sym is.code) stands; small = is.code_small };
+      before = record { place = omega arith; code = subst (λ c. Stands c 0 (program_code stmts)) (sym is.code) (stands_all (program_code stmts) fits); small = is.code_small };
       regs = record { all = refl; none = refl };
-      data_is = is.data_is;
-      data_small = is.data_small;
+      data_is = refl;
     }
 
 -- the image of a program, on any input, agrees with what the program means under any plan and heap
@@ -185,4 +205,4 @@ pub image_agrees : (program : Program) (image : Image) → IsImageOf program.sta
 image_agrees program image is plan heap input =
     let none_begins = λ (pc : ℕ). ap (λ hooks. arrival hooks pc) is.hooks in
     agrees_by_units (step image.hooks) pace 0 last same (λ _. 0) (λ _. []) (start image input) (λ n. exec_all program.start (record { units = n; out = []; work = 0 })) (meaning_sound program plan heap input)
-    (λ n. stmts_follow image.hooks none_begins program.start (start image input) 0 [] is.padding (record { units = n; out = []; work = 0 }) (image_ready program.start image input is))
+    (λ n. program_follows image.hooks none_begins image.statics is.data_small program.start (start image input) (record { units = n; out = []; work = 0 }) (image_holds program.start image is) (image_ready program.start image input is))

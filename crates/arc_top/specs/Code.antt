@@ -7,6 +7,7 @@ use Rattle.rv32_isa.specs.declared.instr.Instr.{Instr}
 use Rattle.rv32_isa.specs.declared.instr.Instr.TheVariants.{Lui, Addi, Ecall}
 use Rattle.rv32_isa.specs.Words.{word_bytes}
 use Rattle.rv32_isa.specs.Row.{word_of}
+use Rattle.rv32_isa.specs.Image.{statics_at}
 
 -- the bytes of instructions
 abbrev pub code_bytes : List Instr → List ℕ
@@ -37,7 +38,11 @@ texts (stmt ∷ stmts) = text_of stmt ++ texts stmts
 abbrev pub stmt_code : Stmt → ℕ → List Instr
 stmt_code (Echo text) at = write_code at (length text + 1) ++ Ecall ∷ []
 
--- the code of statements whose texts stand at an address, and of the end
+-- the code of statements whose texts stand from an address on
 abbrev pub stmts_code : List Stmt → ℕ → List Instr
-stmts_code [] at = exit_code ++ Ecall ∷ []
+stmts_code [] at = []
 stmts_code (stmt ∷ stmts) at = stmt_code stmt at ++ stmts_code stmts (at + length (text_of stmt))
+
+-- the code of a program: its statements, whose texts stand from the start of the data on, and the exit
+abbrev pub program_code : List Stmt → List Instr
+program_code stmts = stmts_code stmts statics_at ++ (exit_code ++ Ecall ∷ [])

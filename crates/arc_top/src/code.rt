@@ -125,7 +125,7 @@ fn emit_stmt(code: &mut Bytes, statics: &mut Bytes, stmt: &Stmt) -> Result<(), M
 
 fn emit_stmts(code: &mut Bytes, statics: &mut Bytes, stmts: &[Stmt]) -> Result<(), Memory>
     requires { length statics.old + length (texts (map stmt_of stmts.now)) ≤ 2 ^ 20 }
-    ensures code { OnOk result (code.new ++ code_bytes (stmts_code [] 0) ≡ code.old ++ code_bytes (stmts_code (map stmt_of stmts.now) (0x100000 + length statics.old))) }
+    ensures code { OnOk result (code.new ≡ code.old ++ code_bytes (stmts_code (map stmt_of stmts.now) (0x100000 + length statics.old))) }
     ensures statics { OnOk result (statics.new ≡ statics.old ++ texts (map stmt_of stmts.now)) }
 {
     for stmt in stmts {

@@ -41,6 +41,10 @@ abbrev pub AllInRange : List Instr → Type 0
 AllInRange [] = Unit {0}
 AllInRange (i ∷ is) = IsInRange i × AllInRange is
 
+pub all_in_range-append : (a b : List Instr) → AllInRange a → AllInRange b → AllInRange (a ++ b)
+all_in_range-append [] b h g = g
+all_in_range-append (i ∷ a) b h g = (h.0, all_in_range-append a b h.1 g)
+
 stands_after : (pre : List ℕ) (is : List Instr) → AllInRange is → Stands (pre ++ flat_map bytes_of is) (length pre) is
 stands_after pre [] h = tt
 stands_after pre (i ∷ is) h =

@@ -3,3 +3,4 @@ pub mod Fetch
 pub mod Registers
 pub mod Straight
 pub mod Calls
+pub mod Data
