@@ -7,5 +7,4 @@ ghost use Rattle.rv32_isa.specs.Machine.{machine};
 /// What a machine has shown only grows, and an end stays.
 pub fn machines()
     ensures steady { (image : Image) (input : List ℕ) → Steady (machine image input) }
-{
-}
+{}
