@@ -1,10 +1,10 @@
 -- Each meaning is at its end from the first unit on.
-use Rattle.std.proofs.Common.{◌≡◌, ◌≢◌, ℕ, suc, ◌+◌, ◌≤◌, List, [], ◌∷◌, ◌++◌, refl, sym, ap, ◌∙◌, subst, append-nil, length, arith}
+use Rattle.std.proofs.Common.{◌≡◌, ◌≢◌, ℕ, suc, ◌+◌, List, [], ◌∷◌, ◌++◌, sym, ap, ◌∙◌, append-nil, length, arith}
 use Rattle.arc_base.specs.Event.{Event, writes}
 use Rattle.arc_base.specs.declared.outside.Stream.TheVariants.{Out}
-use Rattle.arc_base.specs.Behaviour.{Phase, Ended, Faulted, Wrong, Seen, Steady, Sound}
+use Rattle.arc_base.specs.Behaviour.{Phase, Ended, Faulted, Wrong, Steady, Sound}
 use Rattle.arc_base.specs.Stepping.{seen}
-use Rattle.arc_base.specs.BigStep.{Meter, Res, Got, seen_of}
+use Rattle.arc_base.specs.BigStep.{Got, seen_of}
 use Rattle.nim_core.specs.declared.plan.Plan.{Plan}
 use Rattle.nim_core.specs.Program.{Stmt, Echo, Program}
 use Rattle.nim_core.specs.Meaning.{exec_all, line_of, meaning}

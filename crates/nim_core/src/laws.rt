@@ -9,5 +9,4 @@ ghost use Rattle.nim_core.specs.Meaning.{meaning};
 pub fn meanings()
     ensures steady { (program : Program) (plan : Plan) (heap : ℕ) (input : List ℕ) → Steady (meaning program plan heap input) }
     ensures sound { (program : Program) (plan : Plan) (heap : ℕ) (input : List ℕ) → Sound (meaning program plan heap input) }
-{
-}
+{}
