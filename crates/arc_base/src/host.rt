@@ -1,6 +1,5 @@
 // The real files and streams. They tell nothing of content, and count their faults.
-ghost use Rattle.std.specs.Prelude.{None, [], ℕ, ◌≡◌, ◌≤◌, ◌+◌, IfOk, length};
-ghost use Rattle.std.specs.Prelude.{false};
+ghost use Rattle.std.specs.Prelude.{None, false, [], ℕ, ◌≡◌, ◌≤◌, ◌+◌, IfOk, length};
 ghost use Rattle.arc_base.specs.Outside.{IsWithin};
 
 use crate::bytes::Bytes;
@@ -110,7 +109,9 @@ impl<'a, R: rt::Files> Files for HostFiles<'a, R> {
     }
 }
 
-/// A source over a reader of std. Once it has answered the end it does so again.
+/// A source over a reader of std, which contracts see by its end and its count of faults.
+///
+/// Once it has answered the end it does so again.
 #[derive(Drop)]
 pub struct HostSource<R: Read + Drop> {
     reader: R,

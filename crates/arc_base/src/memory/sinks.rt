@@ -76,7 +76,7 @@ impl Model for SureSink {
 }
 
 impl SureSink {
-    /// A sink with room for so many bytes.
+    /// A sink with room for so many bytes. Fails only where there is no memory for them.
     pub fn new(alloc: Global, room: usize) -> Result<Self, Memory>
         ensures { IfOk result (λ sink. sink ≡ record { room = room; kept = []; lost = false }) }
     {
@@ -134,7 +134,7 @@ impl Model for MemSink {
 }
 
 impl MemSink {
-    /// A sink with room for so many bytes, and no call so far.
+    /// A sink with room for so many bytes, and no call so far. Fails only where there is no memory for them.
     pub fn new(alloc: Global, room: usize, faults: Faults) -> Result<Self, Memory>
         ensures { IfOk result (λ sink. sink ≡ record { room = room; kept = []; calls = no_calls faults.calls.items; faults = 0 }) }
     {
