@@ -4,3 +4,4 @@ pub mod Registers
 pub mod Straight
 pub mod Calls
 pub mod Data
+pub mod Standing
