@@ -5,3 +5,4 @@ pub mod Straight
 pub mod Calls
 pub mod Data
 pub mod Standing
+pub mod Ranges

@@ -8,5 +8,5 @@ mod machine;
 
 pub use image::{CODE_AT, HEAP_AT, HookAt, Image, STACK_AT, STATICS_AT};
 pub use instr::{Instr, decode, encode};
-pub use laws::{instructions, machines};
+pub use laws::{instructions, machines, memories};
 pub use machine::{FaultKind, Machine, Stepped, step};
