@@ -4,6 +4,7 @@ ghost use Rattle.std.specs.Option.{option_copied};
 ghost use Rattle.rv32_isa.specs.Words.{little};
 ghost use Rattle.rv32_isa.specs.Image.{image_of};
 ghost use Rattle.rv32_isa.specs.State.{readable, part_of, skip, with_reg, reg, first_state, put_bytes, writable, filled};
+ghost use Rattle.rv32_isa.specs.Regions.{HasRegions};
 ghost use Rattle.rv32_isa.specs.Steps.{signed12};
 ghost use Rattle.rv32_isa.specs.Stepped.{StepIs};
 
@@ -132,8 +133,7 @@ fn word_at(bytes: &[u8]) -> u32
     requires { length bytes.now ≡ 4 }
     ensures { result ≡ little bytes.now }
 {
-    u32::from(bytes[0])
-        + 256 * (u32::from(bytes[1]) + 256 * (u32::from(bytes[2]) + 256 * u32::from(bytes[3])))
+    u32::from_le_bytes([bytes[0], bytes[1], bytes[2], bytes[3]])
 }
 
 // Twelve bits with their sign.
@@ -152,7 +152,8 @@ impl Machine {
     /// The first state of an image.
     #[tactic(auto, unfolding(crate::specs::State::first_state))]
     pub fn start(alloc: Global, image: &Image) -> Result<Machine, Memory>
-        ensures { IfOk result (λ m. m ≡ first_state (image_of image.now)) }
+        ensures first { IfOk result (λ m. m ≡ first_state (image_of image.now)) }
+        ensures regions { IfOk result HasRegions }
     {
         Ok(Machine {
             regs: [0; 32],
