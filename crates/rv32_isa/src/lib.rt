@@ -10,3 +10,6 @@ pub use image::{CODE_AT, HEAP_AT, HookAt, Image, STACK_AT, STATICS_AT};
 pub use instr::{Instr, decode, encode};
 pub use laws::{instructions, machines, memories};
 pub use machine::{FaultKind, Machine, Stepped, step};
+
+#[cfg(test)]
+mod tests;
