@@ -1,4 +1,8 @@
-//! RV32IM: instructions and their words, images, and the machine.
+//! RV32IM: instructions and their words, images, and the machine that carries them out.
+//!
+//! RISC-V unprivileged specification, "RV32I Base Integer Instruction Set".
+//!
+//! Of its instructions there are `lui`, `addi` and `ecall`; every other word is of no row.
 #![tactic(auto)]
 
 mod image;
