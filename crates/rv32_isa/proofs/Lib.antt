@@ -4,3 +4,5 @@ pub mod Registers
 pub mod Straight
 pub mod Calls
 pub mod Data
+pub mod Standing
+pub mod Ranges

@@ -1,10 +1,12 @@
 -- The bytes of instructions stand for them.
-use Rattle.std.proofs.Common.{◌≡◌, ℕ, ◌+◌, ◌*◌, ◌/◌, ◌%◌, ◌^◌, ◌<◌, List, [], ◌∷◌, length, Some, refl, ap, ◌∙◌, arith, length-append}
+use Rattle.std.proofs.Common.{◌≡◌, ℕ, ◌+◌, ◌*◌, ◌/◌, ◌%◌, ◌^◌, ◌<◌, List, [], ◌∷◌, length, Option, Some, None, refl, sym, ap, subst, ◌∙◌, arith, length-append}
+use Rattle.std.specs.Prelude.{◌==◌, if◌then◌else◌}
+use Rattle.std.proofs.lemmas.Bool.{cond_both, eqb-true}
 use Rattle.std.specs.List.{flat_map}
 use Rattle.rv32_isa.specs.declared.instr.Instr.{Instr}
 use Rattle.rv32_isa.specs.declared.instr.Instr.TheVariants.{Lui, Addi, Ecall}
 use Rattle.rv32_isa.specs.Words.{little, word_bytes}
-use Rattle.rv32_isa.specs.Row.{row, IsInRange, word_of}
+use Rattle.rv32_isa.specs.Row.{opcode, rd, funct3, rs1, imm_i, imm_u, op_imm, system, row, IsInRange, word_of}
 
 pub little-word_bytes : (n : ℕ) → n < 2 ^ 32 → little (word_bytes n) ≡ n
 unfolding word_bytes
@@ -35,6 +37,33 @@ pub word_of_fits : (i : Instr) → IsInRange i → word_of i < 2 ^ 32
 word_of_fits (Lui rd imm) h = omega arith
 word_of_fits (Addi rd rs1 imm) h = omega arith
 word_of_fits Ecall h = omega arith
+
+-- an instruction of a word is in range, and the word is its own
+abbrev IsRowOf : ℕ → Option Instr → Type 0
+IsRowOf word None = Unit {0}
+IsRowOf word (Some i) = IsInRange i × (word_of i ≡ word)
+
+row_of_lui : (word : ℕ) → word < 2 ^ 32 → opcode word ≡ 55 → IsRowOf word (Some (Lui (rd word) (imm_u word)))
+row_of_lui word h op = ((omega arith, omega arith), omega (arith, op))
+
+row_of_addi : (word : ℕ) → word < 2 ^ 32 → opcode word ≡ 19 → funct3 word ≡ 0 → IsRowOf word (Some (Addi (rd word) (rs1 word) (imm_i word)))
+row_of_addi word h op funct = ((omega arith, omega arith, omega arith), omega (arith, op, funct))
+
+row_of : (word : ℕ) → word < 2 ^ 32 → IsRowOf word (row word)
+row_of word h =
+    let lui = Some (Lui (rd word) (imm_u word)) in
+    let addi = Some (Addi (rd word) (rs1 word) (imm_i word)) in
+    let last = if opcode word == 0x73 then system word else None in
+    cond_both (opcode word == 0x37) lui (if opcode word == 0x13 then op_imm word else last) (IsRowOf word)
+    (λ e. row_of_lui word h (eqb-true _ _ e))
+    (λ _. cond_both (opcode word == 0x13) (op_imm word) last (IsRowOf word)
+    (λ e. cond_both (funct3 word == 0) addi None (IsRowOf word) (λ f. row_of_addi word h (eqb-true _ _ e) (eqb-true _ _ f)) (λ _. tt))
+    (λ _. cond_both (opcode word == 0x73) (system word) None (IsRowOf word)
+    (λ _. cond_both (word == 0x73) (Some Ecall) None (IsRowOf word) (λ e. (tt, sym (eqb-true _ _ e))) (λ _. tt))
+    (λ _. tt)))
+
+pub row-back : (word : ℕ) (i : Instr) → word < 2 ^ 32 → row word ≡ Some i → IsInRange i × (word_of i ≡ word)
+row-back word i h e = subst (IsRowOf word) e (row_of word h)
 
 -- the four bytes of an instruction
 abbrev pub bytes_of : Instr → List ℕ

@@ -6,3 +6,4 @@ pub mod State
 pub mod Steps
 pub mod Machine
 pub mod Stepped
+pub mod Regions

@@ -3,17 +3,23 @@ ghost use Rattle.std.specs.Prelude.{◌≡◌, Some, IfSome};
 ghost use Rattle.rv32_isa.specs.Row.{row, word_of, IsInRange};
 
 /// An instruction. Registers are numbers below 32, and an immediate is the number that its field of
-/// the word holds: 20 bits of `lui`, and 12 bits of `addi`, whose sign the machine extends.
+/// the word holds.
 ///
 /// RISC-V unprivileged specification, "RV32I Base Integer Instruction Set".
 #[derive(Clone, Copy, Debug, PartialEq, Eq)]
 pub enum Instr {
+    /// Puts a number below 2^20, times 4,096, into `rd`.
     Lui { rd: u32, imm: u32 },
+    /// Adds 12 bits with their sign to `rs1`, modulo 2^32, and puts the sum into `rd`.
     Addi { rd: u32, rs1: u32, imm: u32 },
+    /// Calls the environment.
     Ecall,
 }
 
-/// The word of an instruction.
+/// The word of an instruction, whose fields fit their numbers of bits: registers 5, immediates 20
+/// of `lui` and 12 of `addi`.
+///
+/// RISC-V unprivileged specification, "RV32I Base Integer Instruction Set".
 pub fn encode(i: &Instr) -> u32
     requires { IsInRange i.now }
     ensures row { row result ≡ Some i.now }
@@ -28,7 +34,9 @@ pub fn encode(i: &Instr) -> u32
     }
 }
 
-/// The instruction of a word, or none where no row of the table has it.
+/// The instruction of a word, whose fields then fit, or none where no row of the table has it.
+///
+/// RISC-V unprivileged specification, "RV32I Base Integer Instruction Set".
 pub fn decode(word: u32) -> Option<Instr>
     ensures row { result ≡ row word }
     ensures fields { IfSome result (λ i. IsInRange i) }

@@ -4,6 +4,7 @@ ghost use Rattle.std.specs.Option.{option_copied};
 ghost use Rattle.rv32_isa.specs.Words.{little};
 ghost use Rattle.rv32_isa.specs.Image.{image_of};
 ghost use Rattle.rv32_isa.specs.State.{readable, part_of, skip, with_reg, reg, first_state, put_bytes, writable, filled};
+ghost use Rattle.rv32_isa.specs.Regions.{HasRegions};
 ghost use Rattle.rv32_isa.specs.Steps.{signed12};
 ghost use Rattle.rv32_isa.specs.Stepped.{StepIs};
 
@@ -13,25 +14,36 @@ use arc_base::Memory;
 use std::alloc::Global;
 use std::marker::Model;
 
-/// Why the machine can't go on.
+/// Why a machine can't go on.
 #[derive(Clone, Copy, Debug, PartialEq, Eq)]
 pub enum FaultKind {
+    /// No row of the table has the word.
     UnknownWord,
+    /// A load, a store, a branch or a jump to an address that is not a multiple of its size.
     Misaligned,
+    /// A fetch, a load or a store outside the regions that allow it.
     OutOfRange,
+    /// A call of the environment that it does not know.
     BadCall,
+    /// `ebreak`.
     Break,
 }
 
 /// What a step did.
 #[derive(Clone, Copy, Debug, PartialEq, Eq)]
 pub enum Stepped {
+    /// The instruction was carried out.
     Went,
+    /// An `ecall` is due, and nothing changed.
     Call,
+    /// The machine can't go on, and nothing changed. `pc` is the address of the instruction, and `word`
+    /// its word, or 0 where it could not be fetched.
     Fault { kind: FaultKind, pc: u32, word: u32 },
 }
 
-/// A machine.
+/// A machine: 32 registers of 32 bits, the program counter, and the bytes of code, data, heap and stack.
+///
+/// RISC-V unprivileged specification, "RV32I Base Integer Instruction Set".
 #[derive(Drop)]
 pub struct Machine {
     regs: [u32; 32],
@@ -66,14 +78,14 @@ fn part<'a>(base: usize, region: &'a [u8], at: usize, len: usize) -> Option<&'a 
 }
 
 impl Machine {
-    /// The program counter.
+    /// The program counter: the address of the next instruction.
     pub fn pc(&self) -> u32
         ensures { result ≡ self.now.pc }
     {
         self.pc
     }
 
-    /// A register.
+    /// The value of a register, whose number is below 32. Register 0 is always 0.
     pub fn reg(&self, r: u32) -> u32
         requires { r < 32 }
         ensures { result ≡ reg self.now r }
@@ -81,7 +93,7 @@ impl Machine {
         self.regs[r as usize]
     }
 
-    /// Writes a register.
+    /// Writes a register, whose number is below 32. Register 0 stays 0.
     pub fn set_reg(&mut self, r: u32, value: u32)
         requires { r < 32 }
         ensures { self.new ≡ with_reg self.old r value }
@@ -91,14 +103,14 @@ impl Machine {
         }
     }
 
-    /// Goes past an instruction.
+    /// Goes past an instruction: the program counter goes 4 on, modulo 2^32.
     pub fn skip(&mut self)
         ensures { self.new ≡ skip self.old }
     {
         self.pc = self.pc.wrapping_add(4);
     }
 
-    /// Goes to an address, a multiple of 4.
+    /// Sets the program counter to an address, a multiple of 4. It need not lie in the code.
     pub fn set_pc(&mut self, at: u32)
         requires { at % 4 ≡ 0 }
         ensures { self.new ≡ record self.old { pc = at } }
@@ -106,7 +118,8 @@ impl Machine {
         self.pc = at;
     }
 
-    /// The bytes of a range that may be loaded: none where it is not empty and lies in no one region.
+    /// The bytes of a range that may be loaded, `len` bytes from `at` on: none exactly where it is not
+    /// empty and doesn't lie in one of the four regions.
     pub fn readable(&self, at: u32, len: u32) -> Option<&[u8]>
         ensures { option_copied result ≡ readable self.now at len }
     {
@@ -132,8 +145,7 @@ fn word_at(bytes: &[u8]) -> u32
     requires { length bytes.now ≡ 4 }
     ensures { result ≡ little bytes.now }
 {
-    u32::from(bytes[0])
-        + 256 * (u32::from(bytes[1]) + 256 * (u32::from(bytes[2]) + 256 * u32::from(bytes[3])))
+    u32::from_le_bytes([bytes[0], bytes[1], bytes[2], bytes[3]])
 }
 
 // Twelve bits with their sign.
@@ -149,10 +161,12 @@ fn with_sign(imm: u32) -> u32
 }
 
 impl Machine {
-    /// The first state of an image.
+    /// The first state of an image: registers are 0, the program counter is at the code, and heap and
+    /// stack hold zeros. The only error is that no memory was found for the regions.
     #[tactic(auto, unfolding(crate::specs::State::first_state))]
     pub fn start(alloc: Global, image: &Image) -> Result<Machine, Memory>
-        ensures { IfOk result (λ m. m ≡ first_state (image_of image.now)) }
+        ensures first { IfOk result (λ m. m ≡ first_state (image_of image.now)) }
+        ensures regions { IfOk result HasRegions }
     {
         Ok(Machine {
             regs: [0; 32],
@@ -166,6 +180,8 @@ impl Machine {
 }
 
 /// Carries out one instruction. Nothing changes where a call of the environment is due, or at a fault.
+///
+/// RISC-V unprivileged specification, "RV32I Base Integer Instruction Set".
 pub fn step(m: &mut Machine) -> Stepped
     ensures { StepIs m.old result m.new }
 {
@@ -201,6 +217,7 @@ pub fn step(m: &mut Machine) -> Stepped
     }
 }
 
+// Whether so many bytes from an address on lie in the region of that base and size.
 fn lies_in(base: usize, len: usize, at: usize, count: usize) -> bool
     requires base { base < 2 ^ 32 }
     requires len { len < 2 ^ 63 }
@@ -220,7 +237,8 @@ fn put(region: &mut [u8], at: usize, bytes: &[u8])
 }
 
 impl Machine {
-    /// Whether a range may be stored to.
+    /// Whether a range may be stored to, `len` bytes from `at` on: not so exactly where it is not empty
+    /// and doesn't lie in the data, the heap or the stack.
     pub fn is_writable(&self, at: u32, len: u32) -> bool
         ensures { result ≡ writable self.now at len }
     {
@@ -231,7 +249,7 @@ impl Machine {
             || lies_in(STACK_AT as usize, self.stack.len(), at, len)
     }
 
-    /// Puts bytes into a range.
+    /// Puts bytes into the range from `at` on, which may be stored to, and changes nothing else.
     pub fn fill(&mut self, at: u32, bytes: &[u8])
         requires { writable self.old at (length bytes.now) ≡ true }
         ensures { self.new ≡ filled self.old at bytes.now }
