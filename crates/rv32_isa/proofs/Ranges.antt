@@ -1,7 +1,7 @@
 -- Bytes that were put into a range are read back, and other ranges read as before.
-use Rattle.std.proofs.Common.{◌≡◌, ℕ, zero, suc, ◌+◌, ◌-◌, ◌%◌, ◌^◌, ◌<◌, ◌≤◌, List, [], ◌∷◌, ◌++◌, length, take, drop, Option, Some, None, Bool, true, false, ◌⊎◌, inl, inr, refl, sym, ap, subst, ◌∙◌, arith, length-append, length-take, length-drop}
+use Rattle.std.proofs.Common.{◌≡◌, ℕ, zero, suc, ◌+◌, ◌-◌, ◌<◌, ◌≤◌, List, [], ◌++◌, length, take, drop, Option, Some, None, Bool, true, false, ◌⊎◌, inl, inr, refl, sym, ap, subst, ◌∙◌, arith, length-append, length-drop}
 use Rattle.std.specs.Prelude.{nat_le, ◌==◌, ◌&&◌, ◌||◌, if◌then◌else◌}
-use Rattle.std.proofs.lemmas.Bool.{le-leb, leb-true, lt-leb, eqb-true, eq-eqb, eqb-false, ne_eqb, and_from, and_right, and_parts, cond-true, cond-false, cond_both, true≢false}
+use Rattle.std.proofs.lemmas.Bool.{le-leb, leb-true, lt-leb, eqb-true, eq-eqb, ne_eqb, and_from, and_right, and_parts, cond-true, cond-false, cond_both, true≢false}
 use Rattle.std.proofs.lemmas.List.{length-take-le, drop-take, take-append-le, drop-append-le, take-take, drop-drop, nil_from_length, length-replicate}
 use Rattle.std.proofs.lemmas.Grind.{common_steps}
 use Rattle.std.proofs.Math.Seq.{drop-append-add}
