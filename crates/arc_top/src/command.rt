@@ -25,8 +25,7 @@ pub fn read_words<'a>(words: &'a [String]) -> Option<Build<'a>>
         [command, main, out]
             if command.as_str() == "build"
                 && !is_option(main.as_str())
-                && !is_option(out.as_str()) =>
-        {
+                && !is_option(out.as_str()) => {
             Some(Build {
                 main: main.as_str(),
                 out: out.as_str(),

@@ -15,3 +15,6 @@ pub use answer::{Answer, FileName};
 pub use compiler::{NotCompiled, compile};
 pub use report::put_report;
 pub use top::nimarc;
+
+#[cfg(test)]
+mod tests;

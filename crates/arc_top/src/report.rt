@@ -53,7 +53,10 @@ fn put_line<E: Sink>(err: &mut E, main: &str, answer: &Answer) -> Result<(), Fai
 {
     match answer {
         Answer::Done => Ok(()),
-        Answer::Usage => put_pieces(err, &[b"usage: nimarc check|build|run|exec|mean|plan|gen\n"]),
+        Answer::Usage => put_pieces(
+            err,
+            &[b"usage: nimarc check|build|run|exec|mean|plan|gen\n"],
+        ),
         Answer::NoFile(name) => put_pieces(err, &[b"nimarc: no file ", name.as_bytes(), b"\n"]),
         Answer::TooLong(name) => put_pieces(err, &[b"nimarc: too long ", name.as_bytes(), b"\n"]),
         Answer::Refused { code, at } => put_refusal(err, main, *code, *at),

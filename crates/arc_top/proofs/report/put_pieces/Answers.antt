@@ -4,12 +4,14 @@ use Rattle.arc_top.proofs.report.put_pieces.Goals as goal
 
 pub returns-in_err-put_all : goal.returns-in_err-put_all
 returns-in_err-put_all g c =
-    let h = c.put_all.ensures.front in record { said = record {
-      whole = search rules;
-      same = search rules;
-      front = front_written (λ piece. piece.now) _ _ _ c.args.pieces.now c.loop-piece.piece-index h.0 _ c.loop-piece-test.true c.loop-piece.invariant.grown h.1;
-      rose = search rules;
-    } }
+    let h = c.put_all.ensures.front in record {
+      said = record {
+        whole = search rules;
+        same = search rules;
+        front = front_written (λ piece. piece.now) _ _ _ c.args.pieces.now c.loop-piece.piece-index h.0 _ c.loop-piece-test.true c.loop-piece.invariant.grown h.1;
+        rose = search rules;
+      };
+    }
 
 pub loop-piece-preserved : goal.loop-piece-preserved
 loop-piece-preserved g c = record {
