@@ -1,12 +1,12 @@
 -- The file of an image without hooks under the empty plan.
-use Rattle.std.proofs.Common.{◌≡◌, ℕ, ◌+◌, ◌<◌, ◌≤◌, List, [], ◌∷◌, ◌++◌, length, ◌⊎◌, refl, sym, ap, ◌∙◌, subst, arith}
+use Rattle.std.proofs.Common.{◌≡◌, ℕ, ◌<◌, List, [], ◌∷◌, ◌++◌, length, ◌⊎◌, refl, sym, ap, ◌∙◌, subst, arith}
 use Rattle.std.specs.Prelude.{codes, ◌^◌}
 use Rattle.std.specs.List.{AllByRecursion}
 use Rattle.nim_core.specs.declared.plan.Plan.{Plan}
 use Rattle.rv32_isa.specs.Words.{word_bytes}
 use Rattle.rv32_isa.specs.declared.image.Image.{Image as RustImage}
-use Rattle.rv32_isa.specs.Image.{Image, IsImage, image_of}
-use Rattle.arc_top.specs.Elf.{File, IsFile, Ordered, words, counted, hook_words, site_words, sink_words, skip_words, description, note}
+use Rattle.rv32_isa.specs.Image.{IsImage, image_of}
+use Rattle.arc_top.specs.Elf.{File, IsFile, Ordered, words, counted, hook_words, site_words, sink_words, skip_words, description}
 use Rattle.arc_top.specs.Top.{empty_plan}
 
 -- an image without hooks, and no plan

@@ -1,11 +1,11 @@
 -- Where it is told that there is a program, and no count rose, there is one answer, or memory was wanting.
-use Rattle.std.proofs.Common.{◌≡◌, ℕ, ◌<◌, ◌≤◌, List, length, sym, ap, ◌∙◌, subst, arith}
+use Rattle.std.proofs.Common.{◌≡◌, ℕ, List, length, sym, ap, ◌∙◌, subst, arith}
 use Rattle.std.specs.Prelude.{Option, Some, None}
 use Rattle.arc_base.specs.Outside.{Held}
 use Rattle.arc_top.specs.declared.answer.Answer.{Answer}
 use Rattle.arc_top.specs.declared.answer.Answer.TheVariants.{Done, Usage, NoFile, TooLong, Refused, ReadFault, StoreFault, Memory}
 use Rattle.arc_top.specs.Answer.{OnUsage, IfNoFile, IfTooLong, IfRefused, OnReadFault, OnStoreFault, IsDoneOrMemory}
-use Rattle.arc_top.specs.Top.{LacksFile, HasLongFile, HasRefused, HasProgram, TellsProgram, IsProgram, source_most}
+use Rattle.arc_top.specs.Top.{LacksFile, HasLongFile, HasRefused, HasProgram, TellsProgram}
 use Rattle.arc_top.proofs.Reading.{read_not_refused}
 
 -- what the answers of a build say

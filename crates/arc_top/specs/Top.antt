@@ -1,5 +1,5 @@
 -- What the top call promises.
-use Rattle.std.specs.Prelude.{◌≡◌, ◌≢◌, ◌<◌, ◌≤◌, ℕ, List, [], ◌∷◌, length, ⊤, Option, Some, None}
+use Rattle.std.specs.Prelude.{◌≡◌, ◌≢◌, ◌<◌, ◌≤◌, ℕ, List, [], length, ⊤, Option, Some, None}
 use Rattle.arc_base.specs.Behaviour.{Agrees}
 use Rattle.arc_base.specs.Outside.{Held}
 use Rattle.arc_base.specs.declared.place.Place.{Place}

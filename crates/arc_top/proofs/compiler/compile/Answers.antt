@@ -1,4 +1,4 @@
-use Rattle.std.proofs.Common.{◌≡◌, ℕ, List, refl, sym, ap, subst}
+use Rattle.std.proofs.Common.{refl, sym, subst}
 use Rattle.arc_base.specs.Behaviour.{Agrees}
 use Rattle.nim_core.specs.Program.{program_of}
 use Rattle.nim_core.specs.Meaning.{meaning}
