@@ -1,0 +1,9 @@
+pub mod Bytes
+pub mod Words
+pub mod Grammar
+pub mod Pieces
+pub mod Tokens
+pub mod Spacing
+pub mod Meaning
+pub mod Shape
+pub mod ByForm

@@ -1,0 +1,9 @@
+pub mod Standing
+pub mod Values
+pub mod Simples
+pub mod Unique
+pub mod Levels
+pub mod OnePlace
+pub mod Blocks
+pub mod Sizes
+pub mod Modules

@@ -1,0 +1,5 @@
+use Rattle.parse_stmts.proofs.Modules.{module_once}
+use Rattle.parse_stmts.proofs.tree.one_tree.Goals as goal
+
+pub returns : goal.returns
+returns c = λ x tokens t u d e. module_once d e
