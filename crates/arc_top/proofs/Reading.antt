@@ -1,106 +1,119 @@
--- Line by line through a source.
-use Rattle.std.proofs.Common.{◌≡◌, ℕ, ◌+◌, ◌<◌, ◌≤◌, List, [], ◌∷◌, ◌++◌, length, sym, ap, subst, ◌∙◌, arith, append_assoc, append-nil, length-append}
-use Rattle.std.specs.Prelude.{◌==◌, true, Result, Ok, Err, IfErr, IsErrAnd}
-use Rattle.std.proofs.lemmas.Bool.{eqb-true}
-use Rattle.std.proofs.lemmas.List.{nil_from_length}
-use Rattle.arc_base.specs.Stops.{OnRefusal}
-use Rattle.arc_base.specs.declared.place.Stop.{Stop}
-use Rattle.arc_base.specs.declared.place.Stop.TheVariants.{Refused, Memory}
+-- A source is one program at most, and never both a program and refused.
+use Rattle.std.proofs.Common.{◌≡◌, ℕ, ◌<◌, List, Ok, Err, Result, sym, ap, subst, ◌∙◌, arith}
+use mathlib.Core.Logic.{⊎_elim}
+use Rattle.std.specs.Prelude.{IfOk, IfErr}
+use Rattle.std.specs.Result.{IsErrAnd}
 use Rattle.arc_base.specs.declared.place.Place.{Place}
 use Rattle.arc_base.specs.declared.place.Code.{Code}
-use Rattle.arc_base.specs.declared.place.Code.TheVariants.{Syntax}
-use Rattle.nim_core.specs.Program.{Stmt, Program}
-use Rattle.arc_top.specs.Source.{LineGives, LinesGive, lines_of, IsOther, FirstOther, Reads, Refuses}
-use Rattle.arc_top.proofs.Lines.{lines_once, given_no_other, other_once, give_more, other_next}
+use Rattle.arc_base.specs.declared.place.Code.TheVariants as code
+use Rattle.arc_base.specs.declared.place.Stop.{Stop}
+use Rattle.arc_base.specs.declared.place.Stop.TheVariants.{Refused, Memory}
+use Rattle.arc_base.specs.Stops.{OnRefusal}
+use Rattle.indent_scanner.specs.declared.token.Token.{Token}
+use Rattle.indent_scanner.specs.Tokens.{Tokens}
+use Rattle.indent_scanner.proofs.OneReading.{once, apart}
+use Rattle.nim_tree.specs.Statements.{Statements, block_levels, term_levels}
+use Rattle.parse_stmts.specs.Parsed.{IsModule, HasTooMany, HasFew, IsRefused}
+use Rattle.parse_stmts.proofs.Modules.{module_once, module_deep}
+use Rattle.nim_core.specs.Program.{Program}
+use Rattle.arc_top.specs.declared.compiler.NotCompiled.{NotCompiled}
+use Rattle.arc_top.specs.Compile.{IsStop, IsOkOrMemory}
+use Rattle.arc_top.specs.Names.{Refusal, check, IsRefusal}
+use Rattle.arc_top.specs.Source.{main_module, IsTree, Reads, Refuses, by_bytes, by_tokens, by_names}
 
--- ---- at most one answer
+-- ---- trees
 
--- a source is at most one program
-pub reads_once : (source : List ℕ) (a b : Program) → Reads source a → Reads source b → a ≡ b
-reads_once source a b p q =
-    let made : List Stmt → Program = λ start. record { start = start } in
-    ap made (lines_once (lines_of source) a.start b.start p q)
+one_tree : (source : List ℕ) (tokens others : List Token) (tree other : Statements) → IsTree source tokens tree → IsTree source others other → tree ≡ other
+one_tree source tokens others tree other t u =
+    let same = once source others tokens u.scanned t.scanned in
+    module_once t.parsed (subst (λ l. IsModule (main_module source) l other) same u.parsed)
 
--- a source that is a program has no refusal
-pub read_not_refused : (source : List ℕ) (program : Program) (code : Code) (at : Place) → Reads source program → Refuses source code at → ⊥
-read_not_refused source program code at reads refused = given_no_other (lines_of source) refused.first.0 program.start refused.first.1 reads
+few_not_many : (tree : Statements) → HasFew tree → HasTooMany tree → ⊥
+few_not_many tree few many =
+    let blocks : 64 < block_levels tree → ⊥ = λ lt. omega (arith, lt, few.blocks) in
+    let terms : 64 < term_levels tree → ⊥ = λ lt. omega (arith, lt, few.terms) in
+    ⊎_elim blocks terms many
 
-place_same : (a b : Place) → a.module ≡ b.module → a.line ≡ b.line → a.column ≡ b.column → a ≡ b
-place_same a b main line column =
-    let made : ℕ → ℕ → ℕ → Place = λ m l c. record { «module» = m; line = l; column = c } in
-    ap (λ m. made m a.line a.column) main ∙ ap (λ l. made b.module l a.column) line ∙ ap (λ c. made b.module b.line c) column
+tree_stands : (source : List ℕ) (tokens : List Token) (tree : Statements) (c : Code) (at : Place) → IsTree source tokens tree → IsRefused (main_module source) tokens c at → ⊥
+tree_stands source tokens tree code.Syntax at t refused = refused.none tree t.parsed
+tree_stands source tokens tree code.NestTooDeep at t refused = few_not_many tree t.few (module_deep t.parsed (at, refused))
+tree_stands source tokens tree _ at t refused = absurd refused
 
--- a source has at most one refusal
-pub refuses_once : (source : List ℕ) (c d : Code) (a b : Place) → Refuses source c a → Refuses source d b → (c ≡ d) × (a ≡ b)
-refuses_once source c d a b p q =
-    let same : p.first.0 ≡ q.first.0 = other_once (lines_of source) p.first.0 q.first.0 p.first.1 q.first.1 in
-    let line_same : a.line ≡ b.line = p.first.2 ∙ ap (λ n. n + 1) same ∙ sym q.first.2 in
-    (p.syntax ∙ sym q.syntax, place_same a b (p.main ∙ sym q.main) line_same (p.start ∙ sym q.start))
+-- ---- programs
 
--- ---- the way through
+-- what went well
+abbrev Fine : Program → Result Program Refusal
+Fine p = Ok p
 
--- the lines before the rest give the program so far, and the next line has this number
-pub record IsReading (source : List ℕ) (program : List Stmt) (rest : List ℕ) (number : ℕ) : Type 0 where
-  pub front : List (List ℕ)
-  pub lines : lines_of source ≡ front ++ lines_of rest
-  pub gives : LinesGive front program
-  pub counted : number ≡ length front + 1
-  pub few : length front + length rest ≤ length source
+fine_same : (q p : Program) → Fine q ≡ Ok p → q ≡ p
+fine_same q p h = cc
 
-pub goes_on : (source text line rest : List ℕ) (old new : List Stmt) (number : ℕ) → IsReading source old text number → lines_of text ≡ line ∷ lines_of rest → length rest < length text → (stmts : List Stmt) × LineGives line stmts × (new ≡ old ++ stmts) → IsReading source new rest (number + 1)
-goes_on source text line rest old new number h e shorter adds =
-    let size = length-append h.front (line ∷ []) in
-    record {
-      front = h.front ++ line ∷ [];
-      lines = h.lines ∙ ap (λ l. h.front ++ l) e ∙ sym (append_assoc h.front (line ∷ []) (lines_of rest));
-      gives = subst (LinesGive (h.front ++ line ∷ [])) (sym adds.2) (give_more h.front line old adds.0 h.gives adds.1);
-      counted = omega (arith, h.counted);
-      few = omega (arith, h.few);
-    }
+one_program : (p q : Program) (tree other : Statements) → tree ≡ other → check tree ≡ Ok p → check other ≡ Ok q → q ≡ p
+one_program p q tree other e f g = fine_same q p (sym g ∙ ap check (sym e) ∙ f)
 
--- the next line is the first of another form
-other_found : (source text line rest : List ℕ) (program : List Stmt) (number : ℕ) → IsReading source program text number → lines_of text ≡ line ∷ lines_of rest → IsOther line → (n : ℕ) × FirstOther (lines_of source) n × (number ≡ n + 1)
-other_found source text line rest program number h e other =
-    let all : lines_of source ≡ h.front ++ line ∷ lines_of rest = h.lines ∙ ap (λ l. h.front ++ l) e in
-    (length h.front, subst (λ l. FirstOther l (length h.front)) (sym all) (other_next h.front line (lines_of rest) program h.gives other), h.counted)
+pub reads_only : (source : List ℕ) (p q : Program) → Reads source p → Reads source q → q ≡ p
+reads_only source p q r s = one_program p q r.tree s.tree (one_tree source r.tokens s.tokens r.tree s.tree r.is_tree s.is_tree) r.checked s.checked
 
--- where nothing is left, the source is the program
-pub whole : (source rest : List ℕ) (program : Program) (number : ℕ) → IsReading source program.start rest number → rest ≡ [] → Reads source program
-whole source rest program number h e =
-    let all : lines_of source ≡ h.front = h.lines ∙ ap (λ l. h.front ++ lines_of l) e ∙ append-nil h.front in
-    subst (λ l. LinesGive l program.start) (sym all) h.gives
+not_both : (p : Program) (refusal : Refusal) (tree other : Statements) → tree ≡ other → check tree ≡ Ok p → check other ≡ Err refusal → ⊥
+not_both p refusal tree other e f g = cc
 
--- a list without length
-pub no_bytes : (bytes : List ℕ) → (length bytes == 0) ≡ true → bytes ≡ []
-no_bytes bytes none = nil_from_length bytes (eqb-true (length bytes) 0 none)
+pub read_not_refused : (source : List ℕ) (program : Program) (c : Code) (at : Place) → Reads source program → Refuses source c at → ⊥
+read_not_refused source program c at r (by_bytes refused) = apart source 0 c at r.tokens refused r.is_tree.scanned
+read_not_refused source program c at r (by_tokens tokens scanned refused) =
+    let same = once source tokens r.tokens scanned r.is_tree.scanned in
+    tree_stands source r.tokens r.tree c at r.is_tree (subst (λ l. IsRefused (main_module source) l c at) same refused)
+read_not_refused source program c at r (by_names tokens tree is refused) =
+    not_both program _ r.tree tree (one_tree source r.tokens tokens r.tree tree r.is_tree is) r.checked refused
 
 -- ---- refusals
-
--- a refusal at the line of another form
-abbrev pub RefusesLine : List ℕ → ℕ → Code → Place → Type 0
-RefusesLine line number code at = IsOther line × (code ≡ Syntax) × (at.module ≡ 0) × (at.line ≡ number) × (at.column ≡ 1)
-
--- what is refused at the next line is refused of the source
-pub refuses : (source text line rest : List ℕ) (program : List Stmt) (number : ℕ) (stop : Stop) → IsReading source program text number → lines_of text ≡ line ∷ lines_of rest → OnRefusal stop (RefusesLine line number) → OnRefusal stop (Refuses source)
-refuses source text line rest program number (Refused code at) h e told =
-    let found = other_found source text line rest program number h e told.0 in
-    record {
-      syntax = told.1;
-      main = told.2;
-      first = (found.0, found.1, told.3 ∙ found.2);
-      start = told.4;
-    }
-refuses source text line rest program number Memory h e told = tt
 
 -- the source reads as no program
 abbrev pub IsNoProgram : List ℕ → Code → Place → Type 0
 IsNoProgram source _ _ = (program : Program) → Reads source program → ⊥
 
 pub no_program : (source : List ℕ) (stop : Stop) → OnRefusal stop (Refuses source) → OnRefusal stop (IsNoProgram source)
-no_program source (Refused code at) refused = λ program reads. read_not_refused source program code at reads refused
+no_program source (Refused c at) refused = λ program reads. read_not_refused source program c at reads refused
 no_program source Memory told = tt
+
+-- what each step says of its refusal
+pub refused_bytes : (source : List ℕ) (stop : Stop) → OnRefusal stop (Rattle.indent_scanner.specs.Tokens.IsRefused source 0) → OnRefusal stop (Refuses source)
+refused_bytes source (Refused c at) h = by_bytes h
+refused_bytes source Memory h = tt
+
+pub refused_tokens : (source : List ℕ) (tokens : List Token) (stop : Stop) → Tokens source tokens → OnRefusal stop (IsRefused (main_module source) tokens) → OnRefusal stop (Refuses source)
+refused_tokens source tokens (Refused c at) scanned h = by_tokens tokens scanned h
+refused_tokens source tokens Memory scanned h = tt
+
+pub refused_names : (source : List ℕ) (tokens : List Token) (tree : Statements) (stop : Stop) → IsTree source tokens tree → OnRefusal stop (IsRefusal (check tree)) → OnRefusal stop (Refuses source)
+refused_names source tokens tree (Refused c at) is h = by_names tokens tree is h
+refused_names source tokens tree Memory is h = tt
 
 -- an error that is handed on keeps what is known of it
 pub handed_on : {T E : Type 0} (result : Result T E) (error : E) (P : E → Type 0) → IsErrAnd result (λ other. other ≡ error) → P error → IfErr result P
 handed_on (Ok x) error P same fact = absurd same
 handed_on (Err other) error P same fact = subst P (sym same) fact
+
+-- ---- what is known of an answer
+
+module _ {T E : Type 0} where
+  pub ok_then : (result : Result T E) (P Q : T → Type 0) → IfOk result P → ((x : T) → P x → Q x) → IfOk result Q
+  ok_then (Ok x) P Q p f = f x p
+  ok_then (Err e) P Q p f = p
+
+  pub ok_both : (result : Result T E) (P Q R : T → Type 0) → IfOk result P → IfOk result Q → ((x : T) → P x → Q x → R x) → IfOk result R
+  ok_both (Ok x) P Q R p q f = f x p q
+  ok_both (Err e) P Q R p q f = p
+
+  pub err_then : (result : Result T E) (P Q : E → Type 0) → IfErr result P → ((e : E) → P e → Q e) → IfErr result Q
+  err_then (Ok x) P Q p f = p
+  err_then (Err e) P Q p f = f e p
+
+-- where a source can't be refused, it was compiled, or memory was wanting
+pub not_refused : {T : Type 0} (result : Result T NotCompiled) (stop : Stop) → IsErrAnd result (λ e. IsStop stop e) → OnRefusal stop (λ _ _. ⊥) → IsOkOrMemory result
+not_refused (Ok x) stop told h = absurd told
+not_refused (Err e) (Refused c at) told h = absurd h
+not_refused {T} (Err e) Memory told h = subst (λ e. IsOkOrMemory {T = T} (Err e)) (sym told) tt
+
+pub never : (source : List ℕ) (stop : Stop) (program : Program) → Reads source program → OnRefusal stop (IsNoProgram source) → OnRefusal stop (λ _ _. ⊥)
+never source (Refused c at) program reads none = none program reads
+never source Memory program reads none = tt

@@ -1,7 +1,9 @@
+pub mod Names
 pub mod Source
 pub mod Elf
 pub mod Command
 pub mod Code
+pub mod Emission
 pub mod Answer
 pub mod Report
 pub mod Compile

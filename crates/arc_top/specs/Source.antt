@@ -1,65 +1,36 @@
--- Which program a source is: each of its lines is empty, or an echo of a plain text.
-use Rattle.std.specs.Prelude.{◌≡◌, ◌≢◌, ◌≤◌, ◌⊎◌, ℕ, zero, suc, ◌+◌, List, [], ◌∷◌, ◌++◌, ◌==◌, if◌then◌else◌, codes}
-use Rattle.std.specs.List.{AllByRecursion}
+-- Which program a source is: its bytes are tokens, the tokens are a tree, and the names in the tree are those of variables.
+use Rattle.std.specs.Prelude.{◌≡◌, ℕ, List, Ok}
 use Rattle.arc_base.specs.declared.place.Place.{Place}
 use Rattle.arc_base.specs.declared.place.Code.{Code}
-use Rattle.arc_base.specs.declared.place.Code.TheVariants.{Syntax}
-use Rattle.nim_core.specs.Program.{Stmt, Echo, Program}
+use Rattle.indent_scanner.specs.declared.token.Token.{Token}
+use Rattle.indent_scanner.specs.Tokens.{Tokens}
+use Rattle.indent_scanner.specs.Tokens.{IsRefused as IsRefusedByBytes}
+use Rattle.nim_tree.specs.Statements.{Statements}
+use Rattle.parse_exprs.specs.Look.{Origin}
+use Rattle.parse_stmts.specs.Parsed.{IsModule, HasFew}
+use Rattle.parse_stmts.specs.Parsed.{IsRefused as IsRefusedByTokens}
+use Rattle.nim_core.specs.Program.{Program}
+use Rattle.arc_top.specs.Names.{check, IsRefusal}
 
--- ---- lines
+-- the main module has number 0
+abbrev pub main_module : List ℕ → Origin
+main_module source = record { source = source; number = 0 }
 
--- a byte before the first line
-abbrev pub onto_first : ℕ → List (List ℕ) → List (List ℕ)
-onto_first byte [] = (byte ∷ []) ∷ []
-onto_first byte (line ∷ lines) = (byte ∷ line) ∷ lines
-
--- the lines of a source: a line feed ends each, and the last may lack it
-abbrev pub lines_of : List ℕ → List (List ℕ)
-lines_of [] = []
-lines_of (byte ∷ bytes) = if byte == 10 then [] ∷ lines_of bytes else onto_first byte (lines_of bytes)
-
--- ---- what a line says
-
--- a printable byte that needs no escape
-pub record IsPlain (byte : ℕ) : Type 0 where
-  pub from : 32 ≤ byte
-  pub to : byte ≤ 126
-  pub no_quote : byte ≢ 34
-  pub no_backslash : byte ≢ 92
-
--- the line is `echo "text"`
-pub record IsEcho (line text : List ℕ) : Type 0 where
-  pub spelled : line ≡ codes "echo \"" ++ (text ++ codes "\"")
-  pub plain : AllByRecursion IsPlain text
-
--- what a line adds to the program: nothing where it is empty, or a statement
-abbrev pub LineGives : List ℕ → List Stmt → Type 0
-LineGives line stmts = ((line ≡ []) × (stmts ≡ [])) ⊎ ((text : List ℕ) × IsEcho line text × (stmts ≡ Echo text ∷ []))
-
--- what lines add, one after another
-abbrev pub LinesGive : List (List ℕ) → List Stmt → Type 0
-LinesGive [] stmts = stmts ≡ []
-LinesGive (line ∷ lines) stmts = (first : List Stmt) × (others : List Stmt) × LineGives line first × LinesGive lines others × (stmts ≡ first ++ others)
-
--- ---- sources
+-- the source is these tokens and this tree, of at most 64 levels
+pub record IsTree (source : List ℕ) (tokens : List Token) (tree : Statements) : Type 0 where
+  pub scanned : Tokens source tokens
+  pub parsed : IsModule (main_module source) tokens tree
+  pub few : HasFew tree
 
 -- the source is the program
-abbrev pub Reads : List ℕ → Program → Type 0
-Reads source program = LinesGive (lines_of source) program.start
+pub record Reads (source : List ℕ) (program : Program) : Type 0 where
+  pub tokens : List Token
+  pub tree : Statements
+  pub is_tree : IsTree source tokens tree
+  pub checked : check tree ≡ Ok program
 
--- a line of another form
-abbrev pub IsOther : List ℕ → Type 0
-IsOther line = (stmts : List Stmt) → LineGives line stmts → ⊥
-
--- the first line of another form is this one, counted from 0
-abbrev pub FirstOther : List (List ℕ) → ℕ → Type 0
-FirstOther [] n = ⊥
-FirstOther (line ∷ lines) zero = IsOther line
-FirstOther (line ∷ lines) (suc n) = ((stmts : List Stmt) × LineGives line stmts) × FirstOther lines n
-
--- a refusal: the tokens have no tree, at column 1 of the first line of another form
-pub record Refuses (source : List ℕ) (code : Code) (at : Place) : Type 0 where
-  pub syntax : code ≡ Syntax
-  pub main : at.module ≡ 0
-  pub first : (n : ℕ) × FirstOther (lines_of source) n × (at.line ≡ n + 1)
-  pub start : at.column ≡ 1
+-- The source is refused: by its bytes (E1 to E3), else by its tokens (E4, E5), else by its names (E6, E7).
+pub data Refuses (source : List ℕ) : Code → Place → Type 0 where
+  by_bytes : {code : Code} {at : Place} → IsRefusedByBytes source 0 code at → Refuses source code at
+  by_tokens : {code : Code} {at : Place} (tokens : List Token) → Tokens source tokens → IsRefusedByTokens (main_module source) tokens code at → Refuses source code at
+  by_names : {code : Code} {at : Place} (tokens : List Token) (tree : Statements) → IsTree source tokens tree → IsRefusal (check tree) code at → Refuses source code at

@@ -6,7 +6,7 @@ ghost use Rattle.arc_top.specs.Compile.{OnTooLong, OnRefused, IsOkOrMemory};
 
 use crate::code::lower;
 use crate::elf::{ElfFile, write};
-use crate::source::parse;
+use crate::source::read;
 use arc_base::{Bytes, Code, Memory, Place, Stop};
 use nim_core::Plan;
 use std::alloc::Global;
@@ -72,7 +72,7 @@ pub fn compile(alloc: Global, source: &[u8]) -> Result<Bytes, NotCompiled>
     if source.len() > SOURCE_MOST {
         return Err(NotCompiled::TooLong);
     }
-    let program = parse(alloc, source)?;
+    let program = read(alloc, source)?;
     let image = lower(alloc, &program, HEAP, STACK)?;
     let file = ElfFile {
         image,

@@ -6,6 +6,7 @@ mod code;
 mod command;
 mod compiler;
 mod elf;
+mod names;
 mod report;
 mod source;
 mod top;
@@ -13,6 +14,7 @@ mod words;
 
 pub use answer::{Answer, FileName};
 pub use compiler::{NotCompiled, compile};
+pub use names::names_refuse;
 pub use report::put_report;
 pub use top::nimarc;
 

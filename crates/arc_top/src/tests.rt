@@ -64,3 +64,33 @@ fn name_of(answer: &Answer) -> &'static str {
         Answer::Memory => "Memory",
     }
 }
+
+// Adds a text so many times.
+fn repeat(source: &mut Bytes, times: usize, text: &[u8]) -> Result<(), Memory> {
+    for _ in 0..times {
+        source.append(text)?;
+    }
+    Ok(())
+}
+
+// A statement inside so many blocks.
+fn nested(alloc: Global, blocks: usize) -> Result<Bytes, Memory> {
+    let mut source = Bytes::new(alloc);
+    for level in 0..blocks {
+        repeat(&mut source, level, b" ")?;
+        source.append(b"if 0 == 0:\n")?;
+    }
+    repeat(&mut source, blocks, b" ")?;
+    source.append(b"echo 1")?;
+    Ok(source)
+}
+
+// A statement with a 1 behind so many texts, of which each opens a bracket.
+fn bracketed(alloc: Global, times: usize, front: &[u8]) -> Result<Bytes, Memory> {
+    let mut source = Bytes::new(alloc);
+    source.append(b"echo ")?;
+    repeat(&mut source, times, front)?;
+    source.append(b"1")?;
+    repeat(&mut source, times, b")")?;
+    Ok(source)
+}

@@ -1,1 +1,6 @@
-pub mod Ends
+mod Right
+mod Whole
+pub mod Steadiness
+pub mod Ranges
+pub mod Rows
+mod Idle

@@ -5,6 +5,6 @@ mod laws;
 mod plan;
 mod program;
 
-pub use laws::meanings;
+pub use laws::{examples, ints, meanings, trees};
 pub use plan::{Act, Plan, SiteAct, SkipAt};
-pub use program::{Program, Stmt};
+pub use program::{Comparison, Cond, Expr, Operator, PlaceDecl, Program, Stmt};

@@ -1,5 +1,5 @@
 // What is answered and said, and what stays.
-use super::{BUILD, OLDER, OTHER, answer_of, files_with, name_of};
+use super::{BUILD, OLDER, OTHER, answer_of, bracketed, files_with, name_of, nested, repeat};
 use crate::{Answer, FileName, put_report};
 use arc_base::{Bytes, Code, Memory, Place, SureFiles, SureSink};
 use std::alloc::Global;
@@ -32,16 +32,6 @@ fn refused_at(line: u32) -> Answer {
             line,
             column: 1,
         },
-    }
-}
-
-// Whether the answer is a refusal of a line by its form.
-fn is_refused_at(answer: &Answer, number: u32) -> bool {
-    match answer {
-        Answer::Refused { code, at } => {
-            *code == Code::Syntax && at.module == 0 && at.line == number && at.column == 1
-        }
-        _ => false,
     }
 }
 
@@ -90,7 +80,8 @@ fn a_dash_alone_is_a_name(rt: HostRuntime) -> Result<(), Fail> {
 }
 
 #[test]
-fn missing_files_are_named(rt: HostRuntime) -> Result<(), Fail> {
+fn missing_and_long_files_are_named(rt: HostRuntime) -> Result<(), Fail> {
+    let alloc = rt.alloc();
     let table = [
         ("lost.nim", "nimarc: no file lost.nim\n"),
         ("src/lost.nim", "nimarc: no file src/lost.nim\n"),
@@ -99,24 +90,22 @@ fn missing_files_are_named(rt: HostRuntime) -> Result<(), Fail> {
         ("", "nimarc: no file \n"),
     ];
     for (main, line) in table {
-        let answer = refuses(&rt, rt.alloc(), &["build", main, "o"], b"echo \"hi\"", line)?;
+        let answer = refuses(&rt, alloc, &["build", main, "o"], b"echo \"hi\"", line)?;
         match answer {
             Answer::NoFile(name) => assert_eq!(rt; name.as_bytes(), main.as_bytes()),
             _ => assert!(rt; false, "of {main}"),
         }
     }
-    Ok(())
-}
 
-#[test]
-fn long_files_are_named(rt: HostRuntime) -> Result<(), Fail> {
-    let alloc = rt.alloc();
     let mut source = Bytes::new(alloc);
-    for _ in 0..4097 {
-        source.push(b'\n')?;
-    }
-    let line = "nimarc: too long t.nim\n";
-    let answer = refuses(&rt, alloc, &BUILD, source.as_slice(), line)?;
+    repeat(&mut source, 4097, b"\n")?;
+    let answer = refuses(
+        &rt,
+        alloc,
+        &BUILD,
+        source.as_slice(),
+        "nimarc: too long t.nim\n",
+    )?;
     match answer {
         Answer::TooLong(name) => assert_eq!(rt; name.as_bytes(), b"t.nim".as_slice()),
         _ => assert!(rt; false),
@@ -125,52 +114,71 @@ fn long_files_are_named(rt: HostRuntime) -> Result<(), Fail> {
 }
 
 #[test]
-fn lines_of_another_form_are_refused(rt: HostRuntime) -> Result<(), Fail> {
-    let alloc = rt.alloc();
-    let bad_lines: [&[u8]; 12] = [
-        b"\0",
-        b"echo \"a\0\"",
-        b"echo \"\x80\"",
-        b"\techo \"a\"",
-        b"echo \"a\tb\"",
-        b"echo \"a\"\r",
-        b"echo \"a",
-        b"echo  \"a\"",
-        b"echo \"a\" ",
-        b"echo \"a\"b",
-        b"echo \"a\\n\"",
-        b"echo 1",
+fn sources_are_refused(rt: HostRuntime) -> Result<(), Fail> {
+    let table = [
+        // bytes and names
+        ("echo 1\n\techo 2", "t.nim:2:1: E1 BadByte\n"),
+        ("echo \"a\tb\"", "t.nim:1:8: E1 BadByte\n"),
+        ("echo 1 \u{e9}", "t.nim:1:8: E1 BadByte\n"),
+        ("echo 1 \0", "t.nim:1:8: E1 BadByte\n"),
+        ("var a__b = 1", "t.nim:1:5: E1 BadByte\n"),
+        ("var a_ = 1", "t.nim:1:5: E1 BadByte\n"),
+        // literals and comments
+        ("echo \"a", "t.nim:1:6: E2 BadLiteral\n"),
+        ("echo \"\\q\"", "t.nim:1:6: E2 BadLiteral\n"),
+        ("echo 1 +\n  12a", "t.nim:2:3: E2 BadLiteral\n"),
+        ("echo 1.5", "t.nim:1:6: E2 BadLiteral\n"),
+        ("echo 1 #[ a #[ b ]#", "t.nim:1:8: E2 BadLiteral\n"),
+        ("echo 2147483648", "t.nim:1:6: E3 IntTooLarge\n"),
+        ("echo -2147483648", "t.nim:1:7: E3 IntTooLarge\n"),
+        // forms
+        ("echo", "t.nim:1:5: E4 Syntax\n"),
+        ("var x =", "t.nim:1:8: E4 Syntax\n"),
+        ("if 1:\n  echo 1", "t.nim:1:4: E4 Syntax\n"),
+        ("echo 1 2", "t.nim:1:8: E4 Syntax\n"),
+        ("x=-1", "t.nim:1:2: E4 Syntax\n"),
+        ("echo $1", "t.nim:1:6: E4 Syntax\n"),
+        ("echo 1\n echo 2", "t.nim:2:2: E4 Syntax\n"),
+        ("if 1 < 2:\n  var x = 1", "t.nim:2:3: E4 Syntax\n"),
+        // names
+        ("echo 1 + x", "t.nim:1:10: E6 UnknownName\n"),
+        ("var x = x", "t.nim:1:9: E6 UnknownName\n"),
+        ("x = y", "t.nim:1:1: E6 UnknownName\n"),
+        ("var x = 1\nx = y", "t.nim:2:5: E6 UnknownName\n"),
+        ("echo x\nvar x = 1", "t.nim:1:6: E6 UnknownName\n"),
+        (
+            "var X = 1\nif 1 == X:\n  quit(x)",
+            "t.nim:3:8: E6 UnknownName\n",
+        ),
+        ("var x = 1\nvar x = y", "t.nim:2:5: E7 Redefined\n"),
+        (
+            "var fooBar = 1\nvar foo_bar = 2",
+            "t.nim:2:5: E7 Redefined\n",
+        ),
+        // the order of the steps
+        ("echo 1 2\necho 2147483648", "t.nim:2:6: E3 IntTooLarge\n"),
+        ("echo x\necho 1 2", "t.nim:2:8: E4 Syntax\n"),
+        ("var x = y\nvar x = 1", "t.nim:1:9: E6 UnknownName\n"),
+        ("echo 2147483648\n\techo 1", "t.nim:1:6: E3 IntTooLarge\n"),
     ];
-    let places = [
-        ("", 1, "t.nim:1:1: E4 Syntax\n"),
-        ("echo \"a\"\n", 2, "t.nim:2:1: E4 Syntax\n"),
-        ("echo \"a\"\n\n", 3, "t.nim:3:1: E4 Syntax\n"),
-    ];
-    for bad in bad_lines {
-        for (front, number, line) in places {
-            let mut source = Bytes::new(alloc);
-            source.append(front.as_bytes())?;
-            source.append(bad)?;
-            let answer = refuses(&rt, alloc, &BUILD, source.as_slice(), line)?;
-            assert!(rt; is_refused_at(&answer, number), "of {bad:?}");
-            source.append(b"\necho 2\necho \"b\"\n")?;
-            let answer = refuses(&rt, alloc, &BUILD, source.as_slice(), line)?;
-            assert!(rt; is_refused_at(&answer, number), "of {bad:?}");
-        }
+    for (source, line) in table {
+        let answer = refuses(&rt, rt.alloc(), &BUILD, source.as_bytes(), line)?;
+        assert_eq!(rt; name_of(&answer), "Refused");
     }
     Ok(())
 }
 
 #[test]
-fn a_refusal_stores_nothing(rt: HostRuntime) -> Result<(), Fail> {
-    let alloc = rt.alloc();
-    let mut files = SureFiles::new(alloc);
-    files.add("t.nim", b"echo \"a\"\necho 1")?;
-    let mut err = SureSink::new(alloc, 100)?;
-    let answer = answer_of(&rt, alloc, &BUILD, &mut files, &mut err)?;
-    assert!(rt; is_refused_at(&answer, 2));
-    assert_eq!(rt; err.written(), b"t.nim:2:1: E4 Syntax\n".as_slice());
-    assert!(rt; files.entry("o").is_none());
+fn the_sixty_fifth_level_is_refused(rt: HostRuntime) -> Result<(), Fail> {
+    let source = nested(rt.alloc(), 65)?;
+    let line = "t.nim:66:66: E5 NestTooDeep\n";
+    refuses(&rt, rt.alloc(), &BUILD, source.as_slice(), line)?;
+    let line = "t.nim:1:6: E5 NestTooDeep\n";
+    let table: [(usize, &[u8]); 2] = [(64, b"("), (32, b"1 - (")];
+    for (times, front) in table {
+        let source = bracketed(rt.alloc(), times, front)?;
+        refuses(&rt, rt.alloc(), &BUILD, source.as_slice(), line)?;
+    }
     Ok(())
 }
 

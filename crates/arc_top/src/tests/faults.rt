@@ -39,14 +39,14 @@ fn answers(
 #[test]
 fn answers_stay_where_calls_fail(rt: HostRuntime) -> Result<(), Fail> {
     let alloc = rt.alloc();
-    let good = "echo \"hi\"";
-    let bad = "echo hi";
+    let good = "var i = 7\necho i div 2";
+    let bad = "echo 1 2";
     let table = [
         (good, 1, "ReadFault", "nimarc: read fault\n"),
         (good, 2, "StoreFault", "nimarc: store fault\n"),
         (good, 3, "Done", ""),
         (bad, 1, "ReadFault", "nimarc: read fault\n"),
-        (bad, 2, "Refused", "t.nim:1:1: E4 Syntax\n"),
+        (bad, 2, "Refused", "t.nim:1:8: E4 Syntax\n"),
     ];
     for (source, call, want, line) in table {
         for put in 1..10 {

@@ -6,6 +6,7 @@ use Rattle.rv32_isa.specs.Image.{image_of}
 use Rattle.rv32_isa.specs.Machine.{machine}
 use Rattle.arc_top.specs.Elf.{file_of}
 use Rattle.arc_top.proofs.PlainFiles.{plain_file, plan_is, image_is}
+use Rattle.arc_top.proofs.Reading.{not_refused, never}
 use Rattle.arc_top.proofs.compiler.compile.Goals as goal
 
 pub write-requires : goal.write-requires
@@ -32,3 +33,8 @@ returns-clause-compiled c =
       stack = low.sizes.1;
       hooks = low.hooks;
     }
+
+pub returns-in_err-program-clause-complete : goal.returns-in_err-program-clause-complete
+returns-in_err-program-clause-complete c =
+    let stop = c.in_err-program.field-0.0 in
+    λ is. not_refused c.from_residual.result stop c.from_residual.ensures.1 (never c.args.source.now stop is.1.0 is.1.1 c.in_err-program.ensures.none)

@@ -1,4 +1,4 @@
-use Rattle.nim_core.proofs.Ends.{meaning_steady, meaning_sound}
+use Rattle.nim_core.proofs.Steadiness.{meaning_steady, meaning_sound}
 use Rattle.nim_core.proofs.laws.meanings.Goals as goal
 
 pub returns-clause-steady : goal.returns-clause-steady

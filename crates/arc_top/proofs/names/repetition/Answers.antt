@@ -1,0 +1,5 @@
+use Rattle.nim_core.proofs.Rows.{repeated}
+use Rattle.arc_top.proofs.names.repetition.Goals as goal
+
+pub returns : goal.returns
+returns c = repeated c.args.at c.args.condition c.args.body

@@ -1,0 +1,249 @@
+// Operations: from the operands' registers to that of the result, or to a trap.
+ghost use Rattle.std.specs.Prelude.{◌≡◌, ◌<◌, ◌++◌, [], ◌∷◌, OnOk};
+ghost use Rattle.nim_core.specs.Traps.{Overflow};
+ghost use Rattle.arc_top.specs.Code.{code_bytes, to_trap, add_code, subtract_code, multiply_code, divisor_code, divide_code, modulo_code, operator_code, negate_code};
+
+use super::pieces::{
+    FIRST_SCRATCH, LEFT, MINUS_ONE, RESULT, RIGHT, SECOND_SCRATCH, ZERO, emit, set,
+};
+use arc_base::{Bytes, Memory};
+use nim_core::Operator;
+use rv32_isa::Instr;
+
+/// Where the code of the traps stands, from where the code begins.
+const OVERFLOW_CODE: u32 = 8;
+
+const ZERO_DIVISOR_CODE: u32 = 48;
+
+/// The upper 20 bits of where the code begins, and of the least int.
+const UPPER_CODE: u32 = 0x10;
+
+const UPPER_LEAST: u32 = 0x8_0000;
+
+/// The distance of branches over the next two instructions, which go to a trap.
+const OVER_TRAP: u32 = 12;
+
+// Goes to the code of a trap.
+fn emit_to_trap(code: &mut Bytes, offset: u32) -> Result<(), Memory>
+    requires { offset < 4096 }
+    ensures { OnOk result (code.new ≡ code.old ++ code_bytes (Instr.Lui 9 0x10 ∷ Instr.Jalr 0 9 offset ∷ [])) }
+{
+    emit(
+        code,
+        &[
+            Instr::Lui {
+                rd: SECOND_SCRATCH,
+                imm: UPPER_CODE,
+            },
+            Instr::Jalr {
+                rd: ZERO,
+                rs1: SECOND_SCRATCH,
+                offset,
+            },
+        ],
+    )
+}
+
+// Goes to the trap of an overflow, unless the scratch registers are equal.
+fn emit_overflow(code: &mut Bytes) -> Result<(), Memory>
+    ensures { OnOk result (code.new ≡ code.old ++ code_bytes (Instr.Beq 8 9 12 ∷ to_trap Overflow)) }
+{
+    emit(
+        code,
+        &[Instr::Beq {
+            rs1: FIRST_SCRATCH,
+            rs2: SECOND_SCRATCH,
+            offset: OVER_TRAP,
+        }],
+    )?;
+    emit_to_trap(code, OVERFLOW_CODE)
+}
+
+// Adds.
+fn emit_add(code: &mut Bytes) -> Result<(), Memory>
+    ensures { OnOk result (code.new ≡ code.old ++ code_bytes add_code) }
+{
+    emit(
+        code,
+        &[
+            Instr::Add {
+                rd: RESULT,
+                rs1: LEFT,
+                rs2: RIGHT,
+            },
+            Instr::Slt {
+                rd: FIRST_SCRATCH,
+                rs1: RESULT,
+                rs2: LEFT,
+            },
+            Instr::Slti {
+                rd: SECOND_SCRATCH,
+                rs1: RIGHT,
+                imm: 0,
+            },
+        ],
+    )?;
+    emit_overflow(code)
+}
+
+// Subtracts.
+fn emit_subtract(code: &mut Bytes) -> Result<(), Memory>
+    ensures { OnOk result (code.new ≡ code.old ++ code_bytes subtract_code) }
+{
+    emit(
+        code,
+        &[
+            Instr::Sub {
+                rd: RESULT,
+                rs1: LEFT,
+                rs2: RIGHT,
+            },
+            Instr::Slt {
+                rd: FIRST_SCRATCH,
+                rs1: LEFT,
+                rs2: RESULT,
+            },
+            Instr::Slti {
+                rd: SECOND_SCRATCH,
+                rs1: RIGHT,
+                imm: 0,
+            },
+        ],
+    )?;
+    emit_overflow(code)
+}
+
+// Multiplies.
+fn emit_multiply(code: &mut Bytes) -> Result<(), Memory>
+    ensures { OnOk result (code.new ≡ code.old ++ code_bytes multiply_code) }
+{
+    emit(
+        code,
+        &[
+            Instr::Mulh {
+                rd: FIRST_SCRATCH,
+                rs1: LEFT,
+                rs2: RIGHT,
+            },
+            Instr::Mul {
+                rd: RESULT,
+                rs1: LEFT,
+                rs2: RIGHT,
+            },
+            Instr::Srai {
+                rd: SECOND_SCRATCH,
+                rs1: RESULT,
+                amount: 31,
+            },
+        ],
+    )?;
+    emit_overflow(code)
+}
+
+// Goes to the trap of a division where the divisor is zero.
+fn emit_divisor(code: &mut Bytes) -> Result<(), Memory>
+    ensures { OnOk result (code.new ≡ code.old ++ code_bytes divisor_code) }
+{
+    emit(
+        code,
+        &[Instr::Bne {
+            rs1: RIGHT,
+            rs2: ZERO,
+            offset: OVER_TRAP,
+        }],
+    )?;
+    emit_to_trap(code, ZERO_DIVISOR_CODE)
+}
+
+// Divides.
+fn emit_divide(code: &mut Bytes) -> Result<(), Memory>
+    ensures { OnOk result (code.new ≡ code.old ++ code_bytes divide_code) }
+{
+    emit_divisor(code)?;
+    emit(
+        code,
+        &[
+            Instr::Lui {
+                rd: FIRST_SCRATCH,
+                imm: UPPER_LEAST,
+            },
+            Instr::Bne {
+                rs1: LEFT,
+                rs2: FIRST_SCRATCH,
+                offset: 20,
+            },
+            set(FIRST_SCRATCH, MINUS_ONE),
+            Instr::Bne {
+                rs1: RIGHT,
+                rs2: FIRST_SCRATCH,
+                offset: OVER_TRAP,
+            },
+        ],
+    )?;
+    emit_to_trap(code, OVERFLOW_CODE)?;
+    emit(
+        code,
+        &[Instr::Div {
+            rd: RESULT,
+            rs1: LEFT,
+            rs2: RIGHT,
+        }],
+    )
+}
+
+// The remainder.
+fn emit_modulo(code: &mut Bytes) -> Result<(), Memory>
+    ensures { OnOk result (code.new ≡ code.old ++ code_bytes modulo_code) }
+{
+    emit_divisor(code)?;
+    emit(
+        code,
+        &[Instr::Rem {
+            rd: RESULT,
+            rs1: LEFT,
+            rs2: RIGHT,
+        }],
+    )
+}
+
+/// From the operands to the result, or to a trap.
+pub fn emit_operator(code: &mut Bytes, operator: Operator) -> Result<(), Memory>
+    ensures { OnOk result (code.new ≡ code.old ++ code_bytes (operator_code operator)) }
+{
+    match operator {
+        Operator::Add => emit_add(code),
+        Operator::Subtract => emit_subtract(code),
+        Operator::Multiply => emit_multiply(code),
+        Operator::Divide => emit_divide(code),
+        Operator::Modulo => emit_modulo(code),
+    }
+}
+
+/// The opposite of the left operand.
+pub fn emit_negate(code: &mut Bytes) -> Result<(), Memory>
+    ensures { OnOk result (code.new ≡ code.old ++ code_bytes negate_code) }
+{
+    emit(
+        code,
+        &[
+            Instr::Lui {
+                rd: FIRST_SCRATCH,
+                imm: UPPER_LEAST,
+            },
+            Instr::Bne {
+                rs1: LEFT,
+                rs2: FIRST_SCRATCH,
+                offset: OVER_TRAP,
+            },
+        ],
+    )?;
+    emit_to_trap(code, OVERFLOW_CODE)?;
+    emit(
+        code,
+        &[Instr::Sub {
+            rd: RESULT,
+            rs1: ZERO,
+            rs2: LEFT,
+        }],
+    )
+}
