@@ -61,7 +61,7 @@ name_short (b ∷ bytes) = let e = folded_short bytes in omega (arith, e)
 inner_short : (bytes : List ℕ) → length (inner bytes) ≤ length bytes
 inner_short bytes = let e = length-take (length bytes - 2) (drop 1 bytes) in let f = length-drop 1 bytes in omega (arith, e, f)
 
-meaning_short : (kind : Tok) (bytes : List ℕ) → length (meaning kind bytes) ≤ length bytes
+pub meaning_short : (kind : Tok) (bytes : List ℕ) → length (meaning kind bytes) ≤ length bytes
 meaning_short (T.Key key) bytes = omega arith
 meaning_short T.Name bytes = name_short bytes
 meaning_short T.Quoted bytes = inner_short bytes

@@ -145,3 +145,7 @@ meaning T.Text bytes = values (Inside Q.Text None) (drop 1 bytes)
 meaning T.Name bytes = normal bytes
 meaning T.Quoted bytes = inner bytes
 meaning _ bytes = []
+
+-- the characters of a text with these bytes; `text_characters` says that they are its values
+abbrev pub characters : List ℕ → List ℕ
+characters bytes = meaning T.Text bytes

@@ -121,3 +121,35 @@ or_else (Some key) other = Some key
 -- the keyword that a name is
 unfoldable pub key_of : List ℕ → Option Key
 key_of name = or_else (first_keys name) (or_else (more_keys name) (or_else (left_keys name) (other_left_keys name)))
+
+-- whether the language leaves the keyword out
+abbrev pub is_left_out : Key → Bool
+is_left_out K.Addr = true
+is_left_out K.Asm = true
+is_left_out K.Bind = true
+is_left_out K.Block = true
+is_left_out K.Cast = true
+is_left_out K.Concept = true
+is_left_out K.Converter = true
+is_left_out K.Do = true
+is_left_out K.End = true
+is_left_out K.Export = true
+is_left_out K.From = true
+is_left_out K.Func = true
+is_left_out K.Include = true
+is_left_out K.Interface = true
+is_left_out K.Is = true
+is_left_out K.IsNot = true
+is_left_out K.Iterator = true
+is_left_out K.Macro = true
+is_left_out K.Method = true
+is_left_out K.Mixin = true
+is_left_out K.NotIn = true
+is_left_out K.Out = true
+is_left_out K.Ptr = true
+is_left_out K.Static = true
+is_left_out K.Template = true
+is_left_out K.Using = true
+is_left_out K.When = true
+is_left_out K.Yield = true
+is_left_out _ = false

@@ -6,6 +6,8 @@ ghost use Rattle.indent_scanner.specs.declared.token.Token.{Token};
 ghost use Rattle.indent_scanner.specs.Tokens.{Tokens, IsRefused, StandsIn, StandsAt};
 ghost use Rattle.indent_scanner.specs.Spacing.{IsSpaced, IsIndented, comments};
 ghost use Rattle.indent_scanner.specs.Meaning.{IsSpelledIn};
+ghost use Rattle.indent_scanner.specs.Grammar.{IsText};
+ghost use Rattle.indent_scanner.specs.ByForm.{characters};
 
 /// A source has tokens or is refused, and never both: it has one list of tokens, or one refusal at one place.
 pub fn one_reading()
@@ -24,4 +26,9 @@ pub fn each_token()
     ensures spaced { (source : List ℕ) (tokens : List Token) → Tokens source tokens → IsSpaced tokens }
     ensures indented { (source : List ℕ) (tokens : List Token) (r : Tokens source tokens) → All (IsIndented source (comments r)) tokens }
     ensures refused { (source : List ℕ) (number : ℕ) (code : Code) (at : Place) (r : IsRefused source number code at) → StandsAt source r.here.start at.line at.column }
+{}
+
+/// The characters of a text are the values that it stands for.
+pub fn text_characters()
+    ensures { (text values : List ℕ) → IsText text values → characters text ≡ values }
 {}

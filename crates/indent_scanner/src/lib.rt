@@ -11,9 +11,9 @@ mod text;
 mod token;
 mod words;
 
-pub use laws::{each_token, one_reading};
+pub use laws::{each_token, one_reading, text_characters};
 pub use source::scan;
-pub use text::{normal_form, text_of};
+pub use text::{characters_of, normal_form, text_of};
 pub use token::{Key, Tok, Token};
 pub use words::is_named;
 

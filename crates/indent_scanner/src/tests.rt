@@ -213,3 +213,37 @@ fn tokens_have_texts(rt: HostRuntime) -> Result<(), Fail> {
     }
     Ok(())
 }
+
+#[test]
+fn texts_have_characters(rt: HostRuntime) -> Result<(), Fail> {
+    let table: [(&[u8], &[u8]); 4] = [
+        (b"\"\"", b""),
+        (b"\"a b\"", b"a b"),
+        (b"\"\\n\\x41\\065\\0\"", b"\nAA\0"),
+        (b"\"\xc3\xa9\\\"\"", b"\xc3\xa9\""),
+    ];
+    for (text, want) in table {
+        assert_eq!(rt; characters_of(rt.alloc(), text)?.as_slice(), want);
+    }
+    Ok(())
+}
+
+#[test]
+fn keywords_are_left_out_or_in_use(rt: HostRuntime) -> Result<(), Fail> {
+    let left_out = [
+        Key::Addr,
+        Key::Cast,
+        Key::Do,
+        Key::IsNot,
+        Key::Template,
+        Key::Yield,
+    ];
+    for key in left_out {
+        assert!(rt; key.is_left_out());
+    }
+    let in_use = [Key::And, Key::In, Key::Let, Key::Not, Key::Of, Key::Xor];
+    for key in in_use {
+        assert!(rt; !key.is_left_out());
+    }
+    Ok(())
+}

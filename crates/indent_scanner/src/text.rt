@@ -1,10 +1,11 @@
 // The text of a token.
-ghost use Rattle.std.specs.Prelude.{◌≡◌, ◌≤◌, ◌<◌, ◌+◌, ◌-◌, drop, take, length, IfOk};
+ghost use Rattle.std.specs.Prelude.{◌≡◌, ◌≤◌, ◌<◌, ◌+◌, ◌-◌, drop, take, length, List, ℕ, IfOk};
 ghost use Rattle.indent_scanner.specs.declared.shape.Quote.TheVariants as Q;
 ghost use Rattle.indent_scanner.specs.declared.shape.Shape.TheVariants as Open;
 ghost use Rattle.indent_scanner.specs.Words.{normal, folded};
 ghost use Rattle.indent_scanner.specs.Meaning.{inner, IsTextOf, bytes_of};
-ghost use Rattle.indent_scanner.specs.ByForm.{values, value_of, meaning};
+ghost use Rattle.indent_scanner.specs.ByForm.{values, value_of, meaning, characters};
+ghost use Rattle.indent_scanner.specs.Grammar.{IsText};
 ghost use Rattle.indent_scanner.specs.Tokens.{LiesIn};
 
 use crate::bytes::byte_at;
@@ -84,6 +85,15 @@ fn text_in(alloc: Global, kind: Tok, bytes: &[u8]) -> Result<Bytes, Memory>
         Tok::Quoted => inner(alloc, bytes),
         _ => Ok(Bytes::new(alloc)),
     }
+}
+
+/// The characters of a text, from the bytes that it is written with, quotes among them.
+pub fn characters_of(alloc: Global, text: &[u8]) -> Result<Bytes, Memory>
+    ensures characters { IfOk result (λ read. (values : List ℕ) → IsText text.now values → read ≡ values) }
+    ensures computed { IfOk result (λ read. read ≡ characters text.now) }
+    ensures short { IfOk result (λ read. length read ≤ length text.now) }
+{
+    text_in(alloc, Tok::Text, text)
 }
 
 /// The characters of a text, the normal form of a name, or the inner text of a name in backticks.

@@ -1,4 +1,6 @@
 // Tokens.
+ghost use Rattle.std.specs.Prelude.{◌≡◌};
+ghost use Rattle.indent_scanner.specs.Words.{is_left_out};
 
 /// A keyword: the first ones are in use, and those from `Addr` on are left out of the language.
 #[derive(Clone, Copy, Debug, PartialEq, Eq)]
@@ -69,6 +71,45 @@ pub enum Key {
     Using,
     When,
     Yield,
+}
+
+impl Key {
+    /// Whether the language leaves it out.
+    pub fn is_left_out(self) -> bool
+        ensures { result ≡ is_left_out self }
+    {
+        match self {
+            Key::Addr => true,
+            Key::Asm => true,
+            Key::Bind => true,
+            Key::Block => true,
+            Key::Cast => true,
+            Key::Concept => true,
+            Key::Converter => true,
+            Key::Do => true,
+            Key::End => true,
+            Key::Export => true,
+            Key::From => true,
+            Key::Func => true,
+            Key::Include => true,
+            Key::Interface => true,
+            Key::Is => true,
+            Key::IsNot => true,
+            Key::Iterator => true,
+            Key::Macro => true,
+            Key::Method => true,
+            Key::Mixin => true,
+            Key::NotIn => true,
+            Key::Out => true,
+            Key::Ptr => true,
+            Key::Static => true,
+            Key::Template => true,
+            Key::Using => true,
+            Key::When => true,
+            Key::Yield => true,
+            _ => false,
+        }
+    }
 }
 
 /// What a token is.
