@@ -1,2 +1,5 @@
+pub mod Lists
 pub mod Terms
+pub mod Types
 pub mod Statements
+pub mod Weights

@@ -1,12 +1,25 @@
 //! The trees of a module.
 #![tactic(auto)]
 
+mod count;
+mod depth;
 mod expr;
-mod laws;
+pub mod laws;
+mod name;
+mod part_count;
+mod part_depth;
 mod stmt;
+mod term_depth;
 #[cfg(test)]
 mod tests;
+mod types;
 
-pub use expr::{BinaryOp, Expr, UnaryOp};
-pub use laws::statements;
-pub use stmt::{Module, Name, Stmt};
+pub use count::nodes;
+pub use depth::block_depth;
+pub use expr::{BinaryOp, Choice, Expr, UnaryOp};
+pub use name::{Declared, Name, Pragma, PragmaKind};
+pub use stmt::{
+    AssignOp, Binding, Branch, Def, Handler, Import, Module, Over, Param, ParamMode, ProcHead, Stmt,
+};
+pub use term_depth::expr_depth;
+pub use types::{Field, TypeBody, TypeDef, TypeTree};

@@ -1,63 +1,281 @@
 // Statements.
-use crate::Expr;
+ghost use Rattle.std.specs.Prelude.{◌≡◌};
+ghost use Rattle.nim_tree.specs.Statements.{statement_of, statements_of, branches_of, handlers_of, body_in, closing_in, branches_in, handlers_in};
+
+use crate::{Declared, Expr, Name, Pragma, TypeDef, TypeTree};
 use arc_base::{Bytes, Place};
 
-/// A name that a statement declares or assigns, with the place of its token.
+/// How an assignment combines the old value with the new one.
+#[derive(Clone, Copy, Debug, PartialEq, Eq)]
+pub enum AssignOp {
+    /// `=`
+    Set,
+    /// `+=`
+    Plus,
+    /// `-=`
+    Minus,
+    /// `*=`
+    Times,
+    /// `&=`
+    Join,
+}
+
+/// What a definition binds its names to.
+#[derive(Clone, Copy, Debug, PartialEq, Eq)]
+pub enum Binding {
+    Let,
+    Var,
+    Const,
+}
+
+/// The definition of names with one type and one value.
 #[derive(Debug, Drop)]
-pub struct Name {
+pub struct Def {
+    pub names: Vec<Declared>,
+    pub pragmas: Vec<Pragma>,
+    pub annotation: Option<TypeTree>,
+    pub value: Option<Expr>,
+}
+
+/// How a parameter takes its argument.
+#[derive(Clone, Copy, Debug, PartialEq, Eq)]
+pub enum ParamMode {
+    Plain,
+    /// `var`
+    Var,
+    /// `sink`
+    Sink,
+}
+
+/// Parameters of one type.
+#[derive(Debug, Drop)]
+pub struct Param {
+    pub names: Vec<Name>,
+    pub mode: ParamMode,
+    pub of: TypeTree,
+}
+
+/// A procedure, but for its body.
+#[derive(Debug, Drop)]
+pub struct ProcHead {
+    pub name: Declared,
+    /// The names of its type parameters.
+    pub generics: Vec<Name>,
+    pub params: Vec<Param>,
+    pub gives: Option<TypeTree>,
+    pub pragmas: Vec<Pragma>,
+}
+
+/// What a `for` goes over.
+#[derive(Debug, Drop)]
+pub enum Over {
+    /// The elements of a value.
+    Each(Expr),
+    /// `first..last`
+    UpTo(Expr, Expr),
+    /// `first..<end`
+    Below(Expr, Expr),
+}
+
+/// A branch of an `if` or `case`: its condition, or its labels, and its block.
+#[derive(Debug, Drop)]
+#[cycle(stmt)]
+pub struct Branch {
+    /// The place of `if`, `elif` or `of`.
     pub at: Place,
-    /// The bytes that it is written with.
-    pub text: Bytes,
+    /// One condition, or the labels.
+    pub tests: Vec<Expr>,
+    pub body: Vec<Stmt>,
+}
+
+/// A handler of a `try`: its exception types, of which none stands for all, and its block.
+#[derive(Debug, Drop)]
+#[cycle(stmt)]
+pub struct Handler {
+    /// The place of `except`.
+    pub at: Place,
+    pub types: Vec<Name>,
+    /// The name behind `as`.
+    pub binding: Option<Name>,
+    pub body: Vec<Stmt>,
 }
 
 /// A statement, with the place of its first token.
+///
+/// A block holds a statement at least, so an empty list stands for one that isn't there.
 #[derive(Debug, Drop)]
+#[cycle(stmt)]
 pub enum Stmt {
-    /// `var name = sum`
-    Var {
+    /// `discard`, or `discard value`.
+    Discard {
         at: Place,
-        name: Name,
+        value: Option<Expr>,
+    },
+    /// `return`, or `return value`.
+    Return {
+        at: Place,
+        value: Option<Expr>,
+    },
+    /// `raise`, or `raise value`.
+    Raise {
+        at: Place,
+        value: Option<Expr>,
+    },
+    /// `break`
+    Break {
+        at: Place,
+    },
+    /// `continue`
+    Continue {
+        at: Place,
+    },
+    /// `import` and the names of modules.
+    Import {
+        at: Place,
+        names: Vec<Name>,
+    },
+    /// An expression.
+    Eval {
+        at: Place,
         value: Expr,
     },
-    /// `name = sum`
+    /// `target op value`
     Assign {
         at: Place,
-        name: Name,
+        op: AssignOp,
+        target: Expr,
         value: Expr,
     },
-    /// `echo sum`
-    EchoInt {
+    /// A call without parentheses: `callee operand, ..`.
+    Command {
         at: Place,
-        value: Expr,
+        callee: Expr,
+        operands: Vec<Expr>,
     },
-    /// `echo text`, by the bytes that the text stands for.
-    EchoText {
+    /// `let`, `var` or `const`, with one definition or a block of them.
+    Define {
         at: Place,
-        text: Bytes,
+        binding: Binding,
+        defs: Vec<Def>,
     },
-    /// `quit(sum)`
-    Quit {
+    /// `type`, with one declaration or a block of them.
+    Types {
         at: Place,
-        status: Expr,
+        defs: Vec<TypeDef>,
     },
-    /// `if cond:` with its block, and the block of `else`, which is empty where there is none.
+    /// `if`, its `elif` branches, and the block of `else`.
     If {
         at: Place,
-        condition: Expr,
-        then_branch: Vec<Stmt>,
-        else_branch: Vec<Stmt>,
+        branches: Vec<Branch>,
+        otherwise: Vec<Stmt>,
     },
-    /// `while cond:` with its block.
+    /// `case`, its `of` branches, and the block of `else`.
+    Case {
+        at: Place,
+        selector: Expr,
+        branches: Vec<Branch>,
+        otherwise: Vec<Stmt>,
+    },
+    /// `while`
     While {
         at: Place,
         condition: Expr,
         body: Vec<Stmt>,
     },
+    /// `for variable in over`
+    For {
+        at: Place,
+        variable: Name,
+        over: Over,
+        body: Vec<Stmt>,
+    },
+    /// `try`, its handlers, and the block of `finally`.
+    Try {
+        at: Place,
+        body: Vec<Stmt>,
+        handlers: Vec<Handler>,
+        finally: Vec<Stmt>,
+    },
+    /// `defer`
+    Defer {
+        at: Place,
+        body: Vec<Stmt>,
+    },
+    /// `proc`, and its block.
+    Proc {
+        at: Place,
+        head: ProcHead,
+        body: Vec<Stmt>,
+    },
 }
 
-/// The tree of a source.
+impl Stmt {
+    /// Its block, where that isn't in a branch.
+    pub fn body(&self) -> &[Stmt]
+        ensures { statements_of result.now ≡ body_in (statement_of self.now) }
+    {
+        match self {
+            Stmt::While { body, .. }
+            | Stmt::For { body, .. }
+            | Stmt::Try { body, .. }
+            | Stmt::Defer { body, .. }
+            | Stmt::Proc { body, .. } => body,
+            _ => &[],
+        }
+    }
+
+    /// The block of `else` or `finally`.
+    pub fn closing(&self) -> &[Stmt]
+        ensures { statements_of result.now ≡ closing_in (statement_of self.now) }
+    {
+        match self {
+            Stmt::If {
+                otherwise: block,
+                ..
+            }
+            | Stmt::Case {
+                otherwise: block,
+                ..
+            }
+            | Stmt::Try { finally: block, .. } => block,
+            _ => &[],
+        }
+    }
+
+    /// The branches of an `if` or `case`.
+    pub fn branches(&self) -> &[Branch]
+        ensures { branches_of result.now ≡ branches_in (statement_of self.now) }
+    {
+        match self {
+            Stmt::If { branches, .. } | Stmt::Case { branches, .. } => branches,
+            _ => &[],
+        }
+    }
+
+    /// The handlers of a `try`.
+    pub fn handlers(&self) -> &[Handler]
+        ensures { handlers_of result.now ≡ handlers_in (statement_of self.now) }
+    {
+        match self {
+            Stmt::Try { handlers, .. } => handlers,
+            _ => &[],
+        }
+    }
+}
+
+/// The tree of a module.
 #[derive(Debug, Drop)]
 pub struct Module {
-    /// The statements, in order.
+    /// The names behind `import` of its own statements, in order.
+    pub imports: Vec<Import>,
+    /// Its statements, in order, imports among them.
     pub body: Vec<Stmt>,
+}
+
+/// A module that is imported.
+#[derive(Debug, Drop)]
+pub struct Import {
+    pub at: Place,
+    /// The bytes that its name is written with.
+    pub text: Bytes,
 }

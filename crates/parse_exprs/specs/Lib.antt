@@ -1,7 +1,9 @@
 pub mod Look
-pub mod Grammar
-pub mod Plain
-pub mod Deep
 pub mod Input
+pub mod Outcome
+pub mod Run
 pub mod Gives
+pub mod Plain
+pub mod Faults
 pub mod Parsed
+pub mod Counts

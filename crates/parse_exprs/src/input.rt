@@ -1,137 +1,42 @@
 // What stands at a place of the tokens.
-ghost use Rattle.std.specs.Prelude.{◌≡◌, ◌<◌, suc, ◌∷◌, [], drop, length, IfSome, IfNone};
-ghost use Rattle.parse_exprs.specs.Look.{goes_on, op_named, op_of_key, op_of, level_of, of_level, op_at, sign_named, sign_of, is_open, is_close, is_suffix, suffix_at, stays, kind_at, begins, operand_at, spelling, place_at};
+ghost use Rattle.std.specs.Prelude.{◌≡◌, ◌<◌, ◌≤◌, suc, ◌∷◌, [], length, IfSome, IfNone, is_some, max};
+ghost use Rattle.nim_tree.specs.Terms.{term_of};
+ghost use Rattle.parse_exprs.specs.Look.{op_at, is_punct, is_at, sign_of, bracket_at, square_at, closes_at, name_at, names_in, names_behind, name_on, suffix_at, stays, kind_at, operand_at, spelling, place_at, lead_at, branch_at, is_elif, is_else, is_of, first_of_at, colon_at, comma_at, past_colon, dots_at, left_out_at, is_name, is_left_out, as_name, line_spaces};
 ghost use Rattle.parse_exprs.specs.Input.{origin_of, from_at};
 
+use crate::kinds::{
+    begins, bracket_of, branch_goes_on, closing, first_goes_on, goes_on, is_apart, is_at, is_dots,
+    is_elif, is_else, is_left_out, is_name, is_of, is_punct, is_suffix, lead_of, of_level, op_of,
+    sign_of,
+};
+use crate::layout::Layout;
 use arc_base::Place;
-use indent_scanner::{Key, Tok, Token};
-use nim_tree::{BinaryOp, UnaryOp};
+use indent_scanner::Token;
+use nim_tree::{BinaryOp, Expr, UnaryOp};
 
-// Whether a token with this number of spaces goes on.
-fn goes_on(inside: bool, indent: Option<u32>) -> bool
-    ensures { result ≡ goes_on inside indent }
-{
-    match indent {
-        None => true,
-        Some(_) => inside,
-    }
+/// What an expression begins with.
+#[derive(Clone, Copy, Debug, PartialEq, Eq)]
+pub enum Lead {
+    /// `if`
+    If,
+    /// `case`
+    Case,
+    /// An operand.
+    Operand,
 }
 
-fn op_named(spelling: &[u8]) -> Option<BinaryOp>
-    ensures { result ≡ op_named spelling.now }
-{
-    if spelling == b"*".as_slice() {
-        Some(BinaryOp::Times)
-    } else if spelling == b"+".as_slice() {
-        Some(BinaryOp::Plus)
-    } else if spelling == b"-".as_slice() {
-        Some(BinaryOp::Minus)
-    } else if spelling == b"==".as_slice() {
-        Some(BinaryOp::Equal)
-    } else if spelling == b"<".as_slice() {
-        Some(BinaryOp::Less)
-    } else if spelling == b"<=".as_slice() {
-        Some(BinaryOp::AtMost)
-    } else {
-        None
-    }
-}
-
-fn op_of_key(key: Key) -> Option<BinaryOp>
-    ensures { result ≡ op_of_key key }
-{
-    match key {
-        Key::Div => Some(BinaryOp::Div),
-        Key::Mod => Some(BinaryOp::Mod),
-        _ => None,
-    }
-}
-
-// The operator between operands that a token is.
-fn op_of(kind: Tok, spelling: &[u8]) -> Option<BinaryOp>
-    ensures { result ≡ op_of kind spelling.now }
-{
-    match kind {
-        Tok::Op => op_named(spelling),
-        Tok::Key(key) => op_of_key(key),
-        _ => None,
-    }
-}
-
-// The level of an operator, from tight to loose.
-fn level_of(op: BinaryOp) -> u32
-    ensures { result ≡ level_of op }
-{
-    match op {
-        BinaryOp::Times | BinaryOp::Div | BinaryOp::Mod => 0,
-        BinaryOp::Plus | BinaryOp::Minus => 1,
-        BinaryOp::Equal | BinaryOp::Less | BinaryOp::AtMost => 2,
-    }
-}
-
-// The operator, where it has this level.
-fn of_level(level: u32, op: Option<BinaryOp>) -> Option<BinaryOp>
-    ensures { result ≡ of_level level op }
-{
-    match op {
-        Some(op) if level_of(op) == level => Some(op),
-        _ => None,
-    }
-}
-
-// The operator before one operand that a token is.
-fn sign_of(kind: Tok, spelling: &[u8]) -> Option<UnaryOp>
-    ensures { result ≡ sign_of kind spelling.now }
-{
-    match kind {
-        Tok::Op if spelling == b"-".as_slice() => Some(UnaryOp::Minus),
-        _ => None,
-    }
-}
-
-/// Whether a token is an opening parenthesis.
-pub(crate) fn is_open(kind: Tok) -> bool
-    ensures { result ≡ is_open kind }
-{
-    match kind {
-        Tok::Punct(b) => b == b'(',
-        _ => false,
-    }
-}
-
-fn is_close(kind: Tok) -> bool
-    ensures { result ≡ is_close kind }
-{
-    match kind {
-        Tok::Punct(b) => b == b')',
-        _ => false,
-    }
-}
-
-fn is_suffix(kind: Tok) -> bool
-    ensures { result ≡ is_suffix kind }
-{
-    match kind {
-        Tok::Punct(b) => b == b'(' || b == b'[' || b == b'.',
-        _ => false,
-    }
-}
-
-// Whether a token begins an operand.
-fn begins(kind: Tok, spelling: &[u8]) -> bool
-    ensures { result ≡ begins kind spelling.now }
-{
-    match kind {
-        Tok::Int(_) | Tok::Name => true,
-        Tok::Punct(b) => b == b'(',
-        Tok::Op => spelling == b"-".as_slice(),
-        _ => false,
-    }
+/// A bracket that opens.
+#[derive(Clone, Copy, Debug, PartialEq, Eq)]
+pub enum Bracket {
+    /// `(`
+    Round,
+    /// `[`
+    Square,
 }
 
 /// The tokens of a module, with the bytes that they stand for.
 #[derive(Clone, Copy)]
-pub(crate) struct Input<'a> {
+pub struct Input<'a> {
     /// The bytes.
     pub source: &'a [u8],
     /// The tokens of these bytes.
@@ -142,7 +47,7 @@ pub(crate) struct Input<'a> {
 
 impl Input<'_> {
     /// The token at a place.
-    pub(crate) fn head(&self, at: usize) -> Option<Token>
+    pub fn head(&self, at: usize) -> Option<Token>
         ensures some { IfSome result (λ tok. from_at self.now at ≡ tok ∷ from_at self.now (suc at)) }
         ensures within { IfSome result (λ tok. at < length self.now.tokens.now) }
         ensures none { IfNone result (from_at self.now at ≡ []) }
@@ -155,7 +60,7 @@ impl Input<'_> {
     }
 
     /// The bytes of a token.
-    pub(crate) fn spelling(&self, token: Token) -> &[u8]
+    pub fn spelling(&self, token: Token) -> &[u8]
         ensures { result.now ≡ spelling (origin_of self.now) token }
     {
         let source = self.source;
@@ -166,7 +71,7 @@ impl Input<'_> {
     }
 
     /// The place of a token.
-    pub(crate) fn place_at(&self, token: Token) -> Place
+    pub fn place_at(&self, token: Token) -> Place
         ensures { result ≡ place_at (origin_of self.now) token }
     {
         Place {
@@ -177,49 +82,131 @@ impl Input<'_> {
     }
 
     /// The operator of this level that goes on there.
-    pub(crate) fn op_at(&self, at: usize, inside: bool, level: u32) -> Option<BinaryOp>
-        ensures { result ≡ op_at (origin_of self.now) inside level (from_at self.now at) }
+    pub fn op_at(&self, at: usize, layout: Layout, level: u32) -> Option<BinaryOp>
+        ensures { result ≡ op_at (origin_of self.now) layout level (from_at self.now at) }
     {
         let token = self.head(at)?;
-        if goes_on(inside, token.indent) {
+        if goes_on(layout, token.indent) {
             of_level(level, op_of(token.kind, self.spelling(token)))
         } else {
             None
         }
     }
 
-    /// Whether a bracket or a point goes on there.
-    pub(crate) fn suffix_at(&self, at: usize, inside: bool) -> bool
-        ensures { result ≡ suffix_at inside (from_at self.now at) }
+    /// Whether a bracket or a point goes on there, where a command may begin or not.
+    pub fn suffix_at(&self, at: usize, layout: Layout, command: bool) -> bool
+        ensures { result ≡ suffix_at layout command (from_at self.now at) }
     {
         match self.head(at) {
-            Some(token) => goes_on(inside, token.indent) && is_suffix(token.kind),
+            Some(token) => goes_on(layout, token.indent)
+                && (is_suffix(token.kind) && !is_apart(command, token)),
             None => false,
         }
     }
 
     /// Whether the token there goes on.
-    pub(crate) fn stays(&self, at: usize, inside: bool) -> bool
-        ensures { result ≡ stays inside (from_at self.now at) }
+    pub fn stays(&self, at: usize, layout: Layout) -> bool
+        ensures { result ≡ stays layout (from_at self.now at) }
     {
         match self.head(at) {
-            Some(token) => goes_on(inside, token.indent),
+            Some(token) => goes_on(layout, token.indent),
             None => false,
         }
     }
 
-    /// Whether a closing parenthesis stands there.
-    pub(crate) fn is_close(&self, at: usize) -> bool
-        ensures { result ≡ kind_at is_close (from_at self.now at) }
+    /// Whether this punctuation stands there.
+    pub fn punct_at(&self, byte: u8, at: usize) -> bool
+        ensures { result ≡ kind_at (is_punct byte) (from_at self.now at) }
     {
         match self.head(at) {
-            Some(token) => is_close(token.kind),
+            Some(token) => is_punct(byte, token.kind),
             None => false,
         }
+    }
+
+    /// The bracket that opens there.
+    pub fn bracket_at(&self, at: usize) -> Option<Bracket>
+        ensures { result ≡ bracket_at (from_at self.now at) }
+    {
+        match self.head(at) {
+            Some(token) => bracket_of(token.kind),
+            None => None,
+        }
+    }
+
+    /// Whether the bracket of a sequence opens there.
+    pub fn square_at(&self, at: usize) -> bool
+        ensures { result ≡ square_at (from_at self.now at) }
+    {
+        match self.bracket_at(at) {
+            Some(Bracket::Square) => true,
+            _ => false,
+        }
+    }
+
+    /// Whether the bracket is closed there.
+    pub fn closes_at(&self, bracket: Bracket, at: usize) -> bool
+        ensures { result ≡ closes_at bracket (from_at self.now at) }
+    {
+        self.punct_at(closing(bracket), at)
+    }
+
+    /// Whether a name and a colon stand there.
+    pub fn name_at(&self, at: usize) -> bool
+        ensures { result ≡ name_at (from_at self.now at) }
+    {
+        match self.head(at) {
+            Some(token) => is_name(token.kind) && self.punct_at(b':', at + 1),
+            None => false,
+        }
+    }
+
+    /// Whether the parts behind a bracket have names.
+    pub fn names_in(&self, bracket: Bracket, at: usize) -> bool
+        ensures { result ≡ names_in bracket (from_at self.now at) }
+    {
+        match bracket {
+            Bracket::Round => self.name_at(at),
+            Bracket::Square => false,
+        }
+    }
+
+    /// Whether the parts in brackets behind an expression have names.
+    pub fn names_behind(&self, base: &Expr, bracket: Bracket, at: usize) -> bool
+        ensures { result ≡ names_behind (term_of base.now) bracket (from_at self.now at) }
+    {
+        is_name_alone(base) && self.names_in(bracket, at)
+    }
+
+    /// Whether a name stands there.
+    pub fn is_name_at(&self, at: usize) -> bool
+        ensures { result ≡ kind_at is_name (from_at self.now at) }
+    {
+        match self.head(at) {
+            Some(token) => is_name(token.kind),
+            None => false,
+        }
+    }
+
+    /// The name that goes on there.
+    pub fn name_on(&self, at: usize, layout: Layout) -> Option<Token>
+        ensures { result ≡ name_on layout (from_at self.now at) }
+    {
+        match self.head(at) {
+            Some(token) if goes_on(layout, token.indent) && is_name(token.kind) => Some(token),
+            _ => None,
+        }
+    }
+
+    /// Whether a token is the `@` of a sequence.
+    pub fn is_at(&self, token: Token) -> bool
+        ensures { result ≡ is_at token.kind (spelling (origin_of self.now) token) }
+    {
+        is_at(token.kind, self.spelling(token))
     }
 
     /// Whether an operand begins there.
-    pub(crate) fn operand_at(&self, at: usize) -> bool
+    pub fn operand_at(&self, at: usize) -> bool
         ensures { result ≡ operand_at (origin_of self.now) (from_at self.now at) }
     {
         match self.head(at) {
@@ -229,9 +216,145 @@ impl Input<'_> {
     }
 
     /// The operator before one operand that a token is.
-    pub(crate) fn sign_of(&self, token: Token) -> Option<UnaryOp>
+    pub fn sign_of(&self, token: Token) -> Option<UnaryOp>
         ensures { result ≡ sign_of token.kind (spelling (origin_of self.now) token) }
     {
         sign_of(token.kind, self.spelling(token))
+    }
+
+    /// What an expression that begins there begins with.
+    pub fn lead_at(&self, at: usize) -> Lead
+        ensures { result ≡ lead_at (from_at self.now at) }
+    {
+        match self.head(at) {
+            Some(token) => lead_of(token.kind),
+            None => Lead::Operand,
+        }
+    }
+
+    /// The `elif` that goes on there.
+    pub fn elif_at(&self, at: usize, layout: Layout) -> Option<Token>
+        ensures is { is_some result ≡ branch_at layout is_elif (from_at self.now at) }
+        ensures some { IfSome result (λ tok. from_at self.now at ≡ tok ∷ from_at self.now (suc at)) }
+        ensures within { IfSome result (λ tok. at < length self.now.tokens.now) }
+    {
+        match self.head(at) {
+            Some(token) if branch_goes_on(layout, token.indent) && is_elif(token.kind) => Some(
+                token,
+            ),
+            _ => None,
+        }
+    }
+
+    /// The `of` that goes on there, behind another.
+    pub fn of_at(&self, at: usize, layout: Layout) -> Option<Token>
+        ensures is { is_some result ≡ branch_at layout is_of (from_at self.now at) }
+        ensures some { IfSome result (λ tok. from_at self.now at ≡ tok ∷ from_at self.now (suc at)) }
+        ensures within { IfSome result (λ tok. at < length self.now.tokens.now) }
+    {
+        match self.head(at) {
+            Some(token) if branch_goes_on(layout, token.indent) && is_of(token.kind) => Some(token),
+            _ => None,
+        }
+    }
+
+    /// The first `of`, where it goes on there.
+    pub fn first_of_at(&self, at: usize, layout: Layout) -> Option<Token>
+        ensures is { is_some result ≡ first_of_at layout (from_at self.now at) }
+        ensures some { IfSome result (λ tok. from_at self.now at ≡ tok ∷ from_at self.now (suc at)) }
+        ensures within { IfSome result (λ tok. at < length self.now.tokens.now) }
+    {
+        match self.head(at) {
+            Some(token) if first_goes_on(layout, token.indent) && is_of(token.kind) => Some(token),
+            _ => None,
+        }
+    }
+
+    /// Whether an `else` goes on there.
+    pub fn else_at(&self, at: usize, layout: Layout) -> bool
+        ensures { result ≡ branch_at layout is_else (from_at self.now at) }
+    {
+        match self.head(at) {
+            Some(token) => branch_goes_on(layout, token.indent) && is_else(token.kind),
+            None => false,
+        }
+    }
+
+    /// Whether a colon goes on there.
+    pub fn colon_at(&self, at: usize, layout: Layout) -> bool
+        ensures { result ≡ colon_at layout (from_at self.now at) }
+    {
+        match self.head(at) {
+            Some(token) => goes_on(layout, token.indent) && is_punct(b':', token.kind),
+            None => false,
+        }
+    }
+
+    /// Whether a comma goes on there.
+    pub fn comma_at(&self, at: usize, layout: Layout) -> bool
+        ensures { result ≡ comma_at layout (from_at self.now at) }
+    {
+        match self.head(at) {
+            Some(token) => goes_on(layout, token.indent) && is_punct(b',', token.kind),
+            None => false,
+        }
+    }
+
+    /// The place behind the colon that may stand there.
+    pub fn past_colon(&self, at: usize, layout: Layout) -> usize
+        requires within { at ≤ length self.now.tokens.now }
+        ensures past { from_at self.now result ≡ past_colon layout (from_at self.now at) }
+        ensures goes { at ≤ result }
+        ensures within { result ≤ length self.now.tokens.now }
+    {
+        match self.head(at) {
+            Some(token) if goes_on(layout, token.indent) && is_punct(b':', token.kind) => at + 1,
+            _ => at,
+        }
+    }
+
+    /// Whether `..` goes on there.
+    pub fn dots_at(&self, at: usize, layout: Layout) -> bool
+        ensures { result ≡ dots_at (origin_of self.now) layout (from_at self.now at) }
+    {
+        match self.head(at) {
+            Some(token) => goes_on(layout, token.indent)
+                && is_dots(token.kind, self.spelling(token)),
+            None => false,
+        }
+    }
+
+    /// Whether a keyword that the language leaves out stands there.
+    pub fn left_out_at(&self, at: usize) -> bool
+        ensures { result ≡ left_out_at (from_at self.now at) }
+    {
+        match self.head(at) {
+            Some(token) => is_left_out(token.kind),
+            None => false,
+        }
+    }
+
+    /// The number of spaces before the line that a token stands on.
+    pub fn spaces_at(&self, from: usize) -> u32
+        requires within { from < length self.now.tokens.now }
+        ensures { result ≡ line_spaces from self.now.tokens.now }
+    {
+        let mut left = from + 1;
+        while left > 0 {
+            match self.tokens[left - 1].indent {
+                Some(spaces) => return spaces,
+                None => left -= 1,
+            }
+        }
+        0
+    }
+}
+
+fn is_name_alone(tree: &Expr) -> bool
+    ensures { result ≡ is_some (as_name (term_of tree.now)) }
+{
+    match tree {
+        Expr::Name { .. } => true,
+        _ => false,
     }
 }

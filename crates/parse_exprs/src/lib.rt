@@ -4,10 +4,20 @@
 #![tactic(auto)]
 
 mod input;
+mod kinds;
+mod layout;
 mod make;
 mod parse;
 mod read;
 #[cfg(test)]
 mod tests;
 
-pub use parse::{Parsed, deep_exprs, expr, one_expr};
+pub use input::{Bracket, Input, Lead};
+pub use kinds::{
+    begins_atom, bracket_of, branch_goes_on, goes_on, is_name, is_punct, op_named, sign_named,
+};
+pub use layout::Layout;
+pub use parse::{
+    Parsed, callee, callees_run, deep_exprs, expr, expr_within, exprs_run, exprs_weigh, one_callee,
+    one_expr,
+};

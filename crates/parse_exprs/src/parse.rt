@@ -1,15 +1,24 @@
 // The expression that begins at a token.
-ghost use Rattle.std.specs.Prelude.{◌≡◌, ◌<◌, ◌≤◌, ◌-◌, ◌^◌, ◌↔◌, IfOk, IfErr, length, drop, List};
+ghost use Rattle.std.specs.Prelude.{◌≡◌, ℕ, ◌<◌, ◌+◌, All, ◌≤◌, ◌-◌, ◌^◌, IfOk, IfErr, length, drop, List, ◌↔◌};
 ghost use Rattle.arc_base.specs.Stops.{OnRefusal};
 ghost use Rattle.indent_scanner.specs.declared.token.Token.{Token as One};
+ghost use Rattle.indent_scanner.specs.Tokens.{HasByte, token_bytes};
 ghost use Rattle.nim_tree.specs.Terms.{Term, levels, nodes, term_of};
-ghost use Rattle.parse_exprs.specs.Look.{Origin};
-ghost use Rattle.parse_exprs.specs.Parsed.{origin, Reads, IsTooDeep, IsRead, IsOnly, HasNoEnd, IsRefused};
+ghost use Rattle.nim_tree.specs.Weights.{weight};
+ghost use Rattle.parse_exprs.specs.Counts.{count};
+ghost use Rattle.parse_exprs.specs.declared.layout.Layout.{Layout as Stands};
+ghost use Rattle.parse_exprs.specs.declared.layout.Layout.TheVariants.{Lines};
+ghost use Rattle.parse_exprs.specs.Look.{Origin, line_spaces};
+ghost use Rattle.parse_exprs.specs.Outcome.{Out};
+ghost use Rattle.parse_exprs.specs.Input.{origin_of, from_at};
+ghost use Rattle.parse_exprs.specs.Gives.{Fails};
+ghost use Rattle.parse_exprs.specs.Parsed.{origin, Reads, ReadsCallee, ExprFaults, CalleeFaults, ExprRun, CalleeRun, IsTooDeep, IsRead, IsOnly, HasNoEnd, IsRefused, RunsInto, Runs, Agree};
 
 use crate::input::Input;
+use crate::layout::Layout;
 use crate::make::{Reading, Stuck};
-use crate::read::{LEVELS, read_level};
-use arc_base::{Code, Place, Stop};
+use crate::read::{read_expr, read_primary};
+use arc_base::{Code, Stop};
 use indent_scanner::Token;
 use nim_tree::Expr;
 use std::alloc::Global;
@@ -24,9 +33,82 @@ pub struct Parsed {
     pub next: u32,
 }
 
-/// The longest expression that begins at a token.
+/// The longest expression of at most so many levels that begins at a token.
 ///
-/// E4 names the token that can't go on, E5 the first token of the expression.
+/// E4 and E23 name the token that can't go on, E5 the first token of the expression.
+pub fn expr_within(
+    alloc: Global,
+    source: &[u8],
+    tokens: &[Token],
+    from: u32,
+    module: u32,
+    layout: Layout,
+    most: u32,
+) -> Result<Parsed, Stop>
+    requires begins { from < length tokens.now }
+    requires few { length tokens.now < 2 ^ 32 }
+    ensures reads { IfOk result (IsRead (Reads (origin source.now «module») layout) most tokens.now from) }
+    ensures only { IfOk result (IsOnly (Reads (origin source.now «module») layout) tokens.now from) }
+    ensures size { IfOk result (λ p. nodes (term_of p.tree) ≤ p.next - from) }
+    ensures inside { IfOk result (λ p. HasNoEnd tokens.now from p.next) }
+    ensures refused { IfErr result (λ stop. OnRefusal stop (IsRefused (Reads (origin source.now «module») layout) (ExprFaults (origin source.now «module») layout most) (origin source.now «module») (drop from tokens.now))) }
+    ensures runs { Runs (ExprRun (origin source.now «module») layout most) (origin source.now «module») tokens.now from result }
+{
+    let input = Input {
+        source,
+        tokens,
+        module,
+    };
+    match read_expr(alloc, &input, from as usize, layout, most) {
+        Ok(Reading { tree, next, .. }) => Ok(Parsed {
+            tree,
+            next: next as u32,
+        }),
+        Err(stuck) => Err(refusal(&input, from as usize, stuck)),
+    }
+}
+
+/// The longest atom with what stands behind it that begins at a token, in a statement behind so many spaces, where a
+/// command may begin: a `(` with a space before it is left to the command.
+pub fn callee(
+    alloc: Global,
+    source: &[u8],
+    tokens: &[Token],
+    from: u32,
+    module: u32,
+    spaces: u32,
+) -> Result<Parsed, Stop>
+    requires begins { from < length tokens.now }
+    requires few { length tokens.now < 2 ^ 32 }
+    ensures reads { IfOk result (IsRead (ReadsCallee (origin source.now «module») spaces) 64 tokens.now from) }
+    ensures only { IfOk result (IsOnly (ReadsCallee (origin source.now «module») spaces) tokens.now from) }
+    ensures size { IfOk result (λ p. nodes (term_of p.tree) ≤ p.next - from) }
+    ensures inside { IfOk result (λ p. HasNoEnd tokens.now from p.next) }
+    ensures refused { IfErr result (λ stop. OnRefusal stop (IsRefused (ReadsCallee (origin source.now «module») spaces) (CalleeFaults (origin source.now «module») spaces) (origin source.now «module») (drop from tokens.now))) }
+    ensures runs { Runs (CalleeRun (origin source.now «module») spaces) (origin source.now «module») tokens.now from result }
+{
+    let input = Input {
+        source,
+        tokens,
+        module,
+    };
+    match read_primary(
+        alloc,
+        &input,
+        from as usize,
+        Layout::Lines(spaces),
+        true,
+        MOST_LEVELS,
+    ) {
+        Ok(Reading { tree, next, .. }) => Ok(Parsed {
+            tree,
+            next: next as u32,
+        }),
+        Err(stuck) => Err(refusal(&input, from as usize, stuck)),
+    }
+}
+
+/// The longest expression of at most 64 levels that begins at a token, on a line of its own statement.
 pub fn expr(
     alloc: Global,
     source: &[u8],
@@ -36,41 +118,81 @@ pub fn expr(
 ) -> Result<Parsed, Stop>
     requires begins { from < length tokens.now }
     requires few { length tokens.now < 2 ^ 32 }
-    ensures reads { IfOk result (IsRead (origin source.now «module») tokens.now from) }
-    ensures only { IfOk result (IsOnly (origin source.now «module») tokens.now from) }
+    ensures reads { IfOk result (IsRead (Reads (origin source.now «module») (Lines (line_spaces from tokens.now))) 64 tokens.now from) }
+    ensures only { IfOk result (IsOnly (Reads (origin source.now «module») (Lines (line_spaces from tokens.now))) tokens.now from) }
     ensures size { IfOk result (λ p. nodes (term_of p.tree) ≤ p.next - from) }
     ensures inside { IfOk result (λ p. HasNoEnd tokens.now from p.next) }
-    ensures refused { IfErr result (λ stop. OnRefusal stop (IsRefused (origin source.now «module») (drop from tokens.now))) }
+    ensures refused { IfErr result (λ stop. OnRefusal stop (IsRefused (Reads (origin source.now «module») (Lines (line_spaces from tokens.now))) (ExprFaults (origin source.now «module») (Lines (line_spaces from tokens.now)) 64) (origin source.now «module») (drop from tokens.now))) }
+    ensures runs { Runs (ExprRun (origin source.now «module») (Lines (line_spaces from tokens.now)) 64) (origin source.now «module») tokens.now from result }
 {
     let input = Input {
         source,
         tokens,
         module,
     };
-    let first = tokens[from as usize];
-    match read_level(alloc, &input, from as usize, false, LEVELS, MOST_LEVELS) {
-        Ok(Reading { tree, next, .. }) => Ok(Parsed {
-            tree,
-            next: next as u32,
-        }),
-        Err(Stuck::Syntax(at)) => Err(Stop::Refused {
+    let spaces = input.spaces_at(from as usize);
+    expr_within(
+        alloc,
+        source,
+        tokens,
+        from,
+        module,
+        Layout::Lines(spaces),
+        MOST_LEVELS,
+    )
+}
+
+// The answer where nothing was read.
+fn refusal(input: &Input, from: usize, stuck: Stuck) -> Stop
+    requires { from < length input.now.tokens.now }
+    ensures { (run : List One → ℕ → Out Term) → Fails (run (from_at input.now from)) input.now stuck → OnRefusal result (RunsInto run (origin_of input.now) (from_at input.now from)) }
+{
+    let first = input.tokens[from];
+    match stuck {
+        Stuck::Syntax(at) if input.left_out_at(at) => Stop::Refused {
+            code: Code::LeftOut,
+            at: input.place_at(input.head(at).unwrap_or(first)),
+        },
+        Stuck::Syntax(at) => Stop::Refused {
             code: Code::Syntax,
             at: input.place_at(input.head(at).unwrap_or(first)),
-        }),
-        Err(Stuck::Deep) => Err(Stop::Refused {
+        },
+        Stuck::Deep => Stop::Refused {
             code: Code::NestTooDeep,
             at: input.place_at(first),
-        }),
-        Err(Stuck::Memory) => Err(Stop::Memory),
+        },
+        Stuck::Memory => Stop::Memory,
     }
 }
 
 /// At most one expression begins at a token, and it ends at one place.
 pub fn one_expr()
-    ensures { (x : Origin) (t u : Term) (ts r s : List One) → Reads x t ts r → Reads x u ts s → (t ≡ u) × (r ≡ s) }
+    ensures { (x : Origin) (layout : Stands) (t u : Term) (ts r s : List One) → Reads x layout t ts r → Reads x layout u ts s → (t ≡ u) × (r ≡ s) }
 {}
 
-/// An expression has more than 64 levels exactly where it opens a 65th.
+/// The same of an atom with what stands behind it, where a command may begin.
+pub fn one_callee()
+    ensures { (x : Origin) (spaces : ℕ) (t u : Term) (ts r s : List One) → ReadsCallee x spaces t ts r → ReadsCallee x spaces u ts s → (t ≡ u) × (r ≡ s) }
+{}
+
+/// An expression has more levels than there may be exactly where it opens one too many.
 pub fn deep_exprs()
-    ensures { (x : Origin) (t : Term) (ts rest : List One) → Reads x t ts rest → IsTooDeep x ts ↔ (64 < levels t) }
+    ensures { (x : Origin) (layout : Stands) (most : ℕ) (t : Term) (ts rest : List One) → Reads x layout t ts rest → IsTooDeep x layout most ts ↔ (most < levels t) }
+{}
+
+/// What an expression is, why there is none, and what a computation comes to agree.
+pub fn exprs_run()
+    ensures { (x : Origin) (layout : Stands) (most : ℕ) → Agree (Reads x layout) (ExprFaults x layout most) (ExprRun x layout most) most }
+{}
+
+/// The same of an atom with what stands behind it, where a command may begin.
+pub fn callees_run()
+    ensures { (x : Origin) (spaces : ℕ) → Agree (ReadsCallee x spaces) (CalleeFaults x spaces) (CalleeRun x spaces) 64 }
+{}
+
+/// A tree weighs no more than its tokens have bytes.
+pub fn exprs_weigh()
+    ensures exprs { (x : Origin) (layout : Stands) (t : Term) (ts rest : List One) → Reads x layout t ts rest → weight t + count rest ≤ count ts }
+    ensures callees { (x : Origin) (spaces : ℕ) (t : Term) (ts rest : List One) → ReadsCallee x spaces t ts rest → weight t + count rest ≤ count ts }
+    ensures bytes { (ts : List One) → All HasByte ts → count ts ≤ token_bytes ts }
 {}

@@ -1,6 +1,9 @@
 pub mod Look
+pub mod Inline
+pub mod Handling
+pub mod Run
+pub mod Marks
+pub mod Blocks
 pub mod Grammar
-pub mod Deep
-pub mod Input
-pub mod Gives
+pub mod Faults
 pub mod Parsed

@@ -1,110 +1,181 @@
 -- What stands at a place of the tokens.
-use Rattle.std.specs.Prelude.{ℕ, Bool, true, false, ◌&&◌, ◌==◌, nat_lt, if◌then◌else◌, List, [], ◌∷◌, codes, Option, Some, None}
-use Rattle.indent_scanner.specs.declared.token.Key.{Key}
+use Rattle.std.specs.Prelude.{ℕ, Bool, true, false, not, ◌&&◌, ◌||◌, ◌==◌, nat_lt, if◌then◌else◌, List, [], ◌∷◌, codes, bytes_eq, Option, Some, None, is_some}
 use Rattle.indent_scanner.specs.declared.token.Key.TheVariants as K
 use Rattle.indent_scanner.specs.declared.token.Tok.{Tok}
 use Rattle.indent_scanner.specs.declared.token.Tok.TheVariants as T
 use Rattle.indent_scanner.specs.declared.token.Token.{Token}
-use Rattle.indent_scanner.specs.Words.{is_named}
-use Rattle.parse_stmts.specs.declared.input.Spot.{Spot}
-use Rattle.parse_stmts.specs.declared.input.Spot.TheVariants.{End, First, Later}
-use Rattle.parse_stmts.specs.declared.input.Word.{Word}
-use Rattle.parse_stmts.specs.declared.input.Word.TheVariants as W
-use Rattle.parse_stmts.specs.declared.input.Command.{Command}
-use Rattle.parse_stmts.specs.declared.input.Command.TheVariants as C
+use Rattle.nim_tree.specs.declared.stmt.AssignOp.{AssignOp}
+use Rattle.nim_tree.specs.declared.stmt.AssignOp.TheVariants as A
+use Rattle.nim_tree.specs.declared.stmt.Binding.{Binding}
+use Rattle.nim_tree.specs.declared.stmt.Binding.TheVariants as B
+use Rattle.parse_exprs.specs.declared.layout.Layout.{Layout}
+use Rattle.parse_exprs.specs.declared.layout.Layout.TheVariants.{Lines}
+use Rattle.parse_exprs.specs.declared.input.Lead.{Lead as ExprLead}
+use Rattle.parse_exprs.specs.declared.input.Lead.TheVariants as E
+use Rattle.parse_exprs.specs.Look.{Origin, spelling, goes_on, is_run, is_at, is_name, op_named, sign_named, begins_atom, expr_at}
+use Rattle.parse_decls.specs.Look.{is_end, spaces_at, deeper_at}
+use Rattle.parse_stmts.specs.declared.look.Lead.{Lead}
+use Rattle.parse_stmts.specs.declared.look.Lead.TheVariants as L
+use Rattle.parse_stmts.specs.declared.look.Simple.{Simple}
+use Rattle.parse_stmts.specs.declared.look.Simple.TheVariants as S
 
--- ---- where on its line a token stands
+-- ---- lines
 
-abbrev pub is_end : Tok → Bool
-is_end T.End = true
-is_end _ = false
+-- whether the source ends here
+abbrev pub end_at : List Token → Bool
+end_at [] = true
+end_at (tok ∷ ts) = is_end tok.kind
 
--- first on its line behind so many spaces, or behind another token
-abbrev pub line_spot : Option ℕ → Spot
-line_spot None = Later
-line_spot (Some spaces) = First spaces
+-- whether a token stands here that begins no line
+abbrev pub on_line_at : List Token → Bool
+on_line_at [] = false
+on_line_at (tok ∷ ts) = not (is_end tok.kind) && goes_on (Lines 0) tok.indent
 
--- the end of the source, the first token of a line, or one behind another
-abbrev pub spot : Token → Spot
-spot tok = if is_end tok.kind then End else line_spot tok.indent
+abbrev pub less_than : ℕ → Option ℕ → Bool
+less_than n None = false
+less_than n (Some m) = nat_lt m n
 
-abbrev pub spot_at : List Token → Spot
-spot_at [] = End
-spot_at (tok ∷ rest) = spot tok
+-- whether statements behind n spaces end before this
+abbrev pub ends_at : ℕ → List Token → Bool
+ends_at n ts = end_at ts || less_than n (spaces_at ts)
 
-abbrev pub spaces_of : Spot → ℕ
-spaces_of (First spaces) = spaces
-spaces_of _ = 0
+-- ---- what a statement begins with
 
--- the number of spaces before the first line
-abbrev pub base_of : List Token → ℕ
-base_of tokens = spaces_of (spot_at tokens)
+abbrev pub section_or_line : Bool → Lead
+section_or_line true = L.Section
+section_or_line false = L.Line
 
--- whether the line before this spot has ended
-abbrev pub ends_line : Spot → Bool
-ends_line Later = false
-ends_line _ = true
+abbrev pub lead_of : ℕ → List Token → Tok → Lead
+lead_of n ts (T.Key K.If) = L.If
+lead_of n ts (T.Key K.Case) = L.Case
+lead_of n ts (T.Key K.While) = L.While
+lead_of n ts (T.Key K.For) = L.For
+lead_of n ts (T.Key K.Try) = L.Try
+lead_of n ts (T.Key K.Defer) = L.Defer
+lead_of n ts (T.Key K.Proc) = L.Proc
+lead_of n ts (T.Key K.Type) = L.Type
+lead_of n ts (T.Key K.Let) = section_or_line (deeper_at n ts)
+lead_of n ts (T.Key K.Var) = section_or_line (deeper_at n ts)
+lead_of n ts (T.Key K.Const) = section_or_line (deeper_at n ts)
+lead_of n ts _ = L.Line
 
--- whether it is the first of a line behind n spaces
-abbrev pub stands : ℕ → Spot → Bool
-stands n (First m) = m == n
-stands n _ = false
+-- a statement behind n spaces that begins with this token, behind which are these
+abbrev pub lead : ℕ → Token → List Token → Lead
+lead n tok ts = lead_of n ts tok.kind
 
--- whether statements behind n spaces end before this spot
-abbrev pub ends_block : ℕ → Spot → Bool
-ends_block n End = true
-ends_block n (First m) = nat_lt m n
-ends_block n Later = false
+abbrev pub simple_of : Tok → Simple
+simple_of (T.Key K.Discard) = S.Discard
+simple_of (T.Key K.Return) = S.Return
+simple_of (T.Key K.Raise) = S.Raise
+simple_of (T.Key K.Break) = S.Break
+simple_of (T.Key K.Continue) = S.Continue
+simple_of (T.Key K.Import) = S.Import
+simple_of (T.Key K.Let) = S.Let
+simple_of (T.Key K.Var) = S.Var
+simple_of (T.Key K.Const) = S.Const
+simple_of _ = S.Plain
 
--- ---- what it is
+-- ---- commands and assignments
 
-abbrev pub key_word : Key → Word
-key_word K.Var = W.Var
-key_word K.If = W.If
-key_word K.Else = W.Else
-key_word K.While = W.While
-key_word _ = W.Other
+-- whether an atom begins here
+abbrev pub atom_at : Origin → List Token → Bool
+atom_at x [] = false
+atom_at x (tok ∷ ts) = begins_atom tok.kind || is_at tok.kind (spelling x tok)
 
--- `=`, `:` and `(`
-abbrev pub punct_word : ℕ → Word
-punct_word b = if b == 61 then W.Equals else if b == 58 then W.Colon else if b == 40 then W.Open else W.Other
+-- an operator of the language, `@` among them
+abbrev pub is_operator : List ℕ → Bool
+is_operator bytes = is_some (op_named bytes) || (is_some (sign_named bytes) || is_at T.Op bytes)
 
-abbrev pub word_of : Tok → Word
-word_of (T.Key key) = key_word key
-word_of T.Name = W.Name
-word_of T.Text = W.Text
-word_of (T.Punct b) = punct_word b
-word_of _ = W.Other
+-- What begins an operand of a command: an operator only with a space before it and none behind it.
+abbrev pub begins_operand : Origin → Token → Tok → Bool
+begins_operand x tok T.Op = is_operator (spelling x tok) && (tok.space_before && not tok.space_after)
+begins_operand x tok kind = expr_at x (tok ∷ [])
 
-abbrev pub word : Token → Word
-word tok = word_of tok.kind
+-- whether an operand goes on here
+abbrev pub operand_on : Origin → ℕ → List Token → Bool
+operand_on x n [] = false
+operand_on x n (tok ∷ ts) = goes_on (Lines n) tok.indent && begins_operand x tok tok.kind
 
--- where a line goes on: what begins a line is no word there
-abbrev pub on_line : Option ℕ → Word → Word
-on_line None it = it
-on_line (Some spaces) it = W.Other
-
--- what a token is that doesn't begin its line
-abbrev pub word_on_line : Token → Word
-word_on_line tok = on_line tok.indent (word tok)
-
--- what the line goes on with here
-abbrev pub next_word : List Token → Word
-next_word [] = W.Other
-next_word (tok ∷ rest) = word_on_line tok
-
-abbrev pub is_else : Word → Bool
-is_else W.Else = true
-is_else _ = false
-
--- whether an `else` begins a line behind n spaces here
-abbrev pub else_at : ℕ → List Token → Bool
-else_at n [] = false
-else_at n (tok ∷ rest) = stands n (spot tok) && is_else (word tok)
-
--- what a statement does whose name this is, unless it assigns
-abbrev pub command_of : List ℕ → Option Command
-command_of bytes =
-    if is_named bytes (codes "echo") then Some C.Echo else
-    if is_named bytes (codes "quit") then Some C.Quit else
+abbrev pub assign_named : List ℕ → Option AssignOp
+assign_named bytes =
+    if bytes_eq bytes (codes "+=") then Some A.Plus else
+    if bytes_eq bytes (codes "-=") then Some A.Minus else
+    if bytes_eq bytes (codes "*=") then Some A.Times else
+    if bytes_eq bytes (codes "&=") then Some A.Join else
     None
+
+abbrev pub assign_of : Tok → List ℕ → Option AssignOp
+assign_of T.Op bytes = assign_named bytes
+assign_of (T.Punct b) bytes = if b == 61 then Some A.Set else None
+assign_of _ bytes = None
+
+-- the operator of an assignment that goes on here
+abbrev pub assign_on : Origin → ℕ → List Token → Option AssignOp
+assign_on x n [] = None
+assign_on x n (tok ∷ ts) = if goes_on (Lines n) tok.indent then assign_of tok.kind (spelling x tok) else None
+
+-- only operators are assigned to
+abbrev pub assigned_by : ExprLead → Option AssignOp → Option AssignOp
+assigned_by E.Operand op = op
+assigned_by _ op = None
+
+-- ---- keywords and marks
+
+abbrev pub is_in : Tok → Bool
+is_in (T.Key K.In) = true
+is_in _ = false
+
+abbrev pub is_as : Tok → Bool
+is_as (T.Key K.As) = true
+is_as _ = false
+
+abbrev pub is_except : Tok → Bool
+is_except (T.Key K.Except) = true
+is_except _ = false
+
+abbrev pub is_finally : Tok → Bool
+is_finally (T.Key K.Finally) = true
+is_finally _ = false
+
+-- whether such a token goes on here
+abbrev pub word_on : ℕ → (Tok → Bool) → List Token → Bool
+word_on n is [] = false
+word_on n is (tok ∷ ts) = goes_on (Lines n) tok.indent && is tok.kind
+
+-- whether `..<` goes on here
+abbrev pub below_at : Origin → ℕ → List Token → Bool
+below_at x n [] = false
+below_at x n (tok ∷ ts) = goes_on (Lines n) tok.indent && is_run (codes "..<") tok.kind (spelling x tok)
+
+-- the level of the branches whose first word has this indent, in a statement behind n spaces
+abbrev pub branch_level : ℕ → Option ℕ → ℕ
+branch_level n None = n
+branch_level n (Some m) = m
+
+-- ---- sections
+
+-- what a section binds its names to
+abbrev pub binding_of : Tok → Binding
+binding_of (T.Key K.Let) = B.Let
+binding_of (T.Key K.Var) = B.Var
+binding_of _ = B.Const
+
+-- ---- imports
+
+abbrev pub has_slash : List ℕ → Bool
+has_slash [] = false
+has_slash (b ∷ bytes) = b == 47 || has_slash bytes
+
+abbrev pub is_slash : Origin → Token → Tok → Bool
+is_slash x tok T.Op = has_slash (spelling x tok)
+is_slash x tok _ = false
+
+-- whether operators with a `/` go on here
+abbrev pub slash_on : Origin → Layout → List Token → Bool
+slash_on x layout [] = false
+slash_on x layout (tok ∷ ts) = goes_on layout tok.indent && is_slash x tok tok.kind
+
+-- whether a path with a `/` begins here in place of the name of a module
+abbrev pub path_at : Origin → Layout → List Token → Bool
+path_at x layout [] = false
+path_at x layout (tok ∷ ts) = slash_on x layout (tok ∷ ts) || (goes_on layout tok.indent && (is_name tok.kind && slash_on x layout ts))

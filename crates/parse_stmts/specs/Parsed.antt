@@ -1,17 +1,18 @@
 -- What is said of the tokens of a module.
-use Rattle.std.specs.Prelude.{◌≡◌, ℕ, ◌<◌, ◌≤◌, ◌^◌, ◌⊎◌, List, All, length}
+use Rattle.std.specs.Prelude.{◌≡◌, ℕ, ◌<◌, ◌≤◌, ◌^◌, List, All, length}
 use Rattle.arc_base.specs.declared.place.Place.{Place}
 use Rattle.arc_base.specs.declared.place.Code.{Code}
-use Rattle.arc_base.specs.declared.place.Code.TheVariants.{Syntax, NestTooDeep}
+use Rattle.arc_base.specs.declared.place.Code.TheVariants.{Syntax, NestTooDeep, LeftOut}
 use Rattle.indent_scanner.specs.declared.token.Token.{Token}
 use Rattle.indent_scanner.specs.Tokens.{LiesIn, HasByte}
 use Rattle.indent_scanner.specs.Meaning.{IsSpelledIn}
-use Rattle.nim_tree.specs.Statements.{Statements, block_levels, term_levels}
+use Rattle.nim_tree.specs.Statements.{Statements, block_levels, term_levels, type_levels}
 use Rattle.parse_exprs.specs.Look.{Origin}
-use Rattle.parse_stmts.specs.declared.input.Spot.TheVariants.{End}
-use Rattle.parse_stmts.specs.Look.{spot_at, base_of}
-use Rattle.parse_stmts.specs.Grammar.{AreStatements}
-use Rattle.parse_stmts.specs.Deep.{OpensStatements}
+use Rattle.parse_exprs.specs.Parsed.{IsFirst}
+use Rattle.parse_decls.specs.Outcome.{too_deep, left_out, stuck}
+use Rattle.parse_decls.specs.Gives.{IsNext}
+use Rattle.parse_stmts.specs.Grammar.{IsModule}
+use Rattle.parse_stmts.specs.Faults.{FaultsModule}
 
 -- ---- what is read
 
@@ -25,39 +26,38 @@ pub record AreTokens (source : List ℕ) (tokens : List Token) : Type 0 where
 
 -- ---- what is found
 
--- the tokens of a module, up to the end of the source, are these statements; the first line sets the level of module code
-pub record IsModule (x : Origin) (tokens : List Token) (ss : Statements) : Type 0 where
+-- a tree of at most 64 levels of blocks, of each expression and of each written type
+pub record HasFew (all : Statements) : Type 0 where
+  pub blocks : block_levels all ≤ 64
+  pub terms : term_levels all ≤ 64
+  pub types : type_levels all ≤ 64
+
+-- a level too many is opened, by what begins at this place
+pub record OpensTooMany (x : Origin) (tokens : List Token) (at : Place) : Type 0 where
+  pub whole : List Token
+  pub deep : FaultsModule x (too_deep whole) tokens
+  pub first : IsFirst x whole at
+
+-- something that the language leaves out can't go on at this place
+pub record IsLeftOut (x : Origin) (tokens : List Token) (at : Place) : Type 0 where
   pub rest : List Token
-  pub reads : AreStatements x (base_of tokens) (base_of tokens) ss tokens rest
-  pub whole : spot_at rest ≡ End
+  pub stops : FaultsModule x (left_out rest) tokens
+  pub first : IsFirst x rest at
 
--- a 65th level is opened at this place, and none before
-abbrev pub OpensTooMany : Origin → List Token → Place → Type 0
-OpensTooMany x tokens at = OpensStatements x (base_of tokens) 64 (base_of tokens) tokens at
-
--- there is no tree, and no 65th level is opened
+-- there is no tree, since the token at this place can't go on, and neither a level too many nor something that is left out is
+-- the cause
 pub record HasNone (x : Origin) (tokens : List Token) (at : Place) : Type 0 where
-  pub none : (ss : Statements) → IsModule x tokens ss → ⊥
+  pub rest : List Token
+  pub stops : FaultsModule x (stuck rest) tokens
+  pub next : IsNext x rest at
+  pub none : (all : Statements) → IsModule x tokens all → ⊥
   pub shallow : (p : Place) → OpensTooMany x tokens p → ⊥
+  pub used : (p : Place) → IsLeftOut x tokens p → ⊥
   pub in_module : at.«module» ≡ x.number
 
--- E4: there is no tree, and no 65th level is opened. E5: one is opened at this place.
+-- E4: there is no tree, at the token that can't go on. E5: a level too many is opened at this place. E23: something that is left out stands there.
 abbrev pub IsRefused : Origin → List Token → Code → Place → Type 0
 IsRefused x tokens Syntax at = HasNone x tokens at
 IsRefused x tokens NestTooDeep at = OpensTooMany x tokens at
+IsRefused x tokens LeftOut at = IsLeftOut x tokens at
 IsRefused x tokens _ at = ⊥
-
--- ---- levels
-
--- a 65th level is opened somewhere
-abbrev pub Deepens : Origin → List Token → Type 0
-Deepens x tokens = (at : Place) × OpensTooMany x tokens at
-
--- a tree with more than 64 levels of blocks, or of one expression
-abbrev pub HasTooMany : Statements → Type 0
-HasTooMany ss = (64 < block_levels ss) ⊎ (64 < term_levels ss)
-
--- a tree with no more
-pub record HasFew (ss : Statements) : Type 0 where
-  pub blocks : block_levels ss ≤ 64
-  pub terms : term_levels ss ≤ 64

@@ -1,14 +1,19 @@
 //! The parser of statements: from the tokens of a module to its tree.
-//!
-//! The grammar stands in `specs/Grammar.antt`.
 #![tactic(auto)]
 
 mod block;
-mod input;
+mod choices;
+mod heads;
+mod imports;
+mod line;
+mod lines;
+mod look;
+mod marks;
+mod plain;
 mod simple;
 #[cfg(test)]
 mod tests;
 mod tree;
-mod value;
+mod values;
 
-pub use tree::{deep_once, deep_trees, one_tree, parse};
+pub use tree::{one_fault, one_tree, parse};

@@ -1,273 +1,235 @@
-// Statements without blocks.
-ghost use Rattle.std.specs.Prelude.{◌≡◌, ◌≢◌, ◌<◌, ◌∷◌, ◌+◌, length, Some, IfOk, IfErr};
-ghost use Rattle.arc_base.specs.declared.place.Stop.TheVariants.{Memory};
-ghost use Rattle.parse_exprs.specs.Look.{spelling};
-ghost use Rattle.parse_stmts.specs.declared.input.Word.TheVariants as W;
-ghost use Rattle.parse_stmts.specs.declared.input.Command.TheVariants as C;
-ghost use Rattle.parse_stmts.specs.Look.{word, next_word, command_of};
-ghost use Rattle.parse_stmts.specs.Grammar.{name_of, IsSimple};
-ghost use Rattle.parse_stmts.specs.Deep.{OpensSimple};
-ghost use Rattle.parse_stmts.specs.Input.{origin_of, from_at, deep_at};
-ghost use Rattle.parse_stmts.specs.Gives.{GivesStatement};
-ghost use Rattle.parse_stmts.specs.Parsed.{AreTokens};
+// Simple statements.
+ghost use Rattle.std.specs.Prelude.{◌≡◌, suc, ◌<◌, ◌≤◌, ◌^◌, ◌∷◌, [], length};
+ghost use Rattle.nim_tree.specs.Statements.{statement_of};
+ghost use Rattle.parse_exprs.specs.Look.{place_at};
+ghost use Rattle.parse_exprs.specs.Input.{from_at, origin_of};
+ghost use Rattle.parse_decls.specs.Gives.{Comes};
+ghost use Rattle.parse_stmts.specs.declared.look.Simple.TheVariants as S;
+ghost use Rattle.parse_stmts.specs.Look.{has_slash, slash_on, path_at};
+ghost use Rattle.parse_stmts.specs.Run.{run_simple, run_simple_by, run_bound, run_module_name, run_more_modules};
 
-use crate::input::{Command, Input, Word, command_of, word_of};
-use crate::value::{Sort, read_given, read_status, read_value};
-use arc_base::{Bytes, Code, Place, Stop};
-use indent_scanner::{Token, text_of};
-use nim_tree::{Name, Stmt};
+use crate::look::{Simple, simple_of};
+use crate::marks::past_comma;
+use crate::plain::read_plain;
+use crate::values::read_optional;
+use arc_base::Stop;
+use indent_scanner::{Tok, Token};
+use nim_tree::{Binding, Name, Stmt};
+use parse_decls::{Reading, and_one, left_out, read_definition, read_name, stuck};
+use parse_exprs::{Input, Layout, goes_on, is_name};
 use std::alloc::Global;
 
-/// A statement, and the number of the token behind it.
-#[derive(Drop)]
-pub(crate) struct Single {
-    pub tree: Stmt,
-    pub next: usize,
-}
-
-// The name that a token is.
-fn make_name(alloc: Global, input: &Input, token: Token) -> Result<Name, Stop>
-    ensures ok { IfOk result (λ name. name ≡ name_of (origin_of input.now) token) }
-    ensures err { IfErr result (λ stop. stop ≡ Memory) }
-{
-    let mut text = Bytes::new(alloc);
-    match text.append(input.spelling(token)) {
-        Ok(()) => Ok(Name {
-            at: input.place(token),
-            text,
-        }),
-        Err(_) => Err(Stop::Memory),
-    }
-}
-
-fn read_var(
-    alloc: Global,
-    input: &Input,
-    from: usize,
-    token: Token,
-    spaces: u32,
-) -> Result<Single, Stop>
-    requires tokens { AreTokens input.now.source.now input.now.tokens.now }
-    requires within { from < length input.now.tokens.now }
-    requires head { from_at input.now from ≡ token ∷ from_at input.now (from + 1) }
-    requires begins { word token ≡ W.Var }
-    requires at { spaces ≡ input.now.base }
-    ensures { GivesStatement input.now (IsSimple (origin_of input.now) input.now.base spaces) (OpensSimple (origin_of input.now) input.now.base spaces) from result }
-{
-    let behind = from + 1;
-    match input.next_name(behind) {
-        Some(name) => {
-            let value = read_given(alloc, input, behind + 1)?;
-            let name = make_name(alloc, input, name)?;
-            Ok(Single {
-                tree: Stmt::Var {
-                    at: input.place(token),
-                    name,
-                    value: value.tree,
-                },
-                next: value.next,
-            })
-        }
-        None => Err(input.syntax(behind)),
-    }
-}
-
-fn read_assign(
-    alloc: Global,
-    input: &Input,
-    from: usize,
-    token: Token,
-    spaces: u32,
-) -> Result<Single, Stop>
-    requires tokens { AreTokens input.now.source.now input.now.tokens.now }
-    requires within { from < length input.now.tokens.now }
-    requires head { from_at input.now from ≡ token ∷ from_at input.now (from + 1) }
-    requires begins { word token ≡ W.Name }
-    requires equals { next_word (from_at input.now (from + 1)) ≡ W.Equals }
-    ensures { GivesStatement input.now (IsSimple (origin_of input.now) input.now.base spaces) (OpensSimple (origin_of input.now) input.now.base spaces) from result }
-{
-    let value = read_given(alloc, input, from + 1)?;
-    let name = make_name(alloc, input, token)?;
-    Ok(Single {
-        tree: Stmt::Assign {
-            at: input.place(token),
-            name,
-            value: value.tree,
-        },
-        next: value.next,
-    })
-}
-
-// An `echo` of a text.
-fn read_text(
-    alloc: Global,
-    input: &Input,
-    from: usize,
-    token: Token,
-    spaces: u32,
-) -> Result<Single, Stop>
-    requires tokens { AreTokens input.now.source.now input.now.tokens.now }
-    requires within { from < length input.now.tokens.now }
-    requires head { from_at input.now from ≡ token ∷ from_at input.now (from + 1) }
-    requires begins { word token ≡ W.Name }
-    requires command { command_of (spelling (origin_of input.now) token) ≡ Some C.Echo }
-    requires text { next_word (from_at input.now (from + 1)) ≡ W.Text }
-    ensures { GivesStatement input.now (IsSimple (origin_of input.now) input.now.base spaces) (OpensSimple (origin_of input.now) input.now.base spaces) from result }
-{
-    let behind = from + 1;
-    match input.head(behind) {
-        Some(text) => match text_of(alloc, input.source, &text) {
-            Ok(bytes) => Ok(Single {
-                tree: Stmt::EchoText {
-                    at: input.place(token),
-                    text: bytes,
-                },
-                next: behind + 1,
-            }),
-            Err(_) => Err(Stop::Memory),
-        },
-        None => Err(input.syntax(behind)),
-    }
-}
-
-// An `echo` of a sum.
-fn read_echo(
-    alloc: Global,
-    input: &Input,
-    from: usize,
-    token: Token,
-    spaces: u32,
-) -> Result<Single, Stop>
-    requires tokens { AreTokens input.now.source.now input.now.tokens.now }
-    requires within { from < length input.now.tokens.now }
-    requires head { from_at input.now from ≡ token ∷ from_at input.now (from + 1) }
-    requires begins { word token ≡ W.Name }
-    requires command { command_of (spelling (origin_of input.now) token) ≡ Some C.Echo }
-    requires no_equals { next_word (from_at input.now (from + 1)) ≢ W.Equals }
-    requires no_text { next_word (from_at input.now (from + 1)) ≢ W.Text }
-    ensures { GivesStatement input.now (IsSimple (origin_of input.now) input.now.base spaces) (OpensSimple (origin_of input.now) input.now.base spaces) from result }
-{
-    let value = read_value(alloc, input, from + 1, Sort::Sum)?;
-    Ok(Single {
-        tree: Stmt::EchoInt {
-            at: input.place(token),
-            value: value.tree,
-        },
-        next: value.next,
-    })
-}
-
-// What stopped a part of an expression that begins at this place.
-fn deep_at(whole: Place, stop: Stop) -> Stop
-    ensures { result ≡ deep_at whole stop }
-{
-    match stop {
-        Stop::Refused {
-            code: Code::NestTooDeep,
-            ..
-        } => Stop::Refused {
-            code: Code::NestTooDeep,
-            at: whole,
-        },
-        _ => stop,
-    }
-}
-
-fn read_quit(
-    alloc: Global,
-    input: &Input,
-    from: usize,
-    token: Token,
-    spaces: u32,
-) -> Result<Single, Stop>
-    requires tokens { AreTokens input.now.source.now input.now.tokens.now }
-    requires within { from < length input.now.tokens.now }
-    requires head { from_at input.now from ≡ token ∷ from_at input.now (from + 1) }
-    requires begins { word token ≡ W.Name }
-    requires command { command_of (spelling (origin_of input.now) token) ≡ Some C.Quit }
-    requires no_equals { next_word (from_at input.now (from + 1)) ≢ W.Equals }
-    ensures { GivesStatement input.now (IsSimple (origin_of input.now) input.now.base spaces) (OpensSimple (origin_of input.now) input.now.base spaces) from result }
-{
-    let at = input.place(token);
-    match read_status(alloc, input, from + 1) {
-        Ok(status) => Ok(Single {
-            tree: Stmt::Quit {
-                at,
-                status: status.tree,
-            },
-            next: status.next,
-        }),
-        Err(stop) => Err(deep_at(at, stop)),
-    }
-}
-
-// A statement of a command.
-fn read_command(
-    alloc: Global,
-    input: &Input,
-    from: usize,
-    token: Token,
-    spaces: u32,
-) -> Result<Single, Stop>
-    requires tokens { AreTokens input.now.source.now input.now.tokens.now }
-    requires within { from < length input.now.tokens.now }
-    requires head { from_at input.now from ≡ token ∷ from_at input.now (from + 1) }
-    requires begins { word token ≡ W.Name }
-    requires no_equals { next_word (from_at input.now (from + 1)) ≢ W.Equals }
-    ensures { GivesStatement input.now (IsSimple (origin_of input.now) input.now.base spaces) (OpensSimple (origin_of input.now) input.now.base spaces) from result }
-{
-    match command_of(input.spelling(token)) {
-        Some(Command::Echo) => match input.next_word(from + 1) {
-            Word::Text => read_text(alloc, input, from, token, spaces),
-            _ => read_echo(alloc, input, from, token, spaces),
-        },
-        Some(Command::Quit) => read_quit(alloc, input, from, token, spaces),
-        None => Err(input.syntax(from + 1)),
-    }
-}
-
-// A statement that begins with a name.
-fn read_named(
-    alloc: Global,
-    input: &Input,
-    from: usize,
-    token: Token,
-    spaces: u32,
-) -> Result<Single, Stop>
-    requires tokens { AreTokens input.now.source.now input.now.tokens.now }
-    requires within { from < length input.now.tokens.now }
-    requires head { from_at input.now from ≡ token ∷ from_at input.now (from + 1) }
-    requires begins { word token ≡ W.Name }
-    ensures { GivesStatement input.now (IsSimple (origin_of input.now) input.now.base spaces) (OpensSimple (origin_of input.now) input.now.base spaces) from result }
-{
-    match input.next_word(from + 1) {
-        Word::Equals => read_assign(alloc, input, from, token, spaces),
-        _ => read_command(alloc, input, from, token, spaces),
-    }
-}
-
-/// A statement without blocks, behind so many spaces.
+/// A simple statement.
 pub(crate) fn read_simple(
     alloc: Global,
     input: &Input,
-    from: usize,
+    at: usize,
+    spaces: u32,
+) -> Result<Reading<Stmt>, Stop>
+    requires few { length input.now.tokens.now < 2 ^ 32 }
+    ensures { Comes statement_of (λ k. run_simple k (origin_of input.now) spaces (from_at input.now at)) input.now (suc at) result }
+{
+    let Some(token) = input.head(at) else {
+        return Err(stuck(input, at));
+    };
+    match simple_of(token.kind) {
+        Simple::Discard => read_discard(alloc, input, at + 1, token, spaces),
+        Simple::Return => read_return(alloc, input, at + 1, token, spaces),
+        Simple::Raise => read_raise(alloc, input, at + 1, token, spaces),
+        Simple::Break => Ok(Reading {
+            value: Stmt::Break {
+                at: input.place_at(token),
+            },
+            next: at + 1,
+        }),
+        Simple::Continue => Ok(Reading {
+            value: Stmt::Continue {
+                at: input.place_at(token),
+            },
+            next: at + 1,
+        }),
+        Simple::Import => read_import(alloc, input, at + 1, token, spaces),
+        Simple::Let => read_bound(alloc, input, at + 1, token, Binding::Let, spaces),
+        Simple::Var => read_bound(alloc, input, at + 1, token, Binding::Var, spaces),
+        Simple::Const => read_bound(alloc, input, at + 1, token, Binding::Const, spaces),
+        Simple::Plain => read_plain(alloc, input, at, spaces),
+    }
+}
+
+// ---- `discard`, `return` and `raise`, behind the keyword
+
+fn read_discard(
+    alloc: Global,
+    input: &Input,
+    at: usize,
     token: Token,
     spaces: u32,
-) -> Result<Single, Stop>
-    requires tokens { AreTokens input.now.source.now input.now.tokens.now }
-    requires within { from < length input.now.tokens.now }
-    requires head { from_at input.now from ≡ token ∷ from_at input.now (from + 1) }
-    ensures { GivesStatement input.now (IsSimple (origin_of input.now) input.now.base spaces) (OpensSimple (origin_of input.now) input.now.base spaces) from result }
+) -> Result<Reading<Stmt>, Stop>
+    requires few { length input.now.tokens.now < 2 ^ 32 }
+    requires within { at ≤ length input.now.tokens.now }
+    ensures { Comes statement_of (λ k. run_simple_by k S.Discard (origin_of input.now) spaces token (from_at input.now at)) input.now at result }
 {
-    match word_of(token.kind) {
-        Word::Var => {
-            if spaces == input.base {
-                read_var(alloc, input, from, token, spaces)
-            } else {
-                Err(input.syntax(from))
-            }
-        }
-        Word::Name => read_named(alloc, input, from, token, spaces),
-        _ => Err(input.syntax(from)),
+    let one = read_optional(alloc, input, at, spaces)?;
+    Ok(Reading {
+        value: Stmt::Discard {
+            at: input.place_at(token),
+            value: one.value,
+        },
+        next: one.next,
+    })
+}
+
+fn read_return(
+    alloc: Global,
+    input: &Input,
+    at: usize,
+    token: Token,
+    spaces: u32,
+) -> Result<Reading<Stmt>, Stop>
+    requires few { length input.now.tokens.now < 2 ^ 32 }
+    requires within { at ≤ length input.now.tokens.now }
+    ensures { Comes statement_of (λ k. run_simple_by k S.Return (origin_of input.now) spaces token (from_at input.now at)) input.now at result }
+{
+    let one = read_optional(alloc, input, at, spaces)?;
+    Ok(Reading {
+        value: Stmt::Return {
+            at: input.place_at(token),
+            value: one.value,
+        },
+        next: one.next,
+    })
+}
+
+fn read_raise(
+    alloc: Global,
+    input: &Input,
+    at: usize,
+    token: Token,
+    spaces: u32,
+) -> Result<Reading<Stmt>, Stop>
+    requires few { length input.now.tokens.now < 2 ^ 32 }
+    requires within { at ≤ length input.now.tokens.now }
+    ensures { Comes statement_of (λ k. run_simple_by k S.Raise (origin_of input.now) spaces token (from_at input.now at)) input.now at result }
+{
+    let one = read_optional(alloc, input, at, spaces)?;
+    Ok(Reading {
+        value: Stmt::Raise {
+            at: input.place_at(token),
+            value: one.value,
+        },
+        next: one.next,
+    })
+}
+
+// ---- `import`
+
+fn has_slash(spelling: &[u8]) -> bool
+    ensures { result ≡ has_slash spelling.now }
+{
+    spelling.contains(&b'/')
+}
+
+// Whether operators with a `/` go on there.
+fn slash_on(input: &Input, at: usize, layout: Layout) -> bool
+    ensures { result ≡ slash_on (origin_of input.now) layout (from_at input.now at) }
+{
+    let Some(token) = input.head(at) else {
+        return false;
+    };
+    match token.kind {
+        Tok::Op => goes_on(layout, token.indent) && has_slash(input.spelling(token)),
+        _ => false,
     }
+}
+
+// Whether a path with a `/` begins there in place of the name of a module.
+fn path_at(input: &Input, at: usize, layout: Layout) -> bool
+    ensures { result ≡ path_at (origin_of input.now) layout (from_at input.now at) }
+{
+    let Some(token) = input.head(at) else {
+        return false;
+    };
+    if slash_on(input, at, layout) {
+        return true;
+    }
+    goes_on(layout, token.indent) && is_name(token.kind) && slash_on(input, at + 1, layout)
+}
+
+fn read_module_name(
+    alloc: Global,
+    input: &Input,
+    at: usize,
+    layout: Layout,
+) -> Result<Reading<Name>, Stop>
+    ensures { Comes (λ name. name) (λ k. run_module_name (origin_of input.now) layout (from_at input.now at)) input.now (suc at) result }
+{
+    if path_at(input, at, layout) {
+        Err(left_out(input, at))
+    } else {
+        read_name(alloc, input, at, layout)
+    }
+}
+
+fn read_import(
+    alloc: Global,
+    input: &Input,
+    at: usize,
+    token: Token,
+    spaces: u32,
+) -> Result<Reading<Stmt>, Stop>
+    ensures { Comes statement_of (λ k. run_simple_by k S.Import (origin_of input.now) spaces token (from_at input.now at)) input.now at result }
+{
+    let first = read_module_name(alloc, input, at, Layout::Lines(spaces))?;
+    let names = read_more_modules(alloc, input, first, spaces)?;
+    Ok(Reading {
+        value: Stmt::Import {
+            at: input.place_at(token),
+            names: names.value,
+        },
+        next: names.next,
+    })
+}
+
+// The names of modules behind the first.
+fn read_more_modules(
+    alloc: Global,
+    input: &Input,
+    first: Reading<Name>,
+    spaces: u32,
+) -> Result<Reading<Vec<Name>>, Stop>
+    requires within { first.next ≤ length input.now.tokens.now }
+    ensures { Comes (λ names. names.items) (λ k. run_more_modules k (origin_of input.now) spaces (first.value ∷ []) (from_at input.now first.next)) input.now first.next result }
+{
+    let mut names = and_one(Vec::new(alloc), first.value)?;
+    let mut next = first.next;
+    while let Some(behind) = past_comma(input, next, spaces) {
+        let one = read_module_name(alloc, input, behind, Layout::Brackets)?;
+        names = and_one(names, one.value)?;
+        next = one.next;
+    }
+    Ok(Reading { value: names, next })
+}
+
+// ---- `let`, `var` and `const` with a definition on their line
+
+fn read_bound(
+    alloc: Global,
+    input: &Input,
+    at: usize,
+    token: Token,
+    binding: Binding,
+    spaces: u32,
+) -> Result<Reading<Stmt>, Stop>
+    requires few { length input.now.tokens.now < 2 ^ 32 }
+    ensures { Comes statement_of (λ k. run_bound k binding (origin_of input.now) spaces (place_at (origin_of input.now) token) (from_at input.now at)) input.now at result }
+{
+    let one = read_definition(alloc, input, at, Layout::Lines(spaces))?;
+    Ok(Reading {
+        value: Stmt::Define {
+            at: input.place_at(token),
+            binding,
+            defs: and_one(Vec::new(alloc), one.value)?,
+        },
+        next: one.next,
+    })
 }

@@ -1,5 +1,5 @@
-use Rattle.parse_exprs.proofs.Outcome.{expr_deep, expr_opens}
+use Rattle.parse_exprs.proofs.Laws.{expr_agrees}
 use Rattle.parse_exprs.proofs.parse.deep_exprs.Goals as goal
 
 pub returns : goal.returns
-returns c = λ x t ts rest e. (λ o. expr_deep e o, λ h. expr_opens e 64 h)
+returns c = λ x layout most t ts rest d. (expr_agrees x layout most).high t ts rest d

@@ -1,21 +1,41 @@
-use Rattle.std.proofs.Common.{◌∷◌, ◌+◌, sym, ◌∙◌}
-use Rattle.parse_stmts.specs.Grammar.{IsSimple}
-use Rattle.parse_stmts.specs.Deep.{OpensSimple}
-use Rattle.parse_stmts.specs.Input.{origin_of, from_at}
-use Rattle.parse_stmts.proofs.Values.{fails_from}
-use Rattle.parse_stmts.proofs.Simples.{no_simple, no_var}
+use Rattle.std.proofs.Common.{suc, sym, ◌∙◌, arith}
+use Rattle.nim_tree.specs.Statements.{statement_of}
+use Rattle.parse_exprs.specs.Input.{origin_of}
+use Rattle.parse_decls.proofs.Coming.{comes_leads}
+use Rattle.parse_stmts.proofs.Steps.{head_on, simple_by}
 use Rattle.parse_stmts.proofs.simple.read_simple.Goals as goal
 
-pub returns-in_default : goal.returns-in_default
-returns-in_default c =
-    let input = c.args.input.now in let x = origin_of input in let base = input.base in let n = c.args.spaces in
-    let behind = from_at input (c.args.from + 1) in
-    fails_from x (IsSimple x base n) (OpensSimple x base n) (from_at input c.args.from) (c.args.token ∷ behind) c.syntax-in_default.result c.requires.head
-    (no_simple x base n c.args.token behind (from_at input c.args.from) c.syntax-in_default.result (λ e. c.in_default.not-Var (c.word_of.ensures ∙ e), λ e. c.in_default.not-Name (c.word_of.ensures ∙ e)) c.syntax-in_default.ensures)
+pub returns-in-Discard : goal.returns-in-Discard
+returns-in-Discard c =
+    let input = c.args.input.now in
+    comes_leads statement_of _ _ input _ (simple_by (origin_of input) c.args.spaces _ _ _ _ (head_on input c.args.at _ c.in-Some.ensures.some) (sym c.simple_of.ensures ∙ c.in-Discard.is)) _ (omega arith) _ c.read_discard.ensures
 
-pub returns-else-spaces-input : goal.returns-else-spaces-input
-returns-else-spaces-input c =
-    let input = c.args.input.now in let x = origin_of input in let base = input.base in let n = c.args.spaces in
-    let behind = from_at input (c.args.from + 1) in
-    fails_from x (IsSimple x base n) (OpensSimple x base n) (from_at input c.args.from) (c.args.token ∷ behind) c.syntax.result c.requires.head
-    (no_var x base n c.args.token behind (sym c.word_of.ensures ∙ c.in-Var.is) (from_at input c.args.from) c.syntax.result c.if-spaces-input.false c.syntax.ensures)
+pub returns-in-Return : goal.returns-in-Return
+returns-in-Return c =
+    let input = c.args.input.now in
+    comes_leads statement_of _ _ input _ (simple_by (origin_of input) c.args.spaces _ _ _ _ (head_on input c.args.at _ c.in-Some.ensures.some) (sym c.simple_of.ensures ∙ c.in-Return.is)) _ (omega arith) _ c.read_return.ensures
+
+pub returns-in-Raise : goal.returns-in-Raise
+returns-in-Raise c =
+    let input = c.args.input.now in
+    comes_leads statement_of _ _ input _ (simple_by (origin_of input) c.args.spaces _ _ _ _ (head_on input c.args.at _ c.in-Some.ensures.some) (sym c.simple_of.ensures ∙ c.in-Raise.is)) _ (omega arith) _ c.read_raise.ensures
+
+pub returns-in-Import : goal.returns-in-Import
+returns-in-Import c =
+    let input = c.args.input.now in
+    comes_leads statement_of _ _ input _ (simple_by (origin_of input) c.args.spaces _ _ _ _ (head_on input c.args.at _ c.in-Some.ensures.some) (sym c.simple_of.ensures ∙ c.in-Import.is)) _ (omega arith) _ c.read_import.ensures
+
+pub returns-in-Let : goal.returns-in-Let
+returns-in-Let c =
+    let input = c.args.input.now in
+    comes_leads statement_of _ _ input _ (simple_by (origin_of input) c.args.spaces _ _ _ _ (head_on input c.args.at _ c.in-Some.ensures.some) (sym c.simple_of.ensures ∙ c.in-Let.is)) _ (omega arith) _ c.read_bound.ensures
+
+pub returns-in-Var : goal.returns-in-Var
+returns-in-Var c =
+    let input = c.args.input.now in
+    comes_leads statement_of _ _ input _ (simple_by (origin_of input) c.args.spaces _ _ _ _ (head_on input c.args.at _ c.in-Some.ensures.some) (sym c.simple_of.ensures ∙ c.in-Var.is)) _ (omega arith) _ c.read_bound-in-Var.ensures
+
+pub returns-in-Const : goal.returns-in-Const
+returns-in-Const c =
+    let input = c.args.input.now in
+    comes_leads statement_of _ _ input _ (simple_by (origin_of input) c.args.spaces _ _ _ _ (head_on input c.args.at _ c.in-Some.ensures.some) (sym c.simple_of.ensures ∙ c.in-Const.is)) _ (omega arith) _ c.read_bound-in-Const.ensures

@@ -1,4 +1,4 @@
-use Rattle.parse_stmts.proofs.Modules.{module_once}
+use Rattle.parse_stmts.proofs.Verdicts.{module_once}
 use Rattle.parse_stmts.proofs.tree.one_tree.Goals as goal
 
 pub returns : goal.returns

@@ -1,0 +1,13 @@
+use Rattle.std.proofs.Common.{◌≡◌, suc, ◌+◌, ◌<◌, ◌≤◌, [], ◌∷◌, List, ℕ, refl, sym, ap, subst, ◌∙◌, arith}
+use Rattle.std.proofs.lemmas.Result.{err_from_is_err_and}
+use Rattle.parse_exprs.specs.Input.{origin_of, from_at}
+use Rattle.parse_decls.proofs.Coming.{fails_then, leads_then, found}
+use Rattle.parse_decls.proofs.body.read_alias.Goals as goal
+
+pub returns-in_err-of : goal.returns-in_err-of
+returns-in_err-of c =
+    let p = err_from_is_err_and c.from_residual.result c.from_residual.ensures.1 in
+    rw (p.1, p.2) (fails_then _ _ _ _ c.in_err-of.ensures)
+
+pub returns : goal.returns
+returns c = found _ _ (leads_then _ c.in_ok-of.ensures.runs) c.in_ok-of.ensures.goes c.in_ok-of.ensures.within

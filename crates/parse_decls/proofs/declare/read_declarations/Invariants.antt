@@ -1,0 +1,13 @@
+use Rattle.std.proofs.Common.{◌-◌, [], length}
+use Rattle.std.specs.Prelude.{map}
+use Rattle.nim_tree.specs.Types.{declaration_of}
+use Rattle.parse_exprs.specs.Input.{origin_of, from_at}
+use Rattle.parse_decls.specs.Run.{run_declarations}
+use Rattle.parse_decls.specs.Gives.{SoFar}
+use Rattle.parse_decls.proofs.declare.read_declarations.Given as goal
+
+abbrev pub invariant-loop-alloc : goal.invariant-loop-alloc
+invariant-loop-alloc l = SoFar (λ k. run_declarations k (origin_of l.input) l.spaces (map declaration_of l.all.items) (from_at l.input l.next)) (λ k. run_declarations k (origin_of l.input) l.spaces [] (from_at l.input l.fn.at)) l.input l.fn.at l.next
+
+abbrev pub decreases-loop-alloc : goal.decreases-loop-alloc
+decreases-loop-alloc l = length l.input.tokens.now - l.next
