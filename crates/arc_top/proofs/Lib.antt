@@ -2,9 +2,15 @@ pub mod Pieces
 pub mod WordLists
 pub mod FilesWords
 pub mod Files
+pub mod LineRows
+pub mod Forms
 pub mod Passing
+pub mod Steps
+pub mod Depths
 pub mod Plain
+pub mod Formed
 pub mod ByNames
+pub mod ByForms
 pub mod Reading
 pub mod Ready
 pub mod Arithmetic

@@ -5,15 +5,15 @@ use Rattle.arc_base.specs.Stops.{OnRefusal}
 use Rattle.arc_base.specs.declared.place.Stop.{Stop}
 use Rattle.arc_base.specs.declared.place.Stop.TheVariants.{Refused, Memory}
 use Rattle.arc_base.specs.declared.place.Place.{Place}
-use Rattle.nim_tree.specs.declared.expr.Expr.{Expr as RustExpr}
-use Rattle.nim_tree.specs.declared.stmt.Stmt.{Stmt as RustStatement}
-use Rattle.nim_tree.specs.declared.stmt.Stmt.TheVariants as rust_stmt
-use Rattle.nim_tree.specs.Terms.{Term as Tree, term_of}
-use Rattle.nim_tree.proofs.Rows.{conditional, repeated}
-use Rattle.nim_tree.specs.Statements.{branch, loop, then, Statement, Statements, statement_of, statements_of}
 use Rattle.nim_core.specs.declared.program.Stmt.{Stmt as RustStmt}
 use Rattle.nim_core.specs.Program.{Cond, If, While, Stmt, Stmts, Empty, Then, stmt_of, stmts_of}
-use Rattle.arc_top.specs.Names.{Refusal, and_then, IsRefusal, Scope, Given, gives, check_cond, check_stmt, check_stmts, UsesInts, UseInts}
+use Rattle.arc_top.specs.declared.form.lines.Test.{Test as RustTest}
+use Rattle.arc_top.specs.declared.form.lines.Line.{Line as RustLine}
+use Rattle.arc_top.specs.declared.form.lines.Line.TheVariants as rust_line
+use Rattle.arc_top.specs.Refusal.{Refusal, and_then, IsRefusal}
+use Rattle.arc_top.specs.Lines.{Test, branch, loop, then, Line, Lines, test_of, line_of, lines_of}
+use Rattle.arc_top.specs.Names.{Scope, Given, gives, check_test, check_line, check_lines, UsesInts, UseInts}
+use Rattle.arc_top.proofs.LineRows.{conditional, repeated}
 
 pub passed_on : {A B : Type 0} (stop : Stop) (result : Result A Refusal) (go : A → Result B Refusal) → OnRefusal stop (IsRefusal result) → OnRefusal stop (IsRefusal (and_then result go))
 passed_on (Refused code at) result go h = ap (λ r. and_then r go) h
@@ -21,44 +21,44 @@ passed_on Memory result go h = tt
 
 -- ---- statements with blocks
 
-module _ (scope : Scope) (at : Place) (condition : Tree) (first second : Statements) where
+module _ (scope : Scope) (at : Place) (test : Test) (first second : Lines) where
   abbrev third : Cond → Given Stmts → Given Stmts → Result (Given Stmt) Refusal
   third c f s = gives s.scope (If at c f.tree s.tree)
 
   abbrev later : Cond → Given Stmts → Result (Given Stmt) Refusal
-  later c f = and_then (check_stmts f.scope second) (third c f)
+  later c f = and_then (check_lines f.scope second) (third c f)
 
-  after_cond : (checked : Cond) → check_cond scope condition ≡ Ok checked → check_stmt scope (branch at condition first second) ≡ and_then (check_stmts scope first) (later checked)
-  after_cond checked c = ap (λ r. and_then r (λ c. and_then (check_stmts scope first) (later c))) c
+  after_cond : (checked : Cond) → check_test scope test ≡ Ok checked → check_line scope (branch at test first second) ≡ and_then (check_lines scope first) (later checked)
+  after_cond checked c = ap (λ r. and_then r (λ c. and_then (check_lines scope first) (later c))) c
 
-  after_first : (checked : Cond) (after : Scope) (one : Stmts) → check_cond scope condition ≡ Ok checked → check_stmts scope first ≡ gives after one
-      → check_stmt scope (branch at condition first second) ≡ and_then (check_stmts after second) (third checked (record { scope = after; tree = one }))
+  after_first : (checked : Cond) (after : Scope) (one : Stmts) → check_test scope test ≡ Ok checked → check_lines scope first ≡ gives after one
+      → check_line scope (branch at test first second) ≡ and_then (check_lines after second) (third checked (record { scope = after; tree = one }))
   after_first checked after one c f = after_cond checked c ∙ ap (λ r. and_then r (later checked)) f
 
-  pub branch_gives : (checked : Cond) (after last : Scope) (one two : Stmts) → check_cond scope condition ≡ Ok checked → check_stmts scope first ≡ gives after one → check_stmts after second ≡ gives last two
-      → check_stmt scope (branch at condition first second) ≡ gives last (If at checked one two)
+  pub branch_gives : (checked : Cond) (after last : Scope) (one two : Stmts) → check_test scope test ≡ Ok checked → check_lines scope first ≡ gives after one → check_lines after second ≡ gives last two
+      → check_line scope (branch at test first second) ≡ gives last (If at checked one two)
   branch_gives checked after last one two c f s = after_first checked after one c f ∙ ap (λ r. and_then r (third checked (record { scope = after; tree = one }))) s
 
-  pub first_refused : (checked : Cond) (stop : Stop) → check_cond scope condition ≡ Ok checked → OnRefusal stop (IsRefusal (check_stmts scope first)) → OnRefusal stop (IsRefusal (check_stmt scope (branch at condition first second)))
+  pub first_refused : (checked : Cond) (stop : Stop) → check_test scope test ≡ Ok checked → OnRefusal stop (IsRefusal (check_lines scope first)) → OnRefusal stop (IsRefusal (check_line scope (branch at test first second)))
   first_refused checked (Refused code place) c h = after_cond checked c ∙ ap (λ r. and_then r (later checked)) h
   first_refused checked Memory c h = tt
 
-  pub second_refused : (checked : Cond) (after : Scope) (one : Stmts) (stop : Stop) → check_cond scope condition ≡ Ok checked → check_stmts scope first ≡ gives after one → OnRefusal stop (IsRefusal (check_stmts after second)) → OnRefusal stop (IsRefusal (check_stmt scope (branch at condition first second)))
+  pub second_refused : (checked : Cond) (after : Scope) (one : Stmts) (stop : Stop) → check_test scope test ≡ Ok checked → check_lines scope first ≡ gives after one → OnRefusal stop (IsRefusal (check_lines after second)) → OnRefusal stop (IsRefusal (check_line scope (branch at test first second)))
   second_refused checked after one (Refused code place) c f h = after_first checked after one c f ∙ ap (λ r. and_then r (third checked (record { scope = after; tree = one }))) h
   second_refused checked after one Memory c f h = tt
 
-module _ (scope : Scope) (at : Place) (condition : Tree) (body : Statements) where
+module _ (scope : Scope) (at : Place) (test : Test) (body : Lines) where
   abbrev then_gives : Cond → Given Stmts → Result (Given Stmt) Refusal
   then_gives c b = gives b.scope (While at c b.tree)
 
-  after_test : (checked : Cond) → check_cond scope condition ≡ Ok checked → check_stmt scope (loop at condition body) ≡ and_then (check_stmts scope body) (then_gives checked)
-  after_test checked c = ap (λ r. and_then r (λ c. and_then (check_stmts scope body) (then_gives c))) c
+  after_test : (checked : Cond) → check_test scope test ≡ Ok checked → check_line scope (loop at test body) ≡ and_then (check_lines scope body) (then_gives checked)
+  after_test checked c = ap (λ r. and_then r (λ c. and_then (check_lines scope body) (then_gives c))) c
 
-  pub loop_gives : (checked : Cond) (after : Scope) (inside : Stmts) → check_cond scope condition ≡ Ok checked → check_stmts scope body ≡ gives after inside
-      → check_stmt scope (loop at condition body) ≡ gives after (While at checked inside)
+  pub loop_gives : (checked : Cond) (after : Scope) (inside : Stmts) → check_test scope test ≡ Ok checked → check_lines scope body ≡ gives after inside
+      → check_line scope (loop at test body) ≡ gives after (While at checked inside)
   loop_gives checked after inside c b = after_test checked c ∙ ap (λ r. and_then r (then_gives checked)) b
 
-  pub body_refused : (checked : Cond) (stop : Stop) → check_cond scope condition ≡ Ok checked → OnRefusal stop (IsRefusal (check_stmts scope body)) → OnRefusal stop (IsRefusal (check_stmt scope (loop at condition body)))
+  pub body_refused : (checked : Cond) (stop : Stop) → check_test scope test ≡ Ok checked → OnRefusal stop (IsRefusal (check_lines scope body)) → OnRefusal stop (IsRefusal (check_line scope (loop at test body)))
   body_refused checked (Refused code place) c h = after_test checked c ∙ ap (λ r. and_then r (then_gives checked)) h
   body_refused checked Memory c h = tt
 
@@ -90,29 +90,29 @@ with_more : (done : List RustStmt) (stmt : RustStmt) (result : Result (Given Stm
 with_more done stmt (Ok others) = ap (gives others.scope) (sym (onto_more done stmt others.tree))
 with_more done stmt (Err refusal) = refl
 
-pub one_more : (scope after : Scope) (done : List RustStmt) (tree : Statement) (rest : Statements) (stmt : RustStmt) → check_stmt scope tree ≡ gives after (stmt_of stmt)
-    → with_rest done (check_stmts scope (then tree rest)) ≡ with_rest (done ++ stmt ∷ []) (check_stmts after rest)
+pub one_more : (scope after : Scope) (done : List RustStmt) (tree : Line) (rest : Lines) (stmt : RustStmt) → check_line scope tree ≡ gives after (stmt_of stmt)
+    → with_rest done (check_lines scope (then tree rest)) ≡ with_rest (done ++ stmt ∷ []) (check_lines after rest)
 one_more scope after done tree rest stmt h =
-    ap (λ r. with_rest done (and_then r (λ one. behind one.tree (check_stmts one.scope rest)))) h ∙ with_more done stmt (check_stmts after rest)
+    ap (λ r. with_rest done (and_then r (λ one. behind one.tree (check_lines one.scope rest)))) h ∙ with_more done stmt (check_lines after rest)
 
-pub rest_refused : (scope : Scope) (done : List RustStmt) (tree : Statement) (rest : Statements) (stop : Stop) (whole : Result (Given Stmts) Refusal) → with_rest done (check_stmts scope (then tree rest)) ≡ whole
-    → OnRefusal stop (IsRefusal (check_stmt scope tree)) → OnRefusal stop (IsRefusal whole)
-rest_refused scope done tree rest (Refused code place) whole e h = sym e ∙ ap (λ r. with_rest done (and_then r (λ one. behind one.tree (check_stmts one.scope rest)))) h
+pub rest_refused : (scope : Scope) (done : List RustStmt) (tree : Line) (rest : Lines) (stop : Stop) (whole : Result (Given Stmts) Refusal) → with_rest done (check_lines scope (then tree rest)) ≡ whole
+    → OnRefusal stop (IsRefusal (check_line scope tree)) → OnRefusal stop (IsRefusal whole)
+rest_refused scope done tree rest (Refused code place) whole e h = sym e ∙ ap (λ r. with_rest done (and_then r (λ one. behind one.tree (check_lines one.scope rest)))) h
 rest_refused scope done tree rest Memory whole e h = tt
 
 -- ---- the trees of blocks
 
-pub is_branch : (tree : RustStatement) (at : Place) (condition : RustExpr) (a b : Vec RustStatement Global) (xs ys : List RustStatement) → tree ≡ rust_stmt.If at condition a b → xs ≡ a.items → ys ≡ b.items
-    → statement_of tree ≡ branch at (term_of condition) (statements_of xs) (statements_of ys)
-is_branch tree at condition a b xs ys e f g = ap statement_of e ∙ conditional at condition a b ∙ ap₂ (λ us vs. branch at (term_of condition) (statements_of us) (statements_of vs)) (sym f) (sym g)
+pub is_branch : (line : RustLine) (at : Place) (test : RustTest) (a b : Vec RustLine Global) (xs ys : List RustLine) → line ≡ rust_line.If at test a b → xs ≡ a.items → ys ≡ b.items
+    → line_of line ≡ branch at (test_of test) (lines_of xs) (lines_of ys)
+is_branch line at test a b xs ys e f g = ap line_of e ∙ conditional at test a b ∙ ap₂ (λ us vs. branch at (test_of test) (lines_of us) (lines_of vs)) (sym f) (sym g)
 
-pub is_loop : (tree : RustStatement) (at : Place) (condition : RustExpr) (a : Vec RustStatement Global) (xs : List RustStatement) → tree ≡ rust_stmt.While at condition a → xs ≡ a.items
-    → statement_of tree ≡ loop at (term_of condition) (statements_of xs)
-is_loop tree at condition a xs e f = ap statement_of e ∙ repeated at condition a ∙ ap (λ us. loop at (term_of condition) (statements_of us)) (sym f)
+pub is_loop : (line : RustLine) (at : Place) (test : RustTest) (a : Vec RustLine Global) (xs : List RustLine) → line ≡ rust_line.While at test a → xs ≡ a.items
+    → line_of line ≡ loop at (test_of test) (lines_of xs)
+is_loop line at test a xs e f = ap line_of e ∙ repeated at test a ∙ ap (λ us. loop at (test_of test) (lines_of us)) (sym f)
 
--- the statement of a tree that is read
-pub refused_as : (stop : Stop) (scope : Scope) (tree other : Statement) → tree ≡ other → OnRefusal stop (IsRefusal (check_stmt scope other)) → OnRefusal stop (IsRefusal (check_stmt scope tree))
-refused_as stop scope tree other e h = subst (λ t. OnRefusal stop (IsRefusal (check_stmt scope t))) (sym e) h
+-- the same statement
+pub refused_as : (stop : Stop) (scope : Scope) (tree other : Line) → tree ≡ other → OnRefusal stop (IsRefusal (check_line scope other)) → OnRefusal stop (IsRefusal (check_line scope tree))
+refused_as stop scope tree other e h = subst (λ t. OnRefusal stop (IsRefusal (check_line scope t))) (sym e) h
 
 -- ---- items of a list
 

@@ -1,25 +1,27 @@
 -- A source is one program at most, and never both a program and refused.
-use Rattle.std.proofs.Common.{◌≡◌, ℕ, ◌<◌, List, Ok, Err, Result, sym, ap, subst, ◌∙◌, arith}
-use mathlib.Core.Logic.{⊎_elim}
+use Rattle.std.proofs.Common.{◌≡◌, ℕ, List, Ok, Err, Result, sym, ap, subst, ◌∙◌}
 use Rattle.std.specs.Prelude.{IfOk, IfErr}
 use Rattle.std.specs.Result.{IsErrAnd}
 use Rattle.arc_base.specs.declared.place.Place.{Place}
 use Rattle.arc_base.specs.declared.place.Code.{Code}
-use Rattle.arc_base.specs.declared.place.Code.TheVariants as code
 use Rattle.arc_base.specs.declared.place.Stop.{Stop}
 use Rattle.arc_base.specs.declared.place.Stop.TheVariants.{Refused, Memory}
 use Rattle.arc_base.specs.Stops.{OnRefusal}
 use Rattle.indent_scanner.specs.declared.token.Token.{Token}
 use Rattle.indent_scanner.specs.Tokens.{Tokens}
 use Rattle.indent_scanner.proofs.OneReading.{once, apart}
-use Rattle.nim_tree.specs.Statements.{Statements, block_levels, term_levels}
-use Rattle.parse_stmts.specs.Parsed.{IsModule, HasTooMany, HasFew, IsRefused}
-use Rattle.parse_stmts.proofs.Modules.{module_once, module_deep}
+use Rattle.nim_tree.specs.Statements.{Statements}
+use Rattle.parse_stmts.specs.Grammar.{IsModule}
+use Rattle.parse_stmts.specs.Parsed.{IsRefused}
+use Rattle.parse_stmts.proofs.Verdicts.{module_once, module_stands}
 use Rattle.nim_core.specs.Program.{Program}
 use Rattle.arc_top.specs.declared.compiler.NotCompiled.{NotCompiled}
 use Rattle.arc_top.specs.Compile.{IsStop, IsOkOrMemory}
-use Rattle.arc_top.specs.Names.{Refusal, check, IsRefusal}
-use Rattle.arc_top.specs.Source.{main_module, IsTree, Reads, Refuses, by_bytes, by_tokens, by_names}
+use Rattle.arc_top.specs.Refusal.{Refusal, IsRefusal}
+use Rattle.arc_top.specs.Lines.{Lines}
+use Rattle.arc_top.specs.Form.{form_of}
+use Rattle.arc_top.specs.Names.{check}
+use Rattle.arc_top.specs.Source.{main_module, IsTree, Reads, Refuses, by_bytes, by_tokens, by_form, by_names}
 
 -- ---- trees
 
@@ -28,42 +30,38 @@ one_tree source tokens others tree other t u =
     let same = once source others tokens u.scanned t.scanned in
     module_once t.parsed (subst (λ l. IsModule (main_module source) l other) same u.parsed)
 
-few_not_many : (tree : Statements) → HasFew tree → HasTooMany tree → ⊥
-few_not_many tree few many =
-    let blocks : 64 < block_levels tree → ⊥ = λ lt. omega (arith, lt, few.blocks) in
-    let terms : 64 < term_levels tree → ⊥ = λ lt. omega (arith, lt, few.terms) in
-    ⊎_elim blocks terms many
-
-tree_stands : (source : List ℕ) (tokens : List Token) (tree : Statements) (c : Code) (at : Place) → IsTree source tokens tree → IsRefused (main_module source) tokens c at → ⊥
-tree_stands source tokens tree code.Syntax at t refused = refused.none tree t.parsed
-tree_stands source tokens tree code.NestTooDeep at t refused = few_not_many tree t.few (module_deep t.parsed (at, refused))
-tree_stands source tokens tree _ at t refused = absurd refused
-
 -- ---- programs
 
 -- what went well
-abbrev Fine : Program → Result Program Refusal
-Fine p = Ok p
+abbrev Fine : {A : Type 0} → A → Result A Refusal
+Fine x = Ok x
 
-fine_same : (q p : Program) → Fine q ≡ Ok p → q ≡ p
-fine_same q p h = cc
+fine_same : {A : Type 0} (x y : A) → Fine y ≡ Ok x → y ≡ x
+fine_same x y h = cc
 
-one_program : (p q : Program) (tree other : Statements) → tree ≡ other → check tree ≡ Ok p → check other ≡ Ok q → q ≡ p
-one_program p q tree other e f g = fine_same q p (sym g ∙ ap check (sym e) ∙ f)
+-- one tree has one form and one program
+same_ok : {A B : Type 0} (of : A → Result B Refusal) (a b : A) (x y : B) → a ≡ b → of a ≡ Ok x → of b ≡ Ok y → y ≡ x
+same_ok of a b x y e f g = fine_same x y (sym g ∙ ap of (sym e) ∙ f)
+
+one_form : (source : List ℕ) (tokens others : List Token) (tree other : Statements) (lines more : Lines) → IsTree source tokens tree → IsTree source others other
+    → form_of tree ≡ Ok lines → form_of other ≡ Ok more → lines ≡ more
+one_form source tokens others tree other lines more t u f g = sym (same_ok form_of tree other lines more (one_tree source tokens others tree other t u) f g)
 
 pub reads_only : (source : List ℕ) (p q : Program) → Reads source p → Reads source q → q ≡ p
-reads_only source p q r s = one_program p q r.tree s.tree (one_tree source r.tokens s.tokens r.tree s.tree r.is_tree s.is_tree) r.checked s.checked
+reads_only source p q r s = same_ok check r.lines s.lines p q (one_form source r.tokens s.tokens r.tree s.tree r.lines s.lines r.is_tree s.is_tree r.formed s.formed) r.checked s.checked
 
-not_both : (p : Program) (refusal : Refusal) (tree other : Statements) → tree ≡ other → check tree ≡ Ok p → check other ≡ Err refusal → ⊥
-not_both p refusal tree other e f g = cc
+not_both : {A B : Type 0} (of : A → Result B Refusal) (x : B) (refusal : Refusal) (a b : A) → a ≡ b → of a ≡ Ok x → of b ≡ Err refusal → ⊥
+not_both of x refusal a b e f g = cc
 
 pub read_not_refused : (source : List ℕ) (program : Program) (c : Code) (at : Place) → Reads source program → Refuses source c at → ⊥
 read_not_refused source program c at r (by_bytes refused) = apart source 0 c at r.tokens refused r.is_tree.scanned
 read_not_refused source program c at r (by_tokens tokens scanned refused) =
     let same = once source tokens r.tokens scanned r.is_tree.scanned in
-    tree_stands source r.tokens r.tree c at r.is_tree (subst (λ l. IsRefused (main_module source) l c at) same refused)
-read_not_refused source program c at r (by_names tokens tree is refused) =
-    not_both program _ r.tree tree (one_tree source r.tokens tokens r.tree tree r.is_tree is) r.checked refused
+    module_stands c at r.is_tree.parsed r.is_tree.few (subst (λ l. IsRefused (main_module source) l c at) same refused)
+read_not_refused source program c at r (by_form tokens tree is refused) =
+    not_both form_of r.lines _ r.tree tree (one_tree source r.tokens tokens r.tree tree r.is_tree is) r.formed refused
+read_not_refused source program c at r (by_names tokens tree lines is formed refused) =
+    not_both check program _ r.lines lines (one_form source r.tokens tokens r.tree tree r.lines lines r.is_tree is r.formed formed) r.checked refused
 
 -- ---- refusals
 
@@ -84,9 +82,13 @@ pub refused_tokens : (source : List ℕ) (tokens : List Token) (stop : Stop) →
 refused_tokens source tokens (Refused c at) scanned h = by_tokens tokens scanned h
 refused_tokens source tokens Memory scanned h = tt
 
-pub refused_names : (source : List ℕ) (tokens : List Token) (tree : Statements) (stop : Stop) → IsTree source tokens tree → OnRefusal stop (IsRefusal (check tree)) → OnRefusal stop (Refuses source)
-refused_names source tokens tree (Refused c at) is h = by_names tokens tree is h
-refused_names source tokens tree Memory is h = tt
+pub refused_form : (source : List ℕ) (tokens : List Token) (tree : Statements) (stop : Stop) → IsTree source tokens tree → OnRefusal stop (IsRefusal (form_of tree)) → OnRefusal stop (Refuses source)
+refused_form source tokens tree (Refused c at) is h = by_form tokens tree is h
+refused_form source tokens tree Memory is h = tt
+
+pub refused_names : (source : List ℕ) (tokens : List Token) (tree : Statements) (lines : Lines) (stop : Stop) → IsTree source tokens tree → form_of tree ≡ Ok lines → OnRefusal stop (IsRefusal (check lines)) → OnRefusal stop (Refuses source)
+refused_names source tokens tree lines (Refused c at) is formed h = by_names tokens tree lines is formed h
+refused_names source tokens tree lines Memory is formed h = tt
 
 -- an error that is handed on keeps what is known of it
 pub handed_on : {T E : Type 0} (result : Result T E) (error : E) (P : E → Type 0) → IsErrAnd result (λ other. other ≡ error) → P error → IfErr result P

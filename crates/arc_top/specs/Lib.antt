@@ -1,3 +1,6 @@
+pub mod Refusal
+pub mod Lines
+pub mod Form
 pub mod Names
 pub mod Source
 pub mod Elf

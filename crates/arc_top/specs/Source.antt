@@ -1,4 +1,5 @@
--- Which program a source is: its bytes are tokens, the tokens are a tree, and the names in the tree are those of variables.
+-- Which program a source is: its bytes are tokens, the tokens are a tree, the tree has only statements that are built, and
+-- the names in them are those of variables.
 use Rattle.std.specs.Prelude.{◌≡◌, ℕ, List, Ok}
 use Rattle.arc_base.specs.declared.place.Place.{Place}
 use Rattle.arc_base.specs.declared.place.Code.{Code}
@@ -7,10 +8,14 @@ use Rattle.indent_scanner.specs.Tokens.{Tokens}
 use Rattle.indent_scanner.specs.Tokens.{IsRefused as IsRefusedByBytes}
 use Rattle.nim_tree.specs.Statements.{Statements}
 use Rattle.parse_exprs.specs.Look.{Origin}
-use Rattle.parse_stmts.specs.Parsed.{IsModule, HasFew}
+use Rattle.parse_stmts.specs.Grammar.{IsModule}
+use Rattle.parse_stmts.specs.Parsed.{HasFew}
 use Rattle.parse_stmts.specs.Parsed.{IsRefused as IsRefusedByTokens}
 use Rattle.nim_core.specs.Program.{Program}
-use Rattle.arc_top.specs.Names.{check, IsRefusal}
+use Rattle.arc_top.specs.Refusal.{IsRefusal}
+use Rattle.arc_top.specs.Lines.{Lines}
+use Rattle.arc_top.specs.Form.{form_of}
+use Rattle.arc_top.specs.Names.{check}
 
 -- the main module has number 0
 abbrev pub main_module : List ℕ → Origin
@@ -26,11 +31,15 @@ pub record IsTree (source : List ℕ) (tokens : List Token) (tree : Statements) 
 pub record Reads (source : List ℕ) (program : Program) : Type 0 where
   pub tokens : List Token
   pub tree : Statements
+  pub lines : Lines
   pub is_tree : IsTree source tokens tree
-  pub checked : check tree ≡ Ok program
+  pub formed : form_of tree ≡ Ok lines
+  pub checked : check lines ≡ Ok program
 
--- The source is refused: by its bytes (E1 to E3), else by its tokens (E4, E5), else by its names (E6, E7).
+-- The source is refused: by its bytes (E1 to E3), else by its tokens (E4, E5, E23), else by a form that is not built (E23),
+-- else by its names (E6, E7).
 pub data Refuses (source : List ℕ) : Code → Place → Type 0 where
   by_bytes : {code : Code} {at : Place} → IsRefusedByBytes source 0 code at → Refuses source code at
   by_tokens : {code : Code} {at : Place} (tokens : List Token) → Tokens source tokens → IsRefusedByTokens (main_module source) tokens code at → Refuses source code at
-  by_names : {code : Code} {at : Place} (tokens : List Token) (tree : Statements) → IsTree source tokens tree → IsRefusal (check tree) code at → Refuses source code at
+  by_form : {code : Code} {at : Place} (tokens : List Token) (tree : Statements) → IsTree source tokens tree → IsRefusal (form_of tree) code at → Refuses source code at
+  by_names : {code : Code} {at : Place} (tokens : List Token) (tree : Statements) (lines : Lines) → IsTree source tokens tree → form_of tree ≡ Ok lines → IsRefusal (check lines) code at → Refuses source code at

@@ -6,6 +6,7 @@ mod code;
 mod command;
 mod compiler;
 mod elf;
+mod form;
 mod names;
 mod report;
 mod source;
@@ -14,6 +15,7 @@ mod words;
 
 pub use answer::{Answer, FileName};
 pub use compiler::{NotCompiled, compile};
+pub use form::forms_refuse;
 pub use names::names_refuse;
 pub use report::put_report;
 pub use top::nimarc;

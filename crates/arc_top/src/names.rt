@@ -1,22 +1,21 @@
-// From a tree to its program: names become the numbers of variables.
+// From statements to their program: names become the numbers of variables.
 ghost use Rattle.std.specs.Prelude.{◌≡◌, ◌≤◌, ◌<◌, ◌+◌, ◌^◌, ◌++◌, ◌⊎◌, [], ◌∷◌, ℕ, List, Result, Ok, Err, Option, None, IfOk, IfErr, OnOk, length};
 ghost use Rattle.arc_base.specs.Stops.{OnRefusal};
 ghost use Rattle.arc_base.specs.declared.place.Place.{Place as At};
 ghost use Rattle.arc_base.specs.declared.place.Code.{Code as Kind};
-ghost use Rattle.arc_base.specs.declared.place.Code.TheVariants.{UnknownName, Redefined, NotTyped};
-ghost use Rattle.nim_tree.specs.Terms.{term_of, name};
-ghost use Rattle.indent_scanner.specs.declared.token.Token.{Token};
-ghost use Rattle.nim_tree.specs.Statements.{Statements, declare, assign, branch, loop, statement_of, statements_of, tree_of, weight, weights};
-ghost use Rattle.nim_core.specs.Program as Node;
+ghost use Rattle.arc_base.specs.declared.place.Code.TheVariants.{UnknownName, Redefined};
 ghost use Rattle.arc_base.specs.declared.place.Stop.TheVariants as Stop;
+ghost use Rattle.nim_core.specs.Program as Node;
 ghost use Rattle.nim_core.specs.Program.{expr_of, cond_of, stmt_of, stmts_of, program_of};
-ghost use Rattle.arc_top.specs.Names.{Refusal, names_of, find, found, unless_found, declared, operation_of, comparison_of, operation, comparing, check_expr, check_cond, check_stmt, check_stmts, check, gives, Given, IsRefusal, HasInts, TestsInts, UsesInts, UseInts};
-ghost use Rattle.arc_top.specs.Source.{IsTree};
+ghost use Rattle.arc_top.specs.Refusal.{IsRefusal};
+ghost use Rattle.arc_top.specs.Lines.{Lines, name, declare, assign, sum_of, test_of, line_of, lines_of, weight, weights};
+ghost use Rattle.arc_top.specs.Names.{names_of, find, found, unless_found, declared, check_sum, check_test, check_line, check_lines, check, gives, HasInts, TestsInts, UsesInts, UseInts};
 
+use crate::form::{Line, Sum, Test};
 use arc_base::{Bytes, Code, Items, Memory, Place, Stop};
-use indent_scanner::normal_form;
-use nim_core::{Comparison, Cond, Expr, Operator, PlaceDecl, Program, Stmt};
-use nim_tree::{BinaryOp, Expr as Term, Module, Name, Stmt as Statement, UnaryOp};
+use indent_scanner::{characters_of, normal_form};
+use nim_core::{Cond, Expr, Operator, PlaceDecl, Program, Stmt};
+use nim_tree::Name;
 use std::alloc::Global;
 
 // The variables that are declared so far, and the normal forms of their names.
@@ -50,9 +49,9 @@ fn refusal(code: Code, at: Place) -> Stop
 fn check_name(alloc: Global, scope: &Scope, at: Place, text: &[u8]) -> Result<Expr, Stop>
     requires known { scope.now.names ≡ names_of scope.now.globals }
     requires few { length scope.now.globals < 2 ^ 32 }
-    ensures gives { IfOk result (λ e. check_expr scope.now.globals (name at text.now) ≡ Ok (expr_of e)) }
+    ensures gives { IfOk result (λ e. check_sum scope.now.globals (name at text.now) ≡ Ok (expr_of e)) }
     ensures ints { IfOk result (λ e. HasInts (expr_of e)) }
-    ensures refused { IfErr result (λ stop. OnRefusal stop (IsRefusal (check_expr scope.now.globals (name at text.now)))) }
+    ensures refused { IfErr result (λ stop. OnRefusal stop (IsRefusal (check_sum scope.now.globals (name at text.now)))) }
 {
     match find(alloc, scope, text)? {
         Some(number) => Ok(Expr::Variable {
@@ -63,63 +62,33 @@ fn check_name(alloc: Global, scope: &Scope, at: Place, text: &[u8]) -> Result<Ex
     }
 }
 
-// The operation of a sign between ints.
-fn operation_of(op: BinaryOp) -> Option<Operator>
-    ensures { result ≡ operation_of op }
-{
-    match op {
-        BinaryOp::Plus => Some(Operator::Add),
-        BinaryOp::Minus => Some(Operator::Subtract),
-        BinaryOp::Times => Some(Operator::Multiply),
-        BinaryOp::Div => Some(Operator::Divide),
-        BinaryOp::Mod => Some(Operator::Modulo),
-        BinaryOp::Equal | BinaryOp::Less | BinaryOp::AtMost => None,
-    }
-}
-
-// The comparison of a sign between ints.
-fn comparison_of(op: BinaryOp) -> Option<Comparison>
-    ensures { result ≡ comparison_of op }
-{
-    match op {
-        BinaryOp::Equal => Some(Comparison::Equal),
-        BinaryOp::Less => Some(Comparison::Less),
-        BinaryOp::AtMost => Some(Comparison::AtMost),
-        BinaryOp::Plus | BinaryOp::Minus | BinaryOp::Times | BinaryOp::Div | BinaryOp::Mod => None,
-    }
-}
-
-// An expression that is an int.
-fn check_expr(alloc: Global, scope: &Scope, tree: &Term) -> Result<Expr, Stop>
+// An expression of ints.
+fn check_sum(alloc: Global, scope: &Scope, sum: &Sum) -> Result<Expr, Stop>
     requires known { scope.now.names ≡ names_of scope.now.globals }
     requires few { length scope.now.globals < 2 ^ 32 }
-    ensures gives { IfOk result (λ e. check_expr scope.now.globals (term_of tree.now) ≡ Ok (expr_of e)) }
+    ensures gives { IfOk result (λ e. check_sum scope.now.globals (sum_of sum.now) ≡ Ok (expr_of e)) }
     ensures ints { IfOk result (λ e. HasInts (expr_of e)) }
-    ensures refused { IfErr result (λ stop. OnRefusal stop (IsRefusal (check_expr scope.now.globals (term_of tree.now)))) }
+    ensures refused { IfErr result (λ stop. OnRefusal stop (IsRefusal (check_sum scope.now.globals (sum_of sum.now)))) }
 {
-    match tree {
-        Term::Int { at, value } => Ok(Expr::Number {
+    match sum {
+        Sum::Int { at, value } => Ok(Expr::Number {
             at: *at,
             value: *value,
         }),
-        Term::Name { at, text } => check_name(alloc, scope, *at, text.as_slice()),
-        Term::Paren { inner, .. } => check_expr(alloc, scope, inner),
-        Term::Unary { at, operand, .. } => {
-            let operand = check_expr(alloc, scope, operand)?;
+        Sum::Name { at, text } => check_name(alloc, scope, *at, text.as_slice()),
+        Sum::Opposite { at, operand } => {
+            let operand = check_sum(alloc, scope, operand)?;
             negate(alloc, *at, operand)
         }
-        Term::Binary {
+        Sum::Operation {
             at,
-            op,
+            operator,
             left,
             right,
         } => {
-            let left = check_expr(alloc, scope, left)?;
-            let right = check_expr(alloc, scope, right)?;
-            match operation_of(*op) {
-                Some(operator) => binary(alloc, *at, operator, left, right),
-                None => Err(refusal(Code::NotTyped, *at)),
-            }
+            let left = check_sum(alloc, scope, left)?;
+            let right = check_sum(alloc, scope, right)?;
+            binary(alloc, *at, *operator, left, right)
         }
     }
 }
@@ -159,37 +128,21 @@ fn binary(
 }
 
 // A comparison of two ints.
-fn check_cond(alloc: Global, scope: &Scope, tree: &Term) -> Result<Cond, Stop>
+fn check_test(alloc: Global, scope: &Scope, test: &Test) -> Result<Cond, Stop>
     requires known { scope.now.names ≡ names_of scope.now.globals }
     requires few { length scope.now.globals < 2 ^ 32 }
-    ensures gives { IfOk result (λ c. check_cond scope.now.globals (term_of tree.now) ≡ Ok (cond_of c)) }
+    ensures gives { IfOk result (λ c. check_test scope.now.globals (test_of test.now) ≡ Ok (cond_of c)) }
     ensures ints { IfOk result (λ c. TestsInts (cond_of c)) }
-    ensures refused { IfErr result (λ stop. OnRefusal stop (IsRefusal (check_cond scope.now.globals (term_of tree.now)))) }
+    ensures refused { IfErr result (λ stop. OnRefusal stop (IsRefusal (check_test scope.now.globals (test_of test.now)))) }
 {
-    match tree {
-        Term::Binary {
-            at,
-            op,
-            left,
-            right,
-        } => {
-            let left = check_expr(alloc, scope, left)?;
-            let right = check_expr(alloc, scope, right)?;
-            match comparison_of(*op) {
-                Some(comparison) => Ok(Cond {
-                    at: *at,
-                    comparison,
-                    left,
-                    right,
-                }),
-                None => Err(refusal(Code::NotTyped, *at)),
-            }
-        }
-        Term::Int { at, .. }
-        | Term::Name { at, .. }
-        | Term::Paren { at, .. }
-        | Term::Unary { at, .. } => Err(refusal(Code::NotTyped, *at)),
-    }
+    let left = check_sum(alloc, scope, &test.left)?;
+    let right = check_sum(alloc, scope, &test.right)?;
+    Ok(Cond {
+        at: test.at,
+        comparison: test.comparison,
+        left,
+        right,
+    })
 }
 
 // Refuses a name that is declared already.
@@ -230,18 +183,18 @@ fn check_declaration(
     scope: &mut Scope,
     at: Place,
     name: &Name,
-    value: &Term,
+    value: &Sum,
 ) -> Result<Stmt, Stop>
     requires known { scope.old.names ≡ names_of scope.old.globals }
     requires few { length scope.old.globals < 2 ^ 32 }
-    ensures gives { IfOk result (λ s. check_stmt scope.old.globals (declare at name.now (term_of value.now)) ≡ gives scope.new.globals (stmt_of s)) }
+    ensures gives { IfOk result (λ s. check_line scope.old.globals (declare at name.now (sum_of value.now)) ≡ gives scope.new.globals (stmt_of s)) }
     ensures known { OnOk result (scope.new.names ≡ names_of scope.new.globals) }
     ensures count { OnOk result (length scope.new.globals ≡ length scope.old.globals + 1) }
     ensures ints { IfOk result (λ s. UsesInts (stmt_of s)) }
-    ensures refused { IfErr result (λ stop. OnRefusal stop (IsRefusal (check_stmt scope.old.globals (declare at name.now (term_of value.now))))) }
+    ensures refused { IfErr result (λ stop. OnRefusal stop (IsRefusal (check_line scope.old.globals (declare at name.now (sum_of value.now))))) }
 {
     check_new(alloc, scope, name)?;
-    let value = check_expr(alloc, scope, value)?;
+    let value = check_sum(alloc, scope, value)?;
     let variable = scope.globals.as_slice().len() as u32;
     add(alloc, scope, name)?;
     Ok(Stmt::Declare {
@@ -257,16 +210,16 @@ fn check_assignment(
     scope: &Scope,
     at: Place,
     name: &Name,
-    value: &Term,
+    value: &Sum,
 ) -> Result<Stmt, Stop>
     requires known { scope.now.names ≡ names_of scope.now.globals }
     requires few { length scope.now.globals < 2 ^ 32 }
-    ensures gives { IfOk result (λ s. check_stmt scope.now.globals (assign at name.now (term_of value.now)) ≡ gives scope.now.globals (stmt_of s)) }
+    ensures gives { IfOk result (λ s. check_line scope.now.globals (assign at name.now (sum_of value.now)) ≡ gives scope.now.globals (stmt_of s)) }
     ensures ints { IfOk result (λ s. UsesInts (stmt_of s)) }
-    ensures refused { IfErr result (λ stop. OnRefusal stop (IsRefusal (check_stmt scope.now.globals (assign at name.now (term_of value.now))))) }
+    ensures refused { IfErr result (λ stop. OnRefusal stop (IsRefusal (check_line scope.now.globals (assign at name.now (sum_of value.now))))) }
 {
     match find(alloc, scope, name.text.as_slice())? {
-        Some(number) => match check_expr(alloc, scope, value) {
+        Some(number) => match check_sum(alloc, scope, value) {
             Ok(value) => Ok(Stmt::Assign {
                 at,
                 variable: number as u32,
@@ -303,39 +256,46 @@ fn repetition(at: Place, condition: Cond, body: Vec<Stmt>) -> Stmt
 
 // A statement.
 #[cycle(statements)]
-fn check_stmt(alloc: Global, scope: &mut Scope, tree: &Statement) -> Result<Stmt, Stop>
+fn check_line(alloc: Global, scope: &mut Scope, line: &Line) -> Result<Stmt, Stop>
     requires known { scope.old.names ≡ names_of scope.old.globals }
-    requires few { length scope.old.globals + weight (statement_of tree.now) < 2 ^ 32 }
-    ensures gives { IfOk result (λ s. check_stmt scope.old.globals (statement_of tree.now) ≡ gives scope.new.globals (stmt_of s)) }
+    requires few { length scope.old.globals + weight (line_of line.now) < 2 ^ 32 }
+    ensures gives { IfOk result (λ s. check_line scope.old.globals (line_of line.now) ≡ gives scope.new.globals (stmt_of s)) }
     ensures known { OnOk result (scope.new.names ≡ names_of scope.new.globals) }
-    ensures count { OnOk result (length scope.new.globals ≤ length scope.old.globals + weight (statement_of tree.now)) }
+    ensures count { OnOk result (length scope.new.globals ≤ length scope.old.globals + weight (line_of line.now)) }
     ensures ints { IfOk result (λ s. UsesInts (stmt_of s)) }
-    ensures refused { IfErr result (λ stop. OnRefusal stop (IsRefusal (check_stmt scope.old.globals (statement_of tree.now)))) }
+    ensures refused { IfErr result (λ stop. OnRefusal stop (IsRefusal (check_line scope.old.globals (line_of line.now)))) }
 {
-    match tree {
-        Statement::Var { at, name, value } => check_declaration(alloc, scope, *at, name, value),
-        Statement::Assign { at, name, value } => check_assignment(alloc, scope, *at, name, value),
-        Statement::EchoInt { at, value } => {
-            let value = check_expr(alloc, scope, value)?;
+    match line {
+        Line::Declare {
+            at,
+            variable,
+            value,
+        } => check_declaration(alloc, scope, *at, variable, value),
+        Line::Assign {
+            at,
+            variable,
+            value,
+        } => check_assignment(alloc, scope, *at, variable, value),
+        Line::EchoInt { at, value } => {
+            let value = check_sum(alloc, scope, value)?;
             Ok(Stmt::EchoInt { at: *at, value })
         }
-        Statement::EchoText { at, text } => {
-            let mut own = Bytes::new(alloc);
-            own.append(text.as_slice())?;
-            Ok(Stmt::EchoText { at: *at, text: own })
+        Line::EchoText { at, text } => {
+            let text = characters_of(alloc, text.as_slice())?;
+            Ok(Stmt::EchoText { at: *at, text })
         }
-        Statement::Quit { at, status } => {
-            let status = check_expr(alloc, scope, status)?;
+        Line::Quit { at, status } => {
+            let status = check_sum(alloc, scope, status)?;
             Ok(Stmt::Quit { at: *at, status })
         }
-        Statement::If {
+        Line::If {
             at,
-            condition,
-            then_branch,
-            else_branch,
-        } => match check_cond(alloc, scope, condition) {
-            Ok(condition) => match check_stmts(alloc, scope, then_branch) {
-                Ok(first) => match check_stmts(alloc, scope, else_branch) {
+            test,
+            first,
+            second,
+        } => match check_test(alloc, scope, test) {
+            Ok(condition) => match check_lines(alloc, scope, first) {
+                Ok(first) => match check_lines(alloc, scope, second) {
                     Ok(second) => Ok(choice(*at, condition, first, second)),
                     Err(stop) => Err(stop),
                 },
@@ -343,12 +303,8 @@ fn check_stmt(alloc: Global, scope: &mut Scope, tree: &Statement) -> Result<Stmt
             },
             Err(stop) => Err(stop),
         },
-        Statement::While {
-            at,
-            condition,
-            body,
-        } => match check_cond(alloc, scope, condition) {
-            Ok(condition) => match check_stmts(alloc, scope, body) {
+        Line::While { at, test, body } => match check_test(alloc, scope, test) {
+            Ok(condition) => match check_lines(alloc, scope, body) {
                 Ok(inside) => Ok(repetition(*at, condition, inside)),
                 Err(stop) => Err(stop),
             },
@@ -359,18 +315,18 @@ fn check_stmt(alloc: Global, scope: &mut Scope, tree: &Statement) -> Result<Stmt
 
 // Statements, one after another.
 #[cycle(statements)]
-fn check_stmts(alloc: Global, scope: &mut Scope, trees: &[Statement]) -> Result<Vec<Stmt>, Stop>
+fn check_lines(alloc: Global, scope: &mut Scope, lines: &[Line]) -> Result<Vec<Stmt>, Stop>
     requires known { scope.old.names ≡ names_of scope.old.globals }
-    requires few { length scope.old.globals + weights (statements_of trees.now) < 2 ^ 32 }
-    ensures gives { IfOk result (λ stmts. check_stmts scope.old.globals (statements_of trees.now) ≡ gives scope.new.globals (stmts_of stmts.items)) }
+    requires few { length scope.old.globals + weights (lines_of lines.now) < 2 ^ 32 }
+    ensures gives { IfOk result (λ stmts. check_lines scope.old.globals (lines_of lines.now) ≡ gives scope.new.globals (stmts_of stmts.items)) }
     ensures known { OnOk result (scope.new.names ≡ names_of scope.new.globals) }
-    ensures count { OnOk result (length scope.new.globals ≤ length scope.old.globals + weights (statements_of trees.now)) }
+    ensures count { OnOk result (length scope.new.globals ≤ length scope.old.globals + weights (lines_of lines.now)) }
     ensures ints { IfOk result (λ stmts. UseInts (stmts_of stmts.items)) }
-    ensures refused { IfErr result (λ stop. OnRefusal stop (IsRefusal (check_stmts scope.old.globals (statements_of trees.now)))) }
+    ensures refused { IfErr result (λ stop. OnRefusal stop (IsRefusal (check_lines scope.old.globals (lines_of lines.now)))) }
 {
     let mut stmts = Vec::new(alloc);
-    for tree in trees {
-        match check_stmt(alloc, scope, tree) {
+    for line in lines {
+        match check_line(alloc, scope, line) {
             Ok(stmt) => push(&mut stmts, stmt)?,
             Err(stop) => return Err(stop),
         }
@@ -385,26 +341,26 @@ fn push(stmts: &mut Vec<Stmt>, stmt: Stmt) -> Result<(), Memory>
     Ok(())
 }
 
-/// The program of a tree, or the first name that is not declared or declared again.
-pub fn check(alloc: Global, tree: &Module) -> Result<Program, Stop>
-    requires few { weights (tree_of tree.now) < 2 ^ 32 }
-    ensures gives { IfOk result (λ program. check (tree_of tree.now) ≡ Ok (program_of program)) }
-    ensures count { IfOk result (λ program. length program.globals ≤ weights (tree_of tree.now)) }
+/// The program of statements, or the first name that is not declared or declared again.
+pub(crate) fn check(alloc: Global, lines: &[Line]) -> Result<Program, Stop>
+    requires few { weights (lines_of lines.now) < 2 ^ 32 }
+    ensures gives { IfOk result (λ program. check (lines_of lines.now) ≡ Ok (program_of program)) }
+    ensures count { IfOk result (λ program. length program.globals ≤ weights (lines_of lines.now)) }
     ensures ints { IfOk result (λ program. UseInts (program_of program).start) }
-    ensures refused { IfErr result (λ stop. OnRefusal stop (IsRefusal (check (tree_of tree.now)))) }
+    ensures refused { IfErr result (λ stop. OnRefusal stop (IsRefusal (check (lines_of lines.now)))) }
 {
     let mut scope = Scope {
         globals: Items::new(alloc),
         names: Items::new(alloc),
     };
-    let start = check_stmts(alloc, &mut scope, &tree.body)?;
+    let start = check_lines(alloc, &mut scope, lines)?;
     Ok(Program {
         globals: scope.globals,
         start,
     })
 }
 
-/// The tree of a source is refused by its names alone, and never for what stands in place of an int.
+/// Statements are refused by their names alone.
 pub fn names_refuse()
-    ensures { (source : List ℕ) (tokens : List Token) (tree : Statements) (code : Kind) (at : At) → IsTree source tokens tree → IsRefusal (check tree) code at → (code ≡ UnknownName) ⊎ (code ≡ Redefined) }
+    ensures { (lines : Lines) (code : Kind) (at : At) → IsRefusal (check lines) code at → (code ≡ UnknownName) ⊎ (code ≡ Redefined) }
 {}

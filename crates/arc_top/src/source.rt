@@ -5,6 +5,7 @@ ghost use Rattle.nim_core.specs.Program.{Program as Tree, program_of};
 ghost use Rattle.arc_top.specs.Source.{Reads, Refuses};
 ghost use Rattle.arc_top.specs.Code.{ArePlain, stmts_weight};
 
+use crate::form::built;
 use crate::names::check;
 use arc_base::Stop;
 use indent_scanner::scan;
@@ -16,7 +17,7 @@ use std::alloc::Global;
 const MAIN: u32 = 0;
 
 /// The program of a source, or the first place that is refused: by the scanner, else by the parser, else
-/// by the names.
+/// as a form that is not built, else by the names.
 pub fn read(alloc: Global, source: &[u8]) -> Result<Program, Stop>
     requires { length source.now < 2 ^ 32 - 1 }
     ensures reads { IfOk result (λ program. Reads source.now (program_of program)) }
@@ -29,5 +30,6 @@ pub fn read(alloc: Global, source: &[u8]) -> Result<Program, Stop>
 {
     let tokens = scan(alloc, source, MAIN)?;
     let tree = parse(alloc, source, tokens.as_slice(), MAIN)?;
-    check(alloc, &tree)
+    let lines = built(alloc, &tree)?;
+    check(alloc, lines.as_slice())
 }

@@ -132,14 +132,10 @@ fn sources_are_refused(rt: HostRuntime) -> Result<(), Fail> {
         ("echo 2147483648", "t.nim:1:6: E3 IntTooLarge\n"),
         ("echo -2147483648", "t.nim:1:7: E3 IntTooLarge\n"),
         // forms
-        ("echo", "t.nim:1:5: E4 Syntax\n"),
         ("var x =", "t.nim:1:8: E4 Syntax\n"),
-        ("if 1:\n  echo 1", "t.nim:1:4: E4 Syntax\n"),
         ("echo 1 2", "t.nim:1:8: E4 Syntax\n"),
         ("x=-1", "t.nim:1:2: E4 Syntax\n"),
-        ("echo $1", "t.nim:1:6: E4 Syntax\n"),
         ("echo 1\n echo 2", "t.nim:2:2: E4 Syntax\n"),
-        ("if 1 < 2:\n  var x = 1", "t.nim:2:3: E4 Syntax\n"),
         // names
         ("echo 1 + x", "t.nim:1:10: E6 UnknownName\n"),
         ("var x = x", "t.nim:1:9: E6 UnknownName\n"),
@@ -156,12 +152,106 @@ fn sources_are_refused(rt: HostRuntime) -> Result<(), Fail> {
             "t.nim:2:5: E7 Redefined\n",
         ),
         // the order of the steps
+        ("if true:\n\techo \"a\"", "t.nim:2:1: E1 BadByte\n"),
+        ("let x = 2147483648", "t.nim:1:9: E3 IntTooLarge\n"),
+        ("let x = 1\necho 1 2", "t.nim:2:8: E4 Syntax\n"),
+        ("echo x\nlet y = 1", "t.nim:2:1: E23 LeftOut\n"),
         ("echo 1 2\necho 2147483648", "t.nim:2:6: E3 IntTooLarge\n"),
         ("echo x\necho 1 2", "t.nim:2:8: E4 Syntax\n"),
         ("var x = y\nvar x = 1", "t.nim:1:9: E6 UnknownName\n"),
         ("echo 2147483648\n\techo 1", "t.nim:1:6: E3 IntTooLarge\n"),
     ];
     for (source, line) in table {
+        let answer = refuses(&rt, rt.alloc(), &BUILD, source.as_bytes(), line)?;
+        assert_eq!(rt; name_of(&answer), "Refused");
+    }
+    Ok(())
+}
+
+/// Sources with a form that is not built, and its place.
+const LEFT_OUT: [(&str, &str); 58] = [
+    // keywords that the language leaves out
+    ("iterator a() = discard", "t.nim:1:1: E23 LeftOut\n"),
+    // statements
+    ("discard 1", "t.nim:1:1: E23 LeftOut\n"),
+    ("return", "t.nim:1:1: E23 LeftOut\n"),
+    ("raise", "t.nim:1:1: E23 LeftOut\n"),
+    ("break", "t.nim:1:1: E23 LeftOut\n"),
+    ("continue", "t.nim:1:1: E23 LeftOut\n"),
+    ("import other", "t.nim:1:1: E23 LeftOut\n"),
+    ("type T = int", "t.nim:1:1: E23 LeftOut\n"),
+    ("proc p() =\n  echo 1", "t.nim:1:1: E23 LeftOut\n"),
+    ("defer:\n  echo 1", "t.nim:1:1: E23 LeftOut\n"),
+    ("for i in 1..2:\n  echo i", "t.nim:1:1: E23 LeftOut\n"),
+    (
+        "case 1\nof 1:\n  echo 1\nelse:\n  x = 2",
+        "t.nim:1:1: E23 LeftOut\n",
+    ),
+    (
+        "try:\n  echo 1\nexcept:\n  echo 2",
+        "t.nim:1:1: E23 LeftOut\n",
+    ),
+    (
+        "echo 1\nif 1 < 2:\n  echo 1\n  break",
+        "t.nim:4:3: E23 LeftOut\n",
+    ),
+    // definitions
+    ("let x = 1", "t.nim:1:1: E23 LeftOut\n"),
+    ("const x = 1", "t.nim:1:1: E23 LeftOut\n"),
+    ("var x: int = 1", "t.nim:1:1: E23 LeftOut\n"),
+    ("var x: int", "t.nim:1:1: E23 LeftOut\n"),
+    ("var x* = 1", "t.nim:1:1: E23 LeftOut\n"),
+    ("var x, y = 1", "t.nim:1:1: E23 LeftOut\n"),
+    ("var x {.cursor.} = 1", "t.nim:1:1: E23 LeftOut\n"),
+    ("var\n  x = 1\n  y = 2", "t.nim:3:3: E23 LeftOut\n"),
+    ("var x = f()", "t.nim:1:9: E23 LeftOut\n"),
+    ("if 1 < 2:\n  var x = 1", "t.nim:2:3: E23 LeftOut\n"),
+    // assignments
+    ("x += 1", "t.nim:1:1: E23 LeftOut\n"),
+    ("x[0] = 1", "t.nim:1:1: E23 LeftOut\n"),
+    ("x = 1 + f(2)", "t.nim:1:9: E23 LeftOut\n"),
+    ("x = 1 + a & b", "t.nim:1:5: E23 LeftOut\n"),
+    ("x = 1 & f(2)", "t.nim:1:5: E23 LeftOut\n"),
+    // calls
+    ("echo", "t.nim:1:1: E23 LeftOut\n"),
+    ("echo()", "t.nim:1:1: E23 LeftOut\n"),
+    ("echo 1, 2", "t.nim:1:1: E23 LeftOut\n"),
+    ("say 1", "t.nim:1:1: E23 LeftOut\n"),
+    ("Echo 1", "t.nim:1:1: E23 LeftOut\n"),
+    ("say(1)", "t.nim:1:1: E23 LeftOut\n"),
+    ("x.echo", "t.nim:1:1: E23 LeftOut\n"),
+    ("quit()", "t.nim:1:1: E23 LeftOut\n"),
+    ("quit(\"a\")", "t.nim:1:6: E23 LeftOut\n"),
+    // expressions
+    ("echo 'a'", "t.nim:1:6: E23 LeftOut\n"),
+    ("echo nil", "t.nim:1:6: E23 LeftOut\n"),
+    ("echo `a`", "t.nim:1:6: E23 LeftOut\n"),
+    ("echo (1, 2)", "t.nim:1:6: E23 LeftOut\n"),
+    ("echo [1]", "t.nim:1:1: E23 LeftOut\n"),
+    ("echo @[1]", "t.nim:1:6: E23 LeftOut\n"),
+    ("echo T(x: 1)", "t.nim:1:6: E23 LeftOut\n"),
+    ("echo x.y", "t.nim:1:6: E23 LeftOut\n"),
+    ("echo x[1]", "t.nim:1:6: E23 LeftOut\n"),
+    ("echo -f(1)", "t.nim:1:7: E23 LeftOut\n"),
+    ("echo $1", "t.nim:1:6: E23 LeftOut\n"),
+    ("echo (1 shl 2)", "t.nim:1:7: E23 LeftOut\n"),
+    ("echo \"a\" & \"b\"", "t.nim:1:6: E23 LeftOut\n"),
+    ("echo 1 < 2", "t.nim:1:6: E23 LeftOut\n"),
+    // conditions
+    ("if 1:\n  echo 1", "t.nim:1:4: E23 LeftOut\n"),
+    ("if (1 < 2):\n  echo 1", "t.nim:1:4: E23 LeftOut\n"),
+    ("if 1 < f(2):\n  echo 1", "t.nim:1:8: E23 LeftOut\n"),
+    (
+        "if 1 < 2:\n  echo 1\nelif 1 < 3:\n  echo 2",
+        "t.nim:3:1: E23 LeftOut\n",
+    ),
+    ("while 1 > x:\n  x = 1", "t.nim:1:7: E23 LeftOut\n"),
+    ("while not x:\n  x = 1", "t.nim:1:7: E23 LeftOut\n"),
+];
+
+#[test]
+fn other_forms_are_left_out(rt: HostRuntime) -> Result<(), Fail> {
+    for (source, line) in LEFT_OUT {
         let answer = refuses(&rt, rt.alloc(), &BUILD, source.as_bytes(), line)?;
         assert_eq!(rt; name_of(&answer), "Refused");
     }

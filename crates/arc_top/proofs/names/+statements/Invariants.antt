@@ -1,22 +1,22 @@
 use Rattle.std.proofs.Common.{◌≡◌, ◌≤◌, ◌+◌, ◌*◌, drop, length}
-use Rattle.nim_tree.specs.Statements.{statement_of, statements_of, weight, weights}
-use Rattle.arc_top.specs.Names.{names_of, check_stmts, UseInts}
+use Rattle.arc_top.specs.Lines.{line_of, lines_of, weight, weights}
+use Rattle.arc_top.specs.Names.{names_of, check_lines, UseInts}
 use Rattle.nim_core.specs.Program.{stmts_of}
 use Rattle.arc_top.proofs.Passing.{with_rest}
 use Rattle.arc_top.proofs.names.+statements.Given as goal
 
-abbrev pub decreases-check_stmt : goal.decreases-check_stmt
-decreases-check_stmt l = 2 * weight (statement_of l.tree.now)
+abbrev pub decreases-check_line : goal.decreases-check_line
+decreases-check_line l = 2 * weight (line_of l.line.now)
 
-abbrev pub decreases-check_stmts : goal.decreases-check_stmts
-decreases-check_stmts l = 2 * weights (statements_of l.trees.now) + 1
+abbrev pub decreases-check_lines : goal.decreases-check_lines
+decreases-check_lines l = 2 * weights (lines_of l.lines.now) + 1
 
 -- with what is left, what is done is the whole
-abbrev pub invariant-check_stmts-loop-tree : goal.invariant-check_stmts-loop-tree
-invariant-check_stmts-loop-tree l = record {
+abbrev pub invariant-check_lines-loop-line : goal.invariant-check_lines-loop-line
+invariant-check_lines-loop-line l = record {
   known : l.scope.names ≡ names_of l.scope.globals;
-  left : length l.scope.globals + weights (statements_of (drop l.tree-index l.trees)) ≤ length l.fn.scope.globals + weights (statements_of l.fn.trees);
-  light : weights (statements_of (drop l.tree-index l.trees)) ≤ weights (statements_of l.fn.trees);
-  done : with_rest l.stmts.items (check_stmts l.scope.globals (statements_of (drop l.tree-index l.trees))) ≡ check_stmts l.fn.scope.globals (statements_of l.fn.trees);
+  left : length l.scope.globals + weights (lines_of (drop l.line-index l.lines)) ≤ length l.fn.scope.globals + weights (lines_of l.fn.lines);
+  light : weights (lines_of (drop l.line-index l.lines)) ≤ weights (lines_of l.fn.lines);
+  done : with_rest l.stmts.items (check_lines l.scope.globals (lines_of (drop l.line-index l.lines))) ≡ check_lines l.fn.scope.globals (lines_of l.fn.lines);
   ints : UseInts (stmts_of l.stmts.items);
 }
