@@ -82,9 +82,13 @@ fn show_value(value: &Expr, out: &mut String) -> Result<(), AllocError> {
 #[cycle(shown)]
 fn show_type(tree: &TypeTree, out: &mut String) -> Result<(), AllocError> {
     match tree {
-        TypeTree::Named { text, .. } => {
+        TypeTree::Named {
+            text,
+            arguments,
+            ..
+        } => {
             show_text(text, out)?;
-            show_arguments(tree.arguments(), out)
+            show_arguments(arguments, out)
         }
         TypeTree::Array {
             length,
@@ -100,9 +104,9 @@ fn show_type(tree: &TypeTree, out: &mut String) -> Result<(), AllocError> {
             out.push('^')?;
             show_type(target, out)
         }
-        TypeTree::Tuple { .. } => {
+        TypeTree::Tuple { fields, .. } => {
             out.push('(')?;
-            show_fields(tree.fields(), out)?;
+            show_fields(fields, out)?;
             out.push_str(") ")
         }
     }
