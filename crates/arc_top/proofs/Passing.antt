@@ -15,10 +15,6 @@ use Rattle.arc_top.specs.Lines.{Test, branch, loop, then, Line, Lines, test_of, 
 use Rattle.arc_top.specs.Names.{Scope, Given, gives, check_test, check_line, check_lines, UsesInts, UseInts}
 use Rattle.arc_top.proofs.LineRows.{conditional, repeated}
 
-pub passed_on : {A B : Type 0} (stop : Stop) (result : Result A Refusal) (go : A → Result B Refusal) → OnRefusal stop (IsRefusal result) → OnRefusal stop (IsRefusal (and_then result go))
-passed_on (Refused code at) result go h = ap (λ r. and_then r go) h
-passed_on Memory result go h = tt
-
 -- ---- statements with blocks
 
 module _ (scope : Scope) (at : Place) (test : Test) (first second : Lines) where
@@ -94,11 +90,6 @@ pub one_more : (scope after : Scope) (done : List RustStmt) (tree : Line) (rest 
     → with_rest done (check_lines scope (then tree rest)) ≡ with_rest (done ++ stmt ∷ []) (check_lines after rest)
 one_more scope after done tree rest stmt h =
     ap (λ r. with_rest done (and_then r (λ one. behind one.tree (check_lines one.scope rest)))) h ∙ with_more done stmt (check_lines after rest)
-
-pub rest_refused : (scope : Scope) (done : List RustStmt) (tree : Line) (rest : Lines) (stop : Stop) (whole : Result (Given Stmts) Refusal) → with_rest done (check_lines scope (then tree rest)) ≡ whole
-    → OnRefusal stop (IsRefusal (check_line scope tree)) → OnRefusal stop (IsRefusal whole)
-rest_refused scope done tree rest (Refused code place) whole e h = sym e ∙ ap (λ r. with_rest done (and_then r (λ one. behind one.tree (check_lines one.scope rest)))) h
-rest_refused scope done tree rest Memory whole e h = tt
 
 -- ---- the trees of blocks
 

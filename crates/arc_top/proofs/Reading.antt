@@ -10,10 +10,12 @@ use Rattle.arc_base.specs.Stops.{OnRefusal}
 use Rattle.indent_scanner.specs.declared.token.Token.{Token}
 use Rattle.indent_scanner.specs.Tokens.{Tokens}
 use Rattle.indent_scanner.proofs.OneReading.{once, apart}
+use Rattle.indent_scanner.proofs.OneReading.{refused_once as bytes_refused_once}
 use Rattle.nim_tree.specs.Statements.{Statements}
 use Rattle.parse_stmts.specs.Grammar.{IsModule}
 use Rattle.parse_stmts.specs.Parsed.{IsRefused}
 use Rattle.parse_stmts.proofs.Verdicts.{module_once, module_stands}
+use Rattle.parse_stmts.proofs.Verdicts.{refused_once as tokens_refused_once}
 use Rattle.nim_core.specs.Program.{Program}
 use Rattle.arc_top.specs.declared.compiler.NotCompiled.{NotCompiled}
 use Rattle.arc_top.specs.Compile.{IsStop, IsOkOrMemory}
@@ -64,6 +66,37 @@ read_not_refused source program c at r (by_names tokens tree lines is formed ref
     not_both check program _ r.lines lines (one_form source r.tokens tokens r.tree tree r.lines lines r.is_tree is r.formed formed) r.checked refused
 
 -- ---- refusals
+
+refusal_same : {A : Type 0} (x y : Refusal) → ◌≡◌ {A = Result A Refusal} (Err x) (Err y) → x ≡ y
+refusal_same x y e = cc
+
+same_refusal : {A B : Type 0} (of : A → Result B Refusal) (c d : Code) (p q : Place) {a b : A} → a ≡ b → IsRefusal (of a) c p → IsRefusal (of b) d q → (c ≡ d) × (p ≡ q)
+same_refusal of c d p q e r s = let k = refusal_same _ _ (sym r ∙ ap of e ∙ s) in (ap (λ x. x.code) k, ap (λ x. x.at) k)
+
+-- tokens of a tree aren't refused
+not_tokens : {C : Type 0} (source : List ℕ) (c : Code) (p : Place) (tokens : List Token) (tree : Statements) → IsTree source tokens tree
+    → (others : List Token) → Tokens source others → IsRefused (main_module source) others c p → C
+not_tokens source c p tokens tree is others scanned r = absurd (module_stands c p is.parsed is.few (subst (λ l. IsRefused (main_module source) l c p) (once source others tokens scanned is.scanned) r))
+
+-- a source is refused with one code, at one place
+pub refuses_once : (source : List ℕ) (c d : Code) (p q : Place) → Refuses source c p → Refuses source d q → (c ≡ d) × (p ≡ q)
+refuses_once source c d p q (by_bytes r) (by_bytes s) = bytes_refused_once source 0 c d p q r s
+refuses_once source c d p q (by_bytes r) (by_tokens tokens scanned s) = absurd (apart source 0 c p tokens r scanned)
+refuses_once source c d p q (by_bytes r) (by_form tokens tree is s) = absurd (apart source 0 c p tokens r is.scanned)
+refuses_once source c d p q (by_bytes r) (by_names tokens tree lines is formed s) = absurd (apart source 0 c p tokens r is.scanned)
+refuses_once source c d p q (by_tokens tokens scanned r) (by_bytes s) = absurd (apart source 0 d q tokens s scanned)
+refuses_once source c d p q (by_tokens tokens scanned r) (by_tokens others again s) = tokens_refused_once (main_module source) tokens c d p q r (subst (λ l. IsRefused (main_module source) l d q) (once source others tokens again scanned) s)
+refuses_once source c d p q (by_tokens tokens scanned r) (by_form others tree is s) = not_tokens source c p others tree is tokens scanned r
+refuses_once source c d p q (by_tokens tokens scanned r) (by_names others tree lines is formed s) = not_tokens source c p others tree is tokens scanned r
+refuses_once source c d p q (by_form tokens tree is r) (by_bytes s) = absurd (apart source 0 d q tokens s is.scanned)
+refuses_once source c d p q (by_form tokens tree is r) (by_tokens others scanned s) = not_tokens source d q tokens tree is others scanned s
+refuses_once source c d p q (by_form tokens tree is r) (by_form others other it s) = same_refusal form_of c d p q (one_tree source tokens others tree other is it) r s
+refuses_once source c d p q (by_form tokens tree is r) (by_names others other lines it formed s) = absurd (not_both form_of lines _ other tree (one_tree source others tokens other tree it is) formed r)
+refuses_once source c d p q (by_names tokens tree lines is formed r) (by_bytes s) = absurd (apart source 0 d q tokens s is.scanned)
+refuses_once source c d p q (by_names tokens tree lines is formed r) (by_tokens others scanned s) = not_tokens source d q tokens tree is others scanned s
+refuses_once source c d p q (by_names tokens tree lines is formed r) (by_form others other it s) = absurd (not_both form_of lines _ tree other (one_tree source tokens others tree other is it) formed s)
+refuses_once source c d p q (by_names tokens tree lines is formed r) (by_names others other more it again s) =
+    same_refusal check c d p q (one_form source tokens others tree other lines more is it formed again) r s
 
 -- the source reads as no program
 abbrev pub IsNoProgram : List ℕ → Code → Place → Type 0

@@ -17,9 +17,6 @@ pub record Answers (answer : Answer) (held : Option Held) (main : List ℕ) (Loa
   pub read_fault : OnReadFault answer Loading
   pub store_fault : OnStoreFault answer (Storing × HasProgram held main)
 
-one_source : (a b c : Option (List ℕ)) (x y : List ℕ) → a ≡ Some x → a ≡ Some y → x ≡ y
-one_source a b c x y p q = cc
-
 told : (answer : Answer) (held : Held) (main : List ℕ) (Loading Storing : Type 0) → Answers answer (Some held) main Loading Storing → TellsProgram (Some held) main → (Loading → ⊥) → (Storing → ⊥) → IsDoneOrMemory answer
 told Done held main L S a t l s = tt
 told Memory held main L S a t l s = tt

@@ -18,6 +18,7 @@ pub use compiler::{NotCompiled, compile};
 pub use form::forms_refuse;
 pub use names::names_refuse;
 pub use report::put_report;
+pub use source::one_answer;
 pub use top::nimarc;
 
 #[cfg(test)]

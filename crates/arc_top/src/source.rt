@@ -1,5 +1,7 @@
 // From a source to its program.
-ghost use Rattle.std.specs.Prelude.{◌≡◌, ◌≤◌, ◌<◌, ◌-◌, ◌^◌, length, IfOk, IfErr};
+ghost use Rattle.std.specs.Prelude.{◌≡◌, ℕ, ◌≤◌, ◌<◌, ◌-◌, ◌^◌, List, length, IfOk, IfErr};
+ghost use Rattle.arc_base.specs.declared.place.Code.{Code};
+ghost use Rattle.arc_base.specs.declared.place.Place.{Place};
 ghost use Rattle.arc_base.specs.Stops.{OnRefusal};
 ghost use Rattle.nim_core.specs.Program.{Program as Tree, program_of};
 ghost use Rattle.arc_top.specs.Source.{Reads, Refuses};
@@ -33,3 +35,10 @@ pub fn read(alloc: Global, source: &[u8]) -> Result<Program, Stop>
     let lines = built(alloc, &tree)?;
     check(alloc, lines.as_slice())
 }
+
+/// A source is one program at most, or is refused with one code at one place, and never both.
+pub fn one_answer()
+    ensures program { (source : List ℕ) (p q : Tree) → Reads source p → Reads source q → p ≡ q }
+    ensures refusal { (source : List ℕ) (c d : Code) (p q : Place) → Refuses source c p → Refuses source d q → (c ≡ d) × (p ≡ q) }
+    ensures either { (source : List ℕ) (program : Tree) (c : Code) (at : Place) → Reads source program → Refuses source c at → ⊥ }
+{}

@@ -20,7 +20,7 @@ ghost use Rattle.nim_tree.specs.Types.{named, tuple_of, written_of, arguments_of
 ghost use Rattle.nim_tree.specs.Statements.{branches, selects, repeats, counts, tries, defers, proclaims, statement_of, statements_of, branches_of, handlers_of, course_of, head_of};
 
 /// The trees of expressions with parts or branches.
-pub fn exprs()
+pub fn expr_trees()
     ensures tupled { (at : Place) (parts : Vec RustExpr Global) → term_of (rust_expr.Tuple at parts) ≡ tuple at (parts_of parts.items) }
     ensures listed { (at : Place) (parts : Vec RustExpr Global) → term_of (rust_expr.Array at parts) ≡ array at (parts_of parts.items) }
     ensures sequenced { (at : Place) (parts : Vec RustExpr Global) → term_of (rust_expr.Sequence at parts) ≡ sequence at (parts_of parts.items) }
@@ -33,13 +33,13 @@ pub fn exprs()
 {}
 
 /// The trees of written types with arguments or fields.
-pub fn types()
+pub fn type_trees()
     ensures named_type { (at : Place) (text : List ℕ) (arguments : Vec TypeTree Global) → written_of (rust_type.Named at text arguments) ≡ named at text (arguments_of arguments.items) }
     ensures tuple_type { (at : Place) (inside : Vec Field Global) → written_of (rust_type.Tuple at inside) ≡ tuple_of at (fields_of inside.items) }
 {}
 
 /// The trees of statements with blocks.
-pub fn statements()
+pub fn statement_trees()
     ensures conditional { (at : Place) (all : Vec RustBranch Global) (otherwise : Vec RustStmt Global) → statement_of (rust_stmt.If at all otherwise) ≡ branches at (branches_of all.items) (statements_of otherwise.items) }
     ensures selected { (at : Place) (selector : RustExpr) (all : Vec RustBranch Global) (otherwise : Vec RustStmt Global) → statement_of (rust_stmt.Case at selector all otherwise) ≡ selects at (term_of selector) (branches_of all.items) (statements_of otherwise.items) }
     ensures repeated { (at : Place) (condition : RustExpr) (body : Vec RustStmt Global) → statement_of (rust_stmt.While at condition body) ≡ repeats at (term_of condition) (statements_of body.items) }

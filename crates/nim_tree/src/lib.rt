@@ -4,7 +4,7 @@
 mod count;
 mod depth;
 mod expr;
-pub mod laws;
+mod laws;
 mod name;
 mod part_count;
 mod part_depth;
@@ -17,6 +17,7 @@ mod types;
 pub use count::nodes;
 pub use depth::block_depth;
 pub use expr::{BinaryOp, Choice, Expr, UnaryOp};
+pub use laws::{expr_trees, statement_trees, type_trees};
 pub use name::{Declared, Name, Pragma, PragmaKind};
 pub use stmt::{
     AssignOp, Binding, Branch, Def, Handler, Import, Module, Over, Param, ParamMode, ProcHead, Stmt,

@@ -31,9 +31,13 @@ pub enum Binding {
 /// The definition of names with one type and one value.
 #[derive(Debug, Drop)]
 pub struct Def {
+    /// One or more.
     pub names: Vec<Declared>,
+    /// In the order in which they are written.
     pub pragmas: Vec<Pragma>,
+    /// The type behind `:`.
     pub annotation: Option<TypeTree>,
+    /// The value behind `=`.
     pub value: Option<Expr>,
 }
 
@@ -50,8 +54,10 @@ pub enum ParamMode {
 /// Parameters of one type.
 #[derive(Debug, Drop)]
 pub struct Param {
+    /// One or more.
     pub names: Vec<Name>,
     pub mode: ParamMode,
+    /// Their type.
     pub of: TypeTree,
 }
 
@@ -61,8 +67,11 @@ pub struct ProcHead {
     pub name: Declared,
     /// The names of its type parameters.
     pub generics: Vec<Name>,
+    /// Its parameters, in order.
     pub params: Vec<Param>,
+    /// The type of its result, if it has one.
     pub gives: Option<TypeTree>,
+    /// In the order in which they are written.
     pub pragmas: Vec<Pragma>,
 }
 
@@ -85,6 +94,7 @@ pub struct Branch {
     pub at: Place,
     /// One condition, or the labels.
     pub tests: Vec<Expr>,
+    /// The statements of its block, one or more.
     pub body: Vec<Stmt>,
 }
 

@@ -104,7 +104,9 @@ fn field_levels(fields: &[Field]) -> u32
 #[derive(Debug, Drop)]
 #[cycle(types)]
 pub struct Field {
+    /// One or more.
     pub names: Vec<Declared>,
+    /// Their type.
     pub of: TypeTree,
 }
 
@@ -139,5 +141,6 @@ pub struct TypeDef {
     pub name: Declared,
     /// The names of its type parameters.
     pub parameters: Vec<Name>,
+    /// What it is.
     pub body: TypeBody,
 }

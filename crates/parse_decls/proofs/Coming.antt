@@ -15,13 +15,9 @@ use Rattle.parse_decls.specs.Outcome.{Why, stuck_at, Out, got, bad, then_do, unl
 use Rattle.parse_decls.specs.Gives.{Told, Fails, Found, Comes, Leads}
 use Rattle.parse_decls.proofs.Settling.{settles_suc, settles_got, settles_is, settles_then, settles_bad, settles_unless, settles_stuck, settles_if, settles_else}
 
--- where a part of it fails, it fails too
-pub record Breaks {X Y : Type 0} (part : ℕ → Out X) (whole : ℕ → Out Y) : Type 0 where
-  pub breaks : (why : Why) → Settles part (bad why) → Settles whole (bad why)
-
 pub told_fails : {X : Type 0} {run : ℕ → Out X} (x : Origin) {why : Why} → Settles run (bad why) → (stop : Stop) → Told x why stop → Fails run x stop
 told_fails x {why = why} h (Refused code at) t = record { why = why; runs = h; tells = t }
-told_fails x h Memory t = t
+told_fails x h Memory t = absurd t
 
 pub fails_by : {X Y : Type 0} (part : ℕ → Out X) (whole : ℕ → Out Y) (x : Origin) → ((why : Why) → Settles part (bad why) → Settles whole (bad why)) → (stop : Stop) → Fails part x stop → Fails whole x stop
 fails_by part whole x b (Refused code at) h = record { why = h.why; runs = b h.why h.runs; tells = h.tells }
@@ -72,9 +68,6 @@ pub found : {X : Type 0} {whole : ℕ → Out X} {input : Input} {a : X} (next :
 found next least l g w = record { runs = l _ settles_got; goes = g; within = w }
 
 -- ---- leading
-
-pub leads_id : {X : Type 0} (run : ℕ → Out X) → Leads run run
-leads_id run o h = h
 
 pub leads_on : {X : Type 0} {a b c : ℕ → Out X} → Leads a b → Leads b c → Leads a c
 leads_on f g o h = g o (f o h)

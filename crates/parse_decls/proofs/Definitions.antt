@@ -11,7 +11,7 @@ use Rattle.nim_tree.specs.Statements.{Definition, definition_type_levels, defini
 use Rattle.parse_exprs.specs.declared.layout.Layout.{Layout}
 use Rattle.parse_exprs.specs.declared.layout.Layout.TheVariants.{Brackets, Lines}
 use Rattle.parse_exprs.specs.Look.{Origin, stays, colon_at}
-use Rattle.parse_exprs.specs.Plain.{IsExpr}
+use Rattle.parse_exprs.specs.Grammar.{IsExpr}
 use Rattle.parse_decls.specs.Look.{behind, deeper_at, stands_at, level_at, equals_at}
 use Rattle.parse_decls.specs.Outcome.{Why}
 use Rattle.parse_decls.specs.Run.{most_levels, run_written, run_typed, run_annotation, run_given, run_def, run_defined, run_defs, run_def_block}

@@ -36,17 +36,6 @@ restated p done from reads fault back = record {
 pub deep_is : {X : Type 0} {f g : ℕ → Out X} → IsDeep f → ((k : ℕ) → g k ≡ f k) → IsDeep g
 deep_is h e = record { at = h.at; runs = settles_is h.runs e }
 
--- another computation that comes to the same
-pub same_run : {A : Type 0} {f g : ℕ → List Token → Out A} {R D : A → List Token → List Token → Type 0} {F : Why → List Token → Type 0} → Parses f R D F
-    → ((k : ℕ) (ts : List Token) → g k ts ≡ f k ts) → Parses g R D F
-same_run p e = record {
-  sound = λ k ts a rest h. p.sound k ts a rest (sym (e k ts) ∙ h);
-  complete = λ a ts rest d. settles_is (p.complete a ts rest d) (λ k. e k ts);
-  deep = λ a ts rest r. elim (p.deep a ts rest r) [ inl d ↦ inl d | inr h ↦ inr (deep_is h (λ k. e k ts)) ];
-  stops = λ k ts why h. p.stops k ts why (sym (e k ts) ∙ h);
-  faults = λ why ts w. settles_is (p.faults why ts w) (λ k. e k ts);
-}
-
 pub bad_one : {X : Type 0} {v w : Why} → ◌≡◌ {A = Out X} (bad v) (bad w) → v ≡ w
 bad_one e = cc
 

@@ -37,13 +37,3 @@ pub short_maybe : {A : Type 0} {n : ℕ} {f g : A → ℕ} {goes : List Token �
     → Maybe goes R o ts rest → if_there f o ≤ n → if_there g o ≤ most_levels → Maybe goes (Short n f g R) o ts rest
 short_maybe (e_none h) a b = e_none h
 short_maybe (e_some h d) a b = e_some h (record { reads = d; few_types = a; few_terms = b })
-
-pub perhaps_short : {A : Type 0} {n : ℕ} {f g : A → ℕ} {goes : List Token → Bool} {none : A} {R : A → List Token → List Token → Type 0} {a : A} {ts rest : List Token}
-    → f none ≤ n → g none ≤ most_levels → Perhaps goes none (λ a ts rest. Short n f g R a ts rest) a ts rest → Short n f g (Perhaps goes none R) a ts rest
-perhaps_short p q (e_missing h) = record { reads = e_missing h; few_types = p; few_terms = q }
-perhaps_short p q (e_present h d) = record { reads = e_present h d.reads; few_types = d.few_types; few_terms = d.few_terms }
-
-pub short_perhaps : {A : Type 0} {n : ℕ} {f g : A → ℕ} {goes : List Token → Bool} {none : A} {R : A → List Token → List Token → Type 0} {a : A} {ts rest : List Token}
-    → Perhaps goes none R a ts rest → f a ≤ n → g a ≤ most_levels → Perhaps goes none (λ a ts rest. Short n f g R a ts rest) a ts rest
-short_perhaps (e_missing h) a b = e_missing h
-short_perhaps (e_present h d) a b = e_present h (record { reads = d; few_types = a; few_terms = b })

@@ -20,7 +20,7 @@ use Rattle.parse_exprs.specs.declared.layout.Layout.TheVariants.{Brackets, Lines
 use Rattle.parse_exprs.specs.declared.input.Bracket.{Bracket}
 use Rattle.parse_exprs.specs.declared.input.Bracket.TheVariants.{Round, Square}
 use Rattle.parse_exprs.specs.Look.{Origin, spelling, goes_on, is_name, is_punct, is_run, kind_at, name_on, closes_at, closing, colon_at, comma_at, bracket_of}
-use Rattle.parse_exprs.specs.Plain.{IsExpr}
+use Rattle.parse_exprs.specs.Grammar.{IsExpr}
 use Rattle.parse_exprs.specs.Parsed.{HasNoEnd}
 use Rattle.parse_exprs.proofs.Stopping.{both_of}
 use Rattle.parse_exprs.proofs.Spans.{Free, stop, step, expr_spans, size_at, no_end_at}
@@ -344,9 +344,6 @@ head_takes {i = i} h ts rest r =
     takes_less (takes_then (declared_takes (proc_name_takes i) h.name ts r.past_name r.name) (takes_then (generics_takes i r.generics) (takes_then (parameter_list_takes i r.params) (takes_then (annotation_takes i r.gives) (all_pragmas_takes i r.pragmas))))) (omega arith)
 
 -- ---- at places of all tokens
-
-pub takes_size : (tokens : List Token) (from next n : ℕ) → Takes n (drop from tokens) (drop next tokens) → from < next → next ≤ length tokens → n ≤ next - from
-takes_size tokens from next n f goes within = size_at tokens from next n (record { size = (let p = f.size in omega (arith, p)); free = f.free }) goes within
 
 pub takes_no_end : (tokens : List Token) (from next n : ℕ) → Takes n (drop from tokens) (drop next tokens) → next ≤ length tokens → HasNoEnd tokens from next
 takes_no_end tokens from next n f within = no_end_at tokens from next n (record { size = (let p = f.size in omega (arith, p)); free = f.free }) within

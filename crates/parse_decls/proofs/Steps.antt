@@ -24,7 +24,7 @@ use Rattle.parse_exprs.specs.Parsed as P
 use Rattle.parse_decls.specs.Look.{pragma_named, pragma_of, mode_at, past_if_mode, equals_at, behind}
 use Rattle.parse_decls.specs.Outcome.{Why, left_out, stuck, stuck_at, Out, got, bad, then_do, unless_stuck, Settles, of_expr, of_why}
 use Rattle.parse_decls.specs.Run.{run_pragma, run_pragma_name, run_known, most_levels, run_given}
-use Rattle.parse_decls.specs.Gives.{IsNext, Told, Fails, Found, Leads}
+use Rattle.parse_decls.specs.Gives.{Told, Fails, Found, Leads}
 use Rattle.parse_decls.proofs.Settling.{settles_got, settles_is, settles_if}
 use Rattle.parse_decls.proofs.Coming.{told_fails, fails_leads, fails_stuck, fails_then, found, leads_on, leads_then, leads_unless, settles_at, behind_at, within_some}
 
@@ -91,13 +91,9 @@ settles_why {f = f} e h = subst (λ why. Settles f (bad why)) e h
 stuck_why : (ts rest : List Token) (b : Bool) → left_out_at rest ≡ b → (if b then left_out rest else stuck rest) ≡ of_why ts (E.stuck rest)
 stuck_why ts rest b e = ap (λ c. if c then left_out rest else stuck rest) (sym e)
 
-next_place : (x : Origin) (ts rest : List Token) (at : Place) → P.IsNext x ts rest at → at.«module» ≡ x.number → IsNext x rest at
-next_place x ts [] at h m = m
-next_place x ts (tok ∷ rest) at h m = h
-
 -- an expression is refused for what its run comes to
 pub value_fails : (run : List Token → ℕ → E.Out Term) (x : Origin) (ts : List Token) (code : Code) (at : Place) → P.RunsInto run x ts code at → Fails (λ k. of_expr ts (run ts k)) x (Refused code at)
-value_fails run x ts C.Syntax at h = record { why = stuck h.rest; runs = settles_why (sym (stuck_why ts h.rest false h.used)) (of_settles ts h.runs); tells = (refl, next_place x ts h.rest at h.next h.in_module) }
+value_fails run x ts C.Syntax at h = record { why = stuck h.rest; runs = settles_why (sym (stuck_why ts h.rest false h.used)) (of_settles ts h.runs); tells = (refl, h.next) }
 value_fails run x ts C.LeftOut at h = record { why = left_out h.rest; runs = settles_why (sym (stuck_why ts h.rest true h.left_out)) (of_settles ts h.runs); tells = (refl, h.first) }
 value_fails run x ts C.NestTooDeep at h = record { why = of_why ts E.deep; runs = of_settles ts h.runs; tells = (refl, h.first) }
 value_fails run x ts _ at h = absurd h

@@ -11,7 +11,7 @@ use Rattle.parse_exprs.specs.declared.layout.Layout.{Layout}
 use Rattle.parse_exprs.specs.declared.layout.Layout.TheVariants.{Brackets}
 use Rattle.parse_exprs.specs.declared.input.Bracket.TheVariants.{Square}
 use Rattle.parse_exprs.specs.Look.{Origin, spelling, place_at, closes_at, stays, comma_at}
-use Rattle.parse_exprs.specs.Plain.{IsExpr}
+use Rattle.parse_exprs.specs.Grammar.{IsExpr}
 use Rattle.parse_decls.specs.declared.look.TypeLead.{TypeLead}
 use Rattle.parse_decls.specs.declared.look.TypeLead.TheVariants as L
 use Rattle.parse_decls.specs.Look.{behind, opens_at, type_lead, type_lead_of, named_lead, type_at, begins_type}

@@ -9,28 +9,24 @@ use Rattle.indent_scanner.specs.declared.token.Token.{Token}
 use Rattle.nim_tree.specs.declared.types.Field.{Field}
 use Rattle.nim_tree.specs.Types.{written_of}
 use Rattle.parse_exprs.specs.declared.input.Input.{Input}
-use Rattle.parse_exprs.specs.Look.{Origin, place_at}
+use Rattle.parse_exprs.specs.Look.{Origin, next_at}
 use Rattle.parse_exprs.specs.Parsed.{IsFirst}
 use Rattle.parse_exprs.specs.Input.{origin_of, from_at}
 use Rattle.parse_decls.specs.declared.reading.Reading.{Reading}
 use Rattle.parse_decls.specs.Outcome.{Why, too_deep, left_out, stuck, tired, Out, got, bad, Settles}
 use Rattle.parse_decls.specs.Run.{Typed}
 
--- whether this is the place of the first of these tokens; it lies in the module where there is none
-abbrev pub IsNext : Origin → List Token → Place → Type 0
-IsNext x [] at = at.«module» ≡ x.number
-IsNext x (tok ∷ rest) at = at ≡ place_at x tok
-
 -- what a refusal says of why nothing is read
 abbrev pub Tells : Origin → Why → Code → Place → Type 0
 Tells x (too_deep rest) code at = (code ≡ C.NestTooDeep) × IsFirst x rest at
 Tells x (left_out rest) code at = (code ≡ C.LeftOut) × IsFirst x rest at
-Tells x (stuck rest) code at = (code ≡ C.Syntax) × IsNext x rest at
+Tells x (stuck rest) code at = (code ≡ C.Syntax) × (at ≡ next_at x rest)
 Tells x tired code at = ⊥
 
+-- what is answered for it
 abbrev pub Told : Origin → Why → Stop → Type 0
 Told x why (Refused code at) = Tells x why code at
-Told x why Memory = ⊤
+Told x why Memory = ⊥
 
 -- what the run comes to where the source is refused
 pub record Refuses {X : Type 0} (run : ℕ → Out X) (x : Origin) (code : Code) (at : Place) : Type 0 where

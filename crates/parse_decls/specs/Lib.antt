@@ -5,4 +5,3 @@ pub mod Grammar
 pub mod Faults
 pub mod Claims
 pub mod Gives
-pub mod Parsed

@@ -68,7 +68,7 @@ fn read_declarations(
 }
 
 /// A block of declarations behind more spaces, or one on its line.
-pub fn read_types(
+pub(crate) fn read_types(
     alloc: Global,
     input: &Input,
     at: usize,

@@ -17,7 +17,7 @@ use parse_exprs::{Input, Layout};
 use std::alloc::Global;
 
 /// Names, their type and their value.
-pub fn read_definition(
+pub(crate) fn read_definition(
     alloc: Global,
     input: &Input,
     at: usize,
@@ -77,7 +77,7 @@ fn read_definitions(
 }
 
 /// A block of definitions behind more spaces.
-pub fn read_definition_block(
+pub(crate) fn read_definition_block(
     alloc: Global,
     input: &Input,
     at: usize,

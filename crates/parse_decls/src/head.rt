@@ -93,7 +93,7 @@ fn read_params(
 }
 
 /// What stands behind `proc`, up to its `=`.
-pub fn read_head(
+pub(crate) fn read_head(
     alloc: Global,
     input: &Input,
     at: usize,

@@ -6,11 +6,11 @@ ghost use Rattle.parse_decls.specs.Look.{spaces_at, deeper_at, equals, stands_at
 
 use indent_scanner::{Key, Tok, Token, is_named};
 use nim_tree::{ParamMode, PragmaKind};
-use parse_exprs::{Bracket, Input, Layout, bracket_of, goes_on, is_name, is_punct};
+use parse_exprs::{Bracket, Input, Layout, bracket_of, goes_on, is_name, is_punct, is_run};
 
 /// What a written type begins with.
 #[derive(Clone, Copy, Debug, PartialEq, Eq)]
-pub enum TypeLead {
+pub(crate) enum TypeLead {
     /// A name.
     Name,
     /// `array` and a bracket.
@@ -25,7 +25,7 @@ pub enum TypeLead {
 
 /// What the body of a declared type begins with.
 #[derive(Clone, Copy, Debug, PartialEq, Eq)]
-pub enum BodyLead {
+pub(crate) enum BodyLead {
     /// `object`
     Object,
     /// `ref object`
@@ -38,7 +38,8 @@ pub enum BodyLead {
     Alias,
 }
 
-fn is_end(kind: Tok) -> bool
+/// Whether it is the end of the source.
+pub fn is_end(kind: Tok) -> bool
     ensures { result ≡ is_end kind }
 {
     match kind {
@@ -47,8 +48,8 @@ fn is_end(kind: Tok) -> bool
     }
 }
 
-// The spaces before the token there, where it begins a line and isn't the end of the source.
-fn spaces_at(input: &Input, at: usize) -> Option<u32>
+/// The spaces before the token there, where it begins a line and isn't the end of the source.
+pub fn spaces_at(input: &Input, at: usize) -> Option<u32>
     ensures { result ≡ spaces_at (from_at input.now at) }
 {
     match input.head(at) {
@@ -58,7 +59,7 @@ fn spaces_at(input: &Input, at: usize) -> Option<u32>
 }
 
 /// Whether a line behind more spaces begins there.
-pub(crate) fn deeper_at(input: &Input, at: usize, spaces: u32) -> bool
+pub fn deeper_at(input: &Input, at: usize, spaces: u32) -> bool
     ensures { result ≡ deeper_at spaces (from_at input.now at) }
 {
     match spaces_at(input, at) {
@@ -68,17 +69,17 @@ pub(crate) fn deeper_at(input: &Input, at: usize, spaces: u32) -> bool
 }
 
 /// Whether a line behind so many spaces begins there.
-pub(crate) fn stands_at(input: &Input, at: usize, spaces: u32) -> bool
+pub fn stands_at(input: &Input, at: usize, spaces: u32) -> bool
     ensures { result ≡ stands_at spaces (from_at input.now at) }
 {
     match spaces_at(input, at) {
-        Some(level) => level == spaces,
+        Some(found) => found == spaces,
         None => false,
     }
 }
 
 /// The number of spaces before the line that begins there.
-pub(crate) fn level_at(input: &Input, at: usize) -> u32
+pub fn level_at(input: &Input, at: usize) -> u32
     ensures { result ≡ level_at (from_at input.now at) }
 {
     match spaces_at(input, at) {
@@ -87,21 +88,13 @@ pub(crate) fn level_at(input: &Input, at: usize) -> u32
     }
 }
 
-fn is_star(kind: Tok, spelling: &[u8]) -> bool
-    ensures { result ≡ is_run (codes "*") kind spelling.now }
-{
-    match kind {
-        Tok::Op => spelling == b"*".as_slice(),
-        _ => false,
-    }
-}
-
 /// Whether `*` goes on there.
 pub(crate) fn star_at(input: &Input, at: usize, layout: Layout) -> bool
     ensures { result ≡ star_at (origin_of input.now) layout (from_at input.now at) }
 {
     match input.head(at) {
-        Some(token) => goes_on(layout, token.indent) && is_star(token.kind, input.spelling(token)),
+        Some(token) => goes_on(layout, token.indent)
+            && is_run(b"*".as_slice(), token.kind, input.spelling(token)),
         None => false,
     }
 }
@@ -115,9 +108,8 @@ pub(crate) fn past_star(input: &Input, at: usize, layout: Layout) -> usize
 {
     match input.head(at) {
         Some(token)
-            if goes_on(layout, token.indent) && is_star(token.kind, input.spelling(token)) => {
-            at + 1
-        }
+            if goes_on(layout, token.indent)
+                && is_run(b"*".as_slice(), token.kind, input.spelling(token)) => { at + 1 }
         _ => at,
     }
 }

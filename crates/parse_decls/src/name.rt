@@ -56,7 +56,7 @@ pub fn read_name(
 }
 
 /// Names with commas between them.
-pub fn read_names(
+pub(crate) fn read_names(
     alloc: Global,
     input: &Input,
     at: usize,

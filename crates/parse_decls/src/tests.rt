@@ -1,4 +1,6 @@
 // What no clause says: that calls succeed, and that the definitions mean what the language does.
+ghost use Rattle.std.specs.Prelude.{◌<◌, ◌≤◌, ◌^◌, length};
+
 use crate::{definition, definition_block, names, procedure_head, type_declarations};
 use arc_base::{Bytes, Stop};
 use indent_scanner::scan;
@@ -6,7 +8,7 @@ use nim_tree::{
     Declared, Def, Expr, Field, Name, Param, ParamMode, Pragma, PragmaKind, ProcHead, TypeBody,
     TypeDef, TypeTree,
 };
-use parse_exprs::Layout;
+use parse_exprs::{Input, Layout};
 use std::alloc::{AllocError, Global};
 use std::process::Abort;
 use std::test::Fail;
@@ -215,62 +217,79 @@ fn show_head(head: &ProcHead, out: &mut String) -> Result<(), AllocError> {
     show_pragmas(&head.pragmas, out)
 }
 
-// What is read at the second token of a text, behind 2 spaces, and where it ends; or the refusal.
+// What is read at the second token, behind 2 spaces, and where it ends.
+fn read(
+    alloc: Global,
+    kind: Kind,
+    input: &Input,
+    out: &mut String,
+) -> Result<Result<usize, Stop>, AllocError>
+    requires few { length input.now.tokens.now < 2 ^ 32 }
+    requires within { 1 ≤ length input.now.tokens.now }
+{
+    match kind {
+        Kind::Names => match names(alloc, input, 1, Layout::Lines(2)) {
+            Ok(found) => {
+                show_names(&found.value, out)?;
+                Ok(Ok(found.next))
+            }
+            Err(stop) => Ok(Err(stop)),
+        },
+        Kind::Definition => match definition(alloc, input, 1, 2) {
+            Ok(found) => {
+                show_definition(&found.value, out)?;
+                Ok(Ok(found.next))
+            }
+            Err(stop) => Ok(Err(stop)),
+        },
+        Kind::Block => match definition_block(alloc, input, 1, 2) {
+            Ok(found) => {
+                for def in &found.value {
+                    show_definition(def, out)?;
+                }
+                Ok(Ok(found.next))
+            }
+            Err(stop) => Ok(Err(stop)),
+        },
+        Kind::Types => match type_declarations(alloc, input, 1, 2) {
+            Ok(found) => {
+                for def in &found.value {
+                    show_declaration(def, out)?;
+                }
+                Ok(Ok(found.next))
+            }
+            Err(stop) => Ok(Err(stop)),
+        },
+        Kind::Head => match procedure_head(alloc, input, 1, 2) {
+            Ok(found) => {
+                show_head(&found.value, out)?;
+                Ok(Ok(found.next))
+            }
+            Err(stop) => Ok(Err(stop)),
+        },
+    }
+}
+
+// What is read of a text, or the refusal.
 fn outcome(rt: &impl Abort, alloc: Global, kind: Kind, text: &str) -> Result<String, Fail> {
     assert!(rt; text.len() < 1000);
-    let mut out = String::new(alloc);
     let source = text.as_bytes();
     let tokens = scan(alloc, source, 7)?;
     let tokens = tokens.as_slice();
     assert!(rt; tokens.len() > 1 && tokens.len() < 1000);
-    let read = match kind {
-        Kind::Names => match names(alloc, source, tokens, 1, 7, Layout::Lines(2)) {
-            Ok(found) => {
-                show_names(&found.value, &mut out)?;
-                Ok(found.next)
-            }
-            Err(stop) => Err(stop),
-        },
-        Kind::Definition => match definition(alloc, source, tokens, 1, 7, 2) {
-            Ok(found) => {
-                show_definition(&found.value, &mut out)?;
-                Ok(found.next)
-            }
-            Err(stop) => Err(stop),
-        },
-        Kind::Block => match definition_block(alloc, source, tokens, 1, 7, 2) {
-            Ok(found) => {
-                for def in &found.value {
-                    show_definition(def, &mut out)?;
-                }
-                Ok(found.next)
-            }
-            Err(stop) => Err(stop),
-        },
-        Kind::Types => match type_declarations(alloc, source, tokens, 1, 7, 2) {
-            Ok(found) => {
-                for def in &found.value {
-                    show_declaration(def, &mut out)?;
-                }
-                Ok(found.next)
-            }
-            Err(stop) => Err(stop),
-        },
-        Kind::Head => match procedure_head(alloc, source, tokens, 1, 7, 2) {
-            Ok(found) => {
-                show_head(&found.value, &mut out)?;
-                Ok(found.next)
-            }
-            Err(stop) => Err(stop),
-        },
+    let input = Input {
+        source,
+        tokens,
+        module: 7,
     };
-    match read {
+    let mut out = String::new(alloc);
+    match read(alloc, kind, &input, &mut out)? {
         Ok(next) => write!(out, "to {next}")?,
         Err(Stop::Refused { code, at }) => {
             assert_eq!(rt; at.module, 7);
             write!(out, "{} {}:{}", code.text(), at.line, at.column)?;
         }
-        Err(Stop::Memory) => {}
+        Err(Stop::Memory) => out.push_str("no memory")?,
     }
     Ok(out)
 }

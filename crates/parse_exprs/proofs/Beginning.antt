@@ -14,8 +14,8 @@ use Rattle.parse_exprs.specs.declared.layout.Layout.TheVariants.{Brackets}
 use Rattle.parse_exprs.specs.declared.input.Bracket.{Bracket}
 use Rattle.parse_exprs.specs.declared.input.Bracket.TheVariants.{Square}
 use Rattle.parse_exprs.specs.declared.input.Lead.TheVariants as L
-use Rattle.parse_exprs.specs.Look.{Origin, spelling, place_at, op_levels, single_of, single, sign_named, sign_of, is_at, bracket_of, bracket_at, square_at, is_square, lead_of, lead_at, first_of_at}
-use Rattle.parse_exprs.specs.Plain.{Spells, p_unary, p_binary, SpellsMore, p_none, p_more, SpellsUnary, p_sign, p_plain, SpellsPrimary, p_primary, SpellsSuffixes, p_done, p_suffix, SpellsSuffix, p_field, p_applied, SpellsAtom, p_token, p_group, p_sequence, SpellsEnclosed, p_empty, p_parts, SpellsMoreParts, p_over, p_part, SpellsValue, p_value, SpellsElifs, p_no_elif, p_elif, SpellsElse, p_else, SpellsBranches, p_branches, SpellsLabels, p_last_label, p_label, SpellsOfs, p_last_of, p_next_of, SpellsOtherwise, p_no_else, p_with_else, Stops}
+use Rattle.parse_exprs.specs.Look.{Origin, spelling, place_at, op_levels, single_of, single, sign_named, sign_of, is_at_sign, bracket_of, bracket_at, square_at, is_square, lead_of, lead_at, first_of_at}
+use Rattle.parse_exprs.specs.Grammar.{Spells, p_unary, p_binary, SpellsMore, p_none, p_more, SpellsUnary, p_sign, p_plain, SpellsPrimary, p_primary, SpellsSuffixes, p_done, p_suffix, SpellsSuffix, p_field, p_applied, SpellsAtom, p_token, p_group, p_sequence, SpellsEnclosed, p_empty, p_parts, SpellsMoreParts, p_over, p_part, SpellsValue, p_value, SpellsElifs, p_no_elif, p_elif, SpellsElse, p_else, SpellsBranches, p_branches, SpellsLabels, p_last_label, p_label, SpellsOfs, p_last_of, p_next_of, SpellsOtherwise, p_no_else, p_with_else, Stops}
 use Rattle.parse_exprs.proofs.Stopping.{none_some, none_of, operator_stops, fewer, comma_stops, label_comma_stops, colon_stops, elif_stops, else_stops, of_stops}
 use Rattle.parse_exprs.proofs.Levels.{most_and, levels_and, applied_levels}
 
@@ -35,28 +35,28 @@ bracket_no_sign : {C : Type 0} {op : UnaryOp} {b : Bracket} (bytes : List ℕ) (
 bracket_no_sign bytes (T.Punct c) e h = cc
 bracket_no_sign bytes _ e h = cc
 
-at_no_single : {C : Type 0} {t : Term} (at : Place) (bytes : List ℕ) (k : Tok) → is_at k bytes ≡ true → single_of at bytes k ≡ Some t → C
+at_no_single : {C : Type 0} {t : Term} (at : Place) (bytes : List ℕ) (k : Tok) → is_at_sign k bytes ≡ true → single_of at bytes k ≡ Some t → C
 at_no_single at bytes T.Op e h = cc
 at_no_single at bytes _ e h = cc
 
-at_no_bracket : {C : Type 0} {b : Bracket} (bytes : List ℕ) (k : Tok) → is_at k bytes ≡ true → bracket_of k ≡ Some b → C
+at_no_bracket : {C : Type 0} {b : Bracket} (bytes : List ℕ) (k : Tok) → is_at_sign k bytes ≡ true → bracket_of k ≡ Some b → C
 at_no_bracket bytes T.Op e h = cc
 at_no_bracket bytes _ e h = cc
 
 at_is : (bytes : List ℕ) → bytes_eq bytes (codes "@") ≡ true → sign_named bytes ≡ None
 at_is bytes e = ap sign_named ((bytes_eq-Decides bytes (codes "@")).0 e)
 
-at_no_sign : {C : Type 0} {op : UnaryOp} (bytes : List ℕ) (k : Tok) → is_at k bytes ≡ true → sign_of k bytes ≡ Some op → C
+at_no_sign : {C : Type 0} {op : UnaryOp} (bytes : List ℕ) (k : Tok) → is_at_sign k bytes ≡ true → sign_of k bytes ≡ Some op → C
 at_no_sign bytes T.Op e h = none_some (sign_named bytes) (at_is bytes e) h
 at_no_sign bytes _ e h = cc
 
 pub group_alone : {b : Bracket} (x : Origin) (tok : Token) → bracket_of tok.kind ≡ Some b → single x tok ≡ None
 group_alone x tok e = none_of (single x tok) (λ t h. bracket_no_single (place_at x tok) (spelling x tok) tok.kind e h)
 
-pub at_alone : (x : Origin) (tok : Token) → is_at tok.kind (spelling x tok) ≡ true → single x tok ≡ None
+pub at_alone : (x : Origin) (tok : Token) → is_at_sign tok.kind (spelling x tok) ≡ true → single x tok ≡ None
 at_alone x tok e = none_of (single x tok) (λ t h. at_no_single (place_at x tok) (spelling x tok) tok.kind e h)
 
-pub at_bracket : (x : Origin) (tok : Token) → is_at tok.kind (spelling x tok) ≡ true → bracket_of tok.kind ≡ None
+pub at_bracket : (x : Origin) (tok : Token) → is_at_sign tok.kind (spelling x tok) ≡ true → bracket_of tok.kind ≡ None
 at_bracket x tok e = none_of (bracket_of tok.kind) (λ b h. at_no_bracket (spelling x tok) tok.kind e h)
 
 pub point_bracket : (k : Tok) → k ≡ T.Punct 46 → bracket_of k ≡ None
@@ -100,7 +100,7 @@ bracket_lead : (b : Bracket) (k : Tok) → bracket_of k ≡ Some b → lead_of k
 bracket_lead b (T.Key _) e = cc
 bracket_lead b _ e = refl
 
-at_lead : (k : Tok) (bytes : List ℕ) → is_at k bytes ≡ true → lead_of k ≡ L.Operand
+at_lead : (k : Tok) (bytes : List ℕ) → is_at_sign k bytes ≡ true → lead_of k ≡ L.Operand
 at_lead (T.Key _) bytes e = cc
 at_lead _ bytes e = refl
 

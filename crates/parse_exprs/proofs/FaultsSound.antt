@@ -14,10 +14,10 @@ use Rattle.parse_exprs.specs.declared.input.Bracket.{Bracket}
 use Rattle.parse_exprs.specs.declared.input.Bracket.TheVariants.{Round, Square}
 use Rattle.parse_exprs.specs.declared.input.Lead.{Lead}
 use Rattle.parse_exprs.specs.declared.input.Lead.TheVariants as L
-use Rattle.parse_exprs.specs.Look.{Origin, spelling, place_at, op_at, op_levels, single, grouped, object, as_name, applied, sign_of, is_at, is_name, is_punct, kind_at, name_on, name_at, bracket_at, square_at, closes_at, names_in, names_behind, suffix_at, stays, operand_at, lead_at, branch_at, is_elif, is_else, is_of, first_of_at, branch_layout, colon_at, comma_at, past_colon, dots_at}
+use Rattle.parse_exprs.specs.Look.{Origin, spelling, place_at, op_at, op_levels, single, grouped, object, as_name, applied, sign_of, is_at_sign, is_name, is_punct, kind_at, name_on, named_part_at, bracket_at, square_at, closes_at, names_in, names_behind, suffix_at, stays, operand_at, lead_at, branch_at, is_elif, is_else, is_of, first_of_at, branch_layout, colon_at, comma_at, past_colon, dots_at}
 use Rattle.parse_exprs.specs.Outcome.{Why, deep, stuck, tired, Out, got, bad, then_do, unless_stuck}
 use Rattle.parse_exprs.specs.Run.{behind, made, run_field, run_expr, run_lead, run_level, run_chain, run_more, run_unary, run_signed, run_primary, run_suffixes, run_suffix, run_applied, run_atom, run_group, run_enclosed, run_list, run_parts, run_part, run_if, run_tail, run_value, run_elifs, run_else, run_case, run_branches, run_of, run_labels, run_label, run_ofs, run_otherwise}
-use Rattle.parse_exprs.specs.Plain.{SpellsExpr, SpellsOf, SpellsOfs, SpellsEnclosed, p_empty, p_parts, SpellsParts, p_first, SpellsMoreParts, p_over, p_part}
+use Rattle.parse_exprs.specs.Grammar.{SpellsExpr, SpellsOf, SpellsOfs, SpellsEnclosed, p_empty, p_parts, SpellsParts, p_first, SpellsMoreParts, p_over, p_part}
 use Rattle.parse_exprs.specs.Faults.{Done, Fault, too_deep, stuck_at, FaultsExpr, f_operators, f_no_if, f_if, f_no_case, f_case, Faults, f_tight, f_operand, f_more, FaultsMore, f_operator, f_next, f_beyond, FaultsUnary, f_no_level, f_no_operand, f_nothing, f_sign_line, f_sign, f_plain, FaultsPrimary, f_atom, f_behind, FaultsSuffixes, f_full, f_suffix, f_further, f_field, f_applied, FaultsAtom, f_no_atom, f_other, f_no_square, f_not_square, f_sequence, f_empty, f_group, FaultsEnclosed, f_list, f_no_end, FaultsListed, f_part, f_parts, FaultsParts, f_next_part, f_later_part, FaultsPart, f_unnamed, f_no_name, f_name_alone, f_named, f_tail, f_elifs, f_else, FaultsTail, f_tail_line, f_condition, f_tail_value, FaultsValue, f_no_colon, f_value_line, f_value, FaultsElifs, f_elif, f_next_elif, FaultsElse, f_no_else, f_else_value, f_case_line, f_subject, f_branches, FaultsBranches, f_no_of, f_first_of, f_ofs, f_otherwise, FaultsOf, f_of_line, f_label, f_labels, f_of_value, FaultsLabels, f_next_label, f_later_label, FaultsLabel, f_one, f_range_line, f_range, FaultsOfs, f_of, f_next_of}
 use Rattle.parse_exprs.proofs.Settling.{then_bad, unless_bad, got_bad, if_split}
 use Rattle.parse_exprs.proofs.Stopping.{both_of, punct_is, false_true}
@@ -98,7 +98,7 @@ object_none None parts h e = cc
 object_none (Some n) no_parts h e = refl
 object_none (Some n) (part a ps) h e = cc
 
-no_name : (ts : List Token) → closes_at Round ts ≡ true → name_at ts ≡ false
+no_name : (ts : List Token) → closes_at Round ts ≡ true → named_part_at ts ≡ false
 no_name [] e = refl
 no_name (tok ∷ ts) e = ap (λ k. is_name k && kind_at (is_punct 58) ts) (punct_is 41 tok.kind e)
 
@@ -107,8 +107,8 @@ applied_some : {C : Type 0} {x : Origin} {tok : Token} {ts rest : List Token} {p
 applied_some Square m a is d e = cc
 applied_some Round false a is d e = cc
 applied_some {ts = ts} {parts = parts} Round true a is d e =
-    let h = both_of (is_some (as_name a)) (name_at ts) is in
-    false_true (name_at ts) (no_name ts (closed_empty d (object_none (as_name a) parts h.0 e))) h.1
+    let h = both_of (is_some (as_name a)) (named_part_at ts) is in
+    false_true (named_part_at ts) (no_name ts (closed_empty d (object_none (as_name a) parts h.0 e))) h.1
 
 -- ---- what a token alone tells
 
@@ -251,12 +251,12 @@ mutual
             faults_empty why b x i n tok ts g.0 h c m.1)
       ]
   faults_group why (suc k) None None x i n tok [] is h e =
-      elim (unless_bad (is_at tok.kind (spelling x tok)) (tok ∷ []) _ e) as (λ w. FaultsAtom x why i n (tok ∷ [])) [
+      elim (unless_bad (is_at_sign tok.kind (spelling x tok)) (tok ∷ []) _ e) as (λ w. FaultsAtom x why i n (tok ∷ [])) [
         | inl s ↦ f_other is h s.not (stuck_is why s.at)
         | inr g ↦ f_no_square g.is refl (is_stuck why g.same)
       ]
   faults_group why (suc k) None None x i n tok (next ∷ ts) is h e =
-      elim (unless_bad (is_at tok.kind (spelling x tok)) (tok ∷ next ∷ ts) _ e) as (λ w. FaultsAtom x why i n (tok ∷ next ∷ ts)) [
+      elim (unless_bad (is_at_sign tok.kind (spelling x tok)) (tok ∷ next ∷ ts) _ e) as (λ w. FaultsAtom x why i n (tok ∷ next ∷ ts)) [
         | inl s ↦ f_other is h s.not (stuck_is why s.at)
         | inr at ↦ elim (unless_bad (stays i (next ∷ ts)) (next ∷ ts) _ at.same) as (λ w. FaultsAtom x why i n (tok ∷ next ∷ ts)) [
           | inl s ↦ f_no_square at.is s.not (stuck_is why s.at)

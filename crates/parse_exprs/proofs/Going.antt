@@ -12,7 +12,7 @@ use Rattle.parse_exprs.specs.declared.input.Bracket.{Bracket}
 use Rattle.parse_exprs.specs.declared.input.Bracket.TheVariants.{Square}
 use Rattle.parse_exprs.specs.declared.input.Lead.{Lead}
 use Rattle.parse_exprs.specs.declared.input.Lead.TheVariants as L
-use Rattle.parse_exprs.specs.Look.{Origin, spelling, place_at, op_at, op_levels, single, grouped, applied, sign_of, is_at, is_punct, is_name, bracket_at, kind_at, closes_at, names_in, names_behind, name_on, suffix_at, stays, square_at, operand_at, lead_at}
+use Rattle.parse_exprs.specs.Look.{Origin, spelling, place_at, op_at, op_levels, single, grouped, applied, sign_of, is_at_sign, is_punct, is_name, bracket_at, kind_at, closes_at, names_in, names_behind, name_on, suffix_at, stays, square_at, operand_at, lead_at}
 use Rattle.parse_exprs.specs.Outcome.{deep, stuck, Out, got, bad, then_do, unless_stuck, Settles}
 use Rattle.parse_exprs.specs.Run.{behind, made, run_expr, run_lead, run_level, run_chain, run_more, run_unary, run_signed, run_primary, run_suffixes, run_suffix, run_applied, run_field, run_atom, run_group, run_enclosed, run_list, run_parts, run_part, run_if, run_case}
 use Rattle.parse_exprs.specs.Gives.{Leads}
@@ -194,13 +194,13 @@ module _ (x : Origin) (i : Layout) where
     abbrev seq_go : ℕ → Out Term
     seq_go k = unless_stuck (stays i ts) ts (unless_stuck (square_at ts) ts (square_go k))
 
-    seq_leads : Leads (λ k. unless_stuck (is_at tok.kind (spelling x tok)) (tok ∷ ts) (seq_go k)) (λ k. run_group k None None x i m tok ts)
+    seq_leads : Leads (λ k. unless_stuck (is_at_sign tok.kind (spelling x tok)) (tok ∷ ts) (seq_go k)) (λ k. run_group k None None x i m tok ts)
     seq_leads o h = settles_suc h (λ k. ap (λ j. run_group (suc k) None None x i j tok ts) (sym same))
 
-    pub seq_no_at : is_at tok.kind (spelling x tok) ≡ false → Settles (λ k. run_group k None None x i m tok ts) (bad (stuck (tok ∷ ts)))
+    pub seq_no_at : is_at_sign tok.kind (spelling x tok) ≡ false → Settles (λ k. run_group k None None x i m tok ts) (bad (stuck (tok ∷ ts)))
     seq_no_at e = seq_leads (bad (stuck (tok ∷ ts))) (settles_stuck seq_go (tok ∷ ts) e)
 
-    module _ (e : is_at tok.kind (spelling x tok) ≡ true) where
+    module _ (e : is_at_sign tok.kind (spelling x tok) ≡ true) where
       pub seq_no_stay : stays i ts ≡ false → Settles (λ k. run_group k None None x i m tok ts) (bad (stuck ts))
       seq_no_stay s = seq_leads (bad (stuck ts)) (settles_unless (tok ∷ ts) e (settles_stuck (λ k. unless_stuck (square_at ts) ts (square_go k)) ts s))
 

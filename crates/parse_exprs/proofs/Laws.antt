@@ -12,12 +12,12 @@ use Rattle.nim_tree.specs.Terms.{Term, levels, term_of}
 use Rattle.parse_exprs.specs.declared.layout.Layout.{Layout}
 use Rattle.parse_exprs.specs.declared.layout.Layout.TheVariants.{Lines}
 use Rattle.parse_exprs.specs.declared.parse.Parsed.{Parsed}
-use Rattle.parse_exprs.specs.Look.{Origin, left_out_at}
+use Rattle.parse_exprs.specs.Look.{Origin, next_at, left_out_at}
 use Rattle.parse_exprs.specs.Outcome.{Out, got, bad, deep, stuck, tired, Settles}
 use Rattle.parse_exprs.specs.Run.{run_expr, run_primary}
-use Rattle.parse_exprs.specs.Plain.{IsExpr, IsCallee}
+use Rattle.parse_exprs.specs.Grammar.{IsExpr, IsCallee}
 use Rattle.parse_exprs.specs.Faults.{Fault, too_deep, stuck_at}
-use Rattle.parse_exprs.specs.Parsed.{Reads, ReadsCallee, ExprFaults, CalleeFaults, ExprRun, CalleeRun, IsRead, IsOnly, IsNext, HasNone, IsRefused, RunsInto, Runs, Agree}
+use Rattle.parse_exprs.specs.Parsed.{Reads, ReadsCallee, ExprFaults, CalleeFaults, ExprRun, CalleeRun, IsRead, IsOnly, HasNone, IsRefused, RunsInto, Runs, Agree}
 use Rattle.parse_exprs.proofs.Settling.{settles_one, got_one, got_bad}
 use Rattle.parse_exprs.proofs.Sound.{sound_expr, sound_primary}
 use Rattle.parse_exprs.proofs.Complete.{complete_expr, complete_primary}
@@ -135,8 +135,8 @@ pub is_only : (sought : Term → List Token → List Token → Type 0) (faults :
 is_only sought faults run n all tokens at p h = λ t rest d. only_one sought faults run n all (term_of p.tree) t (drop at tokens) (drop p.next tokens) rest h d
 
 pub has_none : (sought : Term → List Token → List Token → Type 0) (faults : Fault → List Token → Type 0) (run : List Token → ℕ → Out Term) (n : ℕ) → Agree sought faults run n
-    → (x : Origin) (ts rest : List Token) (at : Place) → Settles (run ts) (bad (stuck rest)) → left_out_at rest ≡ false → IsNext x ts rest at → at.«module» ≡ x.number → HasNone sought faults x ts at
-has_none sought faults run n all x ts rest at h used next in_module = record {
+    → (x : Origin) (ts rest : List Token) (at : Place) → Settles (run ts) (bad (stuck rest)) → left_out_at rest ≡ false → at ≡ next_at x rest → HasNone sought faults x ts at
+has_none sought faults run n all x ts rest at h used next = record {
   rest = rest;
   stuck = (all.stuck ts rest).1 h;
   next = next;
@@ -146,7 +146,6 @@ has_none sought faults run n all x ts rest at h used next in_module = record {
   ]);
   shallow = λ f. deep_stuck (settles_one ((all.deep ts).0 f) h);
   used = λ other f. (let e = settles_one ((all.stuck ts other).0 f.stuck) h in let l = f.left_out in not_left_out other rest (stuck_once e) l used);
-  in_module = in_module;
 }
   where
     stuck_once : {r s : List Token} → ◌≡◌ {A = Out Term} (bad (stuck r)) (bad (stuck s)) → r ≡ s
@@ -158,7 +157,7 @@ has_none sought faults run n all x ts rest at h used next in_module = record {
 -- a refusal is for the reason that the computation comes to
 refused_for : (sought : Term → List Token → List Token → Type 0) (faults : Fault → List Token → Type 0) (run : List Token → ℕ → Out Term) (n : ℕ) → Agree sought faults run n
     → (x : Origin) (ts : List Token) (code : Code) (at : Place) → RunsInto run x ts code at → IsRefused sought faults x ts code at
-refused_for sought faults run n all x ts Syntax at h = has_none sought faults run n all x ts h.rest at h.runs h.used h.next h.in_module
+refused_for sought faults run n all x ts Syntax at h = has_none sought faults run n all x ts h.rest at h.runs h.used h.next
 refused_for sought faults run n all x ts NestTooDeep at h = record { deep = (all.deep ts).1 h.runs; first = h.first }
 refused_for sought faults run n all x ts LeftOut at h = record { rest = h.rest; left_out = record { stuck = (all.stuck ts h.rest).1 h.runs; left_out = h.left_out }; first = h.first }
 refused_for sought faults run n all x ts _ at h = absurd h

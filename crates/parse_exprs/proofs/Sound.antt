@@ -15,10 +15,10 @@ use Rattle.parse_exprs.specs.declared.input.Bracket.{Bracket}
 use Rattle.parse_exprs.specs.declared.input.Bracket.TheVariants.{Square}
 use Rattle.parse_exprs.specs.declared.input.Lead.{Lead}
 use Rattle.parse_exprs.specs.declared.input.Lead.TheVariants as L
-use Rattle.parse_exprs.specs.Look.{Origin, spelling, place_at, goes_on, op_at, op_levels, single, grouped, applied, sign_of, is_at, is_punct, bracket_of, bracket_at, kind_at, closes_at, names_in, names_behind, name_on, is_suffix, is_apart, suffix_at, stays, square_at, is_square, lead_at, branch_at, is_elif, is_else, is_of, first_of_at, branch_layout, colon_at, comma_at, past_colon, dots_at, is_name}
+use Rattle.parse_exprs.specs.Look.{Origin, spelling, place_at, goes_on, op_at, op_levels, single, grouped, applied, sign_of, is_at_sign, is_punct, bracket_of, bracket_at, kind_at, closes_at, names_in, names_behind, name_on, is_suffix, is_apart, suffix_at, stays, square_at, is_square, lead_at, branch_at, is_elif, is_else, is_of, first_of_at, branch_layout, colon_at, comma_at, past_colon, dots_at, is_name}
 use Rattle.parse_exprs.specs.Outcome.{Out, got, bad, deep}
 use Rattle.parse_exprs.specs.Run.{Tail, behind, made, run_field, run_expr, run_lead, run_level, run_chain, run_more, run_unary, run_signed, run_primary, run_suffixes, run_suffix, run_applied, run_atom, run_group, run_enclosed, run_list, run_parts, run_part, run_if, run_tail, run_value, run_elifs, run_else, run_case, run_branches, run_of, run_labels, run_label, run_ofs, run_otherwise}
-use Rattle.parse_exprs.specs.Plain.{SpellsExpr, p_operators, p_if, p_case, Spells, p_unary, p_binary, SpellsMore, p_none, p_more, SpellsUnary, p_sign, p_plain, SpellsPrimary, p_primary, SpellsSuffixes, p_done, p_suffix, SpellsSuffix, p_field, p_applied, SpellsAtom, p_token, p_group, p_sequence, SpellsEnclosed, p_empty, p_parts, SpellsParts, p_first, SpellsMoreParts, p_over, p_part, SpellsPart, p_unnamed, p_named, SpellsTail, p_tail, SpellsValue, p_value, SpellsElifs, p_no_elif, p_elif, SpellsElse, p_else, SpellsBranches, p_branches, SpellsOf, p_of, SpellsLabels, p_last_label, p_label, SpellsLabel, p_one, p_range, SpellsOfs, p_last_of, p_next_of, SpellsOtherwise, p_no_else, p_with_else, Stops}
+use Rattle.parse_exprs.specs.Grammar.{SpellsExpr, p_operators, p_if, p_case, Spells, p_unary, p_binary, SpellsMore, p_none, p_more, SpellsUnary, p_sign, p_plain, SpellsPrimary, p_primary, SpellsSuffixes, p_done, p_suffix, SpellsSuffix, p_field, p_applied, SpellsAtom, p_token, p_group, p_sequence, SpellsEnclosed, p_empty, p_parts, SpellsParts, p_first, SpellsMoreParts, p_over, p_part, SpellsPart, p_unnamed, p_named, SpellsTail, p_tail, SpellsValue, p_value, SpellsElifs, p_no_elif, p_elif, SpellsElse, p_else, SpellsBranches, p_branches, SpellsOf, p_of, SpellsLabels, p_last_label, p_label, SpellsLabel, p_one, p_range, SpellsOfs, p_last_of, p_next_of, SpellsOtherwise, p_no_else, p_with_else, Stops}
 use Rattle.parse_exprs.specs.Faults.{Done}
 use Rattle.parse_exprs.proofs.Settling.{then_got, unless_got, got_one, if_split}
 use Rattle.parse_exprs.proofs.Stopping.{both_of, punct_is, one_more, suffix_stops, branch_stops}
@@ -230,7 +230,7 @@ mutual
       subst (λ r. Read (suc n) (levels t) (SpellsAtom x i t (tok ∷ ts) r)) g.1
       (record { spells = p_group refl d.spells g.0; few = (let p = grouped_levels b m (place_at x tok) f.value t g.0 in let q = d.few in omega (arith, p, q)) })
   sound_group (suc k) None None x i n tok ts is h e =
-      let at = unless_got (is_at tok.kind (spelling x tok)) (tok ∷ ts) _ e in
+      let at = unless_got (is_at_sign tok.kind (spelling x tok)) (tok ∷ ts) _ e in
       let on = unless_got (stays i ts) ts _ at.1 in
       let square = unless_got (square_at ts) ts _ on.1 in
       let f = then_got _ _ square.1 in

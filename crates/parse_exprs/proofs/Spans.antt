@@ -14,8 +14,8 @@ use Rattle.parse_exprs.specs.declared.layout.Layout.{Layout}
 use Rattle.parse_exprs.specs.declared.input.Bracket.{Bracket}
 use Rattle.parse_exprs.specs.declared.input.Bracket.TheVariants.{Round, Square}
 use Rattle.parse_exprs.specs.declared.input.Lead.TheVariants as L
-use Rattle.parse_exprs.specs.Look.{Origin, spelling, goes_on, branch_goes_on, first_goes_on, op_of, of_level, op_at, place_at, single_of, single, grouped, applied, sign_of, is_punct, is_run, is_at, bracket_of, closing, lead_of, is_elif, is_else, is_of, colon_at, past_colon}
-use Rattle.parse_exprs.specs.Plain.{SpellsExpr, p_operators, p_if, p_case, Spells, p_unary, p_binary, SpellsMore, p_none, p_more, SpellsUnary, p_sign, p_plain, SpellsPrimary, p_primary, SpellsSuffixes, p_done, p_suffix, SpellsSuffix, p_field, p_applied, SpellsAtom, p_token, p_group, p_sequence, SpellsEnclosed, p_empty, p_parts, SpellsParts, p_first, SpellsMoreParts, p_over, p_part, SpellsPart, p_unnamed, p_named, SpellsTail, p_tail, SpellsValue, p_value, SpellsElifs, p_no_elif, p_elif, SpellsElse, p_else, SpellsBranches, p_branches, SpellsOf, p_of, SpellsLabels, p_last_label, p_label, SpellsLabel, p_one, p_range, SpellsOfs, p_last_of, p_next_of, SpellsOtherwise, p_no_else, p_with_else}
+use Rattle.parse_exprs.specs.Look.{Origin, spelling, goes_on, branch_goes_on, first_goes_on, op_of, of_level, op_at, place_at, single_of, single, grouped, applied, sign_of, is_punct, is_run, is_at_sign, bracket_of, closing, lead_of, is_elif, is_else, is_of, colon_at, past_colon}
+use Rattle.parse_exprs.specs.Grammar.{SpellsExpr, p_operators, p_if, p_case, Spells, p_unary, p_binary, SpellsMore, p_none, p_more, SpellsUnary, p_sign, p_plain, SpellsPrimary, p_primary, SpellsSuffixes, p_done, p_suffix, SpellsSuffix, p_field, p_applied, SpellsAtom, p_token, p_group, p_sequence, SpellsEnclosed, p_empty, p_parts, SpellsParts, p_first, SpellsMoreParts, p_over, p_part, SpellsPart, p_unnamed, p_named, SpellsTail, p_tail, SpellsValue, p_value, SpellsElifs, p_no_elif, p_elif, SpellsElse, p_else, SpellsBranches, p_branches, SpellsOf, p_of, SpellsLabels, p_last_label, p_label, SpellsLabel, p_one, p_range, SpellsOfs, p_last_of, p_next_of, SpellsOtherwise, p_no_else, p_with_else}
 use Rattle.parse_exprs.specs.Parsed.{HasNoEnd}
 use Rattle.parse_exprs.proofs.Stopping.{none_some, false_true, both_of}
 
@@ -162,7 +162,7 @@ mutual
   atom_spans {x = x} {t = t} (p_token {tok = tok} h) =
       record { size = (let one = single_node_of (place_at x tok) (spelling x tok) tok.kind t h in omega (arith, one)); free = step (single_no_end x tok t h) stop }
   atom_spans {x = x} {t = t} (p_group {m = m} {b = b} {parts = ps} {tok = tok} k d g) = let h = grouped_nodes b m (place_at x tok) ps t g in within (enclosed_spans d) (omega (arith, h))
-  atom_spans {x = x} (p_sequence {tok = tok} h on d) = within (token_spans (test_no_end (λ k. is_at k (spelling x tok)) tok.kind refl h) (enclosed_spans d)) (omega arith)
+  atom_spans {x = x} (p_sequence {tok = tok} h on d) = within (token_spans (test_no_end (λ k. is_at_sign k (spelling x tok)) tok.kind refl h) (enclosed_spans d)) (omega arith)
 
   enclosed_spans : {x : Origin} {b : Bracket} {m : Bool} {ps : Parts} {ts rest : List Token} → SpellsEnclosed x b m ps ts rest → Spans 0 (suc (nodes_in ps)) ts rest
   enclosed_spans {b = b} (p_empty {tok = tok} {end = end} h c) =

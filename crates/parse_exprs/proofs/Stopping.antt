@@ -13,10 +13,7 @@ use Rattle.parse_exprs.specs.declared.layout.Layout.TheVariants.{Brackets, Lines
 use Rattle.parse_exprs.specs.declared.input.Bracket.{Bracket}
 use Rattle.parse_exprs.specs.declared.input.Bracket.TheVariants.{Round, Square}
 use Rattle.parse_exprs.specs.Look.{Origin, spelling, goes_on, branch_goes_on, first_goes_on, branch_layout, op_of, op_named, level_of, of_level, op_at, is_punct, is_run, closing, closes_at, kind_at, is_suffix, is_apart, suffix_at, branch_at, is_elif, is_else, is_of, first_of_at, colon_at, comma_at, past_colon, dots_at}
-use Rattle.parse_exprs.specs.Plain.{Stops}
-
-pub some_once : {A : Type 0} {x y : A} (o : Option A) → o ≡ Some x → o ≡ Some y → x ≡ y
-some_once o p q = cc
+use Rattle.parse_exprs.specs.Grammar.{Stops}
 
 pub none_some : {A C : Type 0} {x : A} (o : Option A) → o ≡ None → o ≡ Some x → C
 none_some o p q = cc
@@ -34,10 +31,6 @@ both a b p q = cc
 pub none_of : {A : Type 0} (o : Option A) → ((a : A) → o ≡ Some a → ⊥) → o ≡ None
 none_of None h = refl
 none_of (Some a) h = absurd (h a refl)
-
-pub false_of : (b : Bool) → (b ≡ true → ⊥) → b ≡ false
-false_of false h = refl
-false_of true h = absurd (h refl)
 
 -- ---- operators
 
@@ -116,10 +109,6 @@ punct_stops x i l b tok ts e h =
 no_opening : (b : Bracket) → is_suffix (T.Punct (closing b)) ≡ false
 no_opening Round = refl
 no_opening Square = refl
-
-no_comma : (b : Bracket) → is_punct 44 (T.Punct (closing b)) ≡ false
-no_comma Round = refl
-no_comma Square = refl
 
 pub closing_stops : (x : Origin) (i : Layout) (l : ℕ) (b : Bracket) (ts : List Token) → closes_at b ts ≡ true → Stops x i l ts
 closing_stops x i l b [] e = cc

@@ -1,6 +1,6 @@
 -- A tree weighs no more than its tokens have bytes.
-use Rattle.std.proofs.Common.{◌≡◌, ℕ, suc, ◌≤◌, ◌+◌, List, [], ◌∷◌, length, take, drop, Bool, true, false, refl, sym, ap, arith}
-use Rattle.std.specs.Prelude.{Some, max, All, codes, if◌then◌else◌, ◌&&◌}
+use Rattle.std.proofs.Common.{◌≡◌, ℕ, suc, ◌≤◌, ◌+◌, List, [], ◌∷◌, length, drop, Bool, true, false, refl, sym, ap, arith}
+use Rattle.std.specs.Prelude.{Some, All, codes, if◌then◌else◌}
 use Rattle.std.proofs.lemmas.List.{length-take}
 use Rattle.std.proofs.lemmas.List.Elements.{All-head, All-tail}
 use Rattle.indent_scanner.specs.Tokens.{HasByte, token_bytes}
@@ -9,20 +9,16 @@ use Rattle.arc_base.specs.declared.place.Place.{Place}
 use Rattle.indent_scanner.specs.declared.token.Key.TheVariants as K
 use Rattle.indent_scanner.specs.declared.token.Tok.{Tok}
 use Rattle.indent_scanner.specs.declared.token.Tok.TheVariants as T
-use Rattle.nim_tree.specs.declared.expr.BinaryOp.{BinaryOp}
-use Rattle.nim_tree.specs.declared.expr.UnaryOp.{UnaryOp}
 use Rattle.nim_tree.specs.Terms.{Term, name, Parts, no_parts, part, and_part, Choices, no_choices, choice, and_choice}
 use Rattle.nim_tree.specs.Weights.{weight, weight_in, weight_of}
 use Rattle.parse_exprs.specs.declared.layout.Layout.{Layout}
 use Rattle.parse_exprs.specs.declared.input.Bracket.{Bracket}
 use Rattle.parse_exprs.specs.declared.input.Bracket.TheVariants.{Round, Square}
-use Rattle.parse_exprs.specs.declared.input.Lead.TheVariants as L
-use Rattle.parse_exprs.specs.Look.{Origin, spelling, goes_on, branch_goes_on, first_goes_on, op_of, of_level, op_at, place_at, single_of, single, grouped, applied, sign_of, is_punct, is_run, is_at, bracket_of, closing, lead_of, is_elif, is_else, is_of, colon_at, past_colon}
-use Rattle.parse_exprs.specs.Plain.{SpellsExpr, p_operators, p_if, p_case, Spells, p_unary, p_binary, SpellsMore, p_none, p_more, SpellsUnary, p_sign, p_plain, SpellsPrimary, p_primary, SpellsSuffixes, p_done, p_suffix, SpellsSuffix, p_field, p_applied, SpellsAtom, p_token, p_group, p_sequence, SpellsEnclosed, p_empty, p_parts, SpellsParts, p_first, SpellsMoreParts, p_over, p_part, SpellsPart, p_unnamed, p_named, SpellsTail, p_tail, SpellsValue, p_value, SpellsElifs, p_no_elif, p_elif, SpellsElse, p_else, SpellsBranches, p_branches, SpellsOf, p_of, SpellsLabels, p_last_label, p_label, SpellsLabel, p_one, p_range, SpellsOfs, p_last_of, p_next_of, SpellsOtherwise, p_no_else, p_with_else}
+use Rattle.parse_exprs.specs.Look.{Origin, spelling, goes_on, branch_goes_on, first_goes_on, place_at, single_of, single, grouped, applied, is_punct, is_run, is_at_sign, closing, is_elif, is_else, is_of, colon_at, past_colon}
+use Rattle.parse_exprs.specs.Grammar.{SpellsExpr, p_operators, p_if, p_case, Spells, p_unary, p_binary, SpellsMore, p_none, p_more, SpellsUnary, p_sign, p_plain, SpellsPrimary, p_primary, SpellsSuffixes, p_done, p_suffix, SpellsSuffix, p_field, p_applied, SpellsAtom, p_token, p_group, p_sequence, SpellsEnclosed, p_empty, p_parts, SpellsParts, p_first, SpellsMoreParts, p_over, p_part, SpellsPart, p_unnamed, p_named, SpellsTail, p_tail, SpellsValue, p_value, SpellsElifs, p_no_elif, p_elif, SpellsElse, p_else, SpellsBranches, p_branches, SpellsOf, p_of, SpellsLabels, p_last_label, p_label, SpellsLabel, p_one, p_range, SpellsOfs, p_last_of, p_next_of, SpellsOtherwise, p_no_else, p_with_else}
 use Rattle.parse_exprs.specs.Counts.{unit, count}
-use Rattle.parse_exprs.specs.Plain.{IsExpr, IsCallee}
-use Rattle.parse_exprs.proofs.Stopping.{false_true}
-use Rattle.parse_exprs.proofs.Spans.{op_no_end, sign_no_end, name_no_end, bracket_no_end, test_no_end, behind_no_end, lead_no_end, single_no_end, punct_no_end, unsome}
+use Rattle.parse_exprs.specs.Grammar.{IsExpr, IsCallee}
+use Rattle.parse_exprs.proofs.Spans.{op_no_end, sign_no_end, name_no_end, bracket_no_end, test_no_end, behind_no_end, lead_no_end, punct_no_end, unsome}
 
 unit_some : (k : Tok) (len : ℕ) → (k ≡ T.End → ⊥) → 1 ≤ unit k len
 unit_some T.End len h = absurd (h refl)
@@ -136,7 +132,7 @@ mutual
   atom_weighs {x = x} {t = t} (p_token {tok = tok} h) =
       record { size = (let one = single_weight x tok t h in omega (arith, one)) }
   atom_weighs {x = x} {t = t} (p_group {m = m} {b = b} {parts = ps} {tok = tok} k d g) = let h = grouped_weight b m (place_at x tok) ps t g in within (enclosed_weighs d) (omega (arith, h))
-  atom_weighs {x = x} (p_sequence {tok = tok} h on d) = within (token_weighs (test_no_end (λ k. is_at k (spelling x tok)) tok.kind refl h) (enclosed_weighs d)) (omega arith)
+  atom_weighs {x = x} (p_sequence {tok = tok} h on d) = within (token_weighs (test_no_end (λ k. is_at_sign k (spelling x tok)) tok.kind refl h) (enclosed_weighs d)) (omega arith)
 
   enclosed_weighs : {x : Origin} {b : Bracket} {m : Bool} {ps : Parts} {ts rest : List Token} → SpellsEnclosed x b m ps ts rest → Weighs 0 (suc (weight_in ps)) ts rest
   enclosed_weighs {b = b} (p_empty {tok = tok} {end = end} h c) =

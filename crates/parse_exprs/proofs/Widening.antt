@@ -16,7 +16,7 @@ use Rattle.parse_exprs.specs.declared.input.Bracket.{Bracket}
 use Rattle.parse_exprs.specs.declared.input.Bracket.TheVariants.{Square}
 use Rattle.parse_exprs.specs.declared.input.Lead.{Lead}
 use Rattle.parse_exprs.specs.declared.input.Lead.TheVariants as L
-use Rattle.parse_exprs.specs.Look.{Origin, spelling, place_at, op_at, op_levels, single_of, single, sign_of, is_at, is_name, is_punct, kind_at, bracket_of, bracket_named, bracket_at, square_at, closes_at, names_in, names_behind, suffix_at, stays, begins_atom, begins, operand_at, lead_at, branch_at, is_elif, is_else, is_of, first_of_at, branch_layout, colon_at, comma_at, past_colon, dots_at}
+use Rattle.parse_exprs.specs.Look.{Origin, spelling, place_at, op_at, op_levels, single_of, single, sign_of, is_at_sign, is_name, is_punct, kind_at, bracket_of, bracket_named, bracket_at, square_at, closes_at, names_in, names_behind, suffix_at, stays, begins_atom, begins, operand_at, lead_at, branch_at, is_elif, is_else, is_of, first_of_at, branch_layout, colon_at, comma_at, past_colon, dots_at}
 use Rattle.parse_exprs.specs.Outcome.{deep, stuck, tired, Out, got, bad, then_do, unless_stuck}
 use Rattle.parse_exprs.specs.Run.{behind, run_expr, run_lead, run_level, run_chain, run_more, run_unary, run_signed, run_primary, run_suffixes, run_suffix, run_applied, run_atom, run_group, run_enclosed, run_list, run_parts, run_part, run_if, run_tail, run_value, run_elifs, run_else, run_case, run_branches, run_of, run_labels, run_label, run_ofs, run_otherwise}
 
@@ -61,7 +61,7 @@ kept_limit n m l le h = kept_free (nat_lt n l) (nat_lt m l) (λ e. le-ltb m l (l
 -- ---- where no operand begins, none is read
 
 no_sign : (k : Tok) (bytes : List ℕ) → begins k bytes ≡ false → sign_of k bytes ≡ None
-no_sign k bytes e = none (sign_of k bytes) (begins_atom k || is_at k bytes) e
+no_sign k bytes e = none (sign_of k bytes) (begins_atom k || is_at_sign k bytes) e
   where
     none : (o : Option UnaryOp) (b : Bool) → (is_some o || b) ≡ false → o ≡ None
     none None b e = refl
@@ -71,8 +71,8 @@ or_false : (a b : Bool) → (a || b) ≡ false → (a ≡ false) × (b ≡ false
 or_false true b e = cc
 or_false false b e = (refl, e)
 
-no_atom : (k : Tok) (bytes : List ℕ) → begins k bytes ≡ false → (begins_atom k ≡ false) × (is_at k bytes ≡ false)
-no_atom k bytes e = or_false (begins_atom k) (is_at k bytes) (or_false (is_some (sign_of k bytes)) (begins_atom k || is_at k bytes) e).1
+no_atom : (k : Tok) (bytes : List ℕ) → begins k bytes ≡ false → (begins_atom k ≡ false) × (is_at_sign k bytes ≡ false)
+no_atom k bytes e = or_false (begins_atom k) (is_at_sign k bytes) (or_false (is_some (sign_of k bytes)) (begins_atom k || is_at_sign k bytes) e).1
 
 no_single : (at : Place) (bytes : List ℕ) (k : Tok) → begins_atom k ≡ false → single_of at bytes k ≡ None
 no_single at bytes (T.Int value) e = cc
@@ -95,12 +95,12 @@ no_bracket _ e = refl
 stuck_test : {X : Type 0} (b : Bool) (ts : List Token) (go : Out X) → b ≡ false → unless_stuck b ts go ≡ bad (stuck ts)
 stuck_test b ts go e = ap (λ c. unless_stuck c ts go) e
 
-kept_group : (k : ℕ) (o : Option Term) (b : Option Bracket) (x : Origin) (i : Layout) (n : ℕ) (tok : Token) (ts : List Token) → o ≡ None → b ≡ None → is_at tok.kind (spelling x tok) ≡ false
+kept_group : (k : ℕ) (o : Option Term) (b : Option Bracket) (x : Origin) (i : Layout) (n : ℕ) (tok : Token) (ts : List Token) → o ≡ None → b ≡ None → is_at_sign tok.kind (spelling x tok) ≡ false
     → Kept (bad (stuck (tok ∷ ts))) (run_group k o b x i (suc n) tok ts)
 kept_group zero o b x i n tok ts e h at = early refl
 kept_group (suc k) (Some t) b x i n tok ts e h at = cc
 kept_group (suc k) None (Some b) x i n tok ts e h at = cc
-kept_group (suc k) None None x i n tok ts e h at = alike (stuck_test (is_at tok.kind (spelling x tok)) (tok ∷ ts) _ at)
+kept_group (suc k) None None x i n tok ts e h at = alike (stuck_test (is_at_sign tok.kind (spelling x tok)) (tok ∷ ts) _ at)
 
 kept_atom_none : (k : ℕ) (x : Origin) (i : Layout) (n : ℕ) (tok : Token) (ts : List Token) → begins tok.kind (spelling x tok) ≡ false → Kept (bad (stuck (tok ∷ ts))) (run_primary k x i false (suc n) (tok ∷ ts))
 kept_atom_none zero x i n tok ts e = early refl
@@ -205,7 +205,7 @@ mutual
   kept_grouped (suc k) None b x i (suc n) zero tok ts le = no_less n le
   kept_grouped (suc k) None (Some b) x i (suc n) (suc m) tok ts le = kept_last _ (kept_enclosed k x b (names_in b ts) n m (tok ∷ ts) (less n m le))
   kept_grouped (suc k) None None x i (suc n) (suc m) tok ts le =
-      kept_unless (is_at tok.kind (spelling x tok)) (tok ∷ ts) (kept_unless (stays i ts) ts (kept_unless (square_at ts) ts (kept_last _ (kept_enclosed k x Square false n m ts (less n m le)))))
+      kept_unless (is_at_sign tok.kind (spelling x tok)) (tok ∷ ts) (kept_unless (stays i ts) ts (kept_unless (square_at ts) ts (kept_last _ (kept_enclosed k x Square false n m ts (less n m le)))))
 
   kept_enclosed : (k : ℕ) (x : Origin) (b : Bracket) (names : Bool) (n m : ℕ) (ts : List Token) → n ≤ m → Kept (run_enclosed k x b names n ts) (run_enclosed k x b names m ts)
   kept_enclosed zero x b names n m ts le = early refl

@@ -14,8 +14,8 @@ use Rattle.parse_exprs.specs.declared.layout.Layout.TheVariants.{Brackets}
 use Rattle.parse_exprs.specs.declared.input.Bracket.{Bracket}
 use Rattle.parse_exprs.specs.declared.input.Bracket.TheVariants.{Round, Square}
 use Rattle.parse_exprs.specs.declared.input.Lead.TheVariants as L
-use Rattle.parse_exprs.specs.Look.{Origin, spelling, op_at, op_levels, single, sign_of, is_at, is_name, is_punct, kind_at, place_at, name_on, bracket_at, square_at, closes_at, names_in, names_behind, suffix_at, stays, operand_at, lead_at, branch_at, is_elif, is_else, is_of, first_of_at, branch_layout, colon_at, comma_at, past_colon, dots_at}
-use Rattle.parse_exprs.specs.Plain.{SpellsExpr, Spells, SpellsAtom, SpellsSuffix, SpellsParts, SpellsPart, SpellsTail, SpellsElifs, SpellsOf, SpellsOfs, SpellsLabel, SpellsLabels, Stops}
+use Rattle.parse_exprs.specs.Look.{Origin, spelling, op_at, op_levels, single, sign_of, is_at_sign, is_name, is_punct, kind_at, place_at, name_on, bracket_at, square_at, closes_at, names_in, names_behind, suffix_at, stays, operand_at, lead_at, branch_at, is_elif, is_else, is_of, first_of_at, branch_layout, colon_at, comma_at, past_colon, dots_at}
+use Rattle.parse_exprs.specs.Grammar.{SpellsExpr, Spells, SpellsAtom, SpellsSuffix, SpellsParts, SpellsPart, SpellsTail, SpellsElifs, SpellsOf, SpellsOfs, SpellsLabel, SpellsLabels, Stops}
 
 pub data Fault : Type 0 where
   -- a level too many is opened
@@ -31,7 +31,7 @@ pub record Done (x : Origin) (i : Layout) (l n most : ℕ) (spelled : Type 0) (r
   pub stops : Stops x i l rest
 
 -- FaultsExpr x why i n ts: where n levels are left, the expression that begins here can't go on, for that reason. The rest
--- are its parts, as in Plain.antt.
+-- are its parts, as in Grammar.antt.
 mutual
   pub data FaultsExpr (x : Origin) (why : Fault) : Layout → ℕ → List Token → Type 0 where
     f_operators : {i : Layout} {n : ℕ} {ts : List Token} → lead_at ts ≡ L.Operand → Faults x why i op_levels n ts → FaultsExpr x why i n ts
@@ -95,12 +95,12 @@ mutual
   pub data FaultsAtom (x : Origin) (why : Fault) : Layout → ℕ → List Token → Type 0 where
     f_no_atom : {i : Layout} {n : ℕ} → why ≡ stuck_at [] → FaultsAtom x why i n []
     f_other : {i : Layout} {n : ℕ} {tok : Token} {ts : List Token} → single x tok ≡ None → bracket_at (tok ∷ ts) ≡ None
-        → is_at tok.kind (spelling x tok) ≡ false → why ≡ stuck_at (tok ∷ ts) → FaultsAtom x why i n (tok ∷ ts)
-    f_no_square : {i : Layout} {n : ℕ} {tok : Token} {ts : List Token} → is_at tok.kind (spelling x tok) ≡ true
+        → is_at_sign tok.kind (spelling x tok) ≡ false → why ≡ stuck_at (tok ∷ ts) → FaultsAtom x why i n (tok ∷ ts)
+    f_no_square : {i : Layout} {n : ℕ} {tok : Token} {ts : List Token} → is_at_sign tok.kind (spelling x tok) ≡ true
         → stays i ts ≡ false → why ≡ stuck_at ts → FaultsAtom x why i n (tok ∷ ts)
-    f_not_square : {i : Layout} {n : ℕ} {tok : Token} {ts : List Token} → is_at tok.kind (spelling x tok) ≡ true
+    f_not_square : {i : Layout} {n : ℕ} {tok : Token} {ts : List Token} → is_at_sign tok.kind (spelling x tok) ≡ true
         → stays i ts ≡ true → square_at ts ≡ false → why ≡ stuck_at ts → FaultsAtom x why i n (tok ∷ ts)
-    f_sequence : {i : Layout} {n : ℕ} {tok at : Token} {ts : List Token} → is_at at.kind (spelling x at) ≡ true
+    f_sequence : {i : Layout} {n : ℕ} {tok at : Token} {ts : List Token} → is_at_sign at.kind (spelling x at) ≡ true
         → stays i (tok ∷ ts) ≡ true → square_at (tok ∷ ts) ≡ true → FaultsEnclosed x why Square false n ts → FaultsAtom x why i n (at ∷ tok ∷ ts)
     -- no expression is `()`
     f_empty : {i : Layout} {n : ℕ} {tok : Token} {ts : List Token} → bracket_at (tok ∷ ts) ≡ Some Round → closes_at Round ts ≡ true

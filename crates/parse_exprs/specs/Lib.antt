@@ -3,7 +3,7 @@ pub mod Input
 pub mod Outcome
 pub mod Run
 pub mod Gives
-pub mod Plain
+pub mod Grammar
 pub mod Faults
 pub mod Parsed
 pub mod Counts

@@ -33,10 +33,10 @@ spelling x tok = take tok.len (drop tok.start x.source)
 abbrev pub place_at : Origin → Token → Place
 place_at x tok = record { «module» = x.number; line = tok.line; column = tok.column }
 
--- whether a line ends before what begins one: not inside brackets
-abbrev pub minds_lines : Layout → Bool
-minds_lines Brackets = false
-minds_lines (Lines spaces) = true
+-- the place of the first token that is left; where none is, that where the module begins
+abbrev pub next_at : Origin → List Token → Place
+next_at x [] = record { «module» = x.number; line = 1; column = 1 }
+next_at x (tok ∷ rest) = place_at x tok
 
 -- what begins a line goes on only inside brackets
 abbrev pub goes_on : Layout → Option ℕ → Bool
@@ -218,8 +218,8 @@ is_run run T.Op bytes = bytes_eq bytes run
 is_run run _ bytes = false
 
 -- `@`, which stands before the brackets of a sequence
-abbrev pub is_at : Tok → List ℕ → Bool
-is_at kind bytes = is_run (codes "@") kind bytes
+abbrev pub is_at_sign : Tok → List ℕ → Bool
+is_at_sign kind bytes = is_run (codes "@") kind bytes
 
 -- a bracket or a point
 abbrev pub is_suffix : Tok → Bool
@@ -262,13 +262,13 @@ abbrev pub closes_at : Bracket → List Token → Bool
 closes_at bracket ts = kind_at (is_punct (closing bracket)) ts
 
 -- whether a name and a colon stand here
-abbrev pub name_at : List Token → Bool
-name_at [] = false
-name_at (tok ∷ rest) = is_name tok.kind && kind_at (is_punct 58) rest
+abbrev pub named_part_at : List Token → Bool
+named_part_at [] = false
+named_part_at (tok ∷ rest) = is_name tok.kind && kind_at (is_punct 58) rest
 
 -- whether the parts behind this bracket have names
 abbrev pub names_in : Bracket → List Token → Bool
-names_in Round ts = name_at ts
+names_in Round ts = named_part_at ts
 names_in Square ts = false
 
 -- whether the parts in these brackets behind an expression have names: only those of an object have, whose type is a name
@@ -293,7 +293,7 @@ begins_atom _ = false
 
 -- whether a token of this kind and these bytes begins an operand
 abbrev pub begins : Tok → List ℕ → Bool
-begins kind bytes = is_some (sign_of kind bytes) || (begins_atom kind || is_at kind bytes)
+begins kind bytes = is_some (sign_of kind bytes) || (begins_atom kind || is_at_sign kind bytes)
 
 -- whether an operand begins here
 abbrev pub operand_at : Origin → List Token → Bool

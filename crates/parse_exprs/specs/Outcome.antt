@@ -1,6 +1,6 @@
 -- What reading comes to, as a computation by steps.
 --
--- The definitions that a reader must believe are in Plain.antt and Faults.antt. That reading is a computation says the same
+-- The definitions that a reader must believe are in Grammar.antt and Faults.antt. That reading is a computation says the same
 -- again in a form that the next parser can go on with.
 use Rattle.std.specs.Prelude.{◌≡◌, ℕ, ◌≤◌, Bool, true, false, List}
 use Rattle.indent_scanner.specs.declared.token.Token.{Token}

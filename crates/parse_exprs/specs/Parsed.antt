@@ -11,8 +11,8 @@ use Rattle.nim_tree.specs.Terms.{Term, levels, term_of}
 use Rattle.parse_exprs.specs.declared.layout.Layout.{Layout}
 use Rattle.parse_exprs.specs.declared.layout.Layout.TheVariants.{Lines}
 use Rattle.parse_exprs.specs.declared.parse.Parsed.{Parsed}
-use Rattle.parse_exprs.specs.Look.{Origin, place_at, left_out_at}
-use Rattle.parse_exprs.specs.Plain.{IsExpr, IsCallee}
+use Rattle.parse_exprs.specs.Look.{Origin, place_at, next_at, left_out_at}
+use Rattle.parse_exprs.specs.Grammar.{IsExpr, IsCallee}
 use Rattle.parse_exprs.specs.Faults.{Fault, too_deep, stuck_at, FaultsExpr, FaultsPrimary}
 use Rattle.parse_exprs.specs.Outcome.{Out, got, bad, deep, stuck, tired, Settles}
 use Rattle.parse_exprs.specs.Run.{run_expr, run_primary}
@@ -76,21 +76,15 @@ abbrev pub IsFirst : Origin → List Token → Place → Type 0
 IsFirst x [] at = ⊥
 IsFirst x (tok ∷ rest) at = at ≡ place_at x tok
 
--- the place of the first token that is left, or that of the first of all where none is
-abbrev pub IsNext : Origin → List Token → List Token → Place → Type 0
-IsNext x ts [] at = IsFirst x ts at
-IsNext x ts (tok ∷ rest) at = at ≡ place_at x tok
-
 -- E4: there is nothing to be read, at the token that can't go on, and neither a level too many nor a keyword that is left
 -- out is the cause
 pub record HasNone (sought : Term → List Token → List Token → Type 0) (faults : Fault → List Token → Type 0) (x : Origin) (ts : List Token) (at : Place) : Type 0 where
   pub rest : List Token
   pub stuck : faults (stuck_at rest) ts
-  pub next : IsNext x ts rest at
+  pub next : at ≡ next_at x rest
   pub none : (t : Term) (other : List Token) → sought t ts other → ⊥
   pub shallow : faults too_deep ts → ⊥
   pub used : (other : List Token) → IsLeftOut faults ts other → ⊥
-  pub in_module : at.«module» ≡ x.number
 
 -- E5: a level too many is opened, at the first token
 pub record OpensTooMany (faults : Fault → List Token → Type 0) (x : Origin) (ts : List Token) (at : Place) : Type 0 where
@@ -112,12 +106,11 @@ IsRefused sought faults x ts _ at = ⊥
 -- ---- the same, as a computation comes to it
 
 -- E4
-pub record RunsStuck (run : ℕ → Out Term) (x : Origin) (ts : List Token) (at : Place) : Type 0 where
+pub record RunsStuck (run : ℕ → Out Term) (x : Origin) (at : Place) : Type 0 where
   pub rest : List Token
   pub runs : Settles run (bad (stuck rest))
   pub used : left_out_at rest ≡ false
-  pub next : IsNext x ts rest at
-  pub in_module : at.«module» ≡ x.number
+  pub next : at ≡ next_at x rest
 
 -- E5
 pub record RunsDeep (run : ℕ → Out Term) (x : Origin) (ts : List Token) (at : Place) : Type 0 where
@@ -132,7 +125,7 @@ pub record RunsLeftOut (run : ℕ → Out Term) (x : Origin) (at : Place) : Type
   pub first : IsFirst x rest at
 
 abbrev pub RunsInto : (List Token → ℕ → Out Term) → Origin → List Token → Code → Place → Type 0
-RunsInto run x ts Syntax at = RunsStuck (run ts) x ts at
+RunsInto run x ts Syntax at = RunsStuck (run ts) x at
 RunsInto run x ts NestTooDeep at = RunsDeep (run ts) x ts at
 RunsInto run x ts LeftOut at = RunsLeftOut (run ts) x at
 RunsInto run x ts _ at = ⊥

@@ -13,7 +13,7 @@ use Rattle.parse_exprs.specs.declared.input.Bracket.{Bracket}
 use Rattle.parse_exprs.specs.declared.input.Bracket.TheVariants.{Square}
 use Rattle.parse_exprs.specs.declared.input.Lead.{Lead}
 use Rattle.parse_exprs.specs.declared.input.Lead.TheVariants as L
-use Rattle.parse_exprs.specs.Look.{Origin, spelling, place_at, op_at, op_levels, single, grouped, applied, sign_of, is_at, is_punct, bracket_at, kind_at, closes_at, names_in, names_behind, name_on, suffix_at, stays, square_at, operand_at, lead_at, branch_at, is_elif, is_else, is_of, first_of_at, branch_layout, colon_at, comma_at, past_colon, dots_at, is_name}
+use Rattle.parse_exprs.specs.Look.{Origin, spelling, place_at, op_at, op_levels, single, grouped, applied, sign_of, is_at_sign, is_punct, bracket_at, kind_at, closes_at, names_in, names_behind, name_on, suffix_at, stays, square_at, operand_at, lead_at, branch_at, is_elif, is_else, is_of, first_of_at, branch_layout, colon_at, comma_at, past_colon, dots_at, is_name}
 use Rattle.parse_exprs.specs.Outcome.{deep, stuck, tired, Out, got, bad, then_do, unless_stuck}
 
 -- a condition or labels, and the value behind them
@@ -114,7 +114,7 @@ abbrev mutual
   run_group (suc k) None (Some b) x i (suc n) tok ts =
       then_do (run_enclosed k x b (names_in b ts) n (tok ∷ ts)) (λ parts rest. made (grouped b (names_in b ts) (place_at x tok) parts) ts rest)
   run_group (suc k) None None x i (suc n) tok ts =
-      unless_stuck (is_at tok.kind (spelling x tok)) (tok ∷ ts) (
+      unless_stuck (is_at_sign tok.kind (spelling x tok)) (tok ∷ ts) (
       unless_stuck (stays i ts) ts (
       unless_stuck (square_at ts) ts (
       then_do (run_enclosed k x Square false n ts) (λ parts rest. got (sequence (place_at x tok) parts) rest))))

@@ -1,13 +1,13 @@
 // What stands at a place of the tokens.
 ghost use Rattle.std.specs.Prelude.{◌≡◌, ◌<◌, ◌≤◌, suc, ◌∷◌, [], length, IfSome, IfNone, is_some, max};
 ghost use Rattle.nim_tree.specs.Terms.{term_of};
-ghost use Rattle.parse_exprs.specs.Look.{op_at, is_punct, is_at, sign_of, bracket_at, square_at, closes_at, name_at, names_in, names_behind, name_on, suffix_at, stays, kind_at, operand_at, spelling, place_at, lead_at, branch_at, is_elif, is_else, is_of, first_of_at, colon_at, comma_at, past_colon, dots_at, left_out_at, is_name, is_left_out, as_name, line_spaces};
+ghost use Rattle.parse_exprs.specs.Look.{op_at, next_at, expr_at, is_punct, is_at_sign, sign_of, bracket_at, square_at, closes_at, named_part_at, names_in, names_behind, name_on, suffix_at, stays, kind_at, operand_at, spelling, place_at, lead_at, branch_at, is_elif, is_else, is_of, first_of_at, colon_at, comma_at, past_colon, dots_at, left_out_at, is_name, is_left_out, as_name, line_spaces};
 ghost use Rattle.parse_exprs.specs.Input.{origin_of, from_at};
 
 use crate::kinds::{
-    begins, bracket_of, branch_goes_on, closing, first_goes_on, goes_on, is_apart, is_at, is_dots,
-    is_elif, is_else, is_left_out, is_name, is_of, is_punct, is_suffix, lead_of, of_level, op_of,
-    sign_of,
+    begins, bracket_of, branch_goes_on, closing, first_goes_on, goes_on, is_apart, is_at_sign,
+    is_dots, is_elif, is_else, is_left_out, is_name, is_of, is_punct, is_suffix, lead_of, of_level,
+    op_of, sign_of,
 };
 use crate::layout::Layout;
 use arc_base::Place;
@@ -81,8 +81,22 @@ impl Input<'_> {
         }
     }
 
+    /// The place of the token there, or where the module begins if there is none.
+    pub fn next_at(&self, at: usize) -> Place
+        ensures { result ≡ next_at (origin_of self.now) (from_at self.now at) }
+    {
+        match self.head(at) {
+            Some(token) => self.place_at(token),
+            None => Place {
+                module: self.module,
+                line: 1,
+                column: 1,
+            },
+        }
+    }
+
     /// The operator of this level that goes on there.
-    pub fn op_at(&self, at: usize, layout: Layout, level: u32) -> Option<BinaryOp>
+    pub(crate) fn op_at(&self, at: usize, layout: Layout, level: u32) -> Option<BinaryOp>
         ensures { result ≡ op_at (origin_of self.now) layout level (from_at self.now at) }
     {
         let token = self.head(at)?;
@@ -94,7 +108,7 @@ impl Input<'_> {
     }
 
     /// Whether a bracket or a point goes on there, where a command may begin or not.
-    pub fn suffix_at(&self, at: usize, layout: Layout, command: bool) -> bool
+    pub(crate) fn suffix_at(&self, at: usize, layout: Layout, command: bool) -> bool
         ensures { result ≡ suffix_at layout command (from_at self.now at) }
     {
         match self.head(at) {
@@ -125,7 +139,7 @@ impl Input<'_> {
     }
 
     /// The bracket that opens there.
-    pub fn bracket_at(&self, at: usize) -> Option<Bracket>
+    pub(crate) fn bracket_at(&self, at: usize) -> Option<Bracket>
         ensures { result ≡ bracket_at (from_at self.now at) }
     {
         match self.head(at) {
@@ -135,7 +149,7 @@ impl Input<'_> {
     }
 
     /// Whether the bracket of a sequence opens there.
-    pub fn square_at(&self, at: usize) -> bool
+    pub(crate) fn square_at(&self, at: usize) -> bool
         ensures { result ≡ square_at (from_at self.now at) }
     {
         match self.bracket_at(at) {
@@ -152,8 +166,8 @@ impl Input<'_> {
     }
 
     /// Whether a name and a colon stand there.
-    pub fn name_at(&self, at: usize) -> bool
-        ensures { result ≡ name_at (from_at self.now at) }
+    pub(crate) fn named_part_at(&self, at: usize) -> bool
+        ensures { result ≡ named_part_at (from_at self.now at) }
     {
         match self.head(at) {
             Some(token) => is_name(token.kind) && self.punct_at(b':', at + 1),
@@ -162,24 +176,24 @@ impl Input<'_> {
     }
 
     /// Whether the parts behind a bracket have names.
-    pub fn names_in(&self, bracket: Bracket, at: usize) -> bool
+    pub(crate) fn names_in(&self, bracket: Bracket, at: usize) -> bool
         ensures { result ≡ names_in bracket (from_at self.now at) }
     {
         match bracket {
-            Bracket::Round => self.name_at(at),
+            Bracket::Round => self.named_part_at(at),
             Bracket::Square => false,
         }
     }
 
     /// Whether the parts in brackets behind an expression have names.
-    pub fn names_behind(&self, base: &Expr, bracket: Bracket, at: usize) -> bool
+    pub(crate) fn names_behind(&self, base: &Expr, bracket: Bracket, at: usize) -> bool
         ensures { result ≡ names_behind (term_of base.now) bracket (from_at self.now at) }
     {
         is_name_alone(base) && self.names_in(bracket, at)
     }
 
     /// Whether a name stands there.
-    pub fn is_name_at(&self, at: usize) -> bool
+    pub(crate) fn is_name_at(&self, at: usize) -> bool
         ensures { result ≡ kind_at is_name (from_at self.now at) }
     {
         match self.head(at) {
@@ -198,11 +212,21 @@ impl Input<'_> {
         }
     }
 
-    /// Whether a token is the `@` of a sequence.
-    pub fn is_at(&self, token: Token) -> bool
-        ensures { result ≡ is_at token.kind (spelling (origin_of self.now) token) }
+    /// Whether an expression begins there.
+    pub fn expr_at(&self, at: usize) -> bool
+        ensures { result ≡ expr_at (origin_of self.now) (from_at self.now at) }
     {
-        is_at(token.kind, self.spelling(token))
+        match self.lead_at(at) {
+            Lead::If | Lead::Case => true,
+            Lead::Operand => self.operand_at(at),
+        }
+    }
+
+    /// Whether a token is the `@` of a sequence.
+    pub fn is_at_sign(&self, token: Token) -> bool
+        ensures { result ≡ is_at_sign token.kind (spelling (origin_of self.now) token) }
+    {
+        is_at_sign(token.kind, self.spelling(token))
     }
 
     /// Whether an operand begins there.
@@ -216,7 +240,7 @@ impl Input<'_> {
     }
 
     /// The operator before one operand that a token is.
-    pub fn sign_of(&self, token: Token) -> Option<UnaryOp>
+    pub(crate) fn sign_of(&self, token: Token) -> Option<UnaryOp>
         ensures { result ≡ sign_of token.kind (spelling (origin_of self.now) token) }
     {
         sign_of(token.kind, self.spelling(token))
@@ -233,7 +257,7 @@ impl Input<'_> {
     }
 
     /// The `elif` that goes on there.
-    pub fn elif_at(&self, at: usize, layout: Layout) -> Option<Token>
+    pub(crate) fn elif_at(&self, at: usize, layout: Layout) -> Option<Token>
         ensures is { is_some result ≡ branch_at layout is_elif (from_at self.now at) }
         ensures some { IfSome result (λ tok. from_at self.now at ≡ tok ∷ from_at self.now (suc at)) }
         ensures within { IfSome result (λ tok. at < length self.now.tokens.now) }
@@ -247,7 +271,7 @@ impl Input<'_> {
     }
 
     /// The `of` that goes on there, behind another.
-    pub fn of_at(&self, at: usize, layout: Layout) -> Option<Token>
+    pub(crate) fn of_at(&self, at: usize, layout: Layout) -> Option<Token>
         ensures is { is_some result ≡ branch_at layout is_of (from_at self.now at) }
         ensures some { IfSome result (λ tok. from_at self.now at ≡ tok ∷ from_at self.now (suc at)) }
         ensures within { IfSome result (λ tok. at < length self.now.tokens.now) }
@@ -271,7 +295,7 @@ impl Input<'_> {
     }
 
     /// Whether an `else` goes on there.
-    pub fn else_at(&self, at: usize, layout: Layout) -> bool
+    pub(crate) fn else_at(&self, at: usize, layout: Layout) -> bool
         ensures { result ≡ branch_at layout is_else (from_at self.now at) }
     {
         match self.head(at) {
@@ -335,7 +359,7 @@ impl Input<'_> {
     }
 
     /// The number of spaces before the line that a token stands on.
-    pub fn spaces_at(&self, from: usize) -> u32
+    pub(crate) fn spaces_at(&self, from: usize) -> u32
         requires within { from < length self.now.tokens.now }
         ensures { result ≡ line_spaces from self.now.tokens.now }
     {

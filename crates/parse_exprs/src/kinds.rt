@@ -1,6 +1,6 @@
 // What tokens are.
 ghost use Rattle.std.specs.Prelude.{◌≡◌, codes};
-ghost use Rattle.parse_exprs.specs.Look.{goes_on, branch_goes_on, first_goes_on, branch_layout, op_named, op_of_key, op_of, level_of, of_level, sign_named, sign_of_key, sign_of, is_punct, is_name, is_run, is_at, bracket_named, bracket_of, closing, is_suffix, is_apart, begins_atom, begins, lead_of, is_elif, is_else, is_of, is_left_out};
+ghost use Rattle.parse_exprs.specs.Look.{goes_on, branch_goes_on, first_goes_on, branch_layout, op_named, op_of_key, op_of, level_of, of_level, sign_named, sign_of_key, sign_of, is_punct, is_name, is_run, is_at_sign, bracket_named, bracket_of, closing, is_suffix, is_apart, begins_atom, begins, lead_of, is_elif, is_else, is_of, is_left_out};
 
 use crate::input::{Bracket, Lead};
 use crate::layout::Layout;
@@ -166,6 +166,7 @@ pub(crate) fn sign_of(kind: Tok, spelling: &[u8]) -> Option<UnaryOp>
     }
 }
 
+/// Whether it is the punctuation with this byte.
 pub fn is_punct(byte: u8, kind: Tok) -> bool
     ensures { result ≡ is_punct byte kind }
 {
@@ -175,6 +176,7 @@ pub fn is_punct(byte: u8, kind: Tok) -> bool
     }
 }
 
+/// Whether it is a name that stands in no backticks and is no keyword.
 pub fn is_name(kind: Tok) -> bool
     ensures { result ≡ is_name kind }
 {
@@ -184,8 +186,8 @@ pub fn is_name(kind: Tok) -> bool
     }
 }
 
-// Whether it is this run of operator bytes.
-fn is_run(run: &[u8], kind: Tok, spelling: &[u8]) -> bool
+/// Whether it is this run of operator bytes.
+pub fn is_run(run: &[u8], kind: Tok, spelling: &[u8]) -> bool
     ensures { result ≡ is_run run.now kind spelling.now }
 {
     match kind {
@@ -194,14 +196,14 @@ fn is_run(run: &[u8], kind: Tok, spelling: &[u8]) -> bool
     }
 }
 
-/// The `@` of a sequence.
-pub(crate) fn is_at(kind: Tok, spelling: &[u8]) -> bool
-    ensures { result ≡ is_at kind spelling.now }
+/// Whether it is the `@` of a sequence.
+pub(crate) fn is_at_sign(kind: Tok, spelling: &[u8]) -> bool
+    ensures { result ≡ is_at_sign kind spelling.now }
 {
     is_run(b"@".as_slice(), kind, spelling)
 }
 
-/// The `..` between the ends of a label.
+/// Whether it is the `..` between the ends of a label.
 pub(crate) fn is_dots(kind: Tok, spelling: &[u8]) -> bool
     ensures { result ≡ is_run (codes "..") kind spelling.now }
 {
@@ -220,6 +222,7 @@ fn bracket_named(b: u8) -> Option<Bracket>
     }
 }
 
+/// The bracket that it opens.
 pub fn bracket_of(kind: Tok) -> Option<Bracket>
     ensures { result ≡ bracket_of kind }
 {
@@ -229,6 +232,7 @@ pub fn bracket_of(kind: Tok) -> Option<Bracket>
     }
 }
 
+/// The byte that closes a bracket.
 pub(crate) fn closing(bracket: Bracket) -> u8
     ensures { result ≡ closing bracket }
 {
@@ -238,6 +242,7 @@ pub(crate) fn closing(bracket: Bracket) -> u8
     }
 }
 
+/// Whether it begins what may stand behind an atom.
 pub(crate) fn is_suffix(kind: Tok) -> bool
     ensures { result ≡ is_suffix kind }
 {
@@ -260,7 +265,7 @@ pub fn begins_atom(kind: Tok) -> bool
 pub(crate) fn begins(kind: Tok, spelling: &[u8]) -> bool
     ensures { result ≡ begins kind spelling.now }
 {
-    sign_of(kind, spelling).is_some() || begins_atom(kind) || is_at(kind, spelling)
+    sign_of(kind, spelling).is_some() || begins_atom(kind) || is_at_sign(kind, spelling)
 }
 
 /// What an expression begins with, where this token begins it.

@@ -1,6 +1,6 @@
 //! The parser of expressions.
 //!
-//! An expression is the longest one that begins at a token, in the grammar of `specs/Plain.antt`.
+//! An expression is the longest one that begins at a token, in the grammar of `specs/Grammar.antt`.
 #![tactic(auto)]
 
 mod input;
@@ -14,7 +14,8 @@ mod tests;
 
 pub use input::{Bracket, Input, Lead};
 pub use kinds::{
-    begins_atom, bracket_of, branch_goes_on, goes_on, is_name, is_punct, op_named, sign_named,
+    begins_atom, bracket_of, branch_goes_on, goes_on, is_name, is_punct, is_run, op_named,
+    sign_named,
 };
 pub use layout::Layout;
 pub use parse::{

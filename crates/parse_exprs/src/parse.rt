@@ -26,16 +26,19 @@ use std::alloc::Global;
 /// The most levels of an expression.
 const MOST_LEVELS: u32 = 64;
 
-/// A tree, and the number of the token behind it.
+/// A tree, and the number of the first token behind it.
 #[derive(Debug, Drop)]
 pub struct Parsed {
     pub tree: Expr,
     pub next: u32,
 }
 
-/// The longest expression of at most so many levels that begins at a token.
+/// The longest expression of at most `most` levels that begins at the token of number `from`, in a statement or in brackets
+/// as `layout` says.
 ///
-/// E4 and E23 name the token that can't go on, E5 the first token of the expression.
+/// `tokens` are those of the bytes `source`; `module` is the number that places name. Refused with E4 at the token that can't
+/// go on, with E23 at it where it is a keyword that the language leaves out, and with E5 at the first token where a level too
+/// many is opened. Nothing else refuses it; there may be no memory.
 pub fn expr_within(
     alloc: Global,
     source: &[u8],
@@ -68,8 +71,10 @@ pub fn expr_within(
     }
 }
 
-/// The longest atom with what stands behind it that begins at a token, in a statement behind so many spaces, where a
-/// command may begin: a `(` with a space before it is left to the command.
+/// The longest atom with what stands behind it, of at most 64 levels, that begins at the token of number `from`, in a
+/// statement behind so many spaces, where a command may begin: a `(` with a space before it is left to the command.
+///
+/// Parameters and refusals are those of [`expr_within`].
 pub fn callee(
     alloc: Global,
     source: &[u8],
@@ -108,7 +113,9 @@ pub fn callee(
     }
 }
 
-/// The longest expression of at most 64 levels that begins at a token, on a line of its own statement.
+/// The longest expression of at most 64 levels that begins at the token of number `from`, in a statement on its line.
+///
+/// Parameters and refusals are those of [`expr_within`].
 pub fn expr(
     alloc: Global,
     source: &[u8],
@@ -147,19 +154,18 @@ fn refusal(input: &Input, from: usize, stuck: Stuck) -> Stop
     requires { from < length input.now.tokens.now }
     ensures { (run : List One → ℕ → Out Term) → Fails (run (from_at input.now from)) input.now stuck → OnRefusal result (RunsInto run (origin_of input.now) (from_at input.now from)) }
 {
-    let first = input.tokens[from];
     match stuck {
         Stuck::Syntax(at) if input.left_out_at(at) => Stop::Refused {
             code: Code::LeftOut,
-            at: input.place_at(input.head(at).unwrap_or(first)),
+            at: input.next_at(at),
         },
         Stuck::Syntax(at) => Stop::Refused {
             code: Code::Syntax,
-            at: input.place_at(input.head(at).unwrap_or(first)),
+            at: input.next_at(at),
         },
         Stuck::Deep => Stop::Refused {
             code: Code::NestTooDeep,
-            at: input.place_at(first),
+            at: input.place_at(input.tokens[from]),
         },
         Stuck::Memory => Stop::Memory,
     }

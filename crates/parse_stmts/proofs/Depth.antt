@@ -5,15 +5,14 @@ use Rattle.std.proofs.lemmas.Bool.{ltb-false, eq-eqb}
 use Rattle.arc_base.specs.declared.place.Place.{Place}
 use Rattle.indent_scanner.specs.declared.token.Token.{Token}
 use Rattle.nim_tree.specs.Lists.{if_there}
-use Rattle.nim_tree.specs.Terms.{Term, Parts, no_parts, part, and_part, most_levels, levels, Choices}
+use Rattle.nim_tree.specs.Terms.{Term, Parts, no_parts, part, and_part, most_levels, levels, place_of}
 use Rattle.nim_tree.specs.Statements.{Course, course_term_levels, Statement, evaluates, branches, selects, Statements, empty, then as next, and_statement, Branches, no_branches, branch, and_branch, Handlers, no_handlers, handler, block_levels_of, block_levels, levels_if_block, branch_block_levels, handler_block_levels, term_levels_of, term_levels, branch_term_levels, handler_term_levels, type_levels_of, type_levels, branch_type_levels, handler_type_levels}
 use Rattle.parse_exprs.specs.Look.{Origin, place_at, branch_at, first_of_at, first_goes_on, branch_goes_on, is_of}
 use Rattle.parse_exprs.specs.declared.layout.Layout.TheVariants.{Lines}
 use Rattle.parse_exprs.proofs.Stopping.{both_of, false_true}
 use Rattle.parse_decls.specs.Grammar.{e_none, e_some}
-use Rattle.parse_stmts.specs.Inline.{Block, Chosen, single, choices_from, if_from, conditional, case_from, selected}
-use Rattle.parse_stmts.specs.Run.{Caught, and_caught, no_chosen, fits_as, branch_level}
-use Rattle.parse_stmts.specs.Grammar.{Optional, MoreOperands, o_over, o_next, IsPlain, p_command, p_value, p_assign, IsSimple, i_discard, i_return, i_raise, i_break, i_continue, i_import, i_define, i_plain, IsLine, l_last, l_more, IsLabel, a_one, a_range, MoreLabels, a_over, a_next, IsCourse, f_each, f_up_to, f_below, AreStatements, s_over, s_next, IsStatement, s_line, s_compound, IsCompound, c_if, c_case, c_while, c_for, c_try, c_defer, c_proc, c_forward, c_type, c_section, IsBody, b_body, IsBlock, b_line, b_deeper, IsBranch, r_branch, MoreElifs, r_over, r_elif, IsElse, r_no_else, r_else, AreBranches, r_branches, IsOf, r_of, MoreOfs, r_last, r_next, IsHandler, h_bare, h_typed, MoreHandlers, h_over, h_last, h_next, IsFinally, h_no_finally, h_finally, IsModule}
+use Rattle.parse_stmts.specs.Run.{Caught, and_caught, branch_level}
+use Rattle.parse_stmts.specs.Grammar.{Optional, MoreOperands, o_over, o_next, IsPlain, p_command, p_value, p_assign, IsSimple, i_discard, i_return, i_raise, i_break, i_continue, i_import, i_define, i_plain, IsLine, l_last, l_more, IsLabel, a_one, a_range, MoreLabels, a_over, a_next, IsCourse, f_each, f_up_to, f_below, AreStatements, s_over, s_next, IsStatement, s_line, s_alone, s_choice, s_compound, IsCompound, c_if, c_case, c_while, c_for, c_try, c_defer, c_proc, c_forward, c_type, c_section, IsBody, b_body, IsBlock, b_line, b_deeper, IsBranch, r_branch, MoreElifs, r_over, r_elif, IsElse, r_no_else, r_else, AreBranches, r_branches, IsOf, r_of, MoreOfs, r_last, r_next, IsHandler, h_bare, h_typed, MoreHandlers, h_over, h_last, h_next, IsFinally, h_no_finally, h_finally, IsModule}
 use Rattle.parse_stmts.specs.Parsed.{HasFew}
 
 -- few levels, where so many levels of blocks are left
@@ -29,12 +28,12 @@ abbrev pub LowAll : ℕ → Statements → Type 0
 LowAll left all = Low left (block_levels all) (term_levels all) (type_levels all)
 
 -- of a block that takes a level
-abbrev pub LowBlock : ℕ → Block → Type 0
-LowBlock left body = Low left (suc (block_levels body.body)) (term_levels body.body) (type_levels body.body)
+abbrev pub LowBlock : ℕ → Statements → Type 0
+LowBlock left body = Low left (suc (block_levels body)) (term_levels body) (type_levels body)
 
 -- of one that may be missing
-abbrev pub LowMaybe : ℕ → Block → Type 0
-LowMaybe left body = Low (pred left) (block_levels body.body) (term_levels body.body) (type_levels body.body)
+abbrev pub LowMaybe : ℕ → Statements → Type 0
+LowMaybe left body = Low (pred left) (block_levels body) (term_levels body) (type_levels body)
 
 abbrev pub LowBranches : ℕ → Branches → Type 0
 LowBranches left all = Low (pred left) (branch_block_levels all) (branch_term_levels all) (branch_type_levels all)
@@ -54,7 +53,7 @@ low_part : (some : Parts) (a : Term) → most_levels some ≤ 64 → levels a �
 low_part no_parts a h k = omega (arith, k)
 low_part (part first rest) a h k = let r = low_part rest a (omega (arith, h)) k in omega (arith, h, r)
 
-low_branch : {left : ℕ} (some : Branches) (at : Place) (tests : Parts) (body : Block) → LowBranches left some → most_levels tests ≤ 64 → LowBlock left body → LowBranches left (and_branch some at tests body.body)
+low_branch : {left : ℕ} (some : Branches) (at : Place) (tests : Parts) (body : Statements) → LowBranches left some → most_levels tests ≤ 64 → LowBlock left body → LowBranches left (and_branch some at tests body)
 low_branch no_branches at tests body h t k =
     let a = k.of_blocks in let b = k.of_terms in let c = k.of_types in record { of_blocks = omega (arith, a); of_terms = omega (arith, t, b); of_types = omega (arith, c) }
 low_branch {left} (branch p ts one rest) at tests body h t k =
@@ -72,50 +71,6 @@ low_handler {left} (handler p names alias body rest) at one h k =
     let r = low_handler rest at one (record { of_blocks = omega (arith, a); of_terms = omega (arith, b); of_types = omega (arith, c) }) k in
     let d = r.of_blocks in let e = r.of_terms in let f = r.of_types in
     record { of_blocks = omega (arith, a, d); of_terms = omega (arith, b, e); of_types = omega (arith, c, f) }
-
--- ---- statements that are expressions
-
--- the statement as it stands, or an expression
-pub data Turned (plain : Statement) : Statement → Type 0 where
-  u_plain : Turned plain plain
-  u_value : {at : Place} {a : Term} → Turned plain (evaluates at a)
-
-turned_if : (at : Place) (chosen : Chosen) (other : Block) (o : Option Choices) (p : Option Term) → Turned (branches at chosen.all other.body) (if_from at chosen other o p)
-turned_if at chosen other (Some choices) (Some a) = u_value
-turned_if at chosen other (Some choices) None = u_plain
-turned_if at chosen other None p = u_plain
-
-conditional_by : (b : Bool) (at : Place) (chosen : Chosen) (other : Block)
-    → Turned (branches at chosen.all other.body) (if b then if_from at chosen other (choices_from chosen.all) (single other.body) else branches at chosen.all other.body)
-conditional_by true at chosen other = turned_if at chosen other (choices_from chosen.all) (single other.body)
-conditional_by false at chosen other = u_plain
-
-pub conditional_turned : (at : Place) (chosen : Chosen) (other : Block) → Turned (branches at chosen.all other.body) (conditional at chosen other)
-conditional_turned at chosen other = conditional_by (chosen.inline && other.inline) at chosen other
-
-turned_case : (at : Place) (s : Term) (chosen : Chosen) (other : Block) (body : Statements) (o : Option Choices) (p : Option Term) → Turned (selects at s chosen.all other.body) (case_from at s chosen other body o p)
-turned_case at s chosen other empty (Some choices) p = u_value
-turned_case at s chosen other empty None p = u_plain
-turned_case at s chosen other (next first rest) (Some choices) (Some a) = u_value
-turned_case at s chosen other (next first rest) (Some choices) None = u_plain
-turned_case at s chosen other (next first rest) None p = u_plain
-
-selected_by : (b : Bool) (at : Place) (s : Term) (chosen : Chosen) (other : Block)
-    → Turned (selects at s chosen.all other.body) (if b then case_from at s chosen other other.body (choices_from chosen.all) (single other.body) else selects at s chosen.all other.body)
-selected_by true at s chosen other = turned_case at s chosen other other.body (choices_from chosen.all) (single other.body)
-selected_by false at s chosen other = u_plain
-
-pub selected_turned : (at : Place) (s : Term) (chosen : Chosen) (other : Block) → Turned (selects at s chosen.all other.body) (selected at s chosen other)
-selected_turned at s chosen other = selected_by (chosen.inline && other.inline) at s chosen other
-
-not_true : (b : Bool) → not b ≡ true → b ≡ false
-not_true false e = refl
-not_true true e = cc
-
-low_turned : {left : ℕ} {plain s : Statement} → Turned plain s → LowOne left plain → fits_as s ≡ true → LowOne left s
-low_turned u_plain h e = h
-low_turned (u_value {a = a}) h e =
-    let few = ltb-false 64 (levels a) (not_true (nat_lt 64 (levels a)) e) in record { of_blocks = omega arith; of_terms = few; of_types = omega arith }
 
 -- ---- the first branch of a `case`
 
@@ -178,7 +133,7 @@ block_if_there left (next first rest) h = h
 one_part : (a : Term) → levels a ≤ 64 → most_levels (part a no_parts) ≤ 64
 one_part a h = omega (arith, h)
 
-may_miss : {left : ℕ} (body : Block) → LowBlock left body → LowMaybe left body
+may_miss : {left : ℕ} (body : Statements) → LowBlock left body → LowMaybe left body
 may_miss body h = (let a = h.of_blocks in record { of_blocks = omega (arith, a); of_terms = h.of_terms; of_types = h.of_types })
 
 none_low : (left : ℕ) → LowBranches left no_branches
@@ -189,12 +144,12 @@ record LowRest (left : ℕ) (all : Branches) : Type 0 where
   free : 1 ≤ left
   low : LowBranches left all
 
-if_low : {left : ℕ} (at : Place) (chosen : Chosen) (other : Block) → 1 ≤ left → LowBranches left chosen.all → LowMaybe left other → LowOne left (branches at chosen.all other.body)
+if_low : {left : ℕ} (at : Place) (chosen : Branches) (other : Statements) → 1 ≤ left → LowBranches left chosen → LowMaybe left other → LowOne left (branches at chosen other)
 if_low at chosen other free h k =
     let a = h.of_blocks in let b = h.of_terms in let c = h.of_types in let d = k.of_blocks in let e = k.of_terms in let f = k.of_types in
     record { of_blocks = omega (arith, free, a, d); of_terms = omega (arith, b, e); of_types = omega (arith, c, f) }
 
-case_low : {left : ℕ} (at : Place) (s : Term) (chosen : Chosen) (other : Block) → levels s ≤ 64 → 1 ≤ left → LowBranches left chosen.all → LowMaybe left other → LowOne left (selects at s chosen.all other.body)
+case_low : {left : ℕ} (at : Place) (s : Term) (chosen : Branches) (other : Statements) → levels s ≤ 64 → 1 ≤ left → LowBranches left chosen → LowMaybe left other → LowOne left (selects at s chosen other)
 case_low at s chosen other few free h k =
     let a = h.of_blocks in let b = h.of_terms in let c = h.of_types in let d = k.of_blocks in let e = k.of_terms in let f = k.of_types in
     record { of_blocks = omega (arith, free, a, d); of_terms = omega (arith, few, b, e); of_types = omega (arith, c, f) }
@@ -206,11 +161,13 @@ mutual
 
   statement_low : {x : Origin} {n left : ℕ} {some all : Statements} {ts rest : List Token} → LowAll left some → IsStatement x n left some all ts rest → LowAll left all
   statement_low h (s_line e d) = line_low h d
-  statement_low h (s_compound {s = s} {some = some} d) = low_and some s h (compound_low d)
+  statement_low h (s_alone {a = a} {some = some} c d few) = low_and some (evaluates (place_of a) a) h (record { of_blocks = omega arith; of_terms = few; of_types = omega arith })
+  statement_low h (s_choice {s = s} {some = some} c w d) = low_and some s h (compound_low d)
+  statement_low h (s_compound {s = s} {some = some} c d) = low_and some s h (compound_low d)
 
   compound_low : {x : Origin} {n left : ℕ} {s : Statement} {ts rest : List Token} → IsCompound x n left s ts rest → LowOne left s
-  compound_low {x} {left = left} (c_if {all = all} {other = other} {tok = tok} e b m o g) =
-      let k = branch_low (none_low left) b in low_turned (conditional_turned (place_at x tok) all other) (if_low (place_at x tok) all other k.free (elifs_low k.low m) (else_low o)) g
+  compound_low {x} {left = left} (c_if {all = all} {other = other} {tok = tok} e b m o) =
+      let k = branch_low (none_low left) b in if_low (place_at x tok) all other k.free (elifs_low k.low m) (else_low o)
   compound_low (c_case e h d) = branches_low h.value.few d
   compound_low (c_while e h d) =
       (let k = body_low d in let a = k.of_terms in let b = h.value.few in record { of_blocks = k.of_blocks; of_terms = omega (arith, a, b); of_types = k.of_types })
@@ -223,16 +180,16 @@ mutual
   compound_low (c_defer e d) = let k = body_low d in record { of_blocks = k.of_blocks; of_terms = k.of_terms; of_types = k.of_types }
   compound_low {left = left} (c_proc {body = body} e h g b) =
       let k = block_low b in let a = k.of_terms in let c = k.of_types in let p = h.few_terms in let q = h.few_types in
-      record { of_blocks = block_if_there left body.body k.of_blocks; of_terms = omega (arith, a, p); of_types = omega (arith, c, q) }
+      record { of_blocks = block_if_there left body k.of_blocks; of_terms = omega (arith, a, p); of_types = omega (arith, c, q) }
   compound_low (c_forward e h g) =
       let p = h.few_terms in let q = h.few_types in record { of_blocks = omega arith; of_terms = omega (arith, p); of_types = omega (arith, q) }
   compound_low (c_type e d) = record { of_blocks = omega arith; of_terms = d.few_terms; of_types = d.few_types }
   compound_low (c_section e d) = record { of_blocks = omega arith; of_terms = d.few_terms; of_types = d.few_types }
 
-  body_low : {x : Origin} {n left : ℕ} {body : Block} {ts rest : List Token} → IsBody x n left body ts rest → LowBlock left body
+  body_low : {x : Origin} {n left : ℕ} {body : Statements} {ts rest : List Token} → IsBody x n left body ts rest → LowBlock left body
   body_low (b_body e d) = block_low d
 
-  block_low : {x : Origin} {n left : ℕ} {body : Block} {ts rest : List Token} → IsBlock x n left body ts rest → LowBlock left body
+  block_low : {x : Origin} {n left : ℕ} {body : Statements} {ts rest : List Token} → IsBlock x n left body ts rest → LowBlock left body
   block_low (b_line e d) =
       let k = line_low {left = 0} (record { of_blocks = omega arith; of_terms = omega arith; of_types = omega arith }) d in
       let a = k.of_blocks in record { of_blocks = omega (arith, a); of_terms = k.of_terms; of_types = k.of_types }
@@ -240,33 +197,33 @@ mutual
       let k = statements_low (record { of_blocks = omega arith; of_terms = omega arith; of_types = omega arith }) d in
       let a = k.of_blocks in record { of_blocks = omega (arith, a); of_terms = k.of_terms; of_types = k.of_types }
 
-  branch_low : {x : Origin} {n left : ℕ} {some all : Chosen} {at : Place} {ts rest : List Token} → LowBranches left some.all → IsBranch x n left some at all ts rest → LowRest left all.all
+  branch_low : {x : Origin} {n left : ℕ} {some all : Branches} {at : Place} {ts rest : List Token} → LowBranches left some → IsBranch x n left some at all ts rest → LowRest left all
   branch_low h (r_branch {a = a} {some = some} {body = body} {at = at} i d) =
       let k = body_low d in let b = k.of_blocks in
-      record { free = omega (arith, b); low = low_branch some.all at (part a no_parts) body h (one_part a i.value.few) k }
+      record { free = omega (arith, b); low = low_branch some at (part a no_parts) body h (one_part a i.value.few) k }
 
-  elifs_low : {x : Origin} {n left : ℕ} {some all : Chosen} {ts rest : List Token} → LowBranches left some.all → MoreElifs x n left some all ts rest → LowBranches left all.all
+  elifs_low : {x : Origin} {n left : ℕ} {some all : Branches} {ts rest : List Token} → LowBranches left some → MoreElifs x n left some all ts rest → LowBranches left all
   elifs_low h (r_over e) = h
   elifs_low h (r_elif e d m) = elifs_low (let k = branch_low h d in k.low) m
 
-  else_low : {x : Origin} {n left : ℕ} {body : Block} {ts rest : List Token} → IsElse x n left body ts rest → LowMaybe left body
+  else_low : {x : Origin} {n left : ℕ} {body : Statements} {ts rest : List Token} → IsElse x n left body ts rest → LowMaybe left body
   else_low (r_no_else e) = record { of_blocks = omega arith; of_terms = omega arith; of_types = omega arith }
   else_low (r_else {body = body} e d) = may_miss body (body_low d)
 
   branches_low : {x : Origin} {n left : ℕ} {at : Place} {a : Term} {s : Statement} {ts rest : List Token} → levels a ≤ 64 → AreBranches x n left at a s ts rest → LowOne left s
-  branches_low {n = n} few (r_branches {at = at} {a = a} {all = all} {other = other} {tok = tok} {ts = ts} e m o g) =
-      let k = first_ofs_low (first_branch n tok ts e) m in low_turned (selected_turned at a all other) (case_low at a all other few k.free k.low (else_low o)) g
+  branches_low {n = n} few (r_branches {at = at} {a = a} {all = all} {other = other} {tok = tok} {ts = ts} e m o) =
+      let k = first_ofs_low (first_branch n tok ts e) m in case_low at a all other few k.free k.low (else_low o)
 
-  of_low : {x : Origin} {n left : ℕ} {some all : Chosen} {at : Place} {ts rest : List Token} → LowBranches left some.all → IsOf x n left some at all ts rest → LowRest left all.all
+  of_low : {x : Origin} {n left : ℕ} {some all : Branches} {at : Place} {ts rest : List Token} → LowBranches left some → IsOf x n left some at all ts rest → LowRest left all
   of_low h (r_of {a = a} {tests = tests} {some = some} {body = body} {at = at} e d m b) =
       let k = body_low b in let c = k.of_blocks in
-      record { free = omega (arith, c); low = low_branch some.all at tests body h (labels_low (one_part a (label_low d)) m) k }
+      record { free = omega (arith, c); low = low_branch some at tests body h (labels_low (one_part a (label_low d)) m) k }
 
-  ofs_low : {x : Origin} {n left : ℕ} {some all : Chosen} {ts rest : List Token} → LowBranches left some.all → MoreOfs x n left some all ts rest → LowBranches left all.all
+  ofs_low : {x : Origin} {n left : ℕ} {some all : Branches} {ts rest : List Token} → LowBranches left some → MoreOfs x n left some all ts rest → LowBranches left all
   ofs_low h (r_last e) = h
   ofs_low h (r_next e d m) = ofs_low (let k = of_low h d in k.low) m
 
-  first_ofs_low : {x : Origin} {n left : ℕ} {all : Chosen} {ts rest : List Token} → branch_at (Lines n) is_of ts ≡ true → MoreOfs x n left no_chosen all ts rest → LowRest left all.all
+  first_ofs_low : {x : Origin} {n left : ℕ} {all : Branches} {ts rest : List Token} → branch_at (Lines n) is_of ts ≡ true → MoreOfs x n left no_branches all ts rest → LowRest left all
   first_ofs_low {n = n} {ts = ts} h (r_last e) = false_true (branch_at (Lines n) is_of ts) e h
   first_ofs_low {left = left} h (r_next e d m) = let k = of_low (none_low left) d in record { free = k.free; low = ofs_low k.low m }
 
@@ -279,7 +236,7 @@ mutual
   handlers_low {x} {some = some} h (h_last {one = one} {tok = tok} e d g) = low_handler some (place_at x tok) one h (handler_low d)
   handlers_low {x} {some = some} h (h_next {one = one} {tok = tok} e d g m) = handlers_low (low_handler some (place_at x tok) one h (handler_low d)) m
 
-  finally_low : {x : Origin} {n left : ℕ} {body : Block} {ts rest : List Token} → IsFinally x n left body ts rest → LowMaybe left body
+  finally_low : {x : Origin} {n left : ℕ} {body : Statements} {ts rest : List Token} → IsFinally x n left body ts rest → LowMaybe left body
   finally_low (h_no_finally e) = record { of_blocks = omega arith; of_terms = omega arith; of_types = omega arith }
   finally_low (h_finally {body = body} e d) = may_miss body (body_low d)
 

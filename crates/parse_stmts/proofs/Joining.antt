@@ -8,7 +8,7 @@ use Rattle.nim_tree.specs.declared.expr.Expr.{Expr}
 use Rattle.nim_tree.specs.declared.stmt.Stmt.{Stmt}
 use Rattle.nim_tree.specs.declared.stmt.Handler.{Handler}
 use Rattle.nim_tree.specs.Terms.{Term, Parts, part, no_parts, term_of, parts_of}
-use Rattle.nim_tree.specs.Statements.{Statement, Statements, empty, statements_of, Handlers, no_handlers, handlers_of}
+use Rattle.nim_tree.specs.Statements.{Statement, selects, Statements, empty, statements_of, Branches, no_branches, and_branch, Handlers, no_handlers, handlers_of}
 use Rattle.parse_exprs.specs.declared.input.Input.{Input}
 use Rattle.parse_exprs.specs.declared.layout.Layout.TheVariants.{Lines}
 use Rattle.parse_exprs.specs.Look.{Origin, place_at, stays, branch_at, first_of_at}
@@ -18,8 +18,7 @@ use Rattle.parse_decls.specs.Gives.{Fails, Leads}
 use Rattle.parse_decls.proofs.Settling.{settles_suc, settles_got, settles_unless, settles_stuck, settles_if, settles_else}
 use Rattle.parse_decls.proofs.Coming.{fails_by}
 use Rattle.parse_stmts.specs.Look.{is_except}
-use Rattle.parse_stmts.specs.Inline.{Block, Chosen, no_block, selected}
-use Rattle.parse_stmts.specs.Run.{run_line, run_branch, run_label, run_labels, run_body, run_of, run_ofs, run_else, run_branches, no_chosen, branch_level, have_some, hold_some, and_chosen, Caught, run_handler, run_handlers, and_caught, are_some, if_it_fits}
+use Rattle.parse_stmts.specs.Run.{run_line, run_statements, run_branch, run_label, run_labels, run_body, run_of, run_ofs, run_else, run_branches, branch_level, have_some, hold_some, Caught, run_handler, run_handlers, and_caught, are_some}
 use Rattle.parse_stmts.specs.Blocks.{caught_of}
 use Rattle.parse_stmts.proofs.Lists.{one_more_handler}
 use Rattle.parse_stmts.proofs.Blocking.{handlers_on}
@@ -30,35 +29,29 @@ fails_suc f g x e stop h = fails_by f g x (λ why s. settles_suc s e) stop h
 pub suc_at : (input : Input) (at : ℕ) → from_at input (suc at) ≡ from_at input (at + 1)
 suc_at input at = ap (from_at input) (sym (add-one at))
 
-pub fails_is_empty : (x : Origin) (n : ℕ) (some : Statements) (none : Statements) (ts : List Token) → some ≡ none → (stop : Stop) → Fails (λ k. run_line k x n some ts) x stop → Fails (λ k. run_line k x n none ts) x stop
-fails_is_empty x n some none ts e stop h = subst (λ (s : Statements). Fails (λ k. run_line k x n s ts) x stop) e h
-
-pub settles_is_empty : (x : Origin) (n : ℕ) (some : Statements) (none : Statements) (ts : List Token) {o : Out Statements} → some ≡ none → Settles (λ k. run_line k x n some ts) o → Settles (λ k. run_line k x n none ts) o
-settles_is_empty x n some none ts {o = o} e h = subst (λ (s : Statements). Settles (λ k. run_line k x n s ts) o) e h
-
-pub branch_is : (x : Origin) (n left : ℕ) (some none : Chosen) (p q : Place) (ts : List Token) {o : Out Chosen} → some ≡ none → p ≡ q → Settles (λ k. run_branch k x n left some p ts) o → Settles (λ k. run_branch k x n left none q ts) o
+pub branch_is : (x : Origin) (n left : ℕ) (some none : Branches) (p q : Place) (ts : List Token) {o : Out Branches} → some ≡ none → p ≡ q → Settles (λ k. run_branch k x n left some p ts) o → Settles (λ k. run_branch k x n left none q ts) o
 branch_is x n left some none p q ts {o = o} e f h =
-    subst (λ (s : Chosen). Settles (λ k. run_branch k x n left s q ts) o) e (subst (λ (r : Place). Settles (λ k. run_branch k x n left some r ts) o) f h)
+    subst (λ (s : Branches). Settles (λ k. run_branch k x n left s q ts) o) e (subst (λ (r : Place). Settles (λ k. run_branch k x n left some r ts) o) f h)
 
-pub branch_fail_is : (x : Origin) (n left : ℕ) (some none : Chosen) (p q : Place) (ts : List Token) → some ≡ none → p ≡ q → (stop : Stop) → Fails (λ k. run_branch k x n left some p ts) x stop → Fails (λ k. run_branch k x n left none q ts) x stop
+pub branch_fail_is : (x : Origin) (n left : ℕ) (some none : Branches) (p q : Place) (ts : List Token) → some ≡ none → p ≡ q → (stop : Stop) → Fails (λ k. run_branch k x n left some p ts) x stop → Fails (λ k. run_branch k x n left none q ts) x stop
 branch_fail_is x n left some none p q ts e f stop h =
-    subst (λ (s : Chosen). Fails (λ k. run_branch k x n left s q ts) x stop) e (subst (λ (r : Place). Fails (λ k. run_branch k x n left some r ts) x stop) f h)
-
-pub fits_leads : (ts whole : List Token) (s t : Statement) (rest : List Token) → ts ≡ whole → s ≡ t → Leads (λ k. if_it_fits ts s rest) (λ k. if_it_fits whole t rest)
-fits_leads ts whole s t rest e f o h = subst (λ (m : List Token). Settles (λ k. if_it_fits m t rest) o) e (subst (λ (u : Statement). Settles (λ k. if_it_fits ts u rest) o) f h)
+    subst (λ (s : Branches). Fails (λ k. run_branch k x n left s q ts) x stop) e (subst (λ (r : Place). Fails (λ k. run_branch k x n left some r ts) x stop) f h)
 
 pub single_part : (tests : List Expr) (a : Expr) → tests ≡ [] ++ a ∷ [] → parts_of tests ≡ part (term_of a) no_parts
 single_part tests a e = ap parts_of e
 
-pub block_got : (a b : Block) (ts : List Token) → a ≡ b → Leads (λ k. got a ts) (λ k. got b ts)
-block_got a b ts e o h = subst (λ (c : Block). Settles (λ k. got c ts) o) e h
+pub line_start : (x : Origin) (n : ℕ) (some none : Statements) (ts : List Token) → some ≡ none → Leads (λ k. run_line k x n some ts) (λ k. run_line k x n none ts)
+line_start x n some none ts e o h = subst (λ (s : Statements). Settles (λ k. run_line k x n s ts) o) e h
 
-pub no_block_is : (body : List Stmt) → body ≡ [] → ◌≡◌ {A = Block} (record { body = statements_of body; inline = true }) no_block
-no_block_is body e = ap (λ (b : List Stmt). record { body = statements_of b; inline = true }) e
+pub level_start : (x : Origin) (m n left : ℕ) (ts : List Token) → m ≡ n → Leads (λ k. run_statements k x m left empty ts) (λ k. run_statements k x n left empty ts)
+level_start x m n left ts e o h = subst (λ (l : ℕ). Settles (λ k. run_statements k x l left empty ts) o) e h
 
-pub of_stuck : (x : Origin) (n left : ℕ) (some : Chosen) (place : Place) (ts : List Token) → stays (Lines n) ts ≡ false → Settles (λ k. run_of k x n left some place ts) (bad (stuck_at ts))
+pub block_got : (a b : Statements) (ts : List Token) → a ≡ b → Leads (λ k. got a ts) (λ k. got b ts)
+block_got a b ts e o h = subst (λ (c : Statements). Settles (λ k. got c ts) o) e h
+
+pub of_stuck : (x : Origin) (n left : ℕ) (some : Branches) (place : Place) (ts : List Token) → stays (Lines n) ts ≡ false → Settles (λ k. run_of k x n left some place ts) (bad (stuck_at ts))
 of_stuck x n left some place ts e = settles_suc (settles_stuck
-    (λ k. then_do (run_label k x n ts) (λ a mid. then_do (run_labels k x n (part a no_parts) mid) (λ labels end. then_do (run_body k x n left end) (λ block rest. got (and_chosen some place labels block) rest)))) ts e) (λ k. refl)
+    (λ k. then_do (run_label k x n ts) (λ a mid. then_do (run_labels k x n (part a no_parts) mid) (λ labels end. then_do (run_body k x n left end) (λ block rest. got (and_branch some place labels block) rest)))) ts e) (λ k. refl)
 
 pub handlers_start : (x : Origin) (n left : ℕ) (some : Handlers) (ts : List Token) → some ≡ no_handlers → Leads (λ k. run_handlers k x n left some ts) (λ k. run_handlers k x n left no_handlers ts)
 handlers_start x n left some ts e o h = subst (λ (s : Handlers). Settles (λ k. run_handlers k x n left s ts) o) e h
@@ -76,17 +69,18 @@ pub handlers_last : (x : Origin) (n left : ℕ) (some all : Handlers) (tok : Tok
 handlers_last x n left some all tok one ts rest mid e b s t a o h =
     handlers_on x n left some one tok rest ts mid e b s o (settles_else (λ k. run_handlers k x n left (and_caught some (place_at x tok) one) mid) t (subst (λ (m : Handlers). Settles (λ k. got m mid) o) a h))
 
-pub branches_on : (x : Origin) (n left : ℕ) (tok : Token) (ts : List Token) (s : Term) (first : Token) (rest mid : List Token) (m : ℕ) → mid ≡ first ∷ rest → first_of_at (Lines n) mid ≡ true → m ≡ branch_level n first.indent
-    → Leads (λ k. then_do (run_ofs k x m left no_chosen mid) (λ all end. then_do (run_else k x m left end) (λ other rest. if_it_fits (tok ∷ ts) (selected (place_at x tok) s all other) rest))) (λ k. run_branches k x n left tok ts s mid)
-branches_on x n left tok ts s first rest mid m e f g o h = subst (λ (l : List Token). Settles (λ k. run_branches k x n left tok ts s l) o) (sym e)
-    (settles_suc (settles_unless (first ∷ rest) (ap (first_of_at (Lines n)) (sym e) ∙ f)
-    (subst (λ (l : List Token). Settles (λ k. then_do (run_ofs k x (branch_level n first.indent) left no_chosen l) (λ all end. then_do (run_else k x (branch_level n first.indent) left end) (λ other rest. if_it_fits (tok ∷ ts) (selected (place_at x tok) s all other) rest))) o) e
-    (subst (λ (i : ℕ). Settles (λ k. then_do (run_ofs k x i left no_chosen mid) (λ all end. then_do (run_else k x i left end) (λ other rest. if_it_fits (tok ∷ ts) (selected (place_at x tok) s all other) rest))) o) g h))) (λ k. refl))
+abbrev pub branches_run : Origin → ℕ → ℕ → Token → Term → List Token → ℕ → Out Statement
+branches_run x m left tok s mid k = then_do (run_ofs k x m left no_branches mid) (λ all end. then_do (run_else k x m left end) (λ other rest. got (selects (place_at x tok) s all other) rest))
 
-pub branches_stuck : (x : Origin) (n left : ℕ) (tok : Token) (ts : List Token) (s : Term) (mid : List Token) → first_of_at (Lines n) mid ≡ false → Settles (λ k. run_branches k x n left tok ts s mid) (bad (stuck_at mid))
-branches_stuck x n left tok ts s [] e = settles_suc settles_got (λ k. refl)
-branches_stuck x n left tok ts s (first ∷ mid) e = settles_suc (settles_stuck
-    (λ k. then_do (run_ofs k x (branch_level n first.indent) left no_chosen (first ∷ mid)) (λ all end. then_do (run_else k x (branch_level n first.indent) left end) (λ other rest. if_it_fits (tok ∷ ts) (selected (place_at x tok) s all other) rest))) (first ∷ mid) e) (λ k. refl)
+pub branches_on : (x : Origin) (n left : ℕ) (tok : Token) (s : Term) (first : Token) (rest mid : List Token) (m : ℕ) → mid ≡ first ∷ rest → first_of_at (Lines n) mid ≡ true → m ≡ branch_level n first.indent
+    → Leads (branches_run x m left tok s mid) (λ k. run_branches k x n left tok s mid)
+branches_on x n left tok s first rest mid m e f g o h = subst (λ (l : List Token). Settles (λ k. run_branches k x n left tok s l) o) (sym e)
+    (settles_suc (settles_unless (first ∷ rest) (ap (first_of_at (Lines n)) (sym e) ∙ f)
+    (subst (λ (l : List Token). Settles (branches_run x (branch_level n first.indent) left tok s l) o) e (subst (λ (i : ℕ). Settles (branches_run x i left tok s mid) o) g h))) (λ k. refl))
+
+pub branches_stuck : (x : Origin) (n left : ℕ) (tok : Token) (s : Term) (mid : List Token) → first_of_at (Lines n) mid ≡ false → Settles (λ k. run_branches k x n left tok s mid) (bad (stuck_at mid))
+branches_stuck x n left tok s [] e = settles_suc settles_got (λ k. refl)
+branches_stuck x n left tok s (first ∷ mid) e = settles_suc (settles_stuck (branches_run x (branch_level n first.indent) left tok s (first ∷ mid)) (first ∷ mid) e) (λ k. refl)
 
 pub some_handlers : (all : List Handler) (b : Bool) → 1 ≤ length all → true ≡ (have_some (handlers_of all) || b)
 some_handlers [] b h = (let f : ⊥ = omega (arith, h) in absurd f)

@@ -1,11 +1,11 @@
 pub mod Steps
 pub mod Lists
 pub mod Loops
-pub mod Choosing
 pub mod Blocking
 pub mod Joining
 pub mod Means
 pub mod Leaves
+pub mod OnlyExpr
 pub mod Reading
 pub mod LeavesComplete
 pub mod Complete
@@ -14,7 +14,6 @@ pub mod Given
 pub mod Verdicts
 pub mod Depth
 pub mod Refusals
-pub mod Turning
 pub mod Spanning
 pub mod Sizes
 pub mod Modules

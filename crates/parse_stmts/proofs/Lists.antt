@@ -1,4 +1,5 @@
 -- Lists with one more behind.
+use Rattle.std.specs.Prelude.{Result, Ok, Err, IfOk}
 use Rattle.std.proofs.Common.{◌≡◌, List, [], ◌∷◌, ◌++◌, refl, ap}
 use Rattle.nim_tree.specs.declared.expr.Expr.{Expr}
 use Rattle.nim_tree.specs.declared.stmt.Stmt.{Stmt}
@@ -22,3 +23,7 @@ one_more_branch (first ∷ rest) one = ap (branch first.at (parts_of first.tests
 pub one_more_handler : (some : List Handler) (one : Handler) → handlers_of (some ++ one ∷ []) ≡ and_handler (handlers_of some) one.at one.types.items one.binding (statements_of one.body.items)
 one_more_handler [] one = refl
 one_more_handler (first ∷ rest) one = ap (handler first.at first.types.items first.binding (statements_of first.body.items)) (one_more_handler rest one)
+
+pub if_ok : {A E : Type 0} {P Q : A → Type 0} (r : Result A E) → ((a : A) → P a → Q a) → IfOk r P → IfOk r Q
+if_ok (Ok a) f h = f a h
+if_ok (Err e) f h = h

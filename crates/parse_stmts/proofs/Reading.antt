@@ -1,11 +1,11 @@
 -- What is read of statements with blocks means what the grammar says.
-use Rattle.std.proofs.Common.{◌≡◌, ℕ, zero, suc, List, [], ◌∷◌, Bool, true, false, refl}
-use Rattle.std.specs.Prelude.{◌||◌, if◌then◌else◌}
+use Rattle.std.proofs.Common.{◌≡◌, ℕ, zero, suc, List, [], ◌∷◌, Bool, true, false, refl, ap, ◌∙◌}
+use Rattle.std.specs.Prelude.{Option, if◌then◌else◌}
 use Rattle.arc_base.specs.declared.place.Place.{Place}
 use Rattle.indent_scanner.specs.declared.token.Token.{Token}
 use Rattle.nim_tree.specs.declared.name.Name.{Name}
 use Rattle.nim_tree.specs.Terms.{Term, no_parts, part}
-use Rattle.nim_tree.specs.Statements.{Statements, empty, Handlers, no_handlers}
+use Rattle.nim_tree.specs.Statements.{Statements, empty, Branches, no_branches, Handlers, no_handlers}
 use Rattle.parse_exprs.specs.declared.layout.Layout.TheVariants.{Lines}
 use Rattle.parse_exprs.specs.Look.{Origin, place_at, colon_at, past_colon}
 use Rattle.parse_decls.specs.Look.{behind, deeper_at, stands_at, level_at}
@@ -14,13 +14,13 @@ use Rattle.parse_decls.specs.Grammar.{e_first, Names}
 use Rattle.parse_decls.specs.Faults.{FaultsNames}
 use Rattle.parse_stmts.specs.declared.look.Lead.{Lead}
 use Rattle.parse_stmts.specs.declared.look.Lead.TheVariants as L
-use Rattle.parse_stmts.specs.Look.{on_line_at, lead}
-use Rattle.parse_stmts.specs.Inline.{Chosen}
-use Rattle.parse_stmts.specs.Run.{run_types_of, run_binding, are_some, and_caught, branch_level, no_chosen, run_statements, run_statement, run_led, run_compound, run_body, run_block, run_if, run_branch, run_elifs, run_else, run_case, run_branches, run_of, run_ofs, run_try, run_handler, run_handlers, run_finally, run_proc, run_module}
-use Rattle.parse_stmts.specs.Grammar.{AreStatements, s_over, s_next, IsStatement, s_line, s_compound, IsCompound, c_if, c_case, c_while, c_for, c_try, c_defer, c_proc, c_forward, c_type, c_section, IsBody, b_body, IsBlock, b_line, b_deeper, IsBranch, r_branch, MoreElifs, r_over, r_elif, IsElse, r_no_else, r_else, AreBranches, r_branches, IsOf, r_of, MoreOfs, r_last, r_next, MoreHandlers, h_over, IsHandler, h_bare, h_typed, h_last, h_next, IsFinally, h_no_finally, h_finally, IsModule}
+use Rattle.parse_stmts.specs.Look.{chooses, opens_block, lead}
+use Rattle.parse_stmts.specs.Run.{run_types_of, run_binding, are_some, and_caught, branch_level, run_alone, run_choice, run_statements, run_statement, run_led, run_compound, run_body, run_block, run_if, run_branch, run_elifs, run_else, run_case, run_branches, run_of, run_ofs, run_try, run_handler, run_handlers, run_finally, run_proc, run_module}
+use Rattle.parse_stmts.specs.Grammar.{AreStatements, s_over, s_next, IsStatement, s_line, s_alone, s_choice, s_compound, IsCompound, c_if, c_case, c_while, c_for, c_try, c_defer, c_proc, c_forward, c_type, c_section, IsBody, b_body, IsBlock, b_line, b_deeper, IsBranch, r_branch, MoreElifs, r_over, r_elif, IsElse, r_no_else, r_else, AreBranches, r_branches, IsOf, r_of, MoreOfs, r_last, r_next, MoreHandlers, h_over, IsHandler, h_bare, h_typed, h_last, h_next, IsFinally, h_no_finally, h_finally, IsModule}
 use Rattle.parse_stmts.specs.Faults as F
 use Rattle.parse_stmts.specs.Faults.{FaultsStatements, FaultsStatement, FaultsCompound, FaultsBody, FaultsBlock, FaultsBranch, FaultsElifs, FaultsElse, FaultsBranches, FaultsOf, FaultsOfs, FaultsHandler, FaultsHandlers, FaultsFinally, FaultsModule}
 use Rattle.parse_stmts.proofs.Means.{Means, m_got, m_bad, m_tired, means_map, means_then, means_unless, means_if}
+use Rattle.parse_stmts.proofs.OnlyExpr.{Finds, d_alone, d_none, means_alone}
 use Rattle.parse_stmts.proofs.Leaves.{Laws, means_here, means_line, means_label, means_labels, means_course, means_alias}
 
 -- one with blocks
@@ -28,14 +28,10 @@ abbrev pub HasBlocks : Lead → Type 0
 HasBlocks L.Line = ⊥
 HasBlocks _ = Unit {0}
 
-pub neither : (a b : Bool) → (a || b) ≡ false → (a ≡ false) × (b ≡ false)
-neither false b e = (refl, e)
-neither true b e = cc
-
-means_no_level : (x : Origin) (n : ℕ) (ts : List Token) (b : Bool) → (on_line_at ts || deeper_at n ts) ≡ b
+means_no_level : (x : Origin) (n : ℕ) (ts : List Token) (b : Bool) → opens_block x n ts ≡ b
     → Means (λ body rest. IsBlock x n zero body ts rest) (λ why. FaultsBlock x why n zero ts) (bad (if b then too_deep ts else stuck_at ts))
 means_no_level x n ts true e = m_bad (F.f_no_level e refl)
-means_no_level x n ts false e = let h = neither (on_line_at ts) (deeper_at n ts) e in m_bad (F.f_no_block h.0 h.1 refl)
+means_no_level x n ts false e = m_bad (F.f_no_start e refl)
 
 -- ---- handlers
 
@@ -58,7 +54,7 @@ means_caught : (law : Laws) (k : ℕ) (x : Origin) (n left : ℕ) (ts : List Tok
     → Means (λ one rest. IsHandler x n left one ts rest) (λ why. FaultsHandler x why n left ts)
     (then_do (run_binding (are_some names) x n a) (λ binding b.
     then_do (run_body k x n left b) (λ block rest.
-    got (record { names = names; binding = binding; body = block.body }) rest)))
+    got (record { names = names; binding = binding; body = block }) rest)))
 means_caught law k x n left ts _ _ bodies (y_bare c) = means_then (bodies ts) (λ body rest b. m_got (h_bare c b)) (λ why w. F.f_bare c w)
 means_caught law k x n left ts _ a bodies (y_some c (e_first f t)) =
     means_then (means_alias law x n a)
@@ -86,7 +82,19 @@ mutual
       → Means (λ all rest. IsStatement x n left some all (tok ∷ ts) rest) (λ why. FaultsStatement x why n left (tok ∷ ts)) (run_led k it x n left some tok ts)
   means_led law zero it x n left some tok ts e = m_tired
   means_led law (suc k) L.Line x n left some tok ts e = means_map (means_line law k x n some (tok ∷ ts)) (λ all rest d. s_line e d) (λ why w. F.f_one_line e w)
-  means_led law (suc k) it x n left some tok ts e = means_then (means_compound law k it x n left tok ts e tt) (λ s rest d. m_got (s_compound d)) (λ why w. F.f_compound w)
+  means_led law (suc k) L.If x n left some tok ts e =
+      means_then (means_alone k x n (tok ∷ ts)) (λ found mid d. means_found law k L.If x n left some tok ts e refl tt found mid d) (λ why w. F.f_alone (ap chooses e) w.is w.deep w.at)
+  means_led law (suc k) L.Case x n left some tok ts e =
+      means_then (means_alone k x n (tok ∷ ts)) (λ found mid d. means_found law k L.Case x n left some tok ts e refl tt found mid d) (λ why w. F.f_alone (ap chooses e) w.is w.deep w.at)
+  means_led law (suc k) it x n left some tok ts e = means_then (means_compound law k it x n left tok ts e tt) (λ s rest d. m_got (s_compound (ap chooses e) d)) (λ why w. F.f_compound (ap chooses e) w)
+
+  means_found : (law : Laws) (k : ℕ) (it : Lead) (x : Origin) (n left : ℕ) (some : Statements) (tok : Token) (ts : List Token) → lead n tok ts ≡ it → chooses it ≡ true → HasBlocks it
+      → (found : Option Term) (mid : List Token) → Finds x n (tok ∷ ts) found mid
+      → Means (λ all rest. IsStatement x n left some all (tok ∷ ts) rest) (λ why. FaultsStatement x why n left (tok ∷ ts)) (run_choice k found it x n left some tok ts mid)
+  means_found law zero it x n left some tok ts e c b found mid d = m_tired
+  means_found law (suc k) it x n left some tok ts e c b _ _ (d_alone d few) = m_got (s_alone (ap chooses e ∙ c) d few)
+  means_found law (suc k) it x n left some tok ts e c b _ _ (d_none d) =
+      means_then (means_compound law k it x n left tok ts e b) (λ s rest m. m_got (s_choice (ap chooses e ∙ c) d m)) (λ why w. F.f_choice (ap chooses e ∙ c) d w)
 
   means_compound : (law : Laws) (k : ℕ) (it : Lead) (x : Origin) (n left : ℕ) (tok : Token) (ts : List Token) → lead n tok ts ≡ it → HasBlocks it
       → Means (λ s rest. IsCompound x n left s (tok ∷ ts) rest) (λ why. FaultsCompound x why n left (tok ∷ ts)) (run_compound k it x n left tok ts)
@@ -120,9 +128,9 @@ mutual
   means_block law zero x n left ts = m_tired
   means_block law (suc k) x n zero ts = means_no_level x n ts _ refl
   means_block law (suc k) x n (suc left) ts =
-      means_if _ (λ e. means_then (means_line law k x n empty ts) (λ all rest d. m_got (b_line e d)) (λ why w. F.f_line_block e w))
+      means_if _ (λ e. means_map (means_line law k x n empty ts) (λ all rest d. b_line e d) (λ why w. F.f_line_block e w))
       (λ e. means_unless _ _
-      (λ h. means_then (means_statements law k x (level_at ts) left empty ts) (λ all rest d. m_got (b_deeper e h d)) (λ why w. F.f_deeper_block e h w))
+      (λ h. means_map (means_statements law k x (level_at ts) left empty ts) (λ all rest d. b_deeper e h d) (λ why w. F.f_deeper_block e h w))
       (λ h. F.f_no_block e h refl))
 
   -- ---- `if`
@@ -131,21 +139,21 @@ mutual
       → Means (λ s rest. IsCompound x n left s (tok ∷ ts) rest) (λ why. FaultsCompound x why n left (tok ∷ ts)) (run_if k x n left tok ts)
   means_conditional law zero x n left tok ts e = m_tired
   means_conditional law (suc k) x n left tok ts e =
-      means_then (means_branch law k x n left no_chosen (place_at x tok) ts)
+      means_then (means_branch law k x n left no_branches (place_at x tok) ts)
       (λ one mid b. means_then (means_elifs law k x n left one mid)
       (λ all end m. means_then (means_else law k x n left end)
-      (λ other rest o. means_if _ (λ g. m_got (c_if e b m o g)) (λ g. m_bad (F.f_if_deep e b m o g refl)))
+      (λ other rest o. m_got (c_if e b m o))
       (λ why w. F.f_if_else e b m w))
       (λ why w. F.f_elifs e b w))
       (λ why w. F.f_if e w)
 
-  means_branch : (law : Laws) (k : ℕ) (x : Origin) (n left : ℕ) (some : Chosen) (at : Place) (ts : List Token)
+  means_branch : (law : Laws) (k : ℕ) (x : Origin) (n left : ℕ) (some : Branches) (at : Place) (ts : List Token)
       → Means (λ all rest. IsBranch x n left some at all ts rest) (λ why. FaultsBranch x why n left ts) (run_branch k x n left some at ts)
   means_branch law zero x n left some at ts = m_tired
   means_branch law (suc k) x n left some at ts =
       means_then (means_here law k x n ts) (λ c mid h. means_then (means_body law k x n left mid) (λ body rest d. m_got (r_branch h d)) (λ why w. F.f_branch_body h w)) (λ why w. F.f_condition w)
 
-  means_elifs : (law : Laws) (k : ℕ) (x : Origin) (n left : ℕ) (some : Chosen) (ts : List Token)
+  means_elifs : (law : Laws) (k : ℕ) (x : Origin) (n left : ℕ) (some : Branches) (ts : List Token)
       → Means (λ all rest. MoreElifs x n left some all ts rest) (λ why. FaultsElifs x why n left ts) (run_elifs k x n left some ts)
   means_elifs law zero x n left some ts = m_tired
   means_elifs law (suc k) x n left some [] = m_got (r_over refl)
@@ -167,22 +175,22 @@ mutual
   means_case law zero x n left tok ts e = m_tired
   means_case law (suc k) x n left tok ts e =
       means_then (means_here law k x n ts)
-      (λ a mid h. means_map (means_branches law k x n left tok ts a (past_colon (Lines n) mid)) (λ s rest d. c_case e h d) (λ why w. F.f_branches e h w)) (λ why w. F.f_case e w)
+      (λ a mid h. means_map (means_branches law k x n left tok a (past_colon (Lines n) mid)) (λ s rest d. c_case e h d) (λ why w. F.f_branches e h w)) (λ why w. F.f_case e w)
 
-  means_branches : (law : Laws) (k : ℕ) (x : Origin) (n left : ℕ) (tok : Token) (ts : List Token) (a : Term) (mid : List Token)
-      → Means (λ s rest. AreBranches x n left (place_at x tok) a s mid rest) (λ why. FaultsBranches x why (tok ∷ ts) (place_at x tok) a n left mid) (run_branches k x n left tok ts a mid)
-  means_branches law zero x n left tok ts a mid = m_tired
-  means_branches law (suc k) x n left tok ts a [] = m_bad (F.f_no_of refl refl)
-  means_branches law (suc k) x n left tok ts a (first ∷ mid) =
+  means_branches : (law : Laws) (k : ℕ) (x : Origin) (n left : ℕ) (tok : Token) (a : Term) (mid : List Token)
+      → Means (λ s rest. AreBranches x n left (place_at x tok) a s mid rest) (λ why. FaultsBranches x why n left mid) (run_branches k x n left tok a mid)
+  means_branches law zero x n left tok a mid = m_tired
+  means_branches law (suc k) x n left tok a [] = m_bad (F.f_no_of refl refl)
+  means_branches law (suc k) x n left tok a (first ∷ mid) =
       means_unless _ _
-      (λ e. means_then (means_ofs law k x (branch_level n first.indent) left no_chosen (first ∷ mid))
+      (λ e. means_then (means_ofs law k x (branch_level n first.indent) left no_branches (first ∷ mid))
       (λ all end m. means_then (means_else law k x (branch_level n first.indent) left end)
-      (λ other rest o. means_if _ (λ g. m_got (r_branches e m o g)) (λ g. m_bad (F.f_case_deep e m o g refl)))
+      (λ other rest o. m_got (r_branches e m o))
       (λ why w. F.f_of_else e m w))
       (λ why w. F.f_ofs e w))
       (λ e. F.f_no_of e refl)
 
-  means_of : (law : Laws) (k : ℕ) (x : Origin) (n left : ℕ) (some : Chosen) (at : Place) (ts : List Token)
+  means_of : (law : Laws) (k : ℕ) (x : Origin) (n left : ℕ) (some : Branches) (at : Place) (ts : List Token)
       → Means (λ all rest. IsOf x n left some at all ts rest) (λ why. FaultsOf x why n left ts) (run_of k x n left some at ts)
   means_of law zero x n left some at ts = m_tired
   means_of law (suc k) x n left some at ts =
@@ -194,7 +202,7 @@ mutual
       (λ why w. F.f_of_label e w))
       (λ e. F.f_of_line e refl)
 
-  means_ofs : (law : Laws) (k : ℕ) (x : Origin) (n left : ℕ) (some : Chosen) (ts : List Token)
+  means_ofs : (law : Laws) (k : ℕ) (x : Origin) (n left : ℕ) (some : Branches) (ts : List Token)
       → Means (λ all rest. MoreOfs x n left some all ts rest) (λ why. FaultsOfs x why n left ts) (run_ofs k x n left some ts)
   means_ofs law zero x n left some ts = m_tired
   means_ofs law (suc k) x n left some [] = m_got (r_last refl)

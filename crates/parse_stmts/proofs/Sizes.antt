@@ -9,8 +9,8 @@ use Rattle.indent_scanner.specs.Tokens.{HasByte, token_bytes}
 use Rattle.nim_tree.specs.declared.name.Name.{Name}
 use Rattle.nim_tree.specs.declared.stmt.Binding.{Binding}
 use Rattle.nim_tree.specs.Lists.{if_there, one}
-use Rattle.nim_tree.specs.Terms.{Term, Parts, no_parts, part, nodes, nodes_in}
-use Rattle.nim_tree.specs.Statements.{Course, course_nodes, Statement, Statements, empty, then as next, and_statement, Branches, no_branches, branch, and_branch, Handlers, no_handlers, handler, nodes_of, all_nodes, branch_nodes, handler_nodes}
+use Rattle.nim_tree.specs.Terms.{Term, Parts, no_parts, part, nodes, nodes_in, place_of}
+use Rattle.nim_tree.specs.Statements.{Course, course_nodes, Statement, evaluates, Statements, empty, then as next, and_statement, Branches, no_branches, branch, and_branch, Handlers, no_handlers, handler, nodes_of, all_nodes, branch_nodes, handler_nodes}
 use Rattle.nim_tree.specs.Weights.{weight, weight_in, course_weight, statement_weight, weights, branch_weights, handler_weights}
 use Rattle.parse_exprs.specs.Look.{Origin, place_at, lead_at, is_punct, is_elif, is_else, is_of}
 use Rattle.parse_exprs.proofs.Weighing.{count_bytes}
@@ -21,11 +21,9 @@ use Rattle.parse_stmts.specs.declared.look.Lead.TheVariants as L
 use Rattle.parse_stmts.specs.declared.look.Simple.{Simple}
 use Rattle.parse_stmts.specs.declared.look.Simple.TheVariants as S
 use Rattle.parse_stmts.specs.Look.{lead, lead_of, simple_of, is_in, is_as, is_except, is_finally}
-use Rattle.parse_stmts.specs.Inline.{Block, Chosen}
 use Rattle.parse_stmts.specs.Run.{Caught, and_caught}
-use Rattle.parse_stmts.specs.Grammar.{MoreModules, m_over, m_next, MoreOperands, o_over, o_next, IsPlain, p_command, p_value, p_assign, Binds, b_let, b_var, b_const, IsSimple, i_discard, i_return, i_raise, i_break, i_continue, i_import, i_define, i_plain, IsLine, l_last, l_more, IsLabel, a_one, a_range, MoreLabels, a_over, a_next, IsCourse, f_each, f_up_to, f_below, Alias, AreStatements, s_over, s_next, IsStatement, s_line, s_compound, IsCompound, c_if, c_case, c_while, c_for, c_try, c_defer, c_proc, c_forward, c_type, c_section, IsBody, b_body, IsBlock, b_line, b_deeper, IsBranch, r_branch, MoreElifs, r_over, r_elif, IsElse, r_no_else, r_else, AreBranches, r_branches, IsOf, r_of, MoreOfs, r_last, r_next, IsHandler, h_bare, h_typed, MoreHandlers, h_over, h_last, h_next, IsFinally, h_no_finally, h_finally, IsModule}
-use Rattle.parse_stmts.proofs.Spanning.{Spans, no_spans, then_spans, within, one_token, word_spans, branch_spans, comma_spans, colon_spans, equals_spans, dots_spans, below_spans, past_spans, assign_spans, name_spans, takes_spans, some_nodes, value_spans, here_spans, called_spans, optional_spans, nodes_and, weight_and, definition_spans, definitions_spans}
-use Rattle.parse_stmts.proofs.Turning.{conditional_small, selected_small}
+use Rattle.parse_stmts.specs.Grammar.{MoreModules, m_over, m_next, MoreOperands, o_over, o_next, IsPlain, p_command, p_value, p_assign, Binds, b_let, b_var, b_const, IsSimple, i_discard, i_return, i_raise, i_break, i_continue, i_import, i_define, i_plain, IsLine, l_last, l_more, IsLabel, a_one, a_range, MoreLabels, a_over, a_next, IsCourse, f_each, f_up_to, f_below, Alias, AreStatements, s_over, s_next, IsStatement, s_line, s_alone, s_choice, s_compound, IsCompound, c_if, c_case, c_while, c_for, c_try, c_defer, c_proc, c_forward, c_type, c_section, IsBody, b_body, IsBlock, b_line, b_deeper, IsBranch, r_branch, MoreElifs, r_over, r_elif, IsElse, r_no_else, r_else, AreBranches, r_branches, IsOf, r_of, MoreOfs, r_last, r_next, IsHandler, h_bare, h_typed, MoreHandlers, h_over, h_last, h_next, IsFinally, h_no_finally, h_finally, IsModule}
+use Rattle.parse_stmts.proofs.Spanning.{Spans, no_spans, then_spans, within, one_token, word_spans, branch_spans, comma_spans, colon_spans, equals_spans, dots_spans, below_spans, past_spans, assign_spans, name_spans, takes_spans, some_nodes, expression_spans, value_spans, here_spans, called_spans, optional_spans, nodes_and, weight_and, definition_spans, definitions_spans}
 
 -- ---- one more
 
@@ -136,12 +134,15 @@ mutual
   statement_spans : {x : Origin} {n left : ℕ} {some all : Statements} {ts rest : List Token} → IsStatement x n left some all ts rest
       → Spans (all_nodes some) (all_nodes all) (weights some) (weights all) ts rest
   statement_spans (s_line e d) = line_spans d
-  statement_spans (s_compound {s = s} {some = some} d) = let h = statement_more some s in let a = h.size in let b = h.weighs in within (compound_spans d) (omega (arith, a)) (omega (arith, b))
+  statement_spans (s_alone {a = a} {some = some} c d few) =
+      let h = statement_more some (evaluates (place_of a) a) in let p = h.size in let q = h.weighs in let r = some_nodes a in
+      within (expression_spans d.begins.reads.spells) (omega (arith, p, r)) (omega (arith, q))
+  statement_spans (s_choice {s = s} {some = some} c w d) = let h = statement_more some s in let a = h.size in let b = h.weighs in within (compound_spans d) (omega (arith, a)) (omega (arith, b))
+  statement_spans (s_compound {s = s} {some = some} c d) = let h = statement_more some s in let a = h.size in let b = h.weighs in within (compound_spans d) (omega (arith, a)) (omega (arith, b))
 
   compound_spans : {x : Origin} {n left : ℕ} {s : Statement} {ts rest : List Token} → IsCompound x n left s ts rest → Spans 0 (nodes_of s) 0 (statement_weight s) ts rest
-  compound_spans {x} {n} (c_if {all = all} {other = other} {tok = tok} {ts = ts} e b m o g) =
-      let h = conditional_small (place_at x tok) all other in let c = h.size in let d = h.weighs in
-      within (then_spans (lead_token L.If n tok ts e (λ h. cc)) (then_spans (one_branch_spans b) (then_spans (elifs_spans m) (else_spans o)))) (omega (arith, c)) (omega (arith, d))
+  compound_spans {x} {n} (c_if {all = all} {other = other} {tok = tok} {ts = ts} e b m o) =
+      within (then_spans (lead_token L.If n tok ts e (λ h. cc)) (then_spans (one_branch_spans b) (then_spans (elifs_spans m) (else_spans o)))) (omega arith) (omega arith)
   compound_spans {n = n} (c_case {tok = tok} {ts = ts} {mid = mid} e h d) =
       within (then_spans (lead_token L.Case n tok ts e (λ h. cc)) (then_spans (here_spans h) (then_spans (past_spans n mid) (branches_spans d)))) (omega arith) (omega arith)
   compound_spans {n = n} (c_while {tok = tok} {ts = ts} e h d) =
@@ -159,40 +160,39 @@ mutual
       within (then_spans (lead_token L.Type n tok ts e (λ h. cc)) (takes_spans (declarations_takes all ts rest d.reads))) (omega arith) (omega arith)
   compound_spans {n = n} (c_section {tok = tok} {ts = ts} e d) = within (then_spans (lead_token L.Section n tok ts e (λ h. cc)) (definitions_spans d.reads)) (omega arith) (omega arith)
 
-  body_spans : {x : Origin} {n left : ℕ} {body : Block} {ts rest : List Token} → IsBody x n left body ts rest → Spans 0 (2 + all_nodes body.body) 0 (suc (weights body.body)) ts rest
+  body_spans : {x : Origin} {n left : ℕ} {body : Statements} {ts rest : List Token} → IsBody x n left body ts rest → Spans 0 (2 + all_nodes body) 0 (suc (weights body)) ts rest
   body_spans {n = n} {ts = ts} (b_body e d) = within (then_spans (colon_spans n ts e) (block_spans d)) (omega arith) (omega arith)
 
-  block_spans : {x : Origin} {n left : ℕ} {body : Block} {ts rest : List Token} → IsBlock x n left body ts rest → Spans 0 (all_nodes body.body) 0 (weights body.body) ts rest
+  block_spans : {x : Origin} {n left : ℕ} {body : Statements} {ts rest : List Token} → IsBlock x n left body ts rest → Spans 0 (all_nodes body) 0 (weights body) ts rest
   block_spans (b_line e d) = line_spans d
   block_spans (b_deeper e h d) = statements_spans d
 
-  one_branch_spans : {x : Origin} {n left : ℕ} {some all : Chosen} {at : Place} {ts rest : List Token} → IsBranch x n left some at all ts rest
-      → Spans (branch_nodes some.all) (branch_nodes all.all) (branch_weights some.all) (branch_weights all.all) ts rest
+  one_branch_spans : {x : Origin} {n left : ℕ} {some all : Branches} {at : Place} {ts rest : List Token} → IsBranch x n left some at all ts rest
+      → Spans (branch_nodes some) (branch_nodes all) (branch_weights some) (branch_weights all) ts rest
   one_branch_spans (r_branch {a = a} {some = some} {body = body} {at = at} h d) =
-      let k = branch_more some.all at (part a no_parts) body.body in let b = k.size in let c = k.weighs in within (then_spans (here_spans h) (body_spans d)) (omega (arith, b)) (omega (arith, c))
+      let k = branch_more some at (part a no_parts) body in let b = k.size in let c = k.weighs in within (then_spans (here_spans h) (body_spans d)) (omega (arith, b)) (omega (arith, c))
 
-  elifs_spans : {x : Origin} {n left : ℕ} {some all : Chosen} {ts rest : List Token} → MoreElifs x n left some all ts rest
-      → Spans (branch_nodes some.all) (branch_nodes all.all) (branch_weights some.all) (branch_weights all.all) ts rest
+  elifs_spans : {x : Origin} {n left : ℕ} {some all : Branches} {ts rest : List Token} → MoreElifs x n left some all ts rest
+      → Spans (branch_nodes some) (branch_nodes all) (branch_weights some) (branch_weights all) ts rest
   elifs_spans (r_over e) = no_spans
   elifs_spans {n = n} {ts = whole} (r_elif e d m) = within (then_spans (branch_spans n is_elif whole refl e) (then_spans (one_branch_spans d) (elifs_spans m))) (omega arith) (omega arith)
 
-  else_spans : {x : Origin} {n left : ℕ} {body : Block} {ts rest : List Token} → IsElse x n left body ts rest → Spans 0 (all_nodes body.body) 0 (weights body.body) ts rest
+  else_spans : {x : Origin} {n left : ℕ} {body : Statements} {ts rest : List Token} → IsElse x n left body ts rest → Spans 0 (all_nodes body) 0 (weights body) ts rest
   else_spans (r_no_else e) = no_spans
   else_spans {n = n} {ts = ts} (r_else e d) = within (then_spans (branch_spans n is_else ts refl e) (body_spans d)) (omega arith) (omega arith)
 
   branches_spans : {x : Origin} {n left : ℕ} {at : Place} {a : Term} {s : Statement} {ts rest : List Token} → AreBranches x n left at a s ts rest
       → Spans (suc (suc (nodes a))) (nodes_of s) (suc (weight a)) (statement_weight s) ts rest
-  branches_spans (r_branches {at = at} {a = a} {all = all} {other = other} e m o g) =
-      let h = selected_small at a all other in let b = h.size in let c = h.weighs in within (then_spans (ofs_spans m) (else_spans o)) (omega (arith, b)) (omega (arith, c))
+  branches_spans (r_branches e m o) = within (then_spans (ofs_spans m) (else_spans o)) (omega arith) (omega arith)
 
-  one_of_spans : {x : Origin} {n left : ℕ} {some all : Chosen} {at : Place} {ts rest : List Token} → IsOf x n left some at all ts rest
-      → Spans (branch_nodes some.all) (branch_nodes all.all) (branch_weights some.all) (branch_weights all.all) ts rest
+  one_of_spans : {x : Origin} {n left : ℕ} {some all : Branches} {at : Place} {ts rest : List Token} → IsOf x n left some at all ts rest
+      → Spans (branch_nodes some) (branch_nodes all) (branch_weights some) (branch_weights all) ts rest
   one_of_spans (r_of {tests = tests} {some = some} {body = body} {at = at} e d m b) =
-      let k = branch_more some.all at tests body.body in let c = k.size in let h = k.weighs in
+      let k = branch_more some at tests body in let c = k.size in let h = k.weighs in
       within (then_spans (label_spans d) (then_spans (labels_spans m) (body_spans b))) (omega (arith, c)) (omega (arith, h))
 
-  ofs_spans : {x : Origin} {n left : ℕ} {some all : Chosen} {ts rest : List Token} → MoreOfs x n left some all ts rest
-      → Spans (branch_nodes some.all) (branch_nodes all.all) (branch_weights some.all) (branch_weights all.all) ts rest
+  ofs_spans : {x : Origin} {n left : ℕ} {some all : Branches} {ts rest : List Token} → MoreOfs x n left some all ts rest
+      → Spans (branch_nodes some) (branch_nodes all) (branch_weights some) (branch_weights all) ts rest
   ofs_spans (r_last e) = no_spans
   ofs_spans {n = n} {ts = whole} (r_next e d m) = within (then_spans (branch_spans n is_of whole refl e) (then_spans (one_of_spans d) (ofs_spans m))) (omega arith) (omega arith)
 
@@ -211,7 +211,7 @@ mutual
       let k = handler_more some (place_at x tok) c in let a = k.size in let b = k.weighs in
       within (then_spans (branch_spans n is_except whole refl e) (then_spans (handler_spans d) (handlers_spans m))) (omega (arith, a)) (omega (arith, b))
 
-  finally_spans : {x : Origin} {n left : ℕ} {body : Block} {ts rest : List Token} → IsFinally x n left body ts rest → Spans 0 (all_nodes body.body) 0 (weights body.body) ts rest
+  finally_spans : {x : Origin} {n left : ℕ} {body : Statements} {ts rest : List Token} → IsFinally x n left body ts rest → Spans 0 (all_nodes body) 0 (weights body) ts rest
   finally_spans (h_no_finally e) = no_spans
   finally_spans {n = n} {ts = ts} (h_finally e d) = within (then_spans (branch_spans n is_finally ts refl e) (body_spans d)) (omega arith) (omega arith)
 

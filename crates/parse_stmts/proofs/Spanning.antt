@@ -14,7 +14,7 @@ use Rattle.nim_tree.specs.Weights.{weight, weight_in, weight_maybe, definition_w
 use Rattle.parse_exprs.specs.declared.layout.Layout.{Layout}
 use Rattle.parse_exprs.specs.declared.layout.Layout.TheVariants.{Brackets, Lines}
 use Rattle.parse_exprs.specs.Look.{Origin, spelling, goes_on, branch_goes_on, is_punct, is_name, is_run, name_on, colon_at, comma_at, past_colon, dots_at, branch_at}
-use Rattle.parse_exprs.specs.Plain.{SpellsExpr}
+use Rattle.parse_exprs.specs.Grammar.{SpellsExpr}
 use Rattle.parse_exprs.proofs.Spans.{Free, stop, step, expr_spans, primary_spans}
 use Rattle.parse_exprs.specs.Counts.{unit, count}
 use Rattle.parse_exprs.proofs.Weighing.{expr_weighs, primary_weighs}
@@ -162,7 +162,7 @@ some_nodes (case_term at a cs) = omega arith
 some_nodes (case_else at a cs b) = omega arith
 some_nodes (range at a b) = omega arith
 
-expression_spans : {x : Origin} {i : Layout} {a : Term} {ts rest : List Token} → SpellsExpr x i a ts rest → Spans 0 (2 * nodes a) 0 (weight a) ts rest
+pub expression_spans : {x : Origin} {i : Layout} {a : Term} {ts rest : List Token} → SpellsExpr x i a ts rest → Spans 0 (2 * nodes a) 0 (weight a) ts rest
 expression_spans d = let s = expr_spans d in let w = expr_weighs d in let p = s.size in let q = w.size in record { size = omega (arith, p); weighs = omega (arith, q) }
 
 pub value_spans : {x : Origin} {n : ℕ} {a : Term} {ts rest : List Token} → IsValue x n a ts rest → Spans 0 (2 * nodes a) 0 (weight a) ts rest

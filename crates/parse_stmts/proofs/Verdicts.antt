@@ -1,14 +1,13 @@
 -- What a module comes to is its tree, or why it has none.
-use Rattle.std.proofs.Common.{◌≡◌, List, [], ◌∷◌, sym, ap, ◌∙◌, arith}
+use Rattle.std.proofs.Common.{◌≡◌, List, [], ◌∷◌, refl, sym, ap, ◌∙◌, arith}
 use Rattle.arc_base.specs.declared.place.Place.{Place}
 use Rattle.arc_base.specs.declared.place.Code.{Code}
 use Rattle.arc_base.specs.declared.place.Code.TheVariants.{Syntax, NestTooDeep, LeftOut}
 use Rattle.indent_scanner.specs.declared.token.Token.{Token}
 use Rattle.nim_tree.specs.Statements.{Statements}
-use Rattle.parse_exprs.specs.Look.{Origin, place_at}
+use Rattle.parse_exprs.specs.Look.{Origin, place_at, next_at}
 use Rattle.parse_exprs.specs.Parsed.{IsFirst}
 use Rattle.parse_decls.specs.Outcome.{Why, too_deep, left_out, stuck, got, bad, Settles}
-use Rattle.parse_decls.specs.Gives.{IsNext}
 use Rattle.parse_decls.proofs.Settling.{settles_one, got_one, got_bad}
 use Rattle.parse_decls.proofs.Productions.{bad_one}
 use Rattle.parse_stmts.specs.Run.{run_module}
@@ -45,11 +44,7 @@ stuck_deep e = cc
 stuck_left_out : {C : Type 0} {r s : List Token} → left_out r ≡ stuck s → C
 stuck_left_out e = cc
 
-next_in_module : (x : Origin) (rest : List Token) (at : Place) → IsNext x rest at → at.«module» ≡ x.number
-next_in_module x [] at e = e
-next_in_module x (tok ∷ rest) at e = ap (λ p. p.«module») e
-
-pub module_none : {x : Origin} {tokens : List Token} (rest : List Token) {at : Place} → Settles (λ k. run_module k x tokens) (bad (stuck rest)) → IsNext x rest at → HasNone x tokens at
+pub module_none : {x : Origin} {tokens : List Token} (rest : List Token) {at : Place} → Settles (λ k. run_module k x tokens) (bad (stuck rest)) → at ≡ next_at x rest → HasNone x tokens at
 module_none {x} rest {at} h n = (let f = module_stops tt h in record {
   rest = rest;
   stops = f;
@@ -57,7 +52,6 @@ module_none {x} rest {at} h n = (let f = module_stops tt h in record {
   none = λ all d. module_faulty d f;
   shallow = λ p o. stuck_deep (module_fault o.deep f);
   used = λ p o. stuck_left_out (module_fault o.stops f);
-  in_module = next_in_module x rest at n;
 })
 
 -- ---- places
@@ -85,8 +79,30 @@ deep_once {x} o u = first_once x o.whole u.whole (deep_at (module_fault o.deep u
 pub left_out_once : {x : Origin} {tokens : List Token} {p q : Place} → IsLeftOut x tokens p → IsLeftOut x tokens q → p ≡ q
 left_out_once {x} o u = first_once x o.rest u.rest (left_out_one (module_fault o.stops u.stops)) o.first u.first
 
+stuck_one : {r s : List Token} → stuck r ≡ stuck s → r ≡ s
+stuck_one e = cc
+
+pub none_once : {x : Origin} {tokens : List Token} {p q : Place} → HasNone x tokens p → HasNone x tokens q → p ≡ q
+none_once {x} o u = o.next ∙ ap (next_at x) (stuck_one (module_fault o.stops u.stops)) ∙ sym u.next
+
 pub never_both : {C : Type 0} {x : Origin} {tokens : List Token} {p q : Place} → OpensTooMany x tokens p → IsLeftOut x tokens q → C
 never_both o u = deep_left_out (module_fault o.deep u.stops)
+
+-- a refusal has one code and one place
+pub refused_once : (x : Origin) (tokens : List Token) (c d : Code) (p q : Place) → IsRefused x tokens c p → IsRefused x tokens d q → (c ≡ d) × (p ≡ q)
+refused_once x tokens Syntax Syntax p q r s = (refl, none_once r s)
+refused_once x tokens Syntax NestTooDeep p q r s = absurd (r.shallow q s)
+refused_once x tokens Syntax LeftOut p q r s = absurd (r.used q s)
+refused_once x tokens Syntax _ p q r s = absurd s
+refused_once x tokens NestTooDeep Syntax p q r s = absurd (s.shallow p r)
+refused_once x tokens NestTooDeep NestTooDeep p q r s = (refl, deep_once r s)
+refused_once x tokens NestTooDeep LeftOut p q r s = never_both r s
+refused_once x tokens NestTooDeep _ p q r s = absurd s
+refused_once x tokens LeftOut Syntax p q r s = absurd (s.used p r)
+refused_once x tokens LeftOut NestTooDeep p q r s = never_both s r
+refused_once x tokens LeftOut LeftOut p q r s = (refl, left_out_once r s)
+refused_once x tokens LeftOut _ p q r s = absurd s
+refused_once x tokens _ d p q r s = absurd r
 
 -- a tree isn't refused
 pub module_stands : {x : Origin} {tokens : List Token} {all : Statements} (code : Code) (at : Place) → IsModule x tokens all → HasFew all → IsRefused x tokens code at → ⊥

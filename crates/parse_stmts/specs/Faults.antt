@@ -1,17 +1,17 @@
 -- Where the text of statements can't go on.
 --
--- It is read in the order of its tokens. The first that can't go on decides (`Why`): an expression, a written type or an
--- `if` or `case` that is an expression has a level too many, which names its first token; a block takes a level where none
--- is left, which names the block's first token; or another token has to stand there, and where the language leaves out what
--- stands there, a keyword, a pragma or a path of an import, that is said. What was read before it is as the grammar says.
-use Rattle.std.specs.Prelude.{◌≡◌, ℕ, zero, suc, true, false, ◌&&◌, ◌||◌, List, [], ◌∷◌, Some, Option}
+-- It is read in the order of its tokens. The first that can't go on decides (`Why`): an expression or a written type has a level
+-- too many, which names its first token; a block begins where no level is left, which names the block's first token; or another
+-- token has to stand there, and where the language leaves out what stands there, a keyword, a pragma or a path of an import, that
+-- is said. What was read before it is as the grammar says.
+use Rattle.std.specs.Prelude.{◌≡◌, ℕ, zero, suc, ◌<◌, true, false, ◌&&◌, ◌||◌, List, [], ◌∷◌, Some, Option}
 use Rattle.arc_base.specs.declared.place.Place.{Place}
 use Rattle.indent_scanner.specs.declared.token.Token.{Token}
 use Rattle.nim_tree.specs.declared.name.Name.{Name}
 use Rattle.nim_tree.specs.declared.stmt.AssignOp.{AssignOp}
 use Rattle.nim_tree.specs.declared.stmt.Binding.{Binding}
-use Rattle.nim_tree.specs.Terms.{Term, Parts, no_parts, part}
-use Rattle.nim_tree.specs.Statements.{Head, Course, Statement, Statements, empty, Handlers, no_handlers}
+use Rattle.nim_tree.specs.Terms.{Term, Parts, no_parts, part, levels}
+use Rattle.nim_tree.specs.Statements.{Head, Course, Statement, Statements, empty, Branches, no_branches, Handlers, no_handlers}
 use Rattle.parse_exprs.specs.declared.layout.Layout.{Layout}
 use Rattle.parse_exprs.specs.declared.layout.Layout.TheVariants.{Brackets, Lines}
 use Rattle.parse_exprs.specs.Look.{Origin, place_at, stays, colon_at, comma_at, past_colon, dots_at, expr_at, lead_at, name_on, branch_at, is_elif, is_else, is_of, first_of_at, is_punct}
@@ -23,8 +23,8 @@ use Rattle.parse_decls.specs.Faults.{FaultsEach, FaultsListed, FaultsPresent, Fa
 use Rattle.parse_stmts.specs.declared.look.Lead.TheVariants as L
 use Rattle.parse_stmts.specs.declared.look.Simple.{Simple}
 use Rattle.parse_stmts.specs.declared.look.Simple.TheVariants as S
-use Rattle.parse_stmts.specs.Look.{end_at, on_line_at, ends_at, lead, simple_of, atom_at, operand_on, assign_on, is_in, is_as, is_except, is_finally, word_on, below_at, path_at, assigned_by, branch_level}
-use Rattle.parse_stmts.specs.Inline.{Block, Chosen, conditional, selected, no_chosen, fits_as}
+use Rattle.parse_stmts.specs.Look.{end_at, on_line_at, ends_at, opens_block, chooses, lead, simple_of, atom_at, operand_on, assign_on, is_in, is_as, is_except, is_finally, word_on, below_at, path_at, assigned_by, branch_level}
+use Rattle.parse_stmts.specs.Alone.{IsAlone, NotAlone}
 use Rattle.parse_stmts.specs.Handling.{are_some, Caught, have_some, hold_some}
 use Rattle.parse_stmts.specs.Grammar.{IsValue, IsHere, IsCalled, NoCommand, IsModuleName, Binds, IsSimple, IsLabel, MoreLabels, IsCourse, Alias, IsProcedure, AreStatements, IsStatement, IsBody, IsBranch, MoreElifs, IsElse, IsOf, MoreOfs, IsHandler, MoreHandlers, IsFinally}
 
@@ -117,20 +117,22 @@ mutual
 
   pub data FaultsStatement (x : Origin) (why : Why) : ℕ → ℕ → List Token → Type 0 where
     f_one_line : {n left : ℕ} {tok : Token} {ts : List Token} → lead n tok ts ≡ L.Line → FaultsLine x n why (tok ∷ ts) → FaultsStatement x why n left (tok ∷ ts)
-    f_compound : {n left : ℕ} {ts : List Token} → FaultsCompound x why n left ts → FaultsStatement x why n left ts
+    -- an expression alone on its line has a level too many
+    f_alone : {n left : ℕ} {a : Term} {tok : Token} {ts rest : List Token} → chooses (lead n tok ts) ≡ true → IsAlone x n a (tok ∷ ts) rest → 64 < levels a
+        → why ≡ too_deep (tok ∷ ts) → FaultsStatement x why n left (tok ∷ ts)
+    f_choice : {n left : ℕ} {tok : Token} {ts : List Token} → chooses (lead n tok ts) ≡ true → NotAlone x n (tok ∷ ts) → FaultsCompound x why n left (tok ∷ ts)
+        → FaultsStatement x why n left (tok ∷ ts)
+    f_compound : {n left : ℕ} {tok : Token} {ts : List Token} → chooses (lead n tok ts) ≡ false → FaultsCompound x why n left (tok ∷ ts) → FaultsStatement x why n left (tok ∷ ts)
 
   pub data FaultsCompound (x : Origin) (why : Why) : ℕ → ℕ → List Token → Type 0 where
     f_if : {n left : ℕ} {tok : Token} {ts : List Token} → lead n tok ts ≡ L.If → FaultsBranch x why n left ts → FaultsCompound x why n left (tok ∷ ts)
-    f_elifs : {n left : ℕ} {one : Chosen} {tok : Token} {ts mid : List Token} → lead n tok ts ≡ L.If → IsBranch x n left no_chosen (place_at x tok) one ts mid
+    f_elifs : {n left : ℕ} {one : Branches} {tok : Token} {ts mid : List Token} → lead n tok ts ≡ L.If → IsBranch x n left no_branches (place_at x tok) one ts mid
         → FaultsElifs x why n left mid → FaultsCompound x why n left (tok ∷ ts)
-    f_if_else : {n left : ℕ} {one all : Chosen} {tok : Token} {ts mid end : List Token} → lead n tok ts ≡ L.If → IsBranch x n left no_chosen (place_at x tok) one ts mid
+    f_if_else : {n left : ℕ} {one all : Branches} {tok : Token} {ts mid end : List Token} → lead n tok ts ≡ L.If → IsBranch x n left no_branches (place_at x tok) one ts mid
         → MoreElifs x n left one all mid end → FaultsElse x why n left end → FaultsCompound x why n left (tok ∷ ts)
-    f_if_deep : {n left : ℕ} {one all : Chosen} {other : Block} {tok : Token} {ts mid end rest : List Token} → lead n tok ts ≡ L.If
-        → IsBranch x n left no_chosen (place_at x tok) one ts mid → MoreElifs x n left one all mid end → IsElse x n left other end rest
-        → fits_as (conditional (place_at x tok) all other) ≡ false → why ≡ too_deep (tok ∷ ts) → FaultsCompound x why n left (tok ∷ ts)
     f_case : {n left : ℕ} {tok : Token} {ts : List Token} → lead n tok ts ≡ L.Case → FaultsHere x n why ts → FaultsCompound x why n left (tok ∷ ts)
     f_branches : {n left : ℕ} {a : Term} {tok : Token} {ts mid : List Token} → lead n tok ts ≡ L.Case → IsHere x n a ts mid
-        → FaultsBranches x why (tok ∷ ts) (place_at x tok) a n left (past_colon (Lines n) mid) → FaultsCompound x why n left (tok ∷ ts)
+        → FaultsBranches x why n left (past_colon (Lines n) mid) → FaultsCompound x why n left (tok ∷ ts)
     f_while : {n left : ℕ} {tok : Token} {ts : List Token} → lead n tok ts ≡ L.While → FaultsHere x n why ts → FaultsCompound x why n left (tok ∷ ts)
     f_while_body : {n left : ℕ} {a : Term} {tok : Token} {ts mid : List Token} → lead n tok ts ≡ L.While → IsHere x n a ts mid → FaultsBody x why n left mid
         → FaultsCompound x why n left (tok ∷ ts)
@@ -142,13 +144,13 @@ mutual
     f_for_body : {n left : ℕ} {name : Name} {course : Course} {tok : Token} {ts mid end : List Token} → lead n tok ts ≡ L.For → IsName x (Lines n) name ts mid
         → word_on n is_in mid ≡ true → IsCourse x n course (behind mid) end → FaultsBody x why n left end → FaultsCompound x why n left (tok ∷ ts)
     f_try : {n left : ℕ} {tok : Token} {ts : List Token} → lead n tok ts ≡ L.Try → FaultsBody x why n left ts → FaultsCompound x why n left (tok ∷ ts)
-    f_handlers : {n left : ℕ} {body : Block} {tok : Token} {ts mid : List Token} → lead n tok ts ≡ L.Try → IsBody x n left body ts mid → FaultsHandlers x why n left mid
+    f_handlers : {n left : ℕ} {body : Statements} {tok : Token} {ts mid : List Token} → lead n tok ts ≡ L.Try → IsBody x n left body ts mid → FaultsHandlers x why n left mid
         → FaultsCompound x why n left (tok ∷ ts)
-    f_finally : {n left : ℕ} {body : Block} {all : Handlers} {tok : Token} {ts mid end : List Token} → lead n tok ts ≡ L.Try → IsBody x n left body ts mid
+    f_finally : {n left : ℕ} {body : Statements} {all : Handlers} {tok : Token} {ts mid end : List Token} → lead n tok ts ≡ L.Try → IsBody x n left body ts mid
         → MoreHandlers x n left no_handlers all mid end → FaultsFinally x why n left end → FaultsCompound x why n left (tok ∷ ts)
     -- neither a handler nor a `finally`
-    f_try_alone : {n left : ℕ} {body last : Block} {all : Handlers} {tok : Token} {ts mid end rest : List Token} → lead n tok ts ≡ L.Try → IsBody x n left body ts mid
-        → MoreHandlers x n left no_handlers all mid end → IsFinally x n left last end rest → (have_some all || hold_some last.body) ≡ false → why ≡ stuck_at rest
+    f_try_alone : {n left : ℕ} {body last : Statements} {all : Handlers} {tok : Token} {ts mid end rest : List Token} → lead n tok ts ≡ L.Try → IsBody x n left body ts mid
+        → MoreHandlers x n left no_handlers all mid end → IsFinally x n left last end rest → (have_some all || hold_some last) ≡ false → why ≡ stuck_at rest
         → FaultsCompound x why n left (tok ∷ ts)
     f_defer : {n left : ℕ} {tok : Token} {ts : List Token} → lead n tok ts ≡ L.Defer → FaultsBody x why n left ts → FaultsCompound x why n left (tok ∷ ts)
     f_head : {n left : ℕ} {tok : Token} {ts : List Token} → lead n tok ts ≡ L.Proc → FaultsHead x (Lines n) why ts → FaultsCompound x why n left (tok ∷ ts)
@@ -163,8 +165,9 @@ mutual
     f_body : {n left : ℕ} {ts : List Token} → colon_at (Lines n) ts ≡ true → FaultsBlock x why n left (behind ts) → FaultsBody x why n left ts
 
   pub data FaultsBlock (x : Origin) (why : Why) : ℕ → ℕ → List Token → Type 0 where
-    f_no_level : {n : ℕ} {ts : List Token} → (on_line_at ts || deeper_at n ts) ≡ true → why ≡ too_deep ts → FaultsBlock x why n zero ts
-    f_no_block : {n left : ℕ} {ts : List Token} → on_line_at ts ≡ false → deeper_at n ts ≡ false → why ≡ stuck_at ts → FaultsBlock x why n left ts
+    f_no_level : {n : ℕ} {ts : List Token} → opens_block x n ts ≡ true → why ≡ too_deep ts → FaultsBlock x why n zero ts
+    f_no_start : {n : ℕ} {ts : List Token} → opens_block x n ts ≡ false → why ≡ stuck_at ts → FaultsBlock x why n zero ts
+    f_no_block : {n left : ℕ} {ts : List Token} → on_line_at ts ≡ false → deeper_at n ts ≡ false → why ≡ stuck_at ts → FaultsBlock x why n (suc left) ts
     f_line_block : {n left : ℕ} {ts : List Token} → on_line_at ts ≡ true → FaultsLine x n why ts → FaultsBlock x why n (suc left) ts
     f_deeper_block : {n left : ℕ} {ts : List Token} → on_line_at ts ≡ false → deeper_at n ts ≡ true → FaultsStatements x why (level_at ts) left ts → FaultsBlock x why n (suc left) ts
 
@@ -175,23 +178,20 @@ mutual
 
   pub data FaultsElifs (x : Origin) (why : Why) : ℕ → ℕ → List Token → Type 0 where
     f_elif : {n left : ℕ} {tok : Token} {ts : List Token} → branch_at (Lines n) is_elif (tok ∷ ts) ≡ true → FaultsBranch x why n left ts → FaultsElifs x why n left (tok ∷ ts)
-    f_next_elif : {n left : ℕ} {some more : Chosen} {at : Place} {tok : Token} {ts mid : List Token} → branch_at (Lines n) is_elif (tok ∷ ts) ≡ true
+    f_next_elif : {n left : ℕ} {some more : Branches} {at : Place} {tok : Token} {ts mid : List Token} → branch_at (Lines n) is_elif (tok ∷ ts) ≡ true
         → IsBranch x n left some at more ts mid → FaultsElifs x why n left mid → FaultsElifs x why n left (tok ∷ ts)
 
   pub data FaultsElse (x : Origin) (why : Why) : ℕ → ℕ → List Token → Type 0 where
     f_else : {n left : ℕ} {ts : List Token} → branch_at (Lines n) is_else ts ≡ true → FaultsBody x why n left (behind ts) → FaultsElse x why n left ts
 
-  -- the branches of a `case` that begins at whole, with its place, and is over a
-  pub data FaultsBranches (x : Origin) (why : Why) : List Token → Place → Term → ℕ → ℕ → List Token → Type 0 where
-    f_no_of : {whole : List Token} {at : Place} {a : Term} {n left : ℕ} {ts : List Token} → first_of_at (Lines n) ts ≡ false → why ≡ stuck_at ts → FaultsBranches x why whole at a n left ts
-    f_ofs : {whole : List Token} {at : Place} {a : Term} {n left : ℕ} {tok : Token} {ts : List Token} → first_of_at (Lines n) (tok ∷ ts) ≡ true
-        → FaultsOfs x why (branch_level n tok.indent) left (tok ∷ ts) → FaultsBranches x why whole at a n left (tok ∷ ts)
-    f_of_else : {whole : List Token} {at : Place} {a : Term} {n left : ℕ} {all : Chosen} {tok : Token} {ts end : List Token} → first_of_at (Lines n) (tok ∷ ts) ≡ true
-        → MoreOfs x (branch_level n tok.indent) left no_chosen all (tok ∷ ts) end → FaultsElse x why (branch_level n tok.indent) left end
-        → FaultsBranches x why whole at a n left (tok ∷ ts)
-    f_case_deep : {whole : List Token} {at : Place} {a : Term} {n left : ℕ} {all : Chosen} {other : Block} {tok : Token} {ts end rest : List Token} → first_of_at (Lines n) (tok ∷ ts) ≡ true
-        → MoreOfs x (branch_level n tok.indent) left no_chosen all (tok ∷ ts) end → IsElse x (branch_level n tok.indent) left other end rest
-        → fits_as (selected at a all other) ≡ false → why ≡ too_deep whole → FaultsBranches x why whole at a n left (tok ∷ ts)
+  -- the branches of a `case`
+  pub data FaultsBranches (x : Origin) (why : Why) : ℕ → ℕ → List Token → Type 0 where
+    f_no_of : {n left : ℕ} {ts : List Token} → first_of_at (Lines n) ts ≡ false → why ≡ stuck_at ts → FaultsBranches x why n left ts
+    f_ofs : {n left : ℕ} {tok : Token} {ts : List Token} → first_of_at (Lines n) (tok ∷ ts) ≡ true
+        → FaultsOfs x why (branch_level n tok.indent) left (tok ∷ ts) → FaultsBranches x why n left (tok ∷ ts)
+    f_of_else : {n left : ℕ} {all : Branches} {tok : Token} {ts end : List Token} → first_of_at (Lines n) (tok ∷ ts) ≡ true
+        → MoreOfs x (branch_level n tok.indent) left no_branches all (tok ∷ ts) end → FaultsElse x why (branch_level n tok.indent) left end
+        → FaultsBranches x why n left (tok ∷ ts)
 
   -- behind `of`
   pub data FaultsOf (x : Origin) (why : Why) : ℕ → ℕ → List Token → Type 0 where
@@ -203,7 +203,7 @@ mutual
 
   pub data FaultsOfs (x : Origin) (why : Why) : ℕ → ℕ → List Token → Type 0 where
     f_of : {n left : ℕ} {tok : Token} {ts : List Token} → branch_at (Lines n) is_of (tok ∷ ts) ≡ true → FaultsOf x why n left ts → FaultsOfs x why n left (tok ∷ ts)
-    f_next_of : {n left : ℕ} {some more : Chosen} {at : Place} {tok : Token} {ts mid : List Token} → branch_at (Lines n) is_of (tok ∷ ts) ≡ true
+    f_next_of : {n left : ℕ} {some more : Branches} {at : Place} {tok : Token} {ts mid : List Token} → branch_at (Lines n) is_of (tok ∷ ts) ≡ true
         → IsOf x n left some at more ts mid → FaultsOfs x why n left mid → FaultsOfs x why n left (tok ∷ ts)
 
   -- behind `except`

@@ -21,16 +21,17 @@
 -- Each relation says: these tokens begin with that, and these are the tokens behind it. A statement stands behind n spaces.
 -- A block is a line on the line of its colon (or `=`), or begins on the next line behind more spaces than n, and each of its
 -- statements begins a line behind the same number; it ends where a line stands behind fewer, or the source ends. The words
--- `elif`, `else`, `of`, `except` and `finally` begin a line behind n spaces, or follow on the line where the block before
--- them ends; the first `of` may stand deeper, and sets the number for those that follow.
+-- `elif`, `else`, `of`, `except` and `finally` begin a line behind n spaces, or follow on the line of their own statement; the
+-- first `of` may stand deeper, and sets the number for those that follow.
 --
 -- What can go on goes on: where a repetition or an optional part ends, the token that would begin more of it doesn't stand.
 -- A relation with two trees of one sort has first what stands before these tokens, and then that and what they are.
 --
--- An `if` with an `else`, or a `case`, whose blocks are each one expression on the line of their colon, is an expression.
+-- An `if` or `case` at the start of a statement is an expression where it can be read as one that is alone on its line, and has
+-- blocks else.
 --
--- Each expression and each written type has at most 64 levels. `left` is the number of levels of blocks that are left; each
--- block takes one, also where the statement turns out to be an expression.
+-- Each expression and each written type has at most 64 levels. `left` is the number of levels of blocks that are left, of which
+-- each block takes one.
 use Rattle.std.specs.Prelude.{◌≡◌, ℕ, suc, ◌≤◌, true, false, ◌&&◌, ◌||◌, List, [], ◌∷◌, ◌++◌, Option, Some, None}
 use Rattle.arc_base.specs.declared.place.Place.{Place}
 use Rattle.indent_scanner.specs.declared.token.Token.{Token}
@@ -41,19 +42,19 @@ use Rattle.nim_tree.specs.declared.stmt.Binding.TheVariants as B
 use Rattle.nim_tree.specs.Lists.{highest}
 use Rattle.nim_tree.specs.Terms.{Term, range, Parts, no_parts, part, and_part, place_of, levels}
 use Rattle.nim_tree.specs.Types.{Declaration, declaration_levels, declaration_term_levels}
-use Rattle.nim_tree.specs.Statements.{Definition, definition_term_levels, definition_type_levels, Head, head_term_levels, head_type_levels, Course, each, up_to, below, Statement, discards, returns, raises, breaks, continues, imports, evaluates, assigns, commands, defines, types, repeats, counts, tries, defers, proclaims, Statements, empty, and_statement, Handlers, no_handlers}
+use Rattle.nim_tree.specs.Statements.{Definition, definition_term_levels, definition_type_levels, Head, head_term_levels, head_type_levels, Course, each, up_to, below, Statement, discards, returns, raises, breaks, continues, imports, evaluates, assigns, commands, defines, types, repeats, counts, tries, defers, proclaims, branches, selects, Statements, empty, and_statement, Branches, no_branches, and_branch, Handlers, no_handlers}
 use Rattle.parse_exprs.specs.declared.layout.Layout.{Layout}
 use Rattle.parse_exprs.specs.declared.layout.Layout.TheVariants.{Brackets, Lines}
 use Rattle.parse_exprs.specs.Look.{Origin, place_at, stays, colon_at, comma_at, past_colon, dots_at, expr_at, lead_at, branch_at, is_elif, is_else, is_of, first_of_at, is_punct}
-use Rattle.parse_exprs.specs.Plain.{IsCallee}
+use Rattle.parse_exprs.specs.Grammar.{IsCallee}
 use Rattle.parse_decls.specs.Look.{behind, deeper_at, stands_at, level_at, equals_at}
 use Rattle.parse_decls.specs.Grammar.{Maybe, IsName, Names, IsDefinitionBlock, IsDeclarations, IsHead}
 use Rattle.parse_decls.specs.Faults.{Short, ShortTerm, ShortDefinition}
 use Rattle.parse_stmts.specs.declared.look.Lead.TheVariants as L
 use Rattle.parse_stmts.specs.declared.look.Simple.{Simple}
 use Rattle.parse_stmts.specs.declared.look.Simple.TheVariants as S
-use Rattle.parse_stmts.specs.Look.{end_at, on_line_at, ends_at, lead, simple_of, atom_at, operand_on, assign_on, is_in, is_as, is_except, is_finally, word_on, below_at, path_at, assigned_by, branch_level, binding_of}
-use Rattle.parse_stmts.specs.Inline.{Block, Chosen, no_block, conditional, selected, and_chosen, no_chosen, fits_as}
+use Rattle.parse_stmts.specs.Look.{end_at, on_line_at, ends_at, chooses, lead, simple_of, atom_at, operand_on, assign_on, is_in, is_as, is_except, is_finally, word_on, below_at, path_at, assigned_by, branch_level, binding_of}
+use Rattle.parse_stmts.specs.Alone.{IsAlone, NotAlone}
 use Rattle.parse_stmts.specs.Handling.{are_some, Caught, and_caught, have_some, hold_some}
 
 -- ---- expressions
@@ -186,29 +187,35 @@ mutual
   pub data IsStatement (x : Origin) : ℕ → ℕ → Statements → Statements → List Token → List Token → Type 0 where
     s_line : {n left : ℕ} {some all : Statements} {tok : Token} {ts rest : List Token} → lead n tok ts ≡ L.Line → IsLine x n some all (tok ∷ ts) rest
         → IsStatement x n left some all (tok ∷ ts) rest
-    s_compound : {n left : ℕ} {s : Statement} {some : Statements} {ts rest : List Token} → IsCompound x n left s ts rest
-        → IsStatement x n left some (and_statement some s) ts rest
+    -- an `if` or `case` that can be read as an expression alone on its line
+    s_alone : {n left : ℕ} {a : Term} {some : Statements} {tok : Token} {ts rest : List Token} → chooses (lead n tok ts) ≡ true → IsAlone x n a (tok ∷ ts) rest
+        → levels a ≤ 64 → IsStatement x n left some (and_statement some (evaluates (place_of a) a)) (tok ∷ ts) rest
+    -- or can't
+    s_choice : {n left : ℕ} {s : Statement} {some : Statements} {tok : Token} {ts rest : List Token} → chooses (lead n tok ts) ≡ true → NotAlone x n (tok ∷ ts)
+        → IsCompound x n left s (tok ∷ ts) rest → IsStatement x n left some (and_statement some s) (tok ∷ ts) rest
+    s_compound : {n left : ℕ} {s : Statement} {some : Statements} {tok : Token} {ts rest : List Token} → chooses (lead n tok ts) ≡ false
+        → IsCompound x n left s (tok ∷ ts) rest → IsStatement x n left some (and_statement some s) (tok ∷ ts) rest
 
   pub data IsCompound (x : Origin) : ℕ → ℕ → Statement → List Token → List Token → Type 0 where
-    c_if : {n left : ℕ} {one all : Chosen} {other : Block} {tok : Token} {ts mid end rest : List Token} → lead n tok ts ≡ L.If
-        → IsBranch x n left no_chosen (place_at x tok) one ts mid → MoreElifs x n left one all mid end → IsElse x n left other end rest
-        → fits_as (conditional (place_at x tok) all other) ≡ true → IsCompound x n left (conditional (place_at x tok) all other) (tok ∷ ts) rest
+    c_if : {n left : ℕ} {one all : Branches} {other : Statements} {tok : Token} {ts mid end rest : List Token} → lead n tok ts ≡ L.If
+        → IsBranch x n left no_branches (place_at x tok) one ts mid → MoreElifs x n left one all mid end → IsElse x n left other end rest
+        → IsCompound x n left (branches (place_at x tok) all other) (tok ∷ ts) rest
     c_case : {n left : ℕ} {a : Term} {s : Statement} {tok : Token} {ts mid rest : List Token} → lead n tok ts ≡ L.Case → IsHere x n a ts mid
         → AreBranches x n left (place_at x tok) a s (past_colon (Lines n) mid) rest → IsCompound x n left s (tok ∷ ts) rest
-    c_while : {n left : ℕ} {a : Term} {body : Block} {tok : Token} {ts mid rest : List Token} → lead n tok ts ≡ L.While → IsHere x n a ts mid → IsBody x n left body mid rest
-        → IsCompound x n left (repeats (place_at x tok) a body.body) (tok ∷ ts) rest
-    c_for : {n left : ℕ} {name : Name} {course : Course} {body : Block} {tok : Token} {ts mid end rest : List Token} → lead n tok ts ≡ L.For → IsName x (Lines n) name ts mid
+    c_while : {n left : ℕ} {a : Term} {body : Statements} {tok : Token} {ts mid rest : List Token} → lead n tok ts ≡ L.While → IsHere x n a ts mid → IsBody x n left body mid rest
+        → IsCompound x n left (repeats (place_at x tok) a body) (tok ∷ ts) rest
+    c_for : {n left : ℕ} {name : Name} {course : Course} {body : Statements} {tok : Token} {ts mid end rest : List Token} → lead n tok ts ≡ L.For → IsName x (Lines n) name ts mid
         → word_on n is_in mid ≡ true → IsCourse x n course (behind mid) end → IsBody x n left body end rest
-        → IsCompound x n left (counts (place_at x tok) name course body.body) (tok ∷ ts) rest
+        → IsCompound x n left (counts (place_at x tok) name course body) (tok ∷ ts) rest
     -- it has a handler or a `finally`
-    c_try : {n left : ℕ} {body last : Block} {all : Handlers} {tok : Token} {ts mid end rest : List Token} → lead n tok ts ≡ L.Try → IsBody x n left body ts mid
-        → MoreHandlers x n left no_handlers all mid end → IsFinally x n left last end rest → (have_some all || hold_some last.body) ≡ true
-        → IsCompound x n left (tries (place_at x tok) body.body all last.body) (tok ∷ ts) rest
-    c_defer : {n left : ℕ} {body : Block} {tok : Token} {ts rest : List Token} → lead n tok ts ≡ L.Defer → IsBody x n left body ts rest
-        → IsCompound x n left (defers (place_at x tok) body.body) (tok ∷ ts) rest
-    c_proc : {n left : ℕ} {head : Head} {body : Block} {tok : Token} {ts mid rest : List Token} → lead n tok ts ≡ L.Proc → IsProcedure x n head ts mid
+    c_try : {n left : ℕ} {body last : Statements} {all : Handlers} {tok : Token} {ts mid end rest : List Token} → lead n tok ts ≡ L.Try → IsBody x n left body ts mid
+        → MoreHandlers x n left no_handlers all mid end → IsFinally x n left last end rest → (have_some all || hold_some last) ≡ true
+        → IsCompound x n left (tries (place_at x tok) body all last) (tok ∷ ts) rest
+    c_defer : {n left : ℕ} {body : Statements} {tok : Token} {ts rest : List Token} → lead n tok ts ≡ L.Defer → IsBody x n left body ts rest
+        → IsCompound x n left (defers (place_at x tok) body) (tok ∷ ts) rest
+    c_proc : {n left : ℕ} {head : Head} {body : Statements} {tok : Token} {ts mid rest : List Token} → lead n tok ts ≡ L.Proc → IsProcedure x n head ts mid
         → equals_at (Lines n) mid ≡ true → IsBlock x n left body (behind mid) rest
-        → IsCompound x n left (proclaims (place_at x tok) head body.body) (tok ∷ ts) rest
+        → IsCompound x n left (proclaims (place_at x tok) head body) (tok ∷ ts) rest
     c_forward : {n left : ℕ} {head : Head} {tok : Token} {ts rest : List Token} → lead n tok ts ≡ L.Proc → IsProcedure x n head ts rest
         → equals_at (Lines n) rest ≡ false → IsCompound x n left (proclaims (place_at x tok) head empty) (tok ∷ ts) rest
     c_type : {n left : ℕ} {all : List Declaration} {tok : Token} {ts rest : List Token} → lead n tok ts ≡ L.Type → AreTypes x n all ts rest
@@ -217,54 +224,54 @@ mutual
         → IsCompound x n left (defines (place_at x tok) (binding_of tok.kind) all) (tok ∷ ts) rest
 
   -- a colon and a block
-  pub data IsBody (x : Origin) : ℕ → ℕ → Block → List Token → List Token → Type 0 where
-    b_body : {n left : ℕ} {body : Block} {ts rest : List Token} → colon_at (Lines n) ts ≡ true → IsBlock x n left body (behind ts) rest → IsBody x n left body ts rest
+  pub data IsBody (x : Origin) : ℕ → ℕ → Statements → List Token → List Token → Type 0 where
+    b_body : {n left : ℕ} {body : Statements} {ts rest : List Token} → colon_at (Lines n) ts ≡ true → IsBlock x n left body (behind ts) rest → IsBody x n left body ts rest
 
-  pub data IsBlock (x : Origin) : ℕ → ℕ → Block → List Token → List Token → Type 0 where
+  pub data IsBlock (x : Origin) : ℕ → ℕ → Statements → List Token → List Token → Type 0 where
     b_line : {n left : ℕ} {all : Statements} {ts rest : List Token} → on_line_at ts ≡ true → IsLine x n empty all ts rest
-        → IsBlock x n (suc left) (record { body = all; inline = true }) ts rest
+        → IsBlock x n (suc left) all ts rest
     b_deeper : {n left : ℕ} {all : Statements} {ts rest : List Token} → on_line_at ts ≡ false → deeper_at n ts ≡ true → AreStatements x (level_at ts) left empty all ts rest
-        → IsBlock x n (suc left) (record { body = all; inline = false }) ts rest
+        → IsBlock x n (suc left) all ts rest
 
   -- a condition, a colon and a block, behind some branches
-  pub data IsBranch (x : Origin) : ℕ → ℕ → Chosen → Place → Chosen → List Token → List Token → Type 0 where
-    r_branch : {n left : ℕ} {a : Term} {some : Chosen} {body : Block} {at : Place} {ts mid rest : List Token} → IsHere x n a ts mid → IsBody x n left body mid rest
-        → IsBranch x n left some at (and_chosen some at (part a no_parts) body) ts rest
+  pub data IsBranch (x : Origin) : ℕ → ℕ → Branches → Place → Branches → List Token → List Token → Type 0 where
+    r_branch : {n left : ℕ} {a : Term} {some : Branches} {body : Statements} {at : Place} {ts mid rest : List Token} → IsHere x n a ts mid → IsBody x n left body mid rest
+        → IsBranch x n left some at (and_branch some at (part a no_parts) body) ts rest
 
   -- { 'elif' expr ':' block }
-  pub data MoreElifs (x : Origin) : ℕ → ℕ → Chosen → Chosen → List Token → List Token → Type 0 where
-    r_over : {n left : ℕ} {all : Chosen} {rest : List Token} → branch_at (Lines n) is_elif rest ≡ false → MoreElifs x n left all all rest rest
-    r_elif : {n left : ℕ} {some more all : Chosen} {tok : Token} {ts mid rest : List Token} → branch_at (Lines n) is_elif (tok ∷ ts) ≡ true
+  pub data MoreElifs (x : Origin) : ℕ → ℕ → Branches → Branches → List Token → List Token → Type 0 where
+    r_over : {n left : ℕ} {all : Branches} {rest : List Token} → branch_at (Lines n) is_elif rest ≡ false → MoreElifs x n left all all rest rest
+    r_elif : {n left : ℕ} {some more all : Branches} {tok : Token} {ts mid rest : List Token} → branch_at (Lines n) is_elif (tok ∷ ts) ≡ true
         → IsBranch x n left some (place_at x tok) more ts mid → MoreElifs x n left more all mid rest → MoreElifs x n left some all (tok ∷ ts) rest
 
   -- [ 'else' ':' block ]
-  pub data IsElse (x : Origin) : ℕ → ℕ → Block → List Token → List Token → Type 0 where
-    r_no_else : {n left : ℕ} {rest : List Token} → branch_at (Lines n) is_else rest ≡ false → IsElse x n left no_block rest rest
-    r_else : {n left : ℕ} {body : Block} {ts rest : List Token} → branch_at (Lines n) is_else ts ≡ true → IsBody x n left body (behind ts) rest → IsElse x n left body ts rest
+  pub data IsElse (x : Origin) : ℕ → ℕ → Statements → List Token → List Token → Type 0 where
+    r_no_else : {n left : ℕ} {rest : List Token} → branch_at (Lines n) is_else rest ≡ false → IsElse x n left empty rest rest
+    r_else : {n left : ℕ} {body : Statements} {ts rest : List Token} → branch_at (Lines n) is_else ts ≡ true → IsBody x n left body (behind ts) rest → IsElse x n left body ts rest
 
   -- AreBranches x n left at a s ts rest: these are the branches of the `case` s, which begins at the place at and is over a
   pub data AreBranches (x : Origin) : ℕ → ℕ → Place → Term → Statement → List Token → List Token → Type 0 where
-    r_branches : {n left : ℕ} {at : Place} {a : Term} {all : Chosen} {other : Block} {tok : Token} {ts end rest : List Token} → first_of_at (Lines n) (tok ∷ ts) ≡ true
-        → MoreOfs x (branch_level n tok.indent) left no_chosen all (tok ∷ ts) end → IsElse x (branch_level n tok.indent) left other end rest
-        → fits_as (selected at a all other) ≡ true → AreBranches x n left at a (selected at a all other) (tok ∷ ts) rest
+    r_branches : {n left : ℕ} {at : Place} {a : Term} {all : Branches} {other : Statements} {tok : Token} {ts end rest : List Token} → first_of_at (Lines n) (tok ∷ ts) ≡ true
+        → MoreOfs x (branch_level n tok.indent) left no_branches all (tok ∷ ts) end → IsElse x (branch_level n tok.indent) left other end rest
+        → AreBranches x n left at a (selects at a all other) (tok ∷ ts) rest
 
   -- labels, a colon and a block, behind some branches
-  pub data IsOf (x : Origin) : ℕ → ℕ → Chosen → Place → Chosen → List Token → List Token → Type 0 where
-    r_of : {n left : ℕ} {a : Term} {tests : Parts} {some : Chosen} {body : Block} {at : Place} {ts mid end rest : List Token} → stays (Lines n) ts ≡ true → IsLabel x n a ts mid
-        → MoreLabels x n (part a no_parts) tests mid end → IsBody x n left body end rest → IsOf x n left some at (and_chosen some at tests body) ts rest
+  pub data IsOf (x : Origin) : ℕ → ℕ → Branches → Place → Branches → List Token → List Token → Type 0 where
+    r_of : {n left : ℕ} {a : Term} {tests : Parts} {some : Branches} {body : Statements} {at : Place} {ts mid end rest : List Token} → stays (Lines n) ts ≡ true → IsLabel x n a ts mid
+        → MoreLabels x n (part a no_parts) tests mid end → IsBody x n left body end rest → IsOf x n left some at (and_branch some at tests body) ts rest
 
   -- { of }
-  pub data MoreOfs (x : Origin) : ℕ → ℕ → Chosen → Chosen → List Token → List Token → Type 0 where
-    r_last : {n left : ℕ} {all : Chosen} {rest : List Token} → branch_at (Lines n) is_of rest ≡ false → MoreOfs x n left all all rest rest
-    r_next : {n left : ℕ} {some more all : Chosen} {tok : Token} {ts mid rest : List Token} → branch_at (Lines n) is_of (tok ∷ ts) ≡ true
+  pub data MoreOfs (x : Origin) : ℕ → ℕ → Branches → Branches → List Token → List Token → Type 0 where
+    r_last : {n left : ℕ} {all : Branches} {rest : List Token} → branch_at (Lines n) is_of rest ≡ false → MoreOfs x n left all all rest rest
+    r_next : {n left : ℕ} {some more all : Branches} {tok : Token} {ts mid rest : List Token} → branch_at (Lines n) is_of (tok ∷ ts) ≡ true
         → IsOf x n left some (place_at x tok) more ts mid → MoreOfs x n left more all mid rest → MoreOfs x n left some all (tok ∷ ts) rest
 
   -- exception types, a name for the exception, a colon and a block
   pub data IsHandler (x : Origin) : ℕ → ℕ → Caught → List Token → List Token → Type 0 where
-    h_bare : {n left : ℕ} {body : Block} {ts rest : List Token} → colon_at (Lines n) ts ≡ true → IsBody x n left body ts rest
-        → IsHandler x n left (record { names = []; binding = None; body = body.body }) ts rest
-    h_typed : {n left : ℕ} {names : List Name} {alias : Option Name} {body : Block} {ts a b rest : List Token} → colon_at (Lines n) ts ≡ false → Names x (Lines n) names ts a
-        → Alias x n alias a b → IsBody x n left body b rest → IsHandler x n left (record { names = names; binding = alias; body = body.body }) ts rest
+    h_bare : {n left : ℕ} {body : Statements} {ts rest : List Token} → colon_at (Lines n) ts ≡ true → IsBody x n left body ts rest
+        → IsHandler x n left (record { names = []; binding = None; body = body }) ts rest
+    h_typed : {n left : ℕ} {names : List Name} {alias : Option Name} {body : Statements} {ts a b rest : List Token} → colon_at (Lines n) ts ≡ false → Names x (Lines n) names ts a
+        → Alias x n alias a b → IsBody x n left body b rest → IsHandler x n left (record { names = names; binding = alias; body = body }) ts rest
 
   -- handlers; one without exception types is the last
   pub data MoreHandlers (x : Origin) : ℕ → ℕ → Handlers → Handlers → List Token → List Token → Type 0 where
@@ -275,9 +282,9 @@ mutual
         → are_some one.names ≡ true → MoreHandlers x n left (and_caught some (place_at x tok) one) all mid rest → MoreHandlers x n left some all (tok ∷ ts) rest
 
   -- [ 'finally' ':' block ]
-  pub data IsFinally (x : Origin) : ℕ → ℕ → Block → List Token → List Token → Type 0 where
-    h_no_finally : {n left : ℕ} {rest : List Token} → branch_at (Lines n) is_finally rest ≡ false → IsFinally x n left no_block rest rest
-    h_finally : {n left : ℕ} {body : Block} {ts rest : List Token} → branch_at (Lines n) is_finally ts ≡ true → IsBody x n left body (behind ts) rest → IsFinally x n left body ts rest
+  pub data IsFinally (x : Origin) : ℕ → ℕ → Statements → List Token → List Token → Type 0 where
+    h_no_finally : {n left : ℕ} {rest : List Token} → branch_at (Lines n) is_finally rest ≡ false → IsFinally x n left empty rest rest
+    h_finally : {n left : ℕ} {body : Statements} {ts rest : List Token} → branch_at (Lines n) is_finally ts ≡ true → IsBody x n left body (behind ts) rest → IsFinally x n left body ts rest
 
 -- The tokens of a module, up to the end of the source, are these statements; its first line sets the number of spaces.
 pub record IsModule (x : Origin) (tokens : List Token) (all : Statements) : Type 0 where

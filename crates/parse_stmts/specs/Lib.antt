@@ -1,5 +1,5 @@
 pub mod Look
-pub mod Inline
+pub mod Alone
 pub mod Handling
 pub mod Run
 pub mod Marks

@@ -12,7 +12,7 @@ use Rattle.parse_exprs.specs.declared.layout.Layout.{Layout}
 use Rattle.parse_exprs.specs.declared.layout.Layout.TheVariants.{Lines}
 use Rattle.parse_exprs.specs.declared.input.Lead.{Lead as ExprLead}
 use Rattle.parse_exprs.specs.declared.input.Lead.TheVariants as E
-use Rattle.parse_exprs.specs.Look.{Origin, spelling, goes_on, is_run, is_at, is_name, op_named, sign_named, begins_atom, expr_at}
+use Rattle.parse_exprs.specs.Look.{Origin, spelling, goes_on, is_run, is_at_sign, is_name, is_of, is_elif, is_else, op_named, sign_named, begins_atom, expr_at}
 use Rattle.parse_decls.specs.Look.{is_end, spaces_at, deeper_at}
 use Rattle.parse_stmts.specs.declared.look.Lead.{Lead}
 use Rattle.parse_stmts.specs.declared.look.Lead.TheVariants as L
@@ -38,6 +38,20 @@ less_than n (Some m) = nat_lt m n
 -- whether statements behind n spaces end before this
 abbrev pub ends_at : ℕ → List Token → Bool
 ends_at n ts = end_at ts || less_than n (spaces_at ts)
+
+-- whether it begins a line behind n spaces or more
+abbrev pub goes_deeper : ℕ → Option ℕ → Bool
+goes_deeper n None = false
+goes_deeper n (Some m) = not (nat_lt m n)
+
+abbrev pub is_branch_word : Tok → Bool
+is_branch_word kind = is_of kind || (is_elif kind || is_else kind)
+
+-- Whether an expression that began a statement behind n spaces is alone on its line: the source ends, or a line begins, and no
+-- further branch at the level of the statement or deeper.
+abbrev pub line_over : ℕ → List Token → Bool
+line_over n [] = true
+line_over n (tok ∷ ts) = is_end tok.kind || (is_some tok.indent && not (goes_deeper n tok.indent && is_branch_word tok.kind))
 
 -- ---- what a statement begins with
 
@@ -75,16 +89,53 @@ simple_of (T.Key K.Var) = S.Var
 simple_of (T.Key K.Const) = S.Const
 simple_of _ = S.Plain
 
+-- whether it is a word, and no expression, assignment or command
+abbrev pub is_simple_word : Simple → Bool
+is_simple_word S.Plain = false
+is_simple_word _ = true
+
+-- whether it begins a statement with blocks or declarations
+abbrev pub begins_compound : Tok → Bool
+begins_compound (T.Key K.If) = true
+begins_compound (T.Key K.Case) = true
+begins_compound (T.Key K.While) = true
+begins_compound (T.Key K.For) = true
+begins_compound (T.Key K.Try) = true
+begins_compound (T.Key K.Defer) = true
+begins_compound (T.Key K.Proc) = true
+begins_compound (T.Key K.Type) = true
+begins_compound _ = false
+
+-- whether a line of simple statements begins here
+abbrev pub line_at : Origin → List Token → Bool
+line_at x [] = false
+line_at x (tok ∷ ts) = is_simple_word (simple_of tok.kind) || expr_at x (tok ∷ ts)
+
+-- whether a statement begins here
+abbrev pub statement_at : Origin → List Token → Bool
+statement_at x [] = false
+statement_at x (tok ∷ ts) = begins_compound tok.kind || line_at x (tok ∷ ts)
+
+-- whether a block begins here: a line on the line of its colon, or a statement that begins a line behind more than n spaces
+abbrev pub opens_block : Origin → ℕ → List Token → Bool
+opens_block x n ts = (on_line_at ts && line_at x ts) || (deeper_at n ts && statement_at x ts)
+
+-- whether it begins an `if` or a `case`
+abbrev pub chooses : Lead → Bool
+chooses L.If = true
+chooses L.Case = true
+chooses _ = false
+
 -- ---- commands and assignments
 
 -- whether an atom begins here
 abbrev pub atom_at : Origin → List Token → Bool
 atom_at x [] = false
-atom_at x (tok ∷ ts) = begins_atom tok.kind || is_at tok.kind (spelling x tok)
+atom_at x (tok ∷ ts) = begins_atom tok.kind || is_at_sign tok.kind (spelling x tok)
 
 -- an operator of the language, `@` among them
 abbrev pub is_operator : List ℕ → Bool
-is_operator bytes = is_some (op_named bytes) || (is_some (sign_named bytes) || is_at T.Op bytes)
+is_operator bytes = is_some (op_named bytes) || (is_some (sign_named bytes) || is_at_sign T.Op bytes)
 
 -- What begins an operand of a command: an operator only with a space before it and none behind it.
 abbrev pub begins_operand : Origin → Token → Tok → Bool

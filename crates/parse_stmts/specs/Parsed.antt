@@ -7,10 +7,9 @@ use Rattle.indent_scanner.specs.declared.token.Token.{Token}
 use Rattle.indent_scanner.specs.Tokens.{LiesIn, HasByte}
 use Rattle.indent_scanner.specs.Meaning.{IsSpelledIn}
 use Rattle.nim_tree.specs.Statements.{Statements, block_levels, term_levels, type_levels}
-use Rattle.parse_exprs.specs.Look.{Origin}
+use Rattle.parse_exprs.specs.Look.{Origin, next_at}
 use Rattle.parse_exprs.specs.Parsed.{IsFirst}
 use Rattle.parse_decls.specs.Outcome.{too_deep, left_out, stuck}
-use Rattle.parse_decls.specs.Gives.{IsNext}
 use Rattle.parse_stmts.specs.Grammar.{IsModule}
 use Rattle.parse_stmts.specs.Faults.{FaultsModule}
 
@@ -49,11 +48,10 @@ pub record IsLeftOut (x : Origin) (tokens : List Token) (at : Place) : Type 0 wh
 pub record HasNone (x : Origin) (tokens : List Token) (at : Place) : Type 0 where
   pub rest : List Token
   pub stops : FaultsModule x (stuck rest) tokens
-  pub next : IsNext x rest at
+  pub next : at ≡ next_at x rest
   pub none : (all : Statements) → IsModule x tokens all → ⊥
   pub shallow : (p : Place) → OpensTooMany x tokens p → ⊥
   pub used : (p : Place) → IsLeftOut x tokens p → ⊥
-  pub in_module : at.«module» ≡ x.number
 
 -- E4: there is no tree, at the token that can't go on. E5: a level too many is opened at this place. E23: something that is left out stands there.
 abbrev pub IsRefused : Origin → List Token → Code → Place → Type 0

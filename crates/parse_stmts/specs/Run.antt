@@ -2,18 +2,19 @@
 --
 -- Each function takes the steps that are left. n is the number of spaces that the statement stands behind, and left the
 -- number of levels of blocks that are left.
-use Rattle.std.specs.Prelude.{ℕ, zero, suc, Bool, true, false, ◌&&◌, ◌||◌, if◌then◌else◌, List, [], ◌∷◌, ◌++◌, Option, Some, None}
+use Rattle.std.specs.Prelude.{ℕ, zero, suc, Bool, true, false, nat_lt, ◌&&◌, ◌||◌, if◌then◌else◌, List, [], ◌∷◌, ◌++◌, Option, Some, None}
 use Rattle.arc_base.specs.declared.place.Place.{Place}
 use Rattle.indent_scanner.specs.declared.token.Token.{Token}
 use Rattle.nim_tree.specs.declared.name.Name.{Name}
 use Rattle.nim_tree.specs.declared.stmt.AssignOp.{AssignOp}
 use Rattle.nim_tree.specs.declared.stmt.Binding.{Binding}
 use Rattle.nim_tree.specs.declared.stmt.Binding.TheVariants as B
-use Rattle.nim_tree.specs.Terms.{Term, range, Parts, no_parts, part, and_part, place_of}
-use Rattle.nim_tree.specs.Statements.{Course, each, up_to, below, Statement, discards, returns, raises, breaks, continues, imports, evaluates, assigns, commands, defines, types, repeats, counts, tries, defers, proclaims, Statements, empty, and_statement, Handlers, no_handlers}
+use Rattle.nim_tree.specs.Terms.{Term, range, Parts, no_parts, part, and_part, place_of, levels}
+use Rattle.nim_tree.specs.Statements.{Course, each, up_to, below, Statement, discards, returns, raises, breaks, continues, imports, evaluates, assigns, commands, defines, types, repeats, counts, tries, defers, proclaims, branches, selects, Statements, empty, and_statement, Branches, no_branches, and_branch, Handlers, no_handlers}
 use Rattle.parse_exprs.specs.declared.layout.Layout.{Layout}
 use Rattle.parse_exprs.specs.declared.layout.Layout.TheVariants.{Brackets, Lines}
 use Rattle.parse_exprs.specs.Look.{Origin, place_at, stays, colon_at, comma_at, past_colon, dots_at, expr_at, lead_at, branch_at, is_elif, is_else, is_of, first_of_at, is_punct}
+use Rattle.parse_exprs.specs.Outcome as E
 use Rattle.parse_exprs.specs.Run.{run_expr, run_primary}
 use Rattle.parse_decls.specs.Look.{behind, deeper_at, stands_at, level_at, equals_at}
 use Rattle.parse_decls.specs.Outcome.{Out, got, bad, then_do, too_deep, left_out, stuck_at, tired, unless_stuck, of_expr}
@@ -23,10 +24,8 @@ use Rattle.parse_stmts.specs.declared.look.Lead.TheVariants as L
 use Rattle.parse_stmts.specs.declared.look.Simple.{Simple}
 use Rattle.parse_stmts.specs.declared.look.Simple.TheVariants as S
 pub use Rattle.parse_stmts.specs.Look.{assigned_by, branch_level, binding_of}
-pub use Rattle.parse_stmts.specs.Inline.{and_chosen, no_chosen, fits_as}
 pub use Rattle.parse_stmts.specs.Handling.{Caught, and_caught, are_some, have_some, hold_some}
-use Rattle.parse_stmts.specs.Look.{end_at, on_line_at, ends_at, lead, simple_of, atom_at, operand_on, assign_on, is_in, is_as, is_except, is_finally, word_on, below_at, path_at}
-use Rattle.parse_stmts.specs.Inline.{Block, Chosen, no_block, conditional, selected}
+use Rattle.parse_stmts.specs.Look.{end_at, on_line_at, ends_at, opens_block, line_over, chooses, lead, simple_of, atom_at, operand_on, assign_on, is_in, is_as, is_except, is_finally, word_on, below_at, path_at}
 
 -- ---- expressions
 
@@ -130,8 +129,14 @@ run_types_of k x n ts = if colon_at (Lines n) ts then got [] ts else run_names k
 abbrev pub run_binding : Bool → Origin → ℕ → List Token → Out (Option Name)
 run_binding some x n ts = if some && word_on n is_as ts then then_do (run_name x (Lines n) (behind ts)) (λ name rest. got (Some name) rest) else got None ts
 
-abbrev pub if_it_fits : List Token → Statement → List Token → Out Statement
-if_it_fits whole s rest = if fits_as s then got s rest else bad (too_deep whole)
+-- an expression that is alone on its line, where it is one of at most 65 levels, of which it may have 64
+abbrev pub alone_in : ℕ → List Token → E.Out Term → Out (Option Term)
+alone_in n whole (E.got a rest) = if line_over n rest then (if nat_lt most_levels (levels a) then bad (too_deep whole) else got (Some a) rest) else got None whole
+alone_in n whole (E.bad E.tired) = bad tired
+alone_in n whole (E.bad why) = got None whole
+
+abbrev pub run_alone : ℕ → Origin → ℕ → List Token → Out (Option Term)
+run_alone k x n ts = alone_in n ts (run_expr k x (Lines n) 65 ts)
 
 -- ---- statements
 
@@ -151,7 +156,15 @@ abbrev mutual
   pub run_led : ℕ → Lead → Origin → ℕ → ℕ → Statements → Token → List Token → Out Statements
   run_led zero it x n left some tok ts = bad tired
   run_led (suc k) L.Line x n left some tok ts = run_line k x n some (tok ∷ ts)
-  run_led (suc k) it x n left some tok ts = then_do (run_compound k it x n left tok ts) (λ s rest. got (and_statement some s) rest)
+  run_led (suc k) it x n left some tok ts =
+      if chooses it then then_do (run_alone k x n (tok ∷ ts)) (λ found rest. run_choice k found it x n left some tok ts rest)
+      else then_do (run_compound k it x n left tok ts) (λ s rest. got (and_statement some s) rest)
+
+  -- `if` or `case`, which is that expression where there is one, and has blocks else
+  pub run_choice : ℕ → Option Term → Lead → Origin → ℕ → ℕ → Statements → Token → List Token → List Token → Out Statements
+  run_choice zero found it x n left some tok ts rest = bad tired
+  run_choice (suc k) (Some a) it x n left some tok ts rest = got (and_statement some (evaluates (place_of a) a)) rest
+  run_choice (suc k) None it x n left some tok ts rest = then_do (run_compound k it x n left tok ts) (λ s rest. got (and_statement some s) rest)
 
   pub run_compound : ℕ → Lead → Origin → ℕ → ℕ → Token → List Token → Out Statement
   run_compound zero it x n left tok ts = bad tired
@@ -160,86 +173,86 @@ abbrev mutual
   run_compound (suc k) L.If x n left tok ts = run_if k x n left tok ts
   run_compound (suc k) L.Case x n left tok ts = run_case k x n left tok ts
   run_compound (suc k) L.While x n left tok ts =
-      then_do (run_here k x n ts) (λ c mid. then_do (run_body k x n left mid) (λ block rest. got (repeats (place_at x tok) c block.body) rest))
+      then_do (run_here k x n ts) (λ c mid. then_do (run_body k x n left mid) (λ block rest. got (repeats (place_at x tok) c block) rest))
   run_compound (suc k) L.For x n left tok ts =
       then_do (run_name x (Lines n) ts) (λ name mid.
       unless_stuck (word_on n is_in mid) mid (
       then_do (run_course k x n (behind mid)) (λ course end.
       then_do (run_body k x n left end) (λ block rest.
-      got (counts (place_at x tok) name course block.body) rest))))
+      got (counts (place_at x tok) name course block) rest))))
   run_compound (suc k) L.Try x n left tok ts = run_try k x n left tok ts
-  run_compound (suc k) L.Defer x n left tok ts = then_do (run_body k x n left ts) (λ block rest. got (defers (place_at x tok) block.body) rest)
+  run_compound (suc k) L.Defer x n left tok ts = then_do (run_body k x n left ts) (λ block rest. got (defers (place_at x tok) block) rest)
   run_compound (suc k) L.Proc x n left tok ts = run_proc k x n left tok ts
   run_compound (suc k) L.Type x n left tok ts = then_do (run_types k x n ts) (λ all rest. got (types (place_at x tok) all) rest)
   run_compound (suc k) L.Section x n left tok ts = then_do (run_def_block k x n ts) (λ all rest. got (defines (place_at x tok) (binding_of tok.kind) all) rest)
 
   -- a colon and a block
-  pub run_body : ℕ → Origin → ℕ → ℕ → List Token → Out Block
+  pub run_body : ℕ → Origin → ℕ → ℕ → List Token → Out Statements
   run_body zero x n left ts = bad tired
   run_body (suc k) x n left ts = unless_stuck (colon_at (Lines n) ts) ts (run_block k x n left (behind ts))
 
   -- a block: a line, or statements behind more spaces
-  pub run_block : ℕ → Origin → ℕ → ℕ → List Token → Out Block
+  pub run_block : ℕ → Origin → ℕ → ℕ → List Token → Out Statements
   run_block zero x n left ts = bad tired
-  run_block (suc k) x n zero ts = bad (if on_line_at ts || deeper_at n ts then too_deep ts else stuck_at ts)
+  run_block (suc k) x n zero ts = bad (if opens_block x n ts then too_deep ts else stuck_at ts)
   run_block (suc k) x n (suc left) ts =
-      if on_line_at ts then then_do (run_line k x n empty ts) (λ all rest. got (record { body = all; inline = true }) rest) else
-      unless_stuck (deeper_at n ts) ts (then_do (run_statements k x (level_at ts) left empty ts) (λ all rest. got (record { body = all; inline = false }) rest))
+      if on_line_at ts then run_line k x n empty ts else
+      unless_stuck (deeper_at n ts) ts (run_statements k x (level_at ts) left empty ts)
 
   -- ---- `if`
 
   pub run_if : ℕ → Origin → ℕ → ℕ → Token → List Token → Out Statement
   run_if zero x n left tok ts = bad tired
   run_if (suc k) x n left tok ts =
-      then_do (run_branch k x n left no_chosen (place_at x tok) ts) (λ one mid.
+      then_do (run_branch k x n left no_branches (place_at x tok) ts) (λ one mid.
       then_do (run_elifs k x n left one mid) (λ all end.
       then_do (run_else k x n left end) (λ other rest.
-      if_it_fits (tok ∷ ts) (conditional (place_at x tok) all other) rest)))
+      got (branches (place_at x tok) all other) rest)))
 
   -- a condition, a colon and a block, behind some others
-  pub run_branch : ℕ → Origin → ℕ → ℕ → Chosen → Place → List Token → Out Chosen
+  pub run_branch : ℕ → Origin → ℕ → ℕ → Branches → Place → List Token → Out Branches
   run_branch zero x n left some at ts = bad tired
   run_branch (suc k) x n left some at ts =
-      then_do (run_here k x n ts) (λ c mid. then_do (run_body k x n left mid) (λ block rest. got (and_chosen some at (part c no_parts) block) rest))
+      then_do (run_here k x n ts) (λ c mid. then_do (run_body k x n left mid) (λ block rest. got (and_branch some at (part c no_parts) block) rest))
 
-  pub run_elifs : ℕ → Origin → ℕ → ℕ → Chosen → List Token → Out Chosen
+  pub run_elifs : ℕ → Origin → ℕ → ℕ → Branches → List Token → Out Branches
   run_elifs zero x n left some ts = bad tired
   run_elifs (suc k) x n left some [] = got some []
   run_elifs (suc k) x n left some (tok ∷ ts) =
       if branch_at (Lines n) is_elif (tok ∷ ts) then then_do (run_branch k x n left some (place_at x tok) ts) (λ all mid. run_elifs k x n left all mid) else got some (tok ∷ ts)
 
   -- `else`, a colon and a block, where there is one
-  pub run_else : ℕ → Origin → ℕ → ℕ → List Token → Out Block
+  pub run_else : ℕ → Origin → ℕ → ℕ → List Token → Out Statements
   run_else zero x n left ts = bad tired
-  run_else (suc k) x n left ts = if branch_at (Lines n) is_else ts then run_body k x n left (behind ts) else got no_block ts
+  run_else (suc k) x n left ts = if branch_at (Lines n) is_else ts then run_body k x n left (behind ts) else got empty ts
 
   -- ---- `case`
 
   pub run_case : ℕ → Origin → ℕ → ℕ → Token → List Token → Out Statement
   run_case zero x n left tok ts = bad tired
-  run_case (suc k) x n left tok ts = then_do (run_here k x n ts) (λ s mid. run_branches k x n left tok ts s (past_colon (Lines n) mid))
+  run_case (suc k) x n left tok ts = then_do (run_here k x n ts) (λ s mid. run_branches k x n left tok s (past_colon (Lines n) mid))
 
-  pub run_branches : ℕ → Origin → ℕ → ℕ → Token → List Token → Term → List Token → Out Statement
-  run_branches zero x n left tok ts s mid = bad tired
-  run_branches (suc k) x n left tok ts s [] = bad (stuck_at [])
-  run_branches (suc k) x n left tok ts s (first ∷ mid) =
+  pub run_branches : ℕ → Origin → ℕ → ℕ → Token → Term → List Token → Out Statement
+  run_branches zero x n left tok s mid = bad tired
+  run_branches (suc k) x n left tok s [] = bad (stuck_at [])
+  run_branches (suc k) x n left tok s (first ∷ mid) =
       unless_stuck (first_of_at (Lines n) (first ∷ mid)) (first ∷ mid) (
-      then_do (run_ofs k x (branch_level n first.indent) left no_chosen (first ∷ mid)) (λ all end.
+      then_do (run_ofs k x (branch_level n first.indent) left no_branches (first ∷ mid)) (λ all end.
       then_do (run_else k x (branch_level n first.indent) left end) (λ other rest.
-      if_it_fits (tok ∷ ts) (selected (place_at x tok) s all other) rest)))
+      got (selects (place_at x tok) s all other) rest)))
 
   -- labels, a colon and a block, behind some others
-  pub run_of : ℕ → Origin → ℕ → ℕ → Chosen → Place → List Token → Out Chosen
+  pub run_of : ℕ → Origin → ℕ → ℕ → Branches → Place → List Token → Out Branches
   run_of zero x n left some at ts = bad tired
   run_of (suc k) x n left some at ts =
       unless_stuck (stays (Lines n) ts) ts (
       then_do (run_label k x n ts) (λ a mid.
       then_do (run_labels k x n (part a no_parts) mid) (λ labels end.
       then_do (run_body k x n left end) (λ block rest.
-      got (and_chosen some at labels block) rest))))
+      got (and_branch some at labels block) rest))))
 
   -- the first `of` may begin its line deeper, and so sets the level n
-  pub run_ofs : ℕ → Origin → ℕ → ℕ → Chosen → List Token → Out Chosen
+  pub run_ofs : ℕ → Origin → ℕ → ℕ → Branches → List Token → Out Branches
   run_ofs zero x n left some ts = bad tired
   run_ofs (suc k) x n left some [] = got some []
   run_ofs (suc k) x n left some (tok ∷ ts) =
@@ -253,7 +266,7 @@ abbrev mutual
       then_do (run_body k x n left ts) (λ block mid.
       then_do (run_handlers k x n left no_handlers mid) (λ all end.
       then_do (run_finally k x n left end) (λ last rest.
-      unless_stuck (have_some all || hold_some last.body) rest (got (tries (place_at x tok) block.body all last.body) rest))))
+      unless_stuck (have_some all || hold_some last) rest (got (tries (place_at x tok) block all last) rest))))
 
   -- exception types, a name for the exception, a colon and a block
   pub run_handler : ℕ → Origin → ℕ → ℕ → List Token → Out Caught
@@ -262,7 +275,7 @@ abbrev mutual
       then_do (run_types_of k x n ts) (λ names a.
       then_do (run_binding (are_some names) x n a) (λ binding b.
       then_do (run_body k x n left b) (λ block rest.
-      got (record { names = names; binding = binding; body = block.body }) rest)))
+      got (record { names = names; binding = binding; body = block }) rest)))
 
   -- a bare `except` is the last
   pub run_handlers : ℕ → Origin → ℕ → ℕ → Handlers → List Token → Out Handlers
@@ -274,16 +287,20 @@ abbrev mutual
       if are_some one.names then run_handlers k x n left (and_caught some (place_at x tok) one) mid else got (and_caught some (place_at x tok) one) mid)
       else got some (tok ∷ ts)
 
-  pub run_finally : ℕ → Origin → ℕ → ℕ → List Token → Out Block
+  pub run_finally : ℕ → Origin → ℕ → ℕ → List Token → Out Statements
   run_finally zero x n left ts = bad tired
-  run_finally (suc k) x n left ts = if branch_at (Lines n) is_finally ts then run_body k x n left (behind ts) else got no_block ts
+  run_finally (suc k) x n left ts = if branch_at (Lines n) is_finally ts then run_body k x n left (behind ts) else got empty ts
 
   pub run_proc : ℕ → Origin → ℕ → ℕ → Token → List Token → Out Statement
   run_proc zero x n left tok ts = bad tired
   run_proc (suc k) x n left tok ts =
       then_do (run_head k x (Lines n) ts) (λ head mid.
-      if equals_at (Lines n) mid then then_do (run_block k x n left (behind mid)) (λ block rest. got (proclaims (place_at x tok) head block.body) rest) else got (proclaims (place_at x tok) head empty) mid)
+      if equals_at (Lines n) mid then then_do (run_block k x n left (behind mid)) (λ block rest. got (proclaims (place_at x tok) head block) rest) else got (proclaims (place_at x tok) head empty) mid)
 
 -- the statements of a module, which stand behind as many spaces as its first line
 abbrev pub run_module : ℕ → Origin → List Token → Out Statements
 run_module k x ts = then_do (run_statements k x (level_at ts) 64 empty ts) (λ all rest. unless_stuck (end_at rest) rest (got all rest))
+
+-- `if` or `case` with its first token, which stands before these tokens, and with all of them
+abbrev pub choice_run : Lead → Origin → ℕ → ℕ → Statements → Token → List Token → List Token → ℕ → Out Statements
+choice_run it x n left some tok whole ts k = then_do (run_alone k x n whole) (λ found rest. run_choice k found it x n left some tok ts rest)

@@ -13,7 +13,7 @@ use crate::marks::{Word, past_below, past_comma, past_dots, past_word};
 use crate::values::{boxed, read_here};
 use arc_base::Stop;
 use nim_tree::{Expr, Name, Over};
-use parse_decls::{Reading, and_one, read_name, read_names, read_value};
+use parse_decls::{Reading, and_one, names, read_name, read_value};
 use parse_exprs::{Input, Layout};
 use std::alloc::Global;
 
@@ -129,7 +129,7 @@ pub(crate) fn read_types_of(
             next: at,
         })
     } else {
-        read_names(alloc, input, at, layout)
+        names(alloc, input, at, layout)
     }
 }
 

@@ -1,8 +1,8 @@
 //! The parser of statements: from the tokens of a module to its tree.
 #![tactic(auto)]
 
+mod alone;
 mod block;
-mod choices;
 mod heads;
 mod imports;
 mod line;

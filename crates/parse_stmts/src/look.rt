@@ -1,10 +1,10 @@
 // What a statement begins with.
 ghost use Rattle.std.specs.Prelude.{◌≡◌, ◌∷◌, ◌<◌, suc, length};
-ghost use Rattle.parse_exprs.specs.Input.{from_at};
-ghost use Rattle.parse_stmts.specs.Look.{lead, section_or_line, simple_of};
+ghost use Rattle.parse_exprs.specs.Input.{from_at, origin_of};
+ghost use Rattle.parse_stmts.specs.Look.{lead, section_or_line, simple_of, is_simple_word, begins_compound, line_at, statement_at};
 
-use crate::lines::deeper_at;
 use indent_scanner::{Key, Tok, Token};
+use parse_decls::deeper_at;
 use parse_exprs::Input;
 
 /// What a statement begins with.
@@ -84,5 +84,54 @@ pub(crate) fn simple_of(kind: Tok) -> Simple
         Tok::Key(Key::Var) => Simple::Var,
         Tok::Key(Key::Const) => Simple::Const,
         _ => Simple::Plain,
+    }
+}
+
+// Whether it is a word, and no expression, assignment or command.
+fn is_simple_word(simple: Simple) -> bool
+    ensures { result ≡ is_simple_word simple }
+{
+    match simple {
+        Simple::Plain => false,
+        _ => true,
+    }
+}
+
+// Whether it begins a statement with blocks or declarations.
+fn begins_compound(kind: Tok) -> bool
+    ensures { result ≡ begins_compound kind }
+{
+    match kind {
+        Tok::Key(
+            Key::If
+            | Key::Case
+            | Key::While
+            | Key::For
+            | Key::Try
+            | Key::Defer
+            | Key::Proc
+            | Key::Type,
+        ) => true,
+        _ => false,
+    }
+}
+
+/// Whether a line of simple statements begins there.
+pub(crate) fn line_at(input: &Input, at: usize) -> bool
+    ensures { result ≡ line_at (origin_of input.now) (from_at input.now at) }
+{
+    match input.head(at) {
+        Some(token) => is_simple_word(simple_of(token.kind)) || input.expr_at(at),
+        None => false,
+    }
+}
+
+/// Whether a statement begins there.
+pub(crate) fn statement_at(input: &Input, at: usize) -> bool
+    ensures { result ≡ statement_at (origin_of input.now) (from_at input.now at) }
+{
+    match input.head(at) {
+        Some(token) => begins_compound(token.kind) || line_at(input, at),
+        None => false,
     }
 }

@@ -10,7 +10,7 @@ ghost use Rattle.parse_stmts.specs.Marks.{IsPast, IsBehind, IsMark, is_word};
 
 use arc_base::Place;
 use indent_scanner::{Key, Tok, Token};
-use parse_exprs::{Input, Layout, branch_goes_on, is_punct};
+use parse_exprs::{Input, Layout, branch_goes_on, goes_on, is_punct, is_run};
 
 /// A keyword inside a statement.
 #[derive(Clone, Copy, Debug, PartialEq, Eq)]
@@ -71,21 +71,12 @@ pub(crate) fn past_dots(input: &Input, at: usize, spaces: u32) -> Option<usize>
     past(input, at, input.dots_at(at, Layout::Lines(spaces)))
 }
 
-fn is_below(kind: Tok, spelling: &[u8]) -> bool
-    ensures { result ≡ is_run (codes "..<") kind spelling.now }
-{
-    match kind {
-        Tok::Op => spelling == b"..<".as_slice(),
-        _ => false,
-    }
-}
-
 fn below_at(input: &Input, at: usize, spaces: u32) -> bool
     ensures { result ≡ below_at (origin_of input.now) spaces (from_at input.now at) }
 {
-    let _ = spaces;
     match input.head(at) {
-        Some(token) => token.indent.is_none() && is_below(token.kind, input.spelling(token)),
+        Some(token) => goes_on(Layout::Lines(spaces), token.indent)
+            && is_run(b"..<".as_slice(), token.kind, input.spelling(token)),
         None => false,
     }
 }
@@ -97,11 +88,12 @@ pub(crate) fn past_below(input: &Input, at: usize, spaces: u32) -> Option<usize>
     past(input, at, below_at(input, at, spaces))
 }
 
-fn punct_on(input: &Input, at: usize, byte: u8) -> bool
-    ensures { (n : ℕ) → result ≡ word_on n (is_punct byte) (from_at input.now at) }
+// Whether this punctuation goes on there.
+fn punct_on(input: &Input, at: usize, spaces: u32, byte: u8) -> bool
+    ensures { result ≡ word_on spaces (is_punct byte) (from_at input.now at) }
 {
     match input.head(at) {
-        Some(token) => token.indent.is_none() && is_punct(byte, token.kind),
+        Some(token) => goes_on(Layout::Lines(spaces), token.indent) && is_punct(byte, token.kind),
         None => false,
     }
 }
@@ -110,23 +102,22 @@ fn punct_on(input: &Input, at: usize, byte: u8) -> bool
 pub(crate) fn past_semicolon(input: &Input, at: usize, spaces: u32) -> Option<usize>
     ensures { IsPast input.now (word_on spaces (is_punct 59)) at result }
 {
-    let _ = spaces;
-    past(input, at, punct_on(input, at, b';'))
+    past(input, at, punct_on(input, at, spaces, b';'))
 }
 
 /// The number of the token behind the `=` that goes on there.
 pub(crate) fn past_equals(input: &Input, at: usize, spaces: u32) -> Option<usize>
     ensures { IsPast input.now (equals_at (Lines spaces)) at result }
 {
-    let _ = spaces;
-    past(input, at, punct_on(input, at, b'='))
+    past(input, at, punct_on(input, at, spaces, b'='))
 }
 
-fn word_on(input: &Input, at: usize, word: Word) -> bool
-    ensures { (n : ℕ) → result ≡ word_on n (is_word word) (from_at input.now at) }
+// Whether this keyword goes on there.
+fn word_on(input: &Input, at: usize, spaces: u32, word: Word) -> bool
+    ensures { result ≡ word_on spaces (is_word word) (from_at input.now at) }
 {
     match input.head(at) {
-        Some(token) => token.indent.is_none() && is_word(word, token.kind),
+        Some(token) => goes_on(Layout::Lines(spaces), token.indent) && is_word(word, token.kind),
         None => false,
     }
 }
@@ -135,8 +126,7 @@ fn word_on(input: &Input, at: usize, word: Word) -> bool
 pub(crate) fn past_word(input: &Input, at: usize, spaces: u32, word: Word) -> Option<usize>
     ensures { IsPast input.now (word_on spaces (is_word word)) at result }
 {
-    let _ = spaces;
-    past(input, at, word_on(input, at, word))
+    past(input, at, word_on(input, at, spaces, word))
 }
 
 /// The place of the keyword of a further branch that goes on there, or begins a line behind so many spaces.

@@ -24,7 +24,7 @@ fn atom_at(input: &Input, at: usize) -> bool
     ensures { result ≡ atom_at (origin_of input.now) (from_at input.now at) }
 {
     match input.head(at) {
-        Some(token) => begins_atom(token.kind) || input.is_at(token),
+        Some(token) => begins_atom(token.kind) || input.is_at_sign(token),
         None => false,
     }
 }
@@ -48,17 +48,7 @@ fn operand_on(input: &Input, at: usize, spaces: u32) -> bool
     }
     match token.kind {
         Tok::Op => is_operator(input.spelling(token)) && (token.space_before && !token.space_after),
-        _ => begins_expr(input, at),
-    }
-}
-
-// Whether an expression begins there.
-fn begins_expr(input: &Input, at: usize) -> bool
-    ensures { result ≡ expr_at (origin_of input.now) (from_at input.now at) }
-{
-    match input.lead_at(at) {
-        Lead::If | Lead::Case => true,
-        Lead::Operand => input.operand_at(at),
+        _ => input.expr_at(at),
     }
 }
 

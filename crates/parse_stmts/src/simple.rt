@@ -15,7 +15,7 @@ use crate::values::read_optional;
 use arc_base::Stop;
 use indent_scanner::{Tok, Token};
 use nim_tree::{Binding, Name, Stmt};
-use parse_decls::{Reading, and_one, left_out, read_definition, read_name, stuck};
+use parse_decls::{Reading, and_one, definition, left_out, read_name, stuck};
 use parse_exprs::{Input, Layout, goes_on, is_name};
 use std::alloc::Global;
 
@@ -223,7 +223,7 @@ fn read_bound(
     requires few { length input.now.tokens.now < 2 ^ 32 }
     ensures { Comes statement_of (λ k. run_bound k binding (origin_of input.now) spaces (place_at (origin_of input.now) token) (from_at input.now at)) input.now at result }
 {
-    let one = read_definition(alloc, input, at, Layout::Lines(spaces))?;
+    let one = definition(alloc, input, at, spaces)?;
     Ok(Reading {
         value: Stmt::Define {
             at: input.place_at(token),

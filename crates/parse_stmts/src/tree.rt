@@ -12,16 +12,16 @@ ghost use Rattle.parse_exprs.specs.Parsed.{origin};
 ghost use Rattle.parse_exprs.specs.Input.{from_at, origin_of};
 ghost use Rattle.parse_decls.specs.Gives.{Comes};
 ghost use Rattle.parse_stmts.specs.Grammar.{IsModule};
-ghost use Rattle.parse_stmts.specs.Parsed.{AreTokens, HasFew, IsRefused, OpensTooMany, IsLeftOut};
+ghost use Rattle.parse_stmts.specs.Parsed.{AreTokens, HasFew, HasNone, IsRefused, OpensTooMany, IsLeftOut};
 ghost use Rattle.parse_stmts.specs.Run.{run_module};
 
 use crate::block::read_statements;
 use crate::imports::imports_in;
-use crate::lines::{end_at, level_at};
+use crate::lines::end_at;
 use arc_base::Stop;
 use indent_scanner::Token;
 use nim_tree::{Module, Stmt};
-use parse_decls::{Reading, stuck};
+use parse_decls::{Reading, level_at, stuck};
 use parse_exprs::Input;
 use std::alloc::Global;
 
@@ -74,10 +74,11 @@ pub fn one_tree()
     ensures { (x : Origin) (tokens : List One) (t u : Statements) → IsModule x tokens t → IsModule x tokens u → t ≡ u }
 {}
 
-/// Tokens open a level too many, or meet what is left out, at one place at most, and then they are no tree.
+/// Tokens open a level too many, meet what is left out, or can't go on, at one place at most, and then they are no tree.
 pub fn one_fault()
     ensures deep { (x : Origin) (tokens : List One) (p q : At) → OpensTooMany x tokens p → OpensTooMany x tokens q → p ≡ q }
     ensures left_out { (x : Origin) (tokens : List One) (p q : At) → IsLeftOut x tokens p → IsLeftOut x tokens q → p ≡ q }
+    ensures stuck { (x : Origin) (tokens : List One) (p q : At) → HasNone x tokens p → HasNone x tokens q → p ≡ q }
     ensures either { (x : Origin) (tokens : List One) (p q : At) → OpensTooMany x tokens p → IsLeftOut x tokens q → ⊥ }
     ensures deep_none { (x : Origin) (tokens : List One) (t : Statements) (p : At) → IsModule x tokens t → OpensTooMany x tokens p → ⊥ }
     ensures left_out_none { (x : Origin) (tokens : List One) (t : Statements) (p : At) → IsModule x tokens t → IsLeftOut x tokens p → ⊥ }

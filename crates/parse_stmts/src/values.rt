@@ -10,7 +10,7 @@ ghost use Rattle.parse_stmts.specs.Run.{run_here, run_optional};
 use arc_base::Stop;
 use nim_tree::Expr;
 use parse_decls::{Reading, read_value, stuck};
-use parse_exprs::{Input, Layout, Lead};
+use parse_exprs::{Input, Layout};
 use std::alloc::Global;
 
 /// An expression that begins on this line.
@@ -59,13 +59,7 @@ pub(crate) fn read_optional(
 fn begins_here(input: &Input, at: usize, layout: Layout) -> bool
     ensures { result ≡ (stays layout (from_at input.now at) && expr_at (origin_of input.now) (from_at input.now at)) }
 {
-    if !input.stays(at, layout) {
-        return false;
-    }
-    match input.lead_at(at) {
-        Lead::If | Lead::Case => true,
-        Lead::Operand => input.operand_at(at),
-    }
+    input.stays(at, layout) && input.expr_at(at)
 }
 
 /// An expression on the heap.

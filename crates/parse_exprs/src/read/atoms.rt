@@ -91,7 +91,7 @@ fn read_sequence(
     requires within { at < length input.now.tokens.now }
     ensures { Comes (λ k. run_group k None None (origin_of input.now) layout left token (from_at input.now (suc at))) input.now left (suc at) result }
 {
-    if !input.is_at(token) {
+    if !input.is_at_sign(token) {
         return Err(Stuck::Syntax(at));
     }
     let open = at + 1;

@@ -1,57 +1,44 @@
 // `if` and `case`.
-ghost use Rattle.std.specs.Prelude.{◌≡◌, ◌∷◌, suc, ◌<◌, ◌≤◌, ◌^◌, length};
-ghost use Rattle.nim_tree.specs.Terms.{term_of};
-ghost use Rattle.nim_tree.specs.Statements.{statement_of};
+ghost use Rattle.std.specs.Prelude.{◌≡◌, suc, ◌<◌, ◌≤◌, ◌^◌, length, IfOk, IfErr};
+ghost use Rattle.arc_base.specs.declared.place.Stop.TheVariants.{Memory};
+ghost use Rattle.nim_tree.specs.Terms.{term_of, parts_of};
+ghost use Rattle.nim_tree.specs.Statements.{statement_of, no_branches, and_branch};
 ghost use Rattle.parse_exprs.specs.declared.layout.Layout.TheVariants.{Lines};
 ghost use Rattle.parse_exprs.specs.Look.{past_colon};
 ghost use Rattle.parse_exprs.specs.Input.{from_at, origin_of};
 ghost use Rattle.parse_decls.specs.Gives.{Comes};
-ghost use Rattle.parse_stmts.specs.Run.{run_if, run_branch, run_elifs, run_else, run_case, run_branches, run_of, run_ofs, if_it_fits, fits_as, no_chosen, branch_level};
+ghost use Rattle.parse_stmts.specs.Run.{run_if, run_branch, run_elifs, run_else, run_case, run_branches, run_of, run_ofs, branch_level};
 ghost use Rattle.parse_stmts.specs.Blocks.{block_of, chosen_of};
 
 use crate::block::statements::read_body;
-use crate::choices::{Block, Chosen, and_chosen, conditional, selected};
 use crate::heads::{read_label, read_labels};
 use crate::marks::{Word, branch_on};
 use crate::values::read_here;
 use arc_base::{Place, Stop};
 use indent_scanner::Token;
-use nim_tree::{Expr, Stmt};
-use parse_decls::{Reading, and_one, stuck, too_deep};
+use nim_tree::{Branch, Expr, Stmt};
+use parse_decls::{Reading, and_one, stuck};
 use parse_exprs::{Input, Layout};
 use std::alloc::Global;
 
 // No branch yet.
-fn no_branches(alloc: Global) -> Chosen
-    ensures { chosen_of result ≡ no_chosen }
+fn no_branches(alloc: Global) -> Vec<Branch>
+    ensures { chosen_of result ≡ no_branches }
 {
-    Chosen {
-        all: Vec::new(alloc),
-        inline: true,
-    }
+    Vec::new(alloc)
 }
 
-// The statement that begins at a token, where it has few levels as an expression.
-fn if_it_fits(input: &Input, at: usize, tree: Stmt, next: usize) -> Result<Reading<Stmt>, Stop>
-    requires within { at < length input.now.tokens.now }
-    requires goes { suc at ≤ next }
-    requires inside { next ≤ length input.now.tokens.now }
-    ensures { Comes statement_of (λ k. if_it_fits (from_at input.now at) (statement_of tree) (from_at input.now next)) input.now (suc at) result }
+// With one more branch.
+fn and_branch(
+    some: Vec<Branch>,
+    at: Place,
+    tests: Vec<Expr>,
+    body: Vec<Stmt>,
+) -> Result<Vec<Branch>, Stop>
+    ensures ok { IfOk result (λ all. chosen_of all ≡ and_branch (chosen_of some) at (parts_of tests.items) (block_of body)) }
+    ensures err { IfErr result (λ stop. stop ≡ Memory) }
 {
-    if fits(&tree) {
-        Ok(Reading { value: tree, next })
-    } else {
-        Err(too_deep(input, at))
-    }
-}
-
-fn fits(tree: &Stmt) -> bool
-    ensures { result ≡ fits_as (statement_of tree.now) }
-{
-    match tree {
-        Stmt::Eval { value, .. } => value.levels() <= 64,
-        _ => true,
-    }
+    and_one(some, Branch { at, tests, body })
 }
 
 // ---- `if`
@@ -67,7 +54,6 @@ pub(crate) fn read_if(
     left: u32,
 ) -> Result<Reading<Stmt>, Stop>
     requires few { length input.now.tokens.now < 2 ^ 32 }
-    requires head { from_at input.now at ≡ token ∷ from_at input.now (suc at) }
     requires within { at < length input.now.tokens.now }
     ensures { Comes statement_of (λ k. run_if k (origin_of input.now) spaces left token (from_at input.now (suc at))) input.now (suc at) result }
 {
@@ -83,8 +69,14 @@ pub(crate) fn read_if(
     )?;
     let all = read_elifs(alloc, input, first, spaces, left)?;
     let other = read_else(alloc, input, all.next, spaces, left)?;
-    let tree = conditional(alloc, place, all.value, other.value)?;
-    if_it_fits(input, at, tree, other.next)
+    Ok(Reading {
+        value: Stmt::If {
+            at: place,
+            branches: all.value,
+            otherwise: other.value,
+        },
+        next: other.next,
+    })
 }
 
 // A condition, a colon and a block, behind some others.
@@ -92,12 +84,12 @@ pub(crate) fn read_if(
 fn read_branch(
     alloc: Global,
     input: &Input,
-    some: Chosen,
+    some: Vec<Branch>,
     place: Place,
     at: usize,
     spaces: u32,
     left: u32,
-) -> Result<Reading<Chosen>, Stop>
+) -> Result<Reading<Vec<Branch>>, Stop>
     requires few { length input.now.tokens.now < 2 ^ 32 }
     ensures { Comes chosen_of (λ k. run_branch k (origin_of input.now) spaces left (chosen_of some) place (from_at input.now at)) input.now (suc at) result }
 {
@@ -105,7 +97,7 @@ fn read_branch(
     let block = read_body(alloc, input, condition.next, spaces, left)?;
     let tests = and_one(Vec::new(alloc), condition.value)?;
     Ok(Reading {
-        value: and_chosen(some, place, tests, block.value)?,
+        value: and_branch(some, place, tests, block.value)?,
         next: block.next,
     })
 }
@@ -115,10 +107,10 @@ fn read_branch(
 fn read_elifs(
     alloc: Global,
     input: &Input,
-    first: Reading<Chosen>,
+    first: Reading<Vec<Branch>>,
     spaces: u32,
     left: u32,
-) -> Result<Reading<Chosen>, Stop>
+) -> Result<Reading<Vec<Branch>>, Stop>
     requires few { length input.now.tokens.now < 2 ^ 32 }
     requires within { first.next ≤ length input.now.tokens.now }
     ensures { Comes chosen_of (λ k. run_elifs k (origin_of input.now) spaces left (chosen_of first.value) (from_at input.now first.next)) input.now first.next result }
@@ -141,7 +133,7 @@ fn read_else(
     at: usize,
     spaces: u32,
     left: u32,
-) -> Result<Reading<Block>, Stop>
+) -> Result<Reading<Vec<Stmt>>, Stop>
     requires few { length input.now.tokens.now < 2 ^ 32 }
     requires within { at ≤ length input.now.tokens.now }
     ensures { Comes block_of (λ k. run_else k (origin_of input.now) spaces left (from_at input.now at)) input.now at result }
@@ -149,10 +141,7 @@ fn read_else(
     match branch_on(input, at, spaces, Word::Else) {
         Some(_) => read_body(alloc, input, at + 1, spaces, left),
         None => Ok(Reading {
-            value: Block {
-                body: Vec::new(alloc),
-                inline: true,
-            },
+            value: Vec::new(alloc),
             next: at,
         }),
     }
@@ -171,7 +160,6 @@ pub(crate) fn read_case(
     left: u32,
 ) -> Result<Reading<Stmt>, Stop>
     requires few { length input.now.tokens.now < 2 ^ 32 }
-    requires head { from_at input.now at ≡ token ∷ from_at input.now (suc at) }
     requires within { at < length input.now.tokens.now }
     ensures { Comes statement_of (λ k. run_case k (origin_of input.now) spaces left token (from_at input.now (suc at))) input.now (suc at) result }
 {
@@ -197,10 +185,9 @@ fn read_branches(
     left: u32,
 ) -> Result<Reading<Stmt>, Stop>
     requires few { length input.now.tokens.now < 2 ^ 32 }
-    requires head { from_at input.now at ≡ token ∷ from_at input.now (suc at) }
     requires goes { suc at ≤ selector.next }
     requires within { selector.next ≤ length input.now.tokens.now }
-    ensures { Comes statement_of (λ k. run_branches k (origin_of input.now) spaces left token (from_at input.now (suc at)) (term_of selector.value) (past_colon (Lines spaces) (from_at input.now selector.next))) input.now (suc at) result }
+    ensures { Comes statement_of (λ k. run_branches k (origin_of input.now) spaces left token (term_of selector.value) (past_colon (Lines spaces) (from_at input.now selector.next))) input.now (suc at) result }
 {
     let layout = Layout::Lines(spaces);
     let next = input.past_colon(selector.next, layout);
@@ -211,8 +198,15 @@ fn read_branches(
     let all = read_ofs(alloc, input, next, level, left)?;
     let other = read_else(alloc, input, all.next, level, left)?;
     let place = input.place_at(token);
-    let tree = selected(alloc, place, selector.value, all.value, other.value)?;
-    if_it_fits(input, at, tree, other.next)
+    Ok(Reading {
+        value: Stmt::Case {
+            at: place,
+            selector: selector.value,
+            branches: all.value,
+            otherwise: other.value,
+        },
+        next: other.next,
+    })
 }
 
 // Labels, a colon and a block, behind some others.
@@ -220,12 +214,12 @@ fn read_branches(
 fn read_of(
     alloc: Global,
     input: &Input,
-    some: Chosen,
+    some: Vec<Branch>,
     place: Place,
     at: usize,
     spaces: u32,
     left: u32,
-) -> Result<Reading<Chosen>, Stop>
+) -> Result<Reading<Vec<Branch>>, Stop>
     requires few { length input.now.tokens.now < 2 ^ 32 }
     ensures { Comes chosen_of (λ k. run_of k (origin_of input.now) spaces left (chosen_of some) place (from_at input.now at)) input.now (suc at) result }
 {
@@ -236,7 +230,7 @@ fn read_of(
     let labels = read_labels(alloc, input, first, spaces)?;
     let block = read_body(alloc, input, labels.next, spaces, left)?;
     Ok(Reading {
-        value: and_chosen(some, place, labels.value, block.value)?,
+        value: and_branch(some, place, labels.value, block.value)?,
         next: block.next,
     })
 }
@@ -249,10 +243,10 @@ fn read_ofs(
     at: usize,
     spaces: u32,
     left: u32,
-) -> Result<Reading<Chosen>, Stop>
+) -> Result<Reading<Vec<Branch>>, Stop>
     requires few { length input.now.tokens.now < 2 ^ 32 }
     requires within { at ≤ length input.now.tokens.now }
-    ensures { Comes chosen_of (λ k. run_ofs k (origin_of input.now) spaces left no_chosen (from_at input.now at)) input.now at result }
+    ensures { Comes chosen_of (λ k. run_ofs k (origin_of input.now) spaces left no_branches (from_at input.now at)) input.now at result }
 {
     let mut all = no_branches(alloc);
     let mut next = at;

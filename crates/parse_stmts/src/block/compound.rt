@@ -8,7 +8,6 @@ ghost use Rattle.parse_stmts.specs.Run.{run_compound, run_try, run_handler, run_
 ghost use Rattle.parse_stmts.specs.Blocks.{block_of, caught_of};
 
 use crate::block::statements::{read_block, read_body};
-use crate::choices::Block;
 use crate::heads::{read_binding, read_course, read_types_of};
 use crate::marks::{Word, branch_on, past_equals, past_word};
 use crate::values::read_here;
@@ -16,7 +15,7 @@ use arc_base::{Place, Stop};
 use indent_scanner::{Key, Tok, Token};
 use nim_tree::{Binding, Handler, Name, Stmt};
 use parse_decls::{
-    Reading, and_one, read_definition_block, read_head, read_name, read_types, stuck,
+    Reading, and_one, definition_block, procedure_head, read_name, stuck, type_declarations,
 };
 use parse_exprs::{Input, Layout};
 use std::alloc::Global;
@@ -43,7 +42,7 @@ pub(crate) fn read_while(
         value: Stmt::While {
             at: input.place_at(token),
             condition: condition.value,
-            body: block.value.body,
+            body: block.value,
         },
         next: block.next,
     })
@@ -74,7 +73,7 @@ pub(crate) fn read_for(
             at: input.place_at(token),
             variable: variable.value,
             over: over.value,
-            body: block.value.body,
+            body: block.value,
         },
         next: block.next,
     })
@@ -99,15 +98,15 @@ pub(crate) fn read_try(
     let block = read_body(alloc, input, at + 1, spaces, left)?;
     let all = read_handlers(alloc, input, block.next, spaces, left)?;
     let last = read_finally(alloc, input, all.next, spaces, left)?;
-    if !have_some(&all.value, &last.value.body) {
+    if !have_some(&all.value, &last.value) {
         return Err(stuck(input, last.next));
     }
     Ok(Reading {
         value: Stmt::Try {
             at: input.place_at(token),
-            body: block.value.body,
+            body: block.value,
             handlers: all.value,
-            finally: last.value.body,
+            finally: last.value,
         },
         next: last.next,
     })
@@ -155,7 +154,7 @@ fn read_handler(
             at: place,
             types: types.value,
             binding: binding.value,
-            body: block.value.body,
+            body: block.value,
         },
         next: block.next,
     })
@@ -205,7 +204,7 @@ fn read_finally(
     at: usize,
     spaces: u32,
     left: u32,
-) -> Result<Reading<Block>, Stop>
+) -> Result<Reading<Vec<Stmt>>, Stop>
     requires few { length input.now.tokens.now < 2 ^ 32 }
     requires within { at ≤ length input.now.tokens.now }
     ensures { Comes block_of (λ k. run_finally k (origin_of input.now) spaces left (from_at input.now at)) input.now at result }
@@ -213,10 +212,7 @@ fn read_finally(
     match branch_on(input, at, spaces, Word::Finally) {
         Some(_) => read_body(alloc, input, at + 1, spaces, left),
         None => Ok(Reading {
-            value: Block {
-                body: Vec::new(alloc),
-                inline: true,
-            },
+            value: Vec::new(alloc),
             next: at,
         }),
     }
@@ -240,7 +236,7 @@ pub(crate) fn read_defer(
     Ok(Reading {
         value: Stmt::Defer {
             at: input.place_at(token),
-            body: block.value.body,
+            body: block.value,
         },
         next: block.next,
     })
@@ -262,7 +258,7 @@ pub(crate) fn read_proc(
     requires within { at < length input.now.tokens.now }
     ensures { Comes statement_of (λ k. run_proc k (origin_of input.now) spaces left token (from_at input.now (suc at))) input.now (suc at) result }
 {
-    let head = read_head(alloc, input, at + 1, Layout::Lines(spaces))?;
+    let head = procedure_head(alloc, input, at + 1, spaces)?;
     let place = input.place_at(token);
     let Some(behind) = past_equals(input, head.next, spaces) else {
         return Ok(Reading {
@@ -279,7 +275,7 @@ pub(crate) fn read_proc(
         value: Stmt::Proc {
             at: place,
             head: head.value,
-            body: block.value.body,
+            body: block.value,
         },
         next: block.next,
     })
@@ -297,7 +293,7 @@ pub(crate) fn read_types_section(
     requires within { at < length input.now.tokens.now }
     ensures { (left : ℕ) → Comes statement_of (λ k. run_compound k L.Type (origin_of input.now) spaces left token (from_at input.now (suc at))) input.now (suc at) result }
 {
-    let all = read_types(alloc, input, at + 1, spaces)?;
+    let all = type_declarations(alloc, input, at + 1, spaces)?;
     Ok(Reading {
         value: Stmt::Types {
             at: input.place_at(token),
@@ -329,7 +325,7 @@ pub(crate) fn read_section(
     requires within { at < length input.now.tokens.now }
     ensures { (left : ℕ) → Comes statement_of (λ k. run_compound k L.Section (origin_of input.now) spaces left token (from_at input.now (suc at))) input.now (suc at) result }
 {
-    let all = read_definition_block(alloc, input, at + 1, spaces)?;
+    let all = definition_block(alloc, input, at + 1, spaces)?;
     Ok(Reading {
         value: Stmt::Define {
             at: input.place_at(token),

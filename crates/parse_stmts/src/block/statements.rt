@@ -1,26 +1,25 @@
 // Statements, one after another.
-ghost use Rattle.std.specs.Prelude.{◌≡◌, ◌∷◌, suc, ◌<◌, ◌≤◌, ◌^◌, ◌||◌, length};
+ghost use Rattle.std.specs.Prelude.{◌≡◌, ◌∷◌, suc, ◌<◌, ◌≤◌, ◌^◌, length};
 ghost use Rattle.nim_tree.specs.Statements.{empty, statement_of, statements_of};
 ghost use Rattle.parse_exprs.specs.Input.{from_at, origin_of};
-ghost use Rattle.parse_decls.specs.Look.{deeper_at};
 ghost use Rattle.parse_decls.specs.Gives.{Comes, Fails};
-ghost use Rattle.parse_stmts.specs.Look.{on_line_at};
-ghost use Rattle.parse_stmts.specs.Run.{run_statements, run_statement, run_compound, run_body, run_block};
+ghost use Rattle.parse_stmts.specs.Look.{opens_block};
+ghost use Rattle.parse_stmts.specs.Run.{run_statements, run_statement, choice_run, run_compound, run_body, run_block};
 ghost use Rattle.parse_stmts.specs.Blocks.{block_of};
 
+use crate::alone::{as_statement, read_alone};
 use crate::block::branches::{read_case, read_if};
 use crate::block::compound::{
     read_defer, read_for, read_proc, read_section, read_try, read_types_section, read_while,
 };
-use crate::choices::Block;
 use crate::line::read_line;
-use crate::lines::{deeper_at, ends_at, level_at, on_line_at, stands_at};
-use crate::look::{Lead, lead_at};
+use crate::lines::{ends_at, on_line_at};
+use crate::look::{Lead, lead_at, line_at, statement_at};
 use crate::marks::past_colon;
 use arc_base::Stop;
 use indent_scanner::Token;
 use nim_tree::Stmt;
-use parse_decls::{Reading, and_one, stuck, too_deep};
+use parse_decls::{Reading, and_one, deeper_at, level_at, stands_at, stuck, too_deep};
 use parse_exprs::Input;
 use std::alloc::Global;
 
@@ -70,7 +69,41 @@ fn read_statement(
     let lead = lead_at(input, at, token, spaces);
     match lead {
         Lead::Line => read_line(alloc, input, some, at, spaces),
+        Lead::If | Lead::Case => read_choice(alloc, input, some, lead, at, token, spaces, left),
         _ => {
+            let one = read_compound(alloc, input, lead, at, token, spaces, left)?;
+            Ok(Reading {
+                value: and_one(some, one.value)?,
+                next: one.next,
+            })
+        }
+    }
+}
+
+// `if` or `case`, behind some other statements: an expression where it is one that is alone on its line, else with blocks.
+#[cycle(statements)]
+fn read_choice(
+    alloc: Global,
+    input: &Input,
+    some: Vec<Stmt>,
+    lead: Lead,
+    at: usize,
+    token: Token,
+    spaces: u32,
+    left: u32,
+) -> Result<Reading<Vec<Stmt>>, Stop>
+    requires few { length input.now.tokens.now < 2 ^ 32 }
+    requires head { from_at input.now at ≡ token ∷ from_at input.now (suc at) }
+    requires within { at < length input.now.tokens.now }
+    ensures { Comes (λ all. statements_of all.items) (choice_run lead (origin_of input.now) spaces left (statements_of some.items) token (from_at input.now at) (from_at input.now (suc at))) input.now (suc at) result }
+{
+    let Reading { value: alone, next } = read_alone(alloc, input, at, spaces)?;
+    match alone {
+        Some(value) => Ok(Reading {
+            value: and_one(some, as_statement(value))?,
+            next,
+        }),
+        None => {
             let one = read_compound(alloc, input, lead, at, token, spaces, left)?;
             Ok(Reading {
                 value: and_one(some, one.value)?,
@@ -118,7 +151,7 @@ pub(crate) fn read_body(
     at: usize,
     spaces: u32,
     left: u32,
-) -> Result<Reading<Block>, Stop>
+) -> Result<Reading<Vec<Stmt>>, Stop>
     requires few { length input.now.tokens.now < 2 ^ 32 }
     ensures { Comes block_of (λ k. run_body k (origin_of input.now) spaces left (from_at input.now at)) input.now (suc at) result }
 {
@@ -128,11 +161,12 @@ pub(crate) fn read_body(
     }
 }
 
-// Whether a block begins there.
-fn block_at(input: &Input, at: usize, spaces: u32) -> bool
-    ensures { result ≡ (on_line_at (from_at input.now at) || deeper_at spaces (from_at input.now at)) }
+// Whether a block begins there, in a statement behind so many spaces.
+fn opens_block(input: &Input, at: usize, spaces: u32) -> bool
+    ensures { result ≡ opens_block (origin_of input.now) spaces (from_at input.now at) }
 {
-    on_line_at(input, at) || deeper_at(input, at, spaces)
+    (on_line_at(input, at) && line_at(input, at))
+        || (deeper_at(input, at, spaces) && statement_at(input, at))
 }
 
 // The refusal of a block that begins there, where no level is left.
@@ -142,7 +176,7 @@ fn no_level(input: &Input, at: usize, spaces: u32) -> Stop
     if at >= input.tokens.len() {
         return stuck(input, at);
     }
-    if block_at(input, at, spaces) {
+    if opens_block(input, at, spaces) {
         too_deep(input, at)
     } else {
         stuck(input, at)
@@ -157,7 +191,7 @@ pub(crate) fn read_block(
     at: usize,
     spaces: u32,
     left: u32,
-) -> Result<Reading<Block>, Stop>
+) -> Result<Reading<Vec<Stmt>>, Stop>
     requires few { length input.now.tokens.now < 2 ^ 32 }
     requires within { at ≤ length input.now.tokens.now }
     ensures { Comes block_of (λ k. run_block k (origin_of input.now) spaces left (from_at input.now at)) input.now at result }
@@ -166,24 +200,10 @@ pub(crate) fn read_block(
         return Err(no_level(input, at, spaces));
     }
     if on_line_at(input, at) {
-        let line = read_line(alloc, input, Vec::new(alloc), at, spaces)?;
-        return Ok(Reading {
-            value: Block {
-                body: line.value,
-                inline: true,
-            },
-            next: line.next,
-        });
+        return read_line(alloc, input, Vec::new(alloc), at, spaces);
     }
     if !deeper_at(input, at, spaces) {
         return Err(stuck(input, at));
     }
-    let all = read_statements(alloc, input, at, level_at(input, at), left - 1)?;
-    Ok(Reading {
-        value: Block {
-            body: all.value,
-            inline: false,
-        },
-        next: all.next,
-    })
+    read_statements(alloc, input, at, level_at(input, at), left - 1)
 }

@@ -318,3 +318,24 @@ pub(crate) const LEFT_OUT: [(&str, &str); 15] = [
     ("a\n  b", "E4 Syntax 2:3"),
     ("a\n\n# c\nb", " a b"),
 ];
+
+// Sources, their levels of blocks and of expressions, and their numbers of nodes.
+pub(crate) const COUNTS: [(&str, u32, u32, u32); 12] = [
+    (
+        "try:\n  if x: discard (x)\nexcept E as e: discard\nfinally:\n  while x: break",
+        2,
+        2,
+        14,
+    ),
+    ("case x\nof 2, 2..f(2): continue\nelse: break", 1, 2, 11),
+    ("proc f[T](a, b: T): array[2, T] {.inline.}", 0, 1, 10),
+    ("type T = ref object of P\n  a, b: int", 0, 0, 7),
+    ("x = 1", 0, 1, 3),
+    ("echo a, (b)", 0, 2, 5),
+    ("for i in 0..<n: discard", 1, 1, 5),
+    ("let a, b: int = 1", 0, 1, 5),
+    ("if a: 1\nelse: (2)", 0, 3, 7),
+    ("import a, b", 0, 0, 3),
+    ("raise newException(E, \"m\")", 0, 2, 5),
+    ("defer: x.y[1] = @[]", 1, 3, 7),
+];

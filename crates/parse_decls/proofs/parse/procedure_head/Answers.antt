@@ -1,40 +1,25 @@
-use Rattle.std.proofs.Common.{◌<◌, ◌≤◌, arith, length, drop}
-use Rattle.std.specs.Prelude.{map}
-use Rattle.std.proofs.lemmas.Result.{err_from_is_err_and}
+use Rattle.std.proofs.Common.{arith}
+use Rattle.std.specs.Prelude.{suc}
 use Rattle.nim_tree.specs.Statements.{head_of, head_nodes}
 use Rattle.parse_exprs.specs.declared.layout.Layout.TheVariants.{Lines}
-use Rattle.parse_exprs.specs.Look.{Origin}
-use Rattle.parse_exprs.specs.Parsed.{origin}
+use Rattle.parse_exprs.specs.Input.{origin_of}
 use Rattle.parse_decls.proofs.Heads.{head}
 use Rattle.parse_decls.proofs.Claims.{agrees}
 use Rattle.parse_decls.proofs.Spans.{head_takes}
-use Rattle.parse_decls.proofs.Answering.{only_of, refused_of, size_of, no_end_of}
+use Rattle.parse_decls.proofs.Answering.{comes_reads, comes_only, comes_size, comes_inside, comes_refused}
 use Rattle.parse_decls.proofs.parse.procedure_head.Goals as goal
 
-pub returns-in_err-read-clause-refused : goal.returns-in_err-read-clause-refused
-returns-in_err-read-clause-refused c =
-    let x : Origin = origin c.args.source.now c.args.«module» in
-    let p = err_from_is_err_and c.from_residual.result c.from_residual.ensures.1 in
-    rw (p.1, p.2) (refused_of (agrees (head x (Lines c.args.spaces))) x (drop c.args.from c.args.tokens.now) _ c.in_err-read.ensures)
-
 pub returns-clause-reads : goal.returns-clause-reads
-returns-clause-reads c =
-    let x : Origin = origin c.args.source.now c.args.«module» in
-    (agrees (head x (Lines c.args.spaces))).sound _ _ _ c.in_ok-read.ensures.runs
+returns-clause-reads c = comes_reads head_of (agrees (head (origin_of c.args.input.now) (Lines c.args.spaces))) c.args.input.now c.args.at (suc c.args.at) _ c.read_head.ensures
 
 pub returns-clause-only : goal.returns-clause-only
-returns-clause-only c =
-    let x : Origin = origin c.args.source.now c.args.«module» in
-    only_of (agrees (head x (Lines c.args.spaces))) c.args.tokens.now c.args.from _ _ c.in_ok-read.ensures.runs
+returns-clause-only c = comes_only head_of (agrees (head (origin_of c.args.input.now) (Lines c.args.spaces))) c.args.input.now c.args.at (suc c.args.at) _ c.read_head.ensures
 
 pub returns-clause-size : goal.returns-clause-size
-returns-clause-size c =
-    let x : Origin = origin c.args.source.now c.args.«module» in
-    let d = (agrees (head x (Lines c.args.spaces))).sound _ _ _ c.in_ok-read.ensures.runs in
-    size_of c.args.tokens.now c.args.from c.in_ok-read.read.next (head_nodes (head_of c.in_ok-read.read.value)) (head_takes _ _ _ d.reads) (let g = c.in_ok-read.ensures.goes in omega (arith, g)) c.in_ok-read.ensures.within
+returns-clause-size c = comes_size head_of (agrees (head (origin_of c.args.input.now) (Lines c.args.spaces))) head_nodes (λ a ts rest d. head_takes a ts rest d.reads) c.args.input.now c.args.at (suc c.args.at) (omega arith) _ c.read_head.ensures
 
 pub returns-clause-inside : goal.returns-clause-inside
-returns-clause-inside c =
-    let x : Origin = origin c.args.source.now c.args.«module» in
-    let d = (agrees (head x (Lines c.args.spaces))).sound _ _ _ c.in_ok-read.ensures.runs in
-    no_end_of c.args.tokens.now c.args.from c.in_ok-read.read.next (head_nodes (head_of c.in_ok-read.read.value)) (head_takes _ _ _ d.reads) c.in_ok-read.ensures.within
+returns-clause-inside c = comes_inside head_of (agrees (head (origin_of c.args.input.now) (Lines c.args.spaces))) head_nodes (λ a ts rest d. head_takes a ts rest d.reads) c.args.input.now c.args.at (suc c.args.at) _ c.read_head.ensures
+
+pub returns-clause-refused : goal.returns-clause-refused
+returns-clause-refused c = comes_refused head_of (agrees (head (origin_of c.args.input.now) (Lines c.args.spaces))) c.args.input.now c.args.at (suc c.args.at) _ c.read_head.ensures

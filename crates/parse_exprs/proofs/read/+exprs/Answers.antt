@@ -229,23 +229,23 @@ atoms::read_group-returns-in-None t c =
     let is = ap (λ p. grouped c.args.bracket c.names_in-names.result p (parts_of c.in_ok-parts.parts.parts.items)) (sym c.place_at.ensures) ∙ sym c.in_ok-all.ensures.ok ∙ ap tree_in c.in-None.is in
     λ i. stuck_here c.args.input.now (c.args.at + 1) (group_none (origin_of c.args.input.now) i c.args.left (c.args.left - 1) same c.args.token (from_at c.args.input.now (suc c.args.at)) c.args.bracket c.names_in-names.result named (from_at c.args.input.now c.args.at) c.requires.head (parts_of c.in_ok-parts.parts.parts.items) (from_at c.args.input.now c.in_ok-parts.parts.next) is c.in_ok-parts.ensures.runs) (plus_one c.args.at c.args.input.now.tokens.now)
 
-pub atoms::read_sequence-returns-then-not-is_at : goal.atoms::read_sequence-returns-then-not-is_at
-atoms::read_sequence-returns-then-not-is_at t c =
+pub atoms::read_sequence-returns-then-not-is_at_sign : goal.atoms::read_sequence-returns-then-not-is_at_sign
+atoms::read_sequence-returns-then-not-is_at_sign t c =
     let same : suc (c.args.left - 1) ≡ c.args.left = let g = c.requires.some in omega (arith, g) in
-    stuck_here c.args.input.now c.args.at (seq_no_at (origin_of c.args.input.now) c.args.layout c.args.left (c.args.left - 1) same c.args.token (from_at c.args.input.now (suc c.args.at)) (sym c.is_at.ensures ∙ c.if-not-is_at.true)) (sym c.requires.head)
+    stuck_here c.args.input.now c.args.at (seq_no_at (origin_of c.args.input.now) c.args.layout c.args.left (c.args.left - 1) same c.args.token (from_at c.args.input.now (suc c.args.at)) (sym c.is_at_sign.ensures ∙ c.if-not-is_at_sign.true)) (sym c.requires.head)
 
 pub atoms::read_sequence-returns-then-not-stays : goal.atoms::read_sequence-returns-then-not-stays
 atoms::read_sequence-returns-then-not-stays t c =
     let same : suc (c.args.left - 1) ≡ c.args.left = let g = c.requires.some in omega (arith, g) in
     let one = plus_one c.args.at c.args.input.now.tokens.now in
-    let at_is = sym c.is_at.ensures ∙ c.if-not-is_at.false in
+    let at_is = sym c.is_at_sign.ensures ∙ c.if-not-is_at_sign.false in
     stuck_here c.args.input.now (c.args.at + 1) (seq_no_stay (origin_of c.args.input.now) c.args.layout c.args.left (c.args.left - 1) same c.args.token (from_at c.args.input.now (suc c.args.at)) at_is (ap (stays c.args.layout) one ∙ (sym c.stays.ensures ∙ c.if-not-stays.true))) one
 
 pub atoms::read_sequence-returns-then-not-square_at : goal.atoms::read_sequence-returns-then-not-square_at
 atoms::read_sequence-returns-then-not-square_at t c =
     let same : suc (c.args.left - 1) ≡ c.args.left = let g = c.requires.some in omega (arith, g) in
     let one = plus_one c.args.at c.args.input.now.tokens.now in
-    let at_is = sym c.is_at.ensures ∙ c.if-not-is_at.false in
+    let at_is = sym c.is_at_sign.ensures ∙ c.if-not-is_at_sign.false in
     let stay = ap (stays c.args.layout) one ∙ (sym c.stays.ensures ∙ c.if-not-stays.false) in
     stuck_here c.args.input.now (c.args.at + 1) (seq_no_square (origin_of c.args.input.now) c.args.layout c.args.left (c.args.left - 1) same c.args.token (from_at c.args.input.now (suc c.args.at)) at_is stay (ap square_at one ∙ (sym c.square_at.ensures ∙ c.if-not-square_at.true))) one
 
@@ -254,7 +254,7 @@ atoms::read_sequence-returns-in_err-parts t c =
     let p = err_from_is_err_and c.from_residual.result c.from_residual.ensures.1 in
     let same : suc (c.args.left - 1) ≡ c.args.left = let g = c.requires.some in omega (arith, g) in
     let one = plus_one c.args.at c.args.input.now.tokens.now in
-    let at_is = sym c.is_at.ensures ∙ c.if-not-is_at.false in
+    let at_is = sym c.is_at_sign.ensures ∙ c.if-not-is_at_sign.false in
     let stay = ap (stays c.args.layout) one ∙ (sym c.stays.ensures ∙ c.if-not-stays.false) in
     let square = ap square_at one ∙ (sym c.square_at.ensures ∙ c.if-not-square_at.false) in
     rw (p.1, p.2) (fails_up c.args.input.now c.in_err-parts.field-0.0 (seq_bad (origin_of c.args.input.now) c.args.layout c.args.left (c.args.left - 1) same c.args.token (from_at c.args.input.now (suc c.args.at)) at_is stay square) (subst (λ v. Fails (λ k. run_enclosed k (origin_of c.args.input.now) Square false (c.args.left - 1) v) c.args.input.now c.in_err-parts.field-0.0) (sym one) c.in_err-parts.ensures))
@@ -263,7 +263,7 @@ pub atoms::read_sequence-returns : goal.atoms::read_sequence-returns
 atoms::read_sequence-returns t c =
     let same : suc (c.args.left - 1) ≡ c.args.left = let g = c.requires.some in omega (arith, g) in
     let one = plus_one c.args.at c.args.input.now.tokens.now in
-    let at_is = sym c.is_at.ensures ∙ c.if-not-is_at.false in
+    let at_is = sym c.is_at_sign.ensures ∙ c.if-not-is_at_sign.false in
     let stay = ap (stays c.args.layout) one ∙ (sym c.stays.ensures ∙ c.if-not-stays.false) in
     let square = ap square_at one ∙ (sym c.square_at.ensures ∙ c.if-not-square_at.false) in
     let runs = subst (λ v. Settles (λ k. run_enclosed k (origin_of c.args.input.now) Square false (c.args.left - 1) v) (got (parts_of c.in_ok-parts.parts.parts.items) (from_at c.args.input.now c.in_ok-parts.parts.next))) (sym one) c.in_ok-parts.ensures.runs in

@@ -6,25 +6,24 @@ use Rattle.nim_tree.specs.declared.expr.Expr.{Expr}
 use Rattle.nim_tree.specs.declared.stmt.Stmt.{Stmt}
 use Rattle.nim_tree.specs.declared.stmt.Handler.{Handler}
 use Rattle.nim_tree.specs.Terms.{term_of}
-use Rattle.nim_tree.specs.Statements.{empty, repeats, counts, tries, defers, proclaims, statement_of, statements_of, handlers_of, head_of, course_of}
-use Rattle.nim_tree.proofs.StmtRows.{repeated, counted, tried, deferred, proclaimed}
+use Rattle.nim_tree.specs.Statements.{empty, and_statement, no_branches, and_branch, branches, selects, repeats, counts, tries, defers, proclaims, statement_of, statements_of, handlers_of, head_of, course_of}
+use Rattle.nim_tree.proofs.StmtRows.{conditional, selected, repeated, counted, tried, deferred, proclaimed}
 use Rattle.parse_exprs.specs.declared.layout.Layout.TheVariants.{Lines}
 use Rattle.parse_exprs.specs.Look.{place_at}
 use Rattle.parse_exprs.specs.Input.{origin_of, from_at}
 use Rattle.parse_decls.specs.Look.{behind}
 use Rattle.parse_decls.specs.Outcome.{got, bad, Settles}
 use Rattle.parse_decls.specs.Run.{run_name, run_head}
-use Rattle.parse_decls.specs.Gives.{Fails, Comes}
+use Rattle.parse_decls.specs.Gives.{Fails, Found, Comes}
 use Rattle.parse_decls.proofs.Settling.{settles_stuck}
 use Rattle.parse_decls.proofs.Coming.{told_fails, fails_then, fails_leads, comes_leads, leads_suc, leads_then, leads_on, leads_if, leads_else, leads_unless, found}
 use Rattle.parse_stmts.specs.declared.look.Lead.TheVariants as L
-use Rattle.parse_stmts.specs.Inline.{conditional, selected}
-use Rattle.parse_stmts.specs.Run.{run_here, run_course, run_binding, run_statements, run_compound, run_body, run_block, run_if, run_branch, run_case, run_branches, run_try, run_proc, no_chosen, and_chosen, are_some, have_some, hold_some}
+use Rattle.parse_stmts.specs.Run.{run_here, run_course, run_binding, run_statements, run_compound, run_body, run_block, run_if, run_branch, run_case, run_branches, run_try, run_proc, choice_run, are_some, have_some, hold_some}
 use Rattle.parse_stmts.specs.Blocks.{block_of, chosen_of}
 use Rattle.parse_stmts.proofs.Steps.{head_on, fails_at, settles_at}
 use Rattle.parse_stmts.proofs.Lists.{one_more_statement}
-use Rattle.parse_stmts.proofs.Blocking.{statements_start, statements_on, statements_fail, statements_end, statements_stuck, statement_none, statement_line, statement_compound, compound_line, compound_by, body_on, body_stuck, block_line, block_stuck, block_deeper, elifs_on, elifs_fail, elifs_end, ofs_on, ofs_fail, ofs_end, ofs_start, else_on, else_none, finally_on, finally_none, handlers_fail, handlers_end}
-use Rattle.parse_stmts.proofs.Joining.{fails_suc, suc_at, fails_is_empty, settles_is_empty, branch_is, branch_fail_is, fits_leads, single_part, block_got, no_block_is, of_stuck, handlers_start, handlers_more, handlers_last, and_caught_is, branches_on, branches_stuck}
+use Rattle.parse_stmts.proofs.Blocking.{statements_start, statements_on, statements_fail, statements_end, statements_stuck, statement_none, statement_line, statement_choice, is_choice, choice_is_alone, choice_has_blocks, some_goes, not_choice, statement_compound, compound_line, compound_by, body_on, body_stuck, block_line, block_stuck, block_deeper, elifs_on, elifs_fail, elifs_end, ofs_on, ofs_fail, ofs_end, ofs_start, else_on, else_none, finally_on, finally_none, handlers_fail, handlers_end}
+use Rattle.parse_stmts.proofs.Joining.{fails_suc, suc_at, branch_is, branch_fail_is, single_part, line_start, level_start, block_got, of_stuck, handlers_start, handlers_more, handlers_last, and_caught_is, branches_on, branches_stuck}
 use Rattle.parse_stmts.proofs.block.+statements.Goals as goal
 
 pub statements::read_statements-loop-alloc-init : goal.statements::read_statements-loop-alloc-init
@@ -71,13 +70,13 @@ pub statements::read_statement-returns-in_err-one-in_default-lead : goal.stateme
 statements::read_statement-returns-in_err-one-in_default-lead t c =
     let input = c.args.input.now in let x = origin_of input in let n = c.args.spaces in let left = c.args.left in
     let p = err_from_is_err_and c.from_residual.result c.from_residual.ensures.1 in
-    let some = statements_of c.args.some.items in let ts = from_at input c.args.at in let rest = from_at input (suc c.args.at) in rw (p.1, p.2) (fails_leads _ _ _ (statement_compound x n left some c.in-Some.token rest ts _ c.in-Some.ensures.some (sym c.lead_at-lead.ensures) c.in_default-lead.not-Line) _ (fails_then _ _ _ _ c.in_err-one-in_default-lead.ensures))
+    let some = statements_of c.args.some.items in let ts = from_at input c.args.at in let rest = from_at input (suc c.args.at) in rw (p.1, p.2) (fails_leads _ _ _ (statement_compound x n left some c.in-Some.token rest ts _ c.in-Some.ensures.some (sym c.lead_at-lead.ensures) c.in_default-lead.not-Line (not_choice _ c.in_default-lead.not-If c.in_default-lead.not-Case)) _ (fails_then _ _ _ _ c.in_err-one-in_default-lead.ensures))
 
 pub statements::read_statement-returns-in_ok-and_one-in_default-lead : goal.statements::read_statement-returns-in_ok-and_one-in_default-lead
 statements::read_statement-returns-in_ok-and_one-in_default-lead t c =
     let input = c.args.input.now in let x = origin_of input in let n = c.args.spaces in let left = c.args.left in
     let some = statements_of c.args.some.items in let ts = from_at input c.args.at in let rest = from_at input (suc c.args.at) in let h = c.in_ok-one-in_default-lead.ensures in
-    rw (ap statements_of c.in_ok-and_one-in_default-lead.ensures.ok ∙ one_more_statement _ _) (found _ _ (leads_on (leads_then _ h.runs) (statement_compound x n left some c.in-Some.token rest ts _ c.in-Some.ensures.some (sym c.lead_at-lead.ensures) c.in_default-lead.not-Line)) h.goes h.within)
+    rw (ap statements_of c.in_ok-and_one-in_default-lead.ensures.ok ∙ one_more_statement _ _) (found _ _ (leads_on (leads_then _ h.runs) (statement_compound x n left some c.in-Some.token rest ts _ c.in-Some.ensures.some (sym c.lead_at-lead.ensures) c.in_default-lead.not-Line (not_choice _ c.in_default-lead.not-If c.in_default-lead.not-Case))) h.goes h.within)
 
 pub statements::read_compound-returns-in-Line : goal.statements::read_compound-returns-in-Line
 statements::read_compound-returns-in-Line t c =
@@ -144,58 +143,47 @@ statements::read_block-returns-then-left-eq0 t c =
     let input = c.args.input.now in let x = origin_of input in let n = c.args.spaces in let left = c.args.left in
     subst (λ (m : ℕ). Fails (λ k. run_block k x n m (from_at input c.args.at)) x c.no_level.result) (sym c.if-left-eq0.true) c.no_level.ensures
 
-pub statements::read_block-returns-in_err-line : goal.statements::read_block-returns-in_err-line
-statements::read_block-returns-in_err-line t c =
-    let input = c.args.input.now in let x = origin_of input in let n = c.args.spaces in let left = c.args.left in
-    let p = err_from_is_err_and c.from_residual.result c.from_residual.ensures.1 in
-    let same : suc (left - 1) ≡ left = (let g = c.if-left-eq0.false in omega (arith, g)) in let ts = from_at input c.args.at in rw (p.1, p.2) (fails_leads _ _ _ (block_line x n left (left - 1) ts same (sym c.on_line_at.ensures ∙ c.if-on_line_at.true)) _ (fails_then _ _ _ _ (fails_is_empty x n _ _ ts (ap statements_of c.new.ensures.items) _ c.in_err-line.ensures)))
-
 pub statements::read_block-returns-then-on_line_at : goal.statements::read_block-returns-then-on_line_at
 statements::read_block-returns-then-on_line_at t c =
     let input = c.args.input.now in let x = origin_of input in let n = c.args.spaces in let left = c.args.left in
-    let same : suc (left - 1) ≡ left = (let g = c.if-left-eq0.false in omega (arith, g)) in let ts = from_at input c.args.at in let h = c.in_ok-line.ensures in
-    found _ _ (leads_on (leads_then _ (settles_is_empty x n _ _ ts (ap statements_of c.new.ensures.items) h.runs)) (block_line x n left (left - 1) ts same (sym c.on_line_at.ensures ∙ c.if-on_line_at.true))) (omega (arith, h.goes)) h.within
+    let same : suc (left - 1) ≡ left = (let g = c.if-left-eq0.false in omega (arith, g)) in let ts = from_at input c.args.at in
+    comes_leads block_of _ _ input _ (leads_on (line_start x n _ _ ts (ap statements_of c.new.ensures.items)) (block_line x n left (left - 1) ts same (sym c.on_line_at.ensures ∙ c.if-on_line_at.true))) _ (omega arith) _ c.read_line.ensures
 
 pub statements::read_block-returns-then-not-deeper_at : goal.statements::read_block-returns-then-not-deeper_at
 statements::read_block-returns-then-not-deeper_at t c =
     let input = c.args.input.now in let x = origin_of input in let n = c.args.spaces in let left = c.args.left in
     let same : suc (left - 1) ≡ left = (let g = c.if-left-eq0.false in omega (arith, g)) in let ts = from_at input c.args.at in told_fails x (block_stuck x n left (left - 1) ts same (sym c.on_line_at.ensures ∙ c.if-on_line_at.false) (sym c.deeper_at.ensures ∙ c.if-not-deeper_at.true)) _ c.stuck.ensures
 
-pub statements::read_block-returns-in_err-all : goal.statements::read_block-returns-in_err-all
-statements::read_block-returns-in_err-all t c =
-    let input = c.args.input.now in let x = origin_of input in let n = c.args.spaces in let left = c.args.left in
-    let p = err_from_is_err_and c.from_residual-in_err-all.result c.from_residual-in_err-all.ensures.1 in
-    let same : suc (left - 1) ≡ left = (let g = c.if-left-eq0.false in omega (arith, g)) in let ts = from_at input c.args.at in rw (p.1, p.2) (fails_leads _ _ _ (block_deeper x n left (left - 1) ts same (sym c.on_line_at.ensures ∙ c.if-on_line_at.false) (sym c.deeper_at.ensures ∙ c.if-not-deeper_at.false)) _ (fails_then _ _ _ _ (subst (λ (m : ℕ). Fails (λ k. run_statements k x m (left - 1) empty ts) x c.in_err-all.field-0.0) c.level_at.ensures c.in_err-all.ensures)))
-
 pub statements::read_block-returns : goal.statements::read_block-returns
 statements::read_block-returns t c =
     let input = c.args.input.now in let x = origin_of input in let n = c.args.spaces in let left = c.args.left in
-    let same : suc (left - 1) ≡ left = (let g = c.if-left-eq0.false in omega (arith, g)) in let ts = from_at input c.args.at in let h = c.in_ok-all.ensures in
-    found _ _ (leads_on (leads_then _ (subst (λ (m : ℕ). Settles (λ k. run_statements k x m (left - 1) empty ts) (got (statements_of c.in_ok-all.all.value.items) (from_at input c.in_ok-all.all.next))) c.level_at.ensures h.runs)) (block_deeper x n left (left - 1) ts same (sym c.on_line_at.ensures ∙ c.if-on_line_at.false) (sym c.deeper_at.ensures ∙ c.if-not-deeper_at.false))) h.goes h.within
+    let same : suc (left - 1) ≡ left = (let g = c.if-left-eq0.false in omega (arith, g)) in let ts = from_at input c.args.at in
+    comes_leads block_of _ _ input _ (leads_on (level_start x _ _ (left - 1) ts c.level_at.ensures) (block_deeper x n left (left - 1) ts same (sym c.on_line_at.ensures ∙ c.if-on_line_at.false) (sym c.deeper_at.ensures ∙ c.if-not-deeper_at.false))) _ (omega arith) _ c.read_statements.ensures
 
 pub branches::read_if-returns-in_err-first : goal.branches::read_if-returns-in_err-first
 branches::read_if-returns-in_err-first t c =
     let input = c.args.input.now in let x = origin_of input in let n = c.args.spaces in let left = c.args.left in
     let p = err_from_is_err_and c.from_residual.result c.from_residual.ensures.1 in
-    let ts = from_at input (suc c.args.at) in let e = suc_at input c.args.at in rw (p.1, p.2) (fails_suc _ _ x (λ k. refl) _ (fails_then _ _ _ _ (fails_at (λ m k. run_branch k x n left no_chosen (place_at x c.args.token) m) x e _ (branch_fail_is x n left _ _ _ _ _ c.no_branches.ensures c.place_at-place.ensures _ c.in_err-first.ensures))))
+    let ts = from_at input (suc c.args.at) in let e = suc_at input c.args.at in rw (p.1, p.2) (fails_suc _ _ x (λ k. refl) _ (fails_then _ _ _ _ (fails_at (λ m k. run_branch k x n left no_branches (place_at x c.args.token) m) x e _ (branch_fail_is x n left _ _ _ _ _ c.no_branches.ensures c.place_at-place.ensures _ c.in_err-first.ensures))))
 
 pub branches::read_if-returns-in_err-all : goal.branches::read_if-returns-in_err-all
 branches::read_if-returns-in_err-all t c =
     let input = c.args.input.now in let x = origin_of input in let n = c.args.spaces in let left = c.args.left in
     let p = err_from_is_err_and c.from_residual-in_err-all.result c.from_residual-in_err-all.ensures.1 in
-    let ts = from_at input (suc c.args.at) in let e = suc_at input c.args.at in rw (p.1, p.2) (fails_leads _ _ _ (leads_on (leads_then _ (settles_at (λ m k. run_branch k x n left no_chosen (place_at x c.args.token) m) e (branch_is x n left _ _ _ _ _ c.no_branches.ensures c.place_at-place.ensures c.in_ok-first.ensures.runs))) (leads_suc _ _ (λ k. refl))) _ (fails_then _ _ _ _ c.in_err-all.ensures))
+    let ts = from_at input (suc c.args.at) in let e = suc_at input c.args.at in rw (p.1, p.2) (fails_leads _ _ _ (leads_on (leads_then _ (settles_at (λ m k. run_branch k x n left no_branches (place_at x c.args.token) m) e (branch_is x n left _ _ _ _ _ c.no_branches.ensures c.place_at-place.ensures c.in_ok-first.ensures.runs))) (leads_suc _ _ (λ k. refl))) _ (fails_then _ _ _ _ c.in_err-all.ensures))
 
 pub branches::read_if-returns-in_err-other : goal.branches::read_if-returns-in_err-other
 branches::read_if-returns-in_err-other t c =
     let input = c.args.input.now in let x = origin_of input in let n = c.args.spaces in let left = c.args.left in
     let p = err_from_is_err_and c.from_residual-in_err-other.result c.from_residual-in_err-other.ensures.1 in
-    let ts = from_at input (suc c.args.at) in let e = suc_at input c.args.at in rw (p.1, p.2) (fails_leads _ _ _ (leads_on (leads_then _ c.in_ok-all.ensures.runs) (leads_on (leads_then _ (settles_at (λ m k. run_branch k x n left no_chosen (place_at x c.args.token) m) e (branch_is x n left _ _ _ _ _ c.no_branches.ensures c.place_at-place.ensures c.in_ok-first.ensures.runs))) (leads_suc _ _ (λ k. refl)))) _ (fails_then _ _ _ _ c.in_err-other.ensures))
+    let ts = from_at input (suc c.args.at) in let e = suc_at input c.args.at in rw (p.1, p.2) (fails_leads _ _ _ (leads_on (leads_then _ c.in_ok-all.ensures.runs) (leads_on (leads_then _ (settles_at (λ m k. run_branch k x n left no_branches (place_at x c.args.token) m) e (branch_is x n left _ _ _ _ _ c.no_branches.ensures c.place_at-place.ensures c.in_ok-first.ensures.runs))) (leads_suc _ _ (λ k. refl)))) _ (fails_then _ _ _ _ c.in_err-other.ensures))
 
 pub branches::read_if-returns : goal.branches::read_if-returns
 branches::read_if-returns t c =
     let input = c.args.input.now in let x = origin_of input in let n = c.args.spaces in let left = c.args.left in
     let ts = from_at input (suc c.args.at) in let e = suc_at input c.args.at in let h = c.in_ok-other.ensures in
-    comes_leads statement_of _ _ input _ (leads_on (fits_leads (from_at input c.args.at) (c.args.token ∷ ts) _ _ _ c.requires.head (c.in_ok-tree.ensures.ok ∙ ap (λ p. conditional p (chosen_of c.in_ok-all.all.value) (block_of c.in_ok-other.other.value)) c.place_at-place.ensures)) (leads_on (leads_then _ h.runs) (leads_on (leads_then _ c.in_ok-all.ensures.runs) (leads_on (leads_then _ (settles_at (λ m k. run_branch k x n left no_chosen (place_at x c.args.token) m) e (branch_is x n left _ _ _ _ _ c.no_branches.ensures c.place_at-place.ensures c.in_ok-first.ensures.runs))) (leads_suc _ _ (λ k. refl)))))) _ (omega arith) _ c.if_it_fits.ensures
+    rw (conditional c.place_at-place.result c.in_ok-all.all.value c.in_ok-other.other.value ∙ ap (λ p. branches p (chosen_of c.in_ok-all.all.value) (block_of c.in_ok-other.other.value)) c.place_at-place.ensures)
+    (found _ _ (leads_on (leads_then _ h.runs) (leads_on (leads_then _ c.in_ok-all.ensures.runs) (leads_on (leads_then _ (settles_at (λ m k. run_branch k x n left no_branches (place_at x c.args.token) m) e (branch_is x n left _ _ _ _ _ c.no_branches.ensures c.place_at-place.ensures c.in_ok-first.ensures.runs))) (leads_suc _ _ (λ k. refl))))) (omega (arith, h.goes, c.in_ok-all.ensures.goes, c.in_ok-first.ensures.goes)) h.within)
 
 pub branches::read_branch-returns-in_err-condition : goal.branches::read_branch-returns-in_err-condition
 branches::read_branch-returns-in_err-condition t c =
@@ -213,7 +201,7 @@ pub branches::read_branch-returns : goal.branches::read_branch-returns
 branches::read_branch-returns t c =
     let input = c.args.input.now in let x = origin_of input in let n = c.args.spaces in let left = c.args.left in
     let h = c.in_ok-block.ensures in
-    rw (c.in_ok-and_chosen.ensures.ok ∙ ap (λ tests. and_chosen (chosen_of c.args.some) c.args.place tests (block_of c.in_ok-block.block.value)) (single_part c.in_ok-tests.tests.items c.in_ok-condition.condition.value (c.in_ok-tests.ensures.ok ∙ ap (λ (l : List Expr). l ++ c.in_ok-condition.condition.value ∷ []) c.new.ensures.items)))
+    rw (c.in_ok-and_branch.ensures.ok ∙ ap (λ tests. and_branch (chosen_of c.args.some) c.args.place tests (block_of c.in_ok-block.block.value)) (single_part c.in_ok-tests.tests.items c.in_ok-condition.condition.value (c.in_ok-tests.ensures.ok ∙ ap (λ (l : List Expr). l ++ c.in_ok-condition.condition.value ∷ []) c.new.ensures.items)))
     (found _ _ (leads_on (leads_then _ h.runs) (leads_on (leads_then _ c.in_ok-condition.ensures.runs) (leads_suc _ _ (λ k. refl)))) (omega (arith, h.goes, c.in_ok-condition.ensures.goes)) h.within)
 
 pub branches::read_elifs-returns-in_err-more : goal.branches::read_elifs-returns-in_err-more
@@ -263,7 +251,7 @@ branches::read_else-returns-in-Some t c =
 pub branches::read_else-returns-in-None : goal.branches::read_else-returns-in-None
 branches::read_else-returns-in-None t c =
     let input = c.args.input.now in let x = origin_of input in let n = c.args.spaces in let left = c.args.left in
-    found _ _ (leads_on (block_got _ _ _ (no_block_is _ c.new.ensures.items)) (else_none x n left _ c.in-None.ensures)) (omega arith) c.requires.within
+    found _ _ (leads_on (block_got _ _ _ (ap statements_of c.new.ensures.items)) (else_none x n left _ c.in-None.ensures)) (omega arith) c.requires.within
 
 pub compound::read_finally-returns-in-Some : goal.compound::read_finally-returns-in-Some
 compound::read_finally-returns-in-Some t c =
@@ -273,7 +261,7 @@ compound::read_finally-returns-in-Some t c =
 pub compound::read_finally-returns-in-None : goal.compound::read_finally-returns-in-None
 compound::read_finally-returns-in-None t c =
     let input = c.args.input.now in let x = origin_of input in let n = c.args.spaces in let left = c.args.left in
-    found _ _ (leads_on (block_got _ _ _ (no_block_is _ c.new.ensures.items)) (finally_none x n left _ c.in-None.ensures)) (omega arith) c.requires.within
+    found _ _ (leads_on (block_got _ _ _ (ap statements_of c.new.ensures.items)) (finally_none x n left _ c.in-None.ensures)) (omega arith) c.requires.within
 
 pub branches::read_case-returns-in_err-selector : goal.branches::read_case-returns-in_err-selector
 branches::read_case-returns-in_err-selector t c =
@@ -314,7 +302,7 @@ pub branches::read_of-returns : goal.branches::read_of-returns
 branches::read_of-returns t c =
     let input = c.args.input.now in let x = origin_of input in let n = c.args.spaces in let left = c.args.left in
     let h = c.in_ok-block.ensures in
-    rw c.in_ok-and_chosen.ensures.ok (found _ _ (leads_on (leads_then _ h.runs) (leads_on (leads_then _ c.in_ok-labels.ensures.runs) (leads_on (leads_then _ c.in_ok-first.ensures.runs) (leads_on (leads_unless _ _ (sym c.stays.ensures ∙ c.if-not-stays.false)) (leads_suc _ _ (λ k. refl)))))) (omega (arith, h.goes, c.in_ok-labels.ensures.goes, c.in_ok-first.ensures.goes)) h.within)
+    rw c.in_ok-and_branch.ensures.ok (found _ _ (leads_on (leads_then _ h.runs) (leads_on (leads_then _ c.in_ok-labels.ensures.runs) (leads_on (leads_then _ c.in_ok-first.ensures.runs) (leads_on (leads_unless _ _ (sym c.stays.ensures ∙ c.if-not-stays.false)) (leads_suc _ _ (λ k. refl)))))) (omega (arith, h.goes, c.in_ok-labels.ensures.goes, c.in_ok-first.ensures.goes)) h.within)
 
 pub compound::read_while-returns-in_err-condition : goal.compound::read_while-returns-in_err-condition
 compound::read_while-returns-in_err-condition t c =
@@ -332,7 +320,7 @@ pub compound::read_while-returns : goal.compound::read_while-returns
 compound::read_while-returns t c =
     let input = c.args.input.now in let x = origin_of input in let n = c.args.spaces in let left = c.args.left in
     let e = suc_at input c.args.at in let h = c.in_ok-block.ensures in
-    rw (repeated c.place_at.result c.in_ok-condition.condition.value c.in_ok-block.block.value.body ∙ ap (λ p. repeats p (term_of c.in_ok-condition.condition.value) (statements_of c.in_ok-block.block.value.body.items)) c.place_at.ensures) (found _ _ (leads_on (leads_then _ h.runs) (leads_on (leads_then _ (settles_at (λ m k. run_here k x n m) e c.in_ok-condition.ensures.runs)) (leads_suc _ _ (λ k. refl)))) (omega (arith, h.goes, c.in_ok-condition.ensures.goes)) h.within)
+    rw (repeated c.place_at.result c.in_ok-condition.condition.value c.in_ok-block.block.value ∙ ap (λ p. repeats p (term_of c.in_ok-condition.condition.value) (statements_of c.in_ok-block.block.value.items)) c.place_at.ensures) (found _ _ (leads_on (leads_then _ h.runs) (leads_on (leads_then _ (settles_at (λ m k. run_here k x n m) e c.in_ok-condition.ensures.runs)) (leads_suc _ _ (λ k. refl)))) (omega (arith, h.goes, c.in_ok-condition.ensures.goes)) h.within)
 
 pub compound::read_for-returns-in_err-variable : goal.compound::read_for-returns-in_err-variable
 compound::read_for-returns-in_err-variable t c =
@@ -361,7 +349,7 @@ pub compound::read_for-returns : goal.compound::read_for-returns
 compound::read_for-returns t c =
     let input = c.args.input.now in let x = origin_of input in let n = c.args.spaces in let left = c.args.left in
     let e = suc_at input c.args.at in let h = c.in_ok-block.ensures in
-    rw (counted c.place_at.result c.in_ok-variable.variable.value c.in_ok-over.over.value c.in_ok-block.block.value.body ∙ ap (λ p. counts p c.in_ok-variable.variable.value (course_of c.in_ok-over.over.value) (statements_of c.in_ok-block.block.value.body.items)) c.place_at.ensures) (found _ _ (leads_on (leads_then _ h.runs) (leads_on (leads_then _ (settles_at (λ m k. run_course k x n m) c.in-Some.ensures.behind c.in_ok-over.ensures.runs)) (leads_on (leads_unless _ _ c.in-Some.ensures.is) (leads_on (leads_then _ (settles_at (λ m k. run_name x (Lines n) m) e c.in_ok-variable.ensures.runs)) (leads_suc _ _ (λ k. refl)))))) (omega (arith, h.goes, c.in_ok-over.ensures.goes, c.in-Some.ensures.goes, c.in_ok-variable.ensures.goes)) h.within)
+    rw (counted c.place_at.result c.in_ok-variable.variable.value c.in_ok-over.over.value c.in_ok-block.block.value ∙ ap (λ p. counts p c.in_ok-variable.variable.value (course_of c.in_ok-over.over.value) (statements_of c.in_ok-block.block.value.items)) c.place_at.ensures) (found _ _ (leads_on (leads_then _ h.runs) (leads_on (leads_then _ (settles_at (λ m k. run_course k x n m) c.in-Some.ensures.behind c.in_ok-over.ensures.runs)) (leads_on (leads_unless _ _ c.in-Some.ensures.is) (leads_on (leads_then _ (settles_at (λ m k. run_name x (Lines n) m) e c.in_ok-variable.ensures.runs)) (leads_suc _ _ (λ k. refl)))))) (omega (arith, h.goes, c.in_ok-over.ensures.goes, c.in-Some.ensures.goes, c.in_ok-variable.ensures.goes)) h.within)
 
 pub compound::read_defer-returns-in_err-block : goal.compound::read_defer-returns-in_err-block
 compound::read_defer-returns-in_err-block t c =
@@ -373,7 +361,7 @@ pub compound::read_defer-returns : goal.compound::read_defer-returns
 compound::read_defer-returns t c =
     let input = c.args.input.now in let x = origin_of input in let n = c.args.spaces in let left = c.args.left in
     let e = suc_at input c.args.at in let h = c.in_ok-block.ensures in
-    rw (deferred c.place_at.result c.in_ok-block.block.value.body ∙ ap (λ p. defers p (statements_of c.in_ok-block.block.value.body.items)) c.place_at.ensures) (found _ _ (leads_on (leads_then _ (settles_at (λ m k. run_body k x n left m) e h.runs)) (leads_suc _ _ (λ k. refl))) (omega (arith, h.goes)) h.within)
+    rw (deferred c.place_at.result c.in_ok-block.block.value ∙ ap (λ p. defers p (statements_of c.in_ok-block.block.value.items)) c.place_at.ensures) (found _ _ (leads_on (leads_then _ (settles_at (λ m k. run_body k x n left m) e h.runs)) (leads_suc _ _ (λ k. refl))) (omega (arith, h.goes)) h.within)
 
 pub compound::read_try-returns-in_err-block : goal.compound::read_try-returns-in_err-block
 compound::read_try-returns-in_err-block t c =
@@ -402,7 +390,7 @@ pub compound::read_try-returns : goal.compound::read_try-returns
 compound::read_try-returns t c =
     let input = c.args.input.now in let x = origin_of input in let n = c.args.spaces in let left = c.args.left in
     let e = suc_at input c.args.at in let h = c.in_ok-last.ensures in
-    rw (tried c.place_at.result c.in_ok-block.block.value.body c.in_ok-all.all.value c.in_ok-last.last.value.body ∙ ap (λ p. tries p (statements_of c.in_ok-block.block.value.body.items) (handlers_of c.in_ok-all.all.value.items) (statements_of c.in_ok-last.last.value.body.items)) c.place_at.ensures) (found _ _ (leads_on (leads_unless _ _ (ap₂ (λ (a : List Handler) (b : List Stmt). have_some (handlers_of a) || hold_some (statements_of b)) (sym c.deref.ensures.value) (sym c.deref-2.ensures.value) ∙ sym c.have_some.ensures ∙ c.if-not-have_some.false)) (leads_on (leads_then _ c.in_ok-last.ensures.runs) (leads_on (leads_then _ c.in_ok-all.ensures.runs) (leads_on (leads_then _ (settles_at (λ m k. run_body k x n left m) e c.in_ok-block.ensures.runs)) (leads_suc _ _ (λ k. refl)))))) (omega (arith, h.goes, c.in_ok-all.ensures.goes, c.in_ok-block.ensures.goes)) h.within)
+    rw (tried c.place_at.result c.in_ok-block.block.value c.in_ok-all.all.value c.in_ok-last.last.value ∙ ap (λ p. tries p (statements_of c.in_ok-block.block.value.items) (handlers_of c.in_ok-all.all.value.items) (statements_of c.in_ok-last.last.value.items)) c.place_at.ensures) (found _ _ (leads_on (leads_unless _ _ (ap₂ (λ (a : List Handler) (b : List Stmt). have_some (handlers_of a) || hold_some (statements_of b)) (sym c.deref.ensures.value) (sym c.deref-2.ensures.value) ∙ sym c.have_some.ensures ∙ c.if-not-have_some.false)) (leads_on (leads_then _ c.in_ok-last.ensures.runs) (leads_on (leads_then _ c.in_ok-all.ensures.runs) (leads_on (leads_then _ (settles_at (λ m k. run_body k x n left m) e c.in_ok-block.ensures.runs)) (leads_suc _ _ (λ k. refl)))))) (omega (arith, h.goes, c.in_ok-all.ensures.goes, c.in_ok-block.ensures.goes)) h.within)
 
 pub compound::read_handler-returns-in_err-types-clause-runs : goal.compound::read_handler-returns-in_err-types-clause-runs
 compound::read_handler-returns-in_err-types-clause-runs t c =
@@ -460,46 +448,80 @@ pub compound::read_proc-returns-in_err-head : goal.compound::read_proc-returns-i
 compound::read_proc-returns-in_err-head t c =
     let input = c.args.input.now in let x = origin_of input in let n = c.args.spaces in let left = c.args.left in
     let p = err_from_is_err_and c.from_residual.result c.from_residual.ensures.1 in
-    let e = suc_at input c.args.at in rw (p.1, p.2) (fails_suc _ _ x (λ k. refl) _ (fails_then _ _ _ _ (fails_at (λ m k. run_head k x (Lines n) m) x e _ c.in_err-head.ensures)))
+    let e = suc_at input c.args.at in rw (p.1, p.2) (fails_suc _ _ x (λ k. refl) _ (fails_then _ _ _ _ (fails_at (λ m k. run_head k x (Lines n) m) x e _ c.in_err-head.ensures.runs)))
 
 pub compound::read_proc-returns-in_default : goal.compound::read_proc-returns-in_default
 compound::read_proc-returns-in_default t c =
     let input = c.args.input.now in let x = origin_of input in let n = c.args.spaces in let left = c.args.left in
-    let e = suc_at input c.args.at in let h = c.in_ok-head.ensures in
-    rw (proclaimed c.place_at-place.result c.in_ok-head.head.value c.new.result ∙ ap₂ (λ p (b : List Stmt). proclaims p (head_of c.in_ok-head.head.value) (statements_of b)) c.place_at-place.ensures c.new.ensures.items) (found _ _ (leads_on (leads_else _ _ c.in_default.ensures) (leads_on (leads_then _ (settles_at (λ m k. run_head k x (Lines n) m) e c.in_ok-head.ensures.runs)) (leads_suc _ _ (λ k. refl)))) (omega (arith, h.goes)) h.within)
+    let e = suc_at input c.args.at in let h = c.in_ok-head.ensures.runs in
+    rw (proclaimed c.place_at-place.result c.in_ok-head.head.value c.new.result ∙ ap₂ (λ p (b : List Stmt). proclaims p (head_of c.in_ok-head.head.value) (statements_of b)) c.place_at-place.ensures c.new.ensures.items) (found _ _ (leads_on (leads_else _ _ c.in_default.ensures) (leads_on (leads_then _ (settles_at (λ m k. run_head k x (Lines n) m) e c.in_ok-head.ensures.runs.runs)) (leads_suc _ _ (λ k. refl)))) (omega (arith, h.goes)) h.within)
 
 pub compound::read_proc-returns-in_err-block : goal.compound::read_proc-returns-in_err-block
 compound::read_proc-returns-in_err-block t c =
     let input = c.args.input.now in let x = origin_of input in let n = c.args.spaces in let left = c.args.left in
     let p = err_from_is_err_and c.from_residual-in_err-block.result c.from_residual-in_err-block.ensures.1 in
-    let e = suc_at input c.args.at in rw (p.1, p.2) (fails_leads _ _ _ (leads_on (leads_if _ _ c.in-Some.ensures.is) (leads_on (leads_then _ (settles_at (λ m k. run_head k x (Lines n) m) e c.in_ok-head.ensures.runs)) (leads_suc _ _ (λ k. refl)))) _ (fails_then _ _ _ _ (fails_at (λ m k. run_block k x n left m) x c.in-Some.ensures.behind _ c.in_err-block.ensures)))
+    let e = suc_at input c.args.at in rw (p.1, p.2) (fails_leads _ _ _ (leads_on (leads_if _ _ c.in-Some.ensures.is) (leads_on (leads_then _ (settles_at (λ m k. run_head k x (Lines n) m) e c.in_ok-head.ensures.runs.runs)) (leads_suc _ _ (λ k. refl)))) _ (fails_then _ _ _ _ (fails_at (λ m k. run_block k x n left m) x c.in-Some.ensures.behind _ c.in_err-block.ensures)))
 
 pub compound::read_proc-returns : goal.compound::read_proc-returns
 compound::read_proc-returns t c =
     let input = c.args.input.now in let x = origin_of input in let n = c.args.spaces in let left = c.args.left in
     let e = suc_at input c.args.at in let h = c.in_ok-block.ensures in
-    rw (proclaimed c.place_at-place.result c.in_ok-head.head.value c.in_ok-block.block.value.body ∙ ap (λ p. proclaims p (head_of c.in_ok-head.head.value) (statements_of c.in_ok-block.block.value.body.items)) c.place_at-place.ensures) (found _ _ (leads_on (leads_then _ (settles_at (λ m k. run_block k x n left m) c.in-Some.ensures.behind c.in_ok-block.ensures.runs)) (leads_on (leads_if _ _ c.in-Some.ensures.is) (leads_on (leads_then _ (settles_at (λ m k. run_head k x (Lines n) m) e c.in_ok-head.ensures.runs)) (leads_suc _ _ (λ k. refl))))) (omega (arith, h.goes, c.in-Some.ensures.goes, c.in_ok-head.ensures.goes)) h.within)
+    rw (proclaimed c.place_at-place.result c.in_ok-head.head.value c.in_ok-block.block.value ∙ ap (λ p. proclaims p (head_of c.in_ok-head.head.value) (statements_of c.in_ok-block.block.value.items)) c.place_at-place.ensures) (found _ _ (leads_on (leads_then _ (settles_at (λ m k. run_block k x n left m) c.in-Some.ensures.behind c.in_ok-block.ensures.runs)) (leads_on (leads_if _ _ c.in-Some.ensures.is) (leads_on (leads_then _ (settles_at (λ m k. run_head k x (Lines n) m) e c.in_ok-head.ensures.runs.runs)) (leads_suc _ _ (λ k. refl))))) (omega (arith, h.goes, c.in-Some.ensures.goes, c.in_ok-head.ensures.runs.goes)) h.within)
 
 pub branches::read_branches-returns-in_err-all : goal.branches::read_branches-returns-in_err-all
 branches::read_branches-returns-in_err-all t c =
     let input = c.args.input.now in let x = origin_of input in let n = c.args.spaces in let left = c.args.left in
     let p = err_from_is_err_and c.from_residual.result c.from_residual.ensures.1 in
-    let tok = c.args.token in let rest = from_at input (suc c.args.at) in let s = term_of c.args.selector.value in let mid = from_at input c.past_colon-next.result in let past = c.past_colon-next.ensures.past in rw (p.1, p.2) (subst (λ (m : List Token). Fails (λ k. run_branches k x n left tok rest s m) x c.in_err-all.field-0.0) past (fails_leads _ _ _ (branches_on x n left tok rest s c.in-Some.first _ mid c.branch_level-level.result c.in-Some.ensures.some (sym c.in-Some.ensures.is) c.branch_level-level.ensures) _ (fails_then _ _ _ _ c.in_err-all.ensures)))
+    let tok = c.args.token in let s = term_of c.args.selector.value in let mid = from_at input c.past_colon-next.result in let past = c.past_colon-next.ensures.past in rw (p.1, p.2) (subst (λ (m : List Token). Fails (λ k. run_branches k x n left tok s m) x c.in_err-all.field-0.0) past (fails_leads _ _ _ (branches_on x n left tok s c.in-Some.first _ mid c.branch_level-level.result c.in-Some.ensures.some (sym c.in-Some.ensures.is) c.branch_level-level.ensures) _ (fails_then _ _ _ _ c.in_err-all.ensures)))
 
 pub branches::read_branches-returns-in_err-other : goal.branches::read_branches-returns-in_err-other
 branches::read_branches-returns-in_err-other t c =
     let input = c.args.input.now in let x = origin_of input in let n = c.args.spaces in let left = c.args.left in
     let p = err_from_is_err_and c.from_residual-in_err-other.result c.from_residual-in_err-other.ensures.1 in
-    let tok = c.args.token in let rest = from_at input (suc c.args.at) in let s = term_of c.args.selector.value in let mid = from_at input c.past_colon-next.result in let past = c.past_colon-next.ensures.past in rw (p.1, p.2) (subst (λ (m : List Token). Fails (λ k. run_branches k x n left tok rest s m) x c.in_err-other.field-0.0) past (fails_leads _ _ _ (leads_on (leads_then _ c.in_ok-all.ensures.runs) (branches_on x n left tok rest s c.in-Some.first _ mid c.branch_level-level.result c.in-Some.ensures.some (sym c.in-Some.ensures.is) c.branch_level-level.ensures)) _ (fails_then _ _ _ _ c.in_err-other.ensures)))
+    let tok = c.args.token in let s = term_of c.args.selector.value in let mid = from_at input c.past_colon-next.result in let past = c.past_colon-next.ensures.past in rw (p.1, p.2) (subst (λ (m : List Token). Fails (λ k. run_branches k x n left tok s m) x c.in_err-other.field-0.0) past (fails_leads _ _ _ (leads_on (leads_then _ c.in_ok-all.ensures.runs) (branches_on x n left tok s c.in-Some.first _ mid c.branch_level-level.result c.in-Some.ensures.some (sym c.in-Some.ensures.is) c.branch_level-level.ensures)) _ (fails_then _ _ _ _ c.in_err-other.ensures)))
 
 pub branches::read_branches-returns-in_default : goal.branches::read_branches-returns-in_default
 branches::read_branches-returns-in_default t c =
     let input = c.args.input.now in let x = origin_of input in let n = c.args.spaces in let left = c.args.left in
-    let tok = c.args.token in let rest = from_at input (suc c.args.at) in let s = term_of c.args.selector.value in let mid = from_at input c.past_colon-next.result in let past = c.past_colon-next.ensures.past in subst (λ (m : List Token). Fails (λ k. run_branches k x n left tok rest s m) x c.stuck.result) past (told_fails x (branches_stuck x n left tok rest s mid (sym c.in_default.ensures.is)) _ c.stuck.ensures)
+    let tok = c.args.token in let s = term_of c.args.selector.value in let mid = from_at input c.past_colon-next.result in let past = c.past_colon-next.ensures.past in subst (λ (m : List Token). Fails (λ k. run_branches k x n left tok s m) x c.stuck.result) past (told_fails x (branches_stuck x n left tok s mid (sym c.in_default.ensures.is)) _ c.stuck.ensures)
 
 pub branches::read_branches-returns : goal.branches::read_branches-returns
 branches::read_branches-returns t c =
     let input = c.args.input.now in let x = origin_of input in let n = c.args.spaces in let left = c.args.left in
-    let tok = c.args.token in let rest = from_at input (suc c.args.at) in let s = term_of c.args.selector.value in let mid = from_at input c.past_colon-next.result in let past = c.past_colon-next.ensures.past in let h = c.in_ok-other.ensures in
-    subst (λ (m : List Token). Comes statement_of (λ k. run_branches k x n left tok rest s m) input (suc c.args.at) c.if_it_fits.result) past
-    (comes_leads statement_of _ _ input _ (leads_on (fits_leads (from_at input c.args.at) (tok ∷ rest) _ _ _ c.requires.head (c.in_ok-tree.ensures.ok ∙ ap (λ p. selected p s (chosen_of c.in_ok-all.all.value) (block_of c.in_ok-other.other.value)) c.place_at-place.ensures)) (leads_on (leads_then _ h.runs) (leads_on (leads_then _ c.in_ok-all.ensures.runs) (branches_on x n left tok rest s c.in-Some.first _ mid c.branch_level-level.result c.in-Some.ensures.some (sym c.in-Some.ensures.is) c.branch_level-level.ensures)))) _ (omega arith) _ c.if_it_fits.ensures)
+    let tok = c.args.token in let s = term_of c.args.selector.value in let mid = from_at input c.past_colon-next.result in let past = c.past_colon-next.ensures.past in let h = c.in_ok-other.ensures in
+    rw (selected c.place_at-place.result c.args.selector.value c.in_ok-all.all.value c.in_ok-other.other.value ∙ ap (λ p. selects p s (chosen_of c.in_ok-all.all.value) (block_of c.in_ok-other.other.value)) c.place_at-place.ensures)
+    (subst (λ (m : List Token). Found (λ k. run_branches k x n left tok s m) input (suc c.args.at) (selects (place_at x tok) s (chosen_of c.in_ok-all.all.value) (block_of c.in_ok-other.other.value)) c.in_ok-other.other.next) past
+    (found _ _ (leads_on (leads_then _ h.runs) (leads_on (leads_then _ c.in_ok-all.ensures.runs) (branches_on x n left tok s c.in-Some.first _ mid c.branch_level-level.result c.in-Some.ensures.some (sym c.in-Some.ensures.is) c.branch_level-level.ensures))) (omega (arith, h.goes, c.in_ok-all.ensures.goes, c.past_colon-next.ensures.goes, c.requires.goes)) h.within))
+
+pub statements::read_choice-returns-in_err-alone : goal.statements::read_choice-returns-in_err-alone
+statements::read_choice-returns-in_err-alone t c =
+    let input = c.args.input.now in let x = origin_of input in
+    let p = err_from_is_err_and c.from_residual.result c.from_residual.ensures.1 in
+    rw (p.1, p.2) (fails_then _ _ _ _ c.in_err-alone.ensures.runs)
+
+pub statements::read_choice-returns-in_err-one-in-None : goal.statements::read_choice-returns-in_err-one-in-None
+statements::read_choice-returns-in_err-one-in-None t c =
+    let input = c.args.input.now in let x = origin_of input in let n = c.args.spaces in let left = c.args.left in
+    let p = err_from_is_err_and c.from_residual-in_err-one-in-None.result c.from_residual-in_err-one-in-None.ensures.1 in
+    let some = statements_of c.args.some.items in let ts = from_at input c.args.at in let rest = from_at input (suc c.args.at) in
+    rw (p.1, p.2) (fails_leads _ _ _ (choice_has_blocks x n left some c.args.token ts rest _ c.args.lead _ c.in_ok-alone.ensures.runs.runs c.in-None.is) _ (fails_then _ _ _ _ c.in_err-one-in-None.ensures))
+
+pub statements::read_choice-returns-in_ok-and_one-in-Some : goal.statements::read_choice-returns-in_ok-and_one-in-Some
+statements::read_choice-returns-in_ok-and_one-in-Some t c =
+    let input = c.args.input.now in let x = origin_of input in let n = c.args.spaces in let left = c.args.left in
+    let some = statements_of c.args.some.items in let ts = from_at input c.args.at in let rest = from_at input (suc c.args.at) in let h = c.in_ok-alone.ensures in
+    found _ _ (choice_is_alone x n left some c.args.token ts rest _ c.args.lead _ c.in-Some.value _ h.runs.runs c.in-Some.is (ap statements_of c.in_ok-and_one-in-Some.ensures.ok ∙ one_more_statement _ _ ∙ ap (and_statement some) c.as_statement.ensures))
+    (some_goes _ c.in-Some.value c.in-Some.is h.goes) h.runs.within
+
+pub statements::read_choice-returns-in_ok-and_one-in-None : goal.statements::read_choice-returns-in_ok-and_one-in-None
+statements::read_choice-returns-in_ok-and_one-in-None t c =
+    let input = c.args.input.now in let x = origin_of input in let n = c.args.spaces in let left = c.args.left in
+    let some = statements_of c.args.some.items in let ts = from_at input c.args.at in let rest = from_at input (suc c.args.at) in let h = c.in_ok-one-in-None.ensures in
+    rw (ap statements_of c.in_ok-and_one-in-None.ensures.ok ∙ one_more_statement _ _)
+    (found _ _ (leads_on (leads_then _ h.runs) (choice_has_blocks x n left some c.args.token ts rest _ c.args.lead _ c.in_ok-alone.ensures.runs.runs c.in-None.is)) h.goes h.within)
+
+pub statements::read_statement-returns-in-If : goal.statements::read_statement-returns-in-If
+statements::read_statement-returns-in-If t c =
+    let input = c.args.input.now in let x = origin_of input in let n = c.args.spaces in let left = c.args.left in
+    let some = statements_of c.args.some.items in let ts = from_at input c.args.at in let rest = from_at input (suc c.args.at) in
+    comes_leads (λ all. statements_of all.items) _ _ input _ (statement_choice x n left some c.in-Some.token rest ts _ c.in-Some.ensures.some (sym c.lead_at-lead.ensures) (is_choice _ c.in-If.is)) _ (omega arith) _ c.read_choice.ensures

@@ -1,8 +1,8 @@
 use Rattle.std.proofs.Common.{◌+◌, ◌-◌, ◌*◌, suc, length}
-use Rattle.nim_tree.specs.Statements.{empty, statements_of, no_handlers, handlers_of}
+use Rattle.nim_tree.specs.Statements.{empty, statements_of, no_branches, no_handlers, handlers_of}
 use Rattle.parse_exprs.specs.Input.{from_at, origin_of}
 use Rattle.parse_decls.specs.Gives.{SoFar}
-use Rattle.parse_stmts.specs.Run.{run_statements, run_elifs, run_ofs, run_handlers, no_chosen}
+use Rattle.parse_stmts.specs.Run.{run_statements, run_elifs, run_ofs, run_handlers}
 use Rattle.parse_stmts.specs.Blocks.{chosen_of}
 use Rattle.parse_stmts.proofs.block.+statements.Given as goal
 
@@ -15,11 +15,14 @@ decreases-statements::read_body l = 16 * l.left + 1
 abbrev pub decreases-statements::read_compound : goal.decreases-statements::read_compound
 decreases-statements::read_compound l = 16 * l.left + 6
 
+abbrev pub decreases-statements::read_choice : goal.decreases-statements::read_choice
+decreases-statements::read_choice l = 16 * l.left + 7
+
 abbrev pub decreases-statements::read_statement : goal.decreases-statements::read_statement
-decreases-statements::read_statement l = 16 * l.left + 7
+decreases-statements::read_statement l = 16 * l.left + 8
 
 abbrev pub decreases-statements::read_statements : goal.decreases-statements::read_statements
-decreases-statements::read_statements l = 16 * l.left + 8
+decreases-statements::read_statements l = 16 * l.left + 9
 
 abbrev pub decreases-branches::read_branch : goal.decreases-branches::read_branch
 decreases-branches::read_branch l = 16 * l.left + 2
@@ -82,7 +85,7 @@ abbrev pub decreases-branches::read_elifs-loop-place : goal.decreases-branches::
 decreases-branches::read_elifs-loop-place l = length l.input.tokens.now - l.next
 
 abbrev pub invariant-branches::read_ofs-loop-place : goal.invariant-branches::read_ofs-loop-place
-invariant-branches::read_ofs-loop-place l = SoFar (λ k. run_ofs k (origin_of l.input) l.spaces l.left (chosen_of l.all) (from_at l.input l.next)) (λ k. run_ofs k (origin_of l.input) l.spaces l.left no_chosen (from_at l.input l.fn.at)) l.input l.fn.at l.next
+invariant-branches::read_ofs-loop-place l = SoFar (λ k. run_ofs k (origin_of l.input) l.spaces l.left (chosen_of l.all) (from_at l.input l.next)) (λ k. run_ofs k (origin_of l.input) l.spaces l.left no_branches (from_at l.input l.fn.at)) l.input l.fn.at l.next
 
 abbrev pub decreases-branches::read_ofs-loop-place : goal.decreases-branches::read_ofs-loop-place
 decreases-branches::read_ofs-loop-place l = length l.input.tokens.now - l.next

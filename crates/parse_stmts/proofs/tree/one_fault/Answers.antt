@@ -1,4 +1,4 @@
-use Rattle.parse_stmts.proofs.Verdicts.{deep_once, left_out_once, never_both, module_faulty}
+use Rattle.parse_stmts.proofs.Verdicts.{deep_once, left_out_once, none_once, never_both, module_faulty}
 use Rattle.parse_stmts.proofs.tree.one_fault.Goals as goal
 
 pub returns-clause-deep : goal.returns-clause-deep
@@ -6,6 +6,9 @@ returns-clause-deep c = λ x tokens p q d e. deep_once d e
 
 pub returns-clause-left_out : goal.returns-clause-left_out
 returns-clause-left_out c = λ x tokens p q d e. left_out_once d e
+
+pub returns-clause-stuck : goal.returns-clause-stuck
+returns-clause-stuck c = λ x tokens p q d e. none_once d e
 
 pub returns-clause-either : goal.returns-clause-either
 returns-clause-either c = λ x tokens p q d e. never_both d e
