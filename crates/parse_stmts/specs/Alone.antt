@@ -1,7 +1,8 @@
--- Which `if` and `case` at the start of a statement are expressions: those that can be read as one that is alone on its line.
+-- Which `if` and `case` that begin a line as a statement are expressions: those that can be read as one that is alone on its line.
 --
--- An expression may have 64 levels. One that has 65 is looked at too, since it is alone on its line as well: it is too deep. With
--- more, one of its conditions, labels or values has too many, and is told as that of a statement with blocks.
+-- An expression may have 64 levels. One that has 65 is looked at too, since it is alone on its line as well: it is too deep. One
+-- that would have more counts as one that has blocks, so that no reader goes deeper: mostly a condition, a label or a value in it
+-- has too many levels then, but commands have fewer than the calls that they would be.
 use Rattle.std.specs.Prelude.{◌≡◌, ℕ, ◌≤◌, true, false, List}
 use Rattle.indent_scanner.specs.declared.token.Token.{Token}
 use Rattle.nim_tree.specs.Terms.{Term, levels}
