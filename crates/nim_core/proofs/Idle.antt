@@ -1,7 +1,7 @@
 -- A loop that never ends is running at each number of units, and one that writes nothing has written nothing.
 use Rattle.std.proofs.Common.{◌≡◌, ℕ, zero, suc, pos, List, [], ◌∷◌, refl}
 use Rattle.arc_base.specs.Event.{Event}
-use Rattle.arc_base.specs.Behaviour.{Running, Seen}
+use Rattle.arc_base.specs.Behaviour.{Running, no_objects, Seen}
 use Rattle.arc_base.specs.BigStep.{Res, then_do, turns, seen_of}
 use Rattle.nim_core.specs.declared.plan.Plan.{Plan}
 use Rattle.nim_core.specs.declared.program.Comparison.TheVariants.{Less}
@@ -14,7 +14,7 @@ abbrev from_here : ℕ → Values → ℕ → Res State Values
 from_here n values work = then_do (turns (suc n) (turn (test (comparing Less (int 0) (int 1))) (exec_all (block (Assign here 0 (int 0) ∷ [])))) values (record { units = n; out = []; work = work })) (exec_all Empty)
 
 abbrev shown : ℕ → Values → ℕ → Seen Event
-shown n values work = seen_of {E = Event} (λ state. state) (λ _. 0) (λ _. []) (from_here n values work)
+shown n values work = seen_of {E = Event} (λ state. state) (λ _. 0) (λ _. no_objects) (from_here n values work)
 
 turns_run : (n : ℕ) (values : Values) (work : ℕ) → (shown n values work).phase ≡ Running
 turns_run zero values work = refl

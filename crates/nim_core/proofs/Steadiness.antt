@@ -1,9 +1,9 @@
 -- Each meaning only grows, and none is wrong.
-use Rattle.std.proofs.Common.{ℕ, zero, suc, pos, Bool, true, false, List, [], ◌<◌, ◌≤◌, refl, arith}
+use Rattle.std.proofs.Common.{ℕ, zero, suc, pos, Bool, true, false, ◌<◌, ◌≤◌, refl, arith}
 use Rattle.std.specs.Fmt.{signed_decimal}
 use Rattle.arc_base.specs.Event.{writes}
 use Rattle.arc_base.specs.declared.outside.Stream.TheVariants.{Out, Err}
-use Rattle.arc_base.specs.Behaviour.{Steady, Sound}
+use Rattle.arc_base.specs.Behaviour.{Live, no_objects, Steady, Sound}
 use Rattle.arc_base.specs.BigStep.{Res, Got, Over, Going, Errs, then_do, ticked, with_units, spend, Again, Leave, turns}
 use Rattle.arc_base.proofs.Agreeing.{prefix_refl}
 use Rattle.arc_base.proofs.Grows.{Falls, Tame, Spends, tame_then, tame_got, tame_after, tame_tick, tame_over, tame_spend, tame_loop}
@@ -17,12 +17,12 @@ use Rattle.nim_core.proofs.Whole.{whole_steady, whole_sound}
 
 -- ---- with more units a meaning goes further
 
-tame_ended : {A : Type 0} (status : ℕ) (live : List ℕ) → Tame {A = A} (λ (a : State). Over status live a)
+tame_ended : {A : Type 0} (status : ℕ) (live : Live) → Tame {A = A} (λ (a : State). Over status live a)
 tame_ended status live = record { grows = λ a. prefix_refl a.out; falls = λ a. tt; grown = λ k a. refl }
 
 tame_outcome : (given : Checked) → Tame (outcome given)
 tame_outcome (Fine value) = tame_got value
-tame_outcome (Trapped trap) = tame_over (writes Err (line_of (trap_text trap))) 1 []
+tame_outcome (Trapped trap) = tame_over (writes Err (line_of (trap_text trap))) 1 no_objects
 
 tame_eval : (expr : Expr) (values : Values) → Tame (eval expr values)
 tame_eval (Number at value) values = tame_tick _ (tame_got value)
@@ -79,7 +79,7 @@ mutual
   tame_exec (Assign at variable value) values = tame_then (eval value values) _ (tame_eval value values) (λ x. tame_tick _ (tame_got (put values variable x)))
   tame_exec (EchoInt at value) values = tame_then (eval value values) _ (tame_eval value values) (λ x. tame_after (writes Out (line_of (signed_decimal x))) _ (tame_got values))
   tame_exec (EchoText at text) values = tame_after (writes Out (line_of text)) _ (tame_got values)
-  tame_exec (Quit at status) values = tame_then (eval status values) _ (tame_eval status values) (λ x. tame_tick _ (tame_ended (low_byte x) []))
+  tame_exec (Quit at status) values = tame_then (eval status values) _ (tame_eval status values) (λ x. tame_tick _ (tame_ended (low_byte x) no_objects))
   tame_exec (If at condition then_branch else_branch) values =
       tame_then (λ a. test condition values (ticked a)) _ (tame_tick (test condition values) (tame_test condition values)) (tame_either (exec_all then_branch values) (exec_all else_branch values) (tame_all then_branch values) (tame_all else_branch values))
   tame_exec (While at condition body) values = tame_while (test condition) (exec_all body) (tame_test condition) (tame_all body) values
@@ -89,7 +89,7 @@ mutual
   tame_all (Then first rest) values = tame_then (exec first values) _ (tame_exec first values) (tame_all rest)
 
 pub meaning_steady : (program : Program) (plan : Plan) (heap : ℕ) (input : List ℕ) → Steady (meaning program plan heap input)
-meaning_steady program plan heap input = whole_steady (λ _. 0) [] (exec_all program.start (λ _. pos 0)) (tame_all program.start (λ _. pos 0))
+meaning_steady program plan heap input = whole_steady (λ _. 0) no_objects (exec_all program.start (λ _. pos 0)) (tame_all program.start (λ _. pos 0))
 
 -- ---- no meaning is wrong
 
@@ -135,4 +135,4 @@ mutual
   right_all (Then first rest) values a = right_then (exec first values a) _ (right_exec first values a) (right_all rest)
 
 pub meaning_sound : (program : Program) (plan : Plan) (heap : ℕ) (input : List ℕ) → Sound (meaning program plan heap input)
-meaning_sound program plan heap input = whole_sound (λ _. 0) [] (exec_all program.start (λ _. pos 0)) (right_all program.start (λ _. pos 0))
+meaning_sound program plan heap input = whole_sound (λ _. 0) no_objects (exec_all program.start (λ _. pos 0)) (right_all program.start (λ _. pos 0))

@@ -1,12 +1,12 @@
 -- Whole runs: with more units what was seen stays, and a run without a wrong step is sound.
 use Rattle.std.proofs.Common.{◌≡◌, ◌≢◌, ℕ, ◌+◌, ◌-◌, ◌≤◌, List, [], sym, ap, subst, arith}
-use Rattle.arc_base.specs.Behaviour.{Seen, Faulted, Wrong, Behaviour, IsPrefix, IsOver, Steady, Sound}
+use Rattle.arc_base.specs.Behaviour.{Live, Seen, Faulted, Wrong, Behaviour, IsPrefix, IsOver, Steady, Sound}
 use Rattle.arc_base.specs.BigStep.{Meter, Res, Got, Over, Going, Errs, seen_of}
 use Rattle.arc_base.proofs.Agreeing.{prefix_refl}
 use Rattle.arc_base.proofs.Grows.{out_of, Grown, Tame}
 use Rattle.nim_core.proofs.Right.{Right}
 
-module _ {E A : Type 0} (status : A → ℕ) (live : List ℕ) where
+module _ {E A : Type 0} (status : A → ℕ) (live : Live) where
   abbrev pub seen_whole : Res (Meter E) A → Seen E
   seen_whole r = seen_of (λ a. a) status (λ _. live) r
 
