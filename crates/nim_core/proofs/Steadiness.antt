@@ -1,5 +1,5 @@
 -- Each meaning only grows, and none is wrong.
-use Rattle.std.proofs.Common.{ℕ, zero, suc, pos, Bool, true, false, ◌<◌, ◌≤◌, refl, arith}
+use Rattle.std.proofs.Common.{ℕ, zero, suc, pos, Bool, true, false, List, ◌<◌, ◌≤◌, refl, arith}
 use Rattle.std.specs.Fmt.{signed_decimal}
 use Rattle.arc_base.specs.Event.{writes}
 use Rattle.arc_base.specs.declared.outside.Stream.TheVariants.{Out, Err}
