@@ -19,7 +19,7 @@ use Rattle.parse_stmts.proofs.Verdicts.{refused_once as tokens_refused_once}
 use Rattle.nim_core.specs.Program.{Program}
 use Rattle.arc_top.specs.declared.compiler.NotCompiled.{NotCompiled}
 use Rattle.arc_top.specs.Compile.{IsStop, IsOkOrMemory}
-use Rattle.arc_top.specs.Refusal.{Refusal, IsRefusal}
+use Rattle.arc_base.specs.Refusal.{Refusal, IsRefusal}
 use Rattle.arc_top.specs.Lines.{Lines}
 use Rattle.arc_top.specs.Form.{form_of}
 use Rattle.arc_top.specs.Names.{check}

@@ -1,4 +1,3 @@
-pub mod Refusal
 pub mod Lines
 pub mod Form
 pub mod Names
