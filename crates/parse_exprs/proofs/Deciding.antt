@@ -1,5 +1,5 @@
 -- What reading comes to in the end is a tree, or why there is none.
-use Rattle.std.proofs.Common.{◌≡◌, ℕ, ◌≤◌, List, length, true, refl, arith}
+use Rattle.std.proofs.Common.{◌≡◌, ℕ, List, true, refl, arith}
 use Rattle.indent_scanner.specs.declared.token.Token.{Token}
 use Rattle.nim_tree.specs.Terms.{Term}
 use Rattle.parse_exprs.specs.declared.layout.Layout.{Layout}
@@ -7,7 +7,7 @@ use Rattle.parse_exprs.specs.declared.layout.Layout.TheVariants.{Lines}
 use Rattle.parse_exprs.specs.Ends.{Ends, e_read, e_deep, e_stuck, enough, AlwaysEnds, Decided, is_read, is_not}
 use Rattle.parse_exprs.specs.Faults.{Fault}
 use Rattle.parse_exprs.specs.Look.{Origin}
-use Rattle.parse_exprs.specs.Outcome.{deep, stuck, tired, Out, got, bad}
+use Rattle.parse_exprs.specs.Outcome.{Out}
 use Rattle.parse_exprs.specs.Parsed.{Reads, ReadsCallee, ExprFaults, CalleeFaults, ExprRun, CalleeRun, Agree}
 use Rattle.parse_exprs.proofs.Ending.{ends_expr, ends_primary}
 use Rattle.parse_exprs.proofs.Laws.{expr_agrees, callee_agrees}

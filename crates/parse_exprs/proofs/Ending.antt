@@ -13,7 +13,7 @@ use Rattle.parse_exprs.specs.declared.input.Bracket.TheVariants.{Square}
 use Rattle.parse_exprs.specs.declared.input.Lead.{Lead}
 use Rattle.parse_exprs.specs.declared.input.Lead.TheVariants as L
 use Rattle.parse_exprs.specs.Look.{Origin, spelling, place_at, goes_on, op_at, op_levels, single, sign_of, is_at_sign, is_name, is_punct, kind_at, bracket_at, square_at, closes_at, names_in, names_behind, name_on, suffix_at, stays, operand_at, lead_at, branch_at, is_elif, is_else, is_of, first_of_at, branch_layout, colon_at, comma_at, past_colon, dots_at}
-use Rattle.parse_exprs.specs.Outcome.{deep, stuck, tired, Out, got, bad, then_do, unless_stuck}
+use Rattle.parse_exprs.specs.Outcome.{deep, stuck, Out, bad, then_do, unless_stuck}
 use Rattle.parse_exprs.specs.Run.{behind, made, run_field, run_expr, run_lead, run_level, run_chain, run_more, run_unary, run_signed, run_primary, run_suffixes, run_suffix, run_applied, run_atom, run_group, run_enclosed, run_list, run_parts, run_part, run_if, run_tail, run_value, run_elifs, run_else, run_case, run_branches, run_of, run_labels, run_label, run_ofs, run_otherwise}
 use Rattle.parse_exprs.specs.Ends.{Ends, e_read, e_deep, e_stuck}
 
