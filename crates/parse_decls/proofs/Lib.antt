@@ -22,3 +22,6 @@ pub mod TypeSteps
 pub mod BodySteps
 pub mod HeadSteps
 pub mod Answering
+mod Ending
+mod Deciding
+pub mod ForCallers

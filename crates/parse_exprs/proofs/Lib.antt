@@ -17,3 +17,6 @@ pub mod Going
 pub mod Branching
 pub mod Finding
 pub mod Weighing
+mod Ending
+mod Deciding
+pub mod ForCallers
