@@ -192,7 +192,7 @@ module _ (x : Setting) where
       (subst (λ n. (t : Run) × Comes (stepping x) pace 101 s (ticked b) t d × Ready x values n t) end
       (number_runs x z values mid s (ticked b) h.1.fit h.1.slot_is (stands_back x.code off code own stands) h.0)))
 
-  quit_follows : (status : Expr) (off last : ℕ) (values : Values) (r : Run) (a : Meter Event) → IsPlainExpr x.count most_slots status → Stands x.code off (expr_code status 0 ++ (load_slot 10 0 ∷ exit_code)) → Ready x values off r → Follows (Behind last) 0 r a (then_do (eval status values a) (λ z after. Over (low_byte z) [] (ticked after)))
+  quit_follows : (status : Expr) (off last : ℕ) (values : Values) (r : Run) (a : Meter Event) → IsPlainExpr x.count most_slots status → Stands x.code off (expr_code status 0 ++ (load_slot 10 0 ∷ exit_code)) → Ready x values off r → Follows (Behind last) 0 r a (then_do (eval status values a) (λ z after. Over (low_byte z) no_objects (ticked after)))
   quit_follows status off last values r a plain stands ready =
       let code = expr_code status 0 in
       let own = load_slot 10 0 ∷ exit_code in
