@@ -14,12 +14,12 @@ use Rattle.nim_core.specs.Traps.{Trap, Overflow, DivisionByZero}
 use Rattle.rv32_isa.specs.declared.instr.Instr.{Instr}
 use Rattle.rv32_isa.specs.declared.instr.Instr.TheVariants.{Lui, Beq, Bne, Addi, Slti, Srai, Add, Sub, Slt, Mul, Mulh, Div, Rem}
 use Rattle.rv32_isa.specs.Values.{added, subtracted, one_if, is_less_signed, low_product, high_product_signed, shifted_right_signed, quotient_signed, remainder_signed}
-use Rattle.rv32_isa.specs.Machine.{Run, step}
+use Rattle.rv32_isa.specs.Machine.{Run}
 use Rattle.rv32_isa.proofs.Fetch.{Stands, stands_back}
 use Rattle.rv32_isa.proofs.Straight.{AllPlain}
 use Rattle.rv32_isa.proofs.Lookup.{File, file_after}
 use Rattle.arc_top.specs.Code.{word, to_trap, add_code, subtract_code, multiply_code, divisor_code, divide_code, modulo_code, operator_code, negate_code, skip_where}
-use Rattle.arc_top.proofs.Ready.{Setting, Ready, Moved, Reaches, reg_of, file_of_run}
+use Rattle.arc_top.proofs.Ready.{Setting, stepping, Ready, Moved, Reaches, reg_of, file_of_run}
 use Rattle.arc_top.proofs.Moves.{plain_moves, beq_moves, bne_moves, blt_moves, bge_moves, trap_halts, reaches_map, reaches_paid, reaches_follows}
 use Rattle.arc_top.proofs.Arithmetic.{added_is, sum_fits, subtracted_is, difference_fits, product_is, product_fits, word_same, word_apart, not_zero, quotient_fits, quotient_is, rem_fits, remainder_is, opposite_is, is_least, equal_is, less_is, greater_is}
 
@@ -34,7 +34,7 @@ pub record Computed (x : Setting) (values : Values) (off : ℕ) (r : Run) (z : �
 module _ (x : Setting) (c : ℕ) (values : Values) (to : ℕ) (r : Run) (a : Meter Event) where
   -- from s the machine comes to what an operation gives
   abbrev Computes : (p : ℕ) → Run → Checked → Type 0
-  Computes p s given = Follows (step x.hooks) c (λ m. m) (λ z b t. Computed x values to r z t) p s a (outcome given a)
+  Computes p s given = Follows (stepping x) c (λ m. m) (λ z b t. Computed x values to r z t) p s a (outcome given a)
 
   computes_after : (p q : ℕ) (s : Run) (given : Checked) (Good : Run → Type 0) → Reaches x c p s a Good → ((t : Run) → Good t → Computes q t given) → Computes (p + q) s given
   computes_after p q s given Good h f = reaches_follows x c (λ z b t. Computed x values to r z t) p q s a (outcome given a) Good h f
@@ -212,14 +212,14 @@ module _ (x : Setting) (c : ℕ) (values : Values) (to : ℕ) (r : Run) (a : Met
 -- ---- all operations, from x5 and x6 to x7
 
 module _ (x : Setting) (c : ℕ) where
-  pub operator_runs : (operator : Operator) (u v : ℤ) (values : Values) (off to : ℕ) (rest : List Instr) (r : Run) (a : Meter Event) → off + 4 * length (operator_code operator) ≡ to → fits u ≡ true → fits v ≡ true → reg_of r 5 ≡ word u → reg_of r 6 ≡ word v → Stands x.code off (operator_code operator ++ rest) → Ready x values off r → Follows (step x.hooks) c (λ m. m) (λ z b s. Computed x values to r z s) 24 r a (outcome (applied operator u v) a)
+  pub operator_runs : (operator : Operator) (u v : ℤ) (values : Values) (off to : ℕ) (rest : List Instr) (r : Run) (a : Meter Event) → off + 4 * length (operator_code operator) ≡ to → fits u ≡ true → fits v ≡ true → reg_of r 5 ≡ word u → reg_of r 6 ≡ word v → Stands x.code off (operator_code operator ++ rest) → Ready x values off r → Follows (stepping x) c (λ m. m) (λ z b s. Computed x values to r z s) 24 r a (outcome (applied operator u v) a)
   operator_runs Plus u v values off to rest r a = add_runs x c values to r a off rest u v
   operator_runs Subtract u v values off to rest r a = subtract_runs x c values to r a off rest u v
   operator_runs Multiply u v values off to rest r a = multiply_runs x c values to r a off rest u v
   operator_runs Divide u v values off to rest r a = divide_runs x c values to r a off rest u v
   operator_runs Modulo u v values off to rest r a = modulo_runs x c values to r a off rest u v
 
-  pub negate_runs : (u : ℤ) (values : Values) (off to : ℕ) (rest : List Instr) (r : Run) (a : Meter Event) → off + 20 ≡ to → fits u ≡ true → reg_of r 5 ≡ word u → Stands x.code off (negate_code ++ rest) → Ready x values off r → Follows (step x.hooks) c (λ m. m) (λ z b s. Computed x values to r z s) 24 r a (outcome (negated u) a)
+  pub negate_runs : (u : ℤ) (values : Values) (off to : ℕ) (rest : List Instr) (r : Run) (a : Meter Event) → off + 20 ≡ to → fits u ≡ true → reg_of r 5 ≡ word u → Stands x.code off (negate_code ++ rest) → Ready x values off r → Follows (stepping x) c (λ m. m) (λ z b s. Computed x values to r z s) 24 r a (outcome (negated u) a)
   negate_runs u values off to rest r a = opposite_run x c values to r a off rest u
 
   -- skips an instruction just where the comparison of x5 and x6 holds

@@ -3,6 +3,8 @@ use Rattle.std.proofs.Common.{◌≡◌, ℕ, ◌+◌, ◌*◌, ◌%◌, ◌≤�
 use Rattle.arc_base.specs.declared.outside.Stream.{Stream}
 use Rattle.arc_base.specs.declared.outside.Stream.TheVariants.{Out}
 use Rattle.arc_base.specs.Event.{Event, writes}
+use Rattle.arc_base.specs.Behaviour.{no_objects}
+use Rattle.arc_base.specs.Stepping.{Next}
 use Rattle.arc_base.specs.BigStep.{Meter, told}
 use Rattle.arc_base.proofs.Follows.{Comes}
 use Rattle.nim_core.specs.Ints.{fits}
@@ -12,16 +14,18 @@ use Rattle.rv32_isa.specs.declared.image.HookAt.{HookAt}
 use Rattle.rv32_isa.specs.Words.{little}
 use Rattle.rv32_isa.specs.Hooks.{code_at}
 use Rattle.rv32_isa.specs.Image.{stack_at}
-use Rattle.rv32_isa.specs.State.{put_bytes}
-use Rattle.rv32_isa.specs.Machine.{Run, arrival, step}
+use Rattle.rv32_isa.specs.State.{State, put_bytes}
+use Rattle.rv32_isa.specs.Machine.{Run, Lives, arrival, step}
 use Rattle.rv32_isa.proofs.Registers.{IsRegs}
 use Rattle.rv32_isa.proofs.Fetch.{Stands}
 use Rattle.rv32_isa.proofs.Lookup.{File, file_at}
 use Rattle.arc_top.specs.Code.{word, variable_at, data_of, trap_at, trap_code}
 
--- what a machine with the program's image keeps: no hook begins anywhere, the code with the traps at its front, the
+-- what a machine with the program's image keeps: no objects are live, no hook begins anywhere, the code with the traps at its front, the
 -- number of the variables, and the texts
 pub record Setting : Type 0 where
+  pub live : Lives
+  pub none_live : (s : State) → live s ≡ no_objects
   pub hooks : List HookAt
   pub quiet : (pc : ℕ) → arrival hooks pc ≡ []
   pub code : List ℕ
@@ -30,6 +34,10 @@ pub record Setting : Type 0 where
   pub texts : List ℕ
   pub fit : 40 + 4 * count + length texts ≤ 1048576
   pub traps : (trap : Trap) → Stands code (trap_at trap) (trap_code trap)
+
+-- a step of the machine
+abbrev pub stepping : Setting → Run → Next Event Run
+stepping x = step x.live x.hooks
 
 -- the register's word
 abbrev pub reg_of : Run → ℕ → ℕ
@@ -104,11 +112,11 @@ pub record TextStands (x : Setting) (from : ℕ) (bytes : List ℕ) : Type 0 whe
 
 -- the machine comes with no work of the meaning but so many instructions to a run with this fact
 abbrev pub Reaches : Setting → (c p : ℕ) → Run → Meter Event → (Run → Type 0) → Type 0
-Reaches x c p r a Good = (s : Run) × Comes (step x.hooks) c p r a s a × Good s
+Reaches x c p r a Good = (s : Run) × Comes (stepping x) c p r a s a × Good s
 
 -- it shows these bytes on a stream meanwhile
 abbrev pub Tells : Setting → (c p : ℕ) → Run → Meter Event → Stream → (bytes : List ℕ) → (Run → Type 0) → Type 0
-Tells x c p r a stream bytes Good = (s : Run) × Comes (step x.hooks) c p r a s (told (writes stream bytes) a) × Good s
+Tells x c p r a stream bytes Good = (s : Run) × Comes (stepping x) c p r a s (told (writes stream bytes) a) × Good s
 
 abbrev pub Writes : Setting → (c p : ℕ) → Run → Meter Event → (bytes : List ℕ) → (Run → Type 0) → Type 0
 Writes x c p r a bytes Good = Tells x c p r a Out bytes Good

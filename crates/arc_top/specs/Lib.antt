@@ -4,6 +4,7 @@ pub mod Names
 pub mod Source
 pub mod Elf
 pub mod Command
+pub mod Objects
 pub mod Code
 pub mod Emission
 pub mod Answer
