@@ -1,0 +1,9 @@
+pub mod ForCallers
+mod Fetch
+mod Registers
+mod Straight
+mod Lookup
+mod Jumps
+mod Calls
+mod Data
+mod Memory
