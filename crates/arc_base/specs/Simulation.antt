@@ -4,7 +4,7 @@
 use Rattle.std.specs.Prelude.{◌≡◌, ℕ, ◌+◌, ◌*◌, ◌<◌, ◌≤◌, List, []}
 use Rattle.arc_base.specs.Behaviour.{Live, Running, Ended, Behaviour}
 use Rattle.arc_base.specs.Stepping.{Next, seen, run}
-use Rattle.arc_base.specs.BigStep.{Meter, Res, Got, Over, Going, Errs, Turn, Again, Leave, begun, whole}
+use Rattle.arc_base.specs.BigStep.{Meter, Res, Got, Over, Going, Errs, Turn, Again, Leave, told, begun, whole}
 
 -- ---- runs from a state s on, beside a meter that goes from a to b
 --
@@ -38,6 +38,14 @@ Follows {E} {S} step c meter Good p s a (Got x b) = (s' : S) × Comes step c p s
 Follows step c meter Good p s a (Over status live b) = Halts step c p s a status live (meter b)
 Follows step c meter Good p s a (Going b) = Waits step c p s a (meter b)
 Follows step c meter Good p s a (Errs b) = Unit {0}
+
+-- the machine comes, with no work of the meaning, to a state that is Good
+abbrev pub Reaches : {E S : Type 0} → (S → Next E S) → (c p : ℕ) → S → Meter E → (S → Type 0) → Type 0
+Reaches {E} {S} step c p s a Good = (t : S) × Comes step c p s a t a × Good t
+
+-- the same, and it shows these events
+abbrev pub Shows : {E S : Type 0} → (S → Next E S) → (c p : ℕ) → S → Meter E → List E → (S → Type 0) → Type 0
+Shows {E} {S} step c p s a es Good = (t : S) × Comes step c p s a t (told es a) × Good t
 
 -- after a turn of a loop: one that goes again has spent a unit of the u that were left before it
 abbrev pub Turned : {E Σ S X Y : Type 0} → (Σ → Meter E) → (X → Σ → S → Type 0) → (Y → Σ → S → Type 0) → ℕ → Turn X Y → Σ → S → Type 0
