@@ -1,10 +1,10 @@
--- When a machine follows a meaning that goes over a tree.
+-- When a machine follows a meaning that goes over a tree, and when it follows another machine.
 --
--- From this the machine agrees with the meaning, and does work in proportion: laws `simulation` and `sequencing`.
-use Rattle.std.specs.Prelude.{◌≡◌, ℕ, ◌+◌, ◌*◌, ◌<◌, ◌≤◌, List, []}
+-- From this it agrees with what it follows, and does work in proportion: laws `simulation`, `sequencing` and `step_by_step`.
+use Rattle.std.specs.Prelude.{◌≡◌, ℕ, ◌+◌, ◌*◌, ◌<◌, ◌≤◌, ◌⊎◌, List, ◌++◌}
 use Rattle.arc_base.specs.Behaviour.{Live, Running, Ended, Behaviour}
-use Rattle.arc_base.specs.Stepping.{Next, seen, run}
-use Rattle.arc_base.specs.BigStep.{Meter, Res, Got, Over, Going, Errs, Turn, Again, Leave, told, begun, whole}
+use Rattle.arc_base.specs.Stepping.{Next, Goes, Ends, Faults, Errs, seen, run}
+use Rattle.arc_base.specs.BigStep.{Meter, Res, Got, Over, Going, Errs as IsWrong, Turn, Again, Leave, told, begun, whole}
 
 -- ---- runs from a state s on, beside a meter that goes from a to b
 --
@@ -37,7 +37,7 @@ abbrev pub Follows : {E S Σ A : Type 0} → (S → Next E S) → ℕ → (Σ �
 Follows {E} {S} step c meter Good p s a (Got x b) = (s' : S) × Comes step c p s a s' (meter b) × Good x b s'
 Follows step c meter Good p s a (Over status live b) = Halts step c p s a status live (meter b)
 Follows step c meter Good p s a (Going b) = Waits step c p s a (meter b)
-Follows step c meter Good p s a (Errs b) = Unit {0}
+Follows step c meter Good p s a (IsWrong b) = Unit {0}
 
 -- the machine comes, with no work of the meaning, to a state that is Good
 abbrev pub Reaches : {E S : Type 0} → (S → Next E S) → (c p : ℕ) → S → Meter E → (S → Type 0) → Type 0
@@ -70,3 +70,33 @@ pub record Triples (G A Σ S : Type 0) : Type 0 where
 
 abbrev pub Holds : {G A Σ S : Type 0} → Triples G A Σ S → A → Σ → S → Type 0
 Holds {G} R x b s = (g : G) × (R.answer g ≡ x) × (R.state g ≡ b) × (R.machine g ≡ s)
+
+-- ---- a machine beside another one, a step of which is some steps of this one
+
+-- it goes from one state to another in at least `least` steps, with these events and no more work than `most`
+pub record Steps {E S : Type 0} (step : S → Next E S) (least : ℕ) (s : S) (es : List E) (most : ℕ) (s' : S) : Type 0 where
+  pub work : ℕ
+  pub within : work ≤ most
+  pub by : (k : ℕ) → (j : ℕ) × (k + least ≤ j) × ((out : List E) (done : ℕ) → run step j s out done ≡ run step k s' (out ++ es) (done + work))
+
+-- it ends
+pub record Stops {E S : Type 0} (step : S → Next E S) (s : S) (es : List E) (most status : ℕ) (live : Live) : Type 0 where
+  pub work : ℕ
+  pub within : work ≤ most
+  pub by : (j : ℕ) × ((out : List E) (done : ℕ) → run step j s out done ≡ seen (out ++ es) (Ended status live) (done + work))
+
+-- What low does for one step of high: the events and no more than c times the work, to a state in the relation. It makes a
+-- step, or high's rank falls. Of faults and wrong steps of high nothing is said.
+abbrev pub Does : {E S T : Type 0} → (S → Next E S) → (S → T → Type 0) → (T → ℕ) → ℕ → S → T → Next E T → Type 0
+Does {E} {S} {T} low R rank c s t (Goes es w t') = (s' : S) × (least : ℕ) × Steps low least s es (c * w) s' × R s' t' × ((0 < least) ⊎ (rank t' < rank t))
+Does low R rank c s t (Ends es w status live) = Stops low s es (c * w) status live
+Does low R rank c s t Faults = Unit {0}
+Does low R rank c s t Errs = Unit {0}
+
+-- a relation of states, given by all the pairs that it holds of
+pub record Pairs (G S T : Type 0) : Type 0 where
+  pub low : G → S
+  pub high : G → T
+
+abbrev pub AreOf : {G S T : Type 0} → Pairs G S T → S → T → Type 0
+AreOf {G} R s t = (g : G) × (R.low g ≡ s) × (R.high g ≡ t)

@@ -7,3 +7,4 @@ mod Jumps
 mod Calls
 mod Data
 mod Memory
+mod Addresses
