@@ -4,18 +4,20 @@ use Rattle.std.proofs.lemmas.List.{length-replicate}
 use Rattle.arc_base.specs.Event.{Event}
 use Rattle.arc_base.specs.Behaviour.{Agrees, no_objects}
 use Rattle.arc_base.specs.BigStep.{Meter}
-use Rattle.arc_base.proofs.Follows.{Follows, WillEnd, comes_refl, follows_after, follows_map, agrees_by_units}
+use Rattle.arc_base.specs.Simulation.{Follows, WillEnd}
+use Rattle.arc_base.proofs.ForCallers.{comes_refl, follows_after, follows_map, agrees_by_units}
 use Rattle.nim_core.specs.declared.plan.Plan.{Plan}
 use Rattle.nim_core.specs.Program.{Program}
 use Rattle.nim_core.specs.Traps.{Trap, Overflow, DivisionByZero}
 use Rattle.nim_core.specs.Meaning.{Values, exec_all, meaning}
-use Rattle.nim_core.proofs.Steadiness.{meaning_sound}
+use Rattle.nim_core.proofs.ForCallers.{meaning_sound}
 use Rattle.rv32_isa.specs.declared.instr.Instr.{Instr}
 use Rattle.rv32_isa.specs.Image.{Image}
 use Rattle.rv32_isa.specs.State.{first_state}
 use Rattle.rv32_isa.specs.Machine.{Run, arrival, step, start, machine}
-use Rattle.rv32_isa.proofs.Words.{length-code}
-use Rattle.rv32_isa.proofs.Fetch.{Stands, stands_front, stands_back, stands_all}
+use Rattle.rv32_isa.proofs.ForCallers.{length-code}
+use Rattle.rv32_logic.specs.Placed.{Stands}
+use Rattle.rv32_logic.proofs.ForCallers.{stands_front, stands_back, stands_all}
 use Rattle.arc_top.specs.Objects.{live_objects}
 use Rattle.arc_top.specs.Code.{code_bytes, variable_at, trap_at, trap_code, data_of, texts, start_code, end_code, stmts_code, program_code, ArePlain}
 use Rattle.arc_top.proofs.Contents.{length-data_of}

@@ -6,8 +6,9 @@ use Rattle.arc_base.specs.declared.outside.Stream.TheVariants.{Out}
 use Rattle.arc_base.specs.Event.{Event, writes}
 use Rattle.arc_base.specs.Behaviour.{no_objects}
 use Rattle.arc_base.specs.BigStep.{Meter, Res, Got, Over, Going, Errs, then_do, ticked, told, with_units, spend, Turn, Leave, turns}
-use Rattle.arc_base.proofs.Follows as generic
-use Rattle.arc_base.proofs.Follows.{Comes, Turned, comes_on, line, waits_here, follows_after, follows_paid, follows_then, follows_map, follows_here, follows_turns}
+use Rattle.arc_base.specs.Simulation as generic
+use Rattle.arc_base.specs.Simulation.{Comes, Turned}
+use Rattle.arc_base.proofs.ForCallers.{comes_on, line, waits_here, follows_after, follows_paid, follows_then, follows_map, follows_here, follows_turns, follows_weaker}
 use Rattle.nim_core.specs.Program.{Expr, Number, Variable, Negate, Binary, Cond, Stmt, Declare, Assign, EchoInt, EchoText, Quit, If, While, Stmts, Empty, Then}
 use Rattle.nim_core.specs.declared.program.Operator.{Operator}
 use Rattle.nim_core.specs.Ints.{applied, negated, compared, low_byte}
@@ -15,7 +16,8 @@ use Rattle.nim_core.specs.Meaning.{Values, put, line_of, outcome, eval, test, ei
 use Rattle.rv32_isa.specs.declared.instr.Instr.{Instr}
 use Rattle.rv32_isa.specs.Words.{little}
 use Rattle.rv32_isa.specs.Machine.{Run}
-use Rattle.rv32_isa.proofs.Fetch.{Stands, stands_front, stands_back}
+use Rattle.rv32_logic.specs.Placed.{Stands}
+use Rattle.rv32_logic.proofs.ForCallers.{stands_front, stands_back, stands_within}
 use Rattle.arc_top.specs.Code.{load_slot, ahead, back, exit_code, number_code, expr_code, cond_code, texts, stmt_texts, assign_code, stmt_code, stmts_code, most_slots, IsPlainExpr, IsPlainCond, IsPlainStmt, ArePlain}
 use Rattle.arc_top.proofs.Ready.{Setting, stepping, Ready, TextStands, slot_of, SameBelow, Reaches}
 use Rattle.arc_top.proofs.PieceRuns.{Settled, Poised, pace, same, operate_code, opposite_code, variable_code, compare_code, literal_runs, variable_runs, opposite_follows, operate_follows, assign_runs, compare_runs, ahead_runs, back_runs, number_runs, text_runs, quit_halts}
@@ -49,24 +51,10 @@ text_back x from a b h = record {
   from_is = omega (arith, h.from_is, length-append h.pre a);
 }
 
--- ---- code
-
--- code that isn't empty ends in the code
-stands_within : (code : List ℕ) (off : ℕ) (i : Instr) (is : List Instr) → Stands code off (i ∷ is) → off + 4 * length (i ∷ is) ≤ length code
-stands_within code off i [] h = omega (arith, h.0)
-stands_within code off i (j ∷ is) h = omega (arith, stands_within code (off + 4) j is h.3)
-
 module _ (x : Setting) where
   -- the machine follows what a part of the tree comes to
   abbrev Follows : {A : Type 0} → (A → Meter Event → Run → Type 0) → ℕ → Run → Meter Event → Res (Meter Event) A → Type 0
   Follows Good q r a res = generic.Follows (stepping x) pace same Good q r a res
-
-  -- the same, where less is asked of an answer
-  follows_as : {A : Type 0} (Good Good' : A → Meter Event → Run → Type 0) (q : ℕ) (r : Run) (a : Meter Event) (res : Res (Meter Event) A) → ((z : A) (b : Meter Event) (s : Run) → Good z b s → Good' z b s) → Follows Good q r a res → Follows Good' q r a res
-  follows_as Good Good' q r a (Got z b) g f = (f.0, f.1, g z b f.0 f.2)
-  follows_as Good Good' q r a (Over status live b) g f = f
-  follows_as Good Good' q r a (Going b) g f = f
-  follows_as Good Good' q r a (Errs b) g f = tt
 
   -- a unit of the meaning's work pays for all
   tick_pays : {A : Type 0} (Good : A → Meter Event → Run → Type 0) (q : ℕ) (r : Run) (a : Meter Event) (res : Res (Meter Event) A) → q ≤ pace → Follows Good q r (ticked a) res → Follows Good 0 r a res
@@ -87,7 +75,7 @@ module _ (x : Setting) where
       let end : mid + 4 * length own ≡ off + 4 * length (code ++ own) = omega (arith, length-append code own) in
       follows_then (stepping x) pace same (Settled x values mid slot r) (Settled x values (off + 4 * length (code ++ own)) slot r) 0 0 r a (eval operand values a) _ first
       (λ u b s _ h. tick_pays (Settled x values (off + 4 * length (code ++ own)) slot r) 26 s b (outcome (negated u) (ticked b)) (omega arith)
-      (follows_as (Settled x values (mid + 4 * length own) slot s) (Settled x values (off + 4 * length (code ++ own)) slot r) 26 s (ticked b) (outcome (negated u) (ticked b))
+      (follows_weaker (stepping x) pace same (Settled x values (mid + 4 * length own) slot s) (Settled x values (off + 4 * length (code ++ own)) slot r) 26 s (ticked b) (outcome (negated u) (ticked b))
       (λ z d t g. (subst (λ n. Ready x values n t) end g.0, record { slot_is = g.1.slot_is; fit = g.1.fit; below = g.1.below ∙ h.1.below }))
       (opposite_follows x u slot values mid s (ticked b) (omega arith) h.1.fit h.1.slot_is own_stands h.0)))
 
@@ -105,7 +93,7 @@ module _ (x : Setting) where
       (λ u b s _ g.
       follows_then (stepping x) pace same (Settled x values two (suc slot) s) (Settled x values last slot r) 0 0 s b (eval right values b) _ (second b s g.0)
       (λ v d t _ h. tick_pays (Settled x values last slot r) 27 t d (outcome (applied operator u v) (ticked d)) (omega arith)
-      (follows_as (Settled x values (two + 4 * length own) slot t) (Settled x values last slot r) 27 t (ticked d) (outcome (applied operator u v) (ticked d))
+      (follows_weaker (stepping x) pace same (Settled x values (two + 4 * length own) slot t) (Settled x values last slot r) 27 t (ticked d) (outcome (applied operator u v) (ticked d))
       (λ z m w k. (subst (λ n. Ready x values n w) end k.0, record { slot_is = k.1.slot_is; fit = k.1.fit; below = k.1.below ∙ below_less slot s t h.1.below ∙ g.1.below }))
       (operate_follows x operator u v slot values two t (ticked d) lt g.1.fit h.1.fit (slot_kept slot s t h.1.below ∙ g.1.slot_is) h.1.slot_is own_stands h.0))))
 
@@ -321,7 +309,7 @@ module _ (x : Setting) where
       Left values b s = Poised x values asked false s
 
       abbrev Round : ℕ → Turn Values Values → Meter Event → Run → Type 0
-      Round u = Turned (stepping x) pace same Inv Left u
+      Round u = Turned same Inv Left u
 
       -- the branch is the step for the unit that the body's entry spends
       body_follows : (values : Values) (u : ℕ) (s : Run) (b : Meter Event) → b.units ≤ u → Poised x values asked true s → (n : ℕ) → b.units ≡ n → Follows (Round u) 0 s b (spend n b (λ left. then_do (body values (ticked (with_units left b))) again))

@@ -7,7 +7,8 @@ use Rattle.arc_base.specs.declared.outside.Stream.TheVariants.{Out, Err}
 use Rattle.arc_base.specs.Event.{Event, writes}
 use Rattle.arc_base.specs.Behaviour.{Live, no_objects}
 use Rattle.arc_base.specs.BigStep.{Meter, Res, told}
-use Rattle.arc_base.proofs.Follows.{Comes, Halts, Follows, comes_on, comes_halts, follows_after}
+use Rattle.arc_base.specs.Simulation.{Comes, Halts, Follows}
+use Rattle.arc_base.proofs.ForCallers.{comes_on, comes_halts, follows_after}
 use Rattle.nim_core.specs.Ints.{fits}
 use Rattle.nim_core.specs.Meaning.{Values, put as put_value}
 use Rattle.nim_core.specs.Traps.{Trap, Overflow, DivisionByZero}
@@ -23,30 +24,17 @@ use Rattle.rv32_isa.specs.Steps.{signed12, branch, act, obey, next_pc}
 use Rattle.rv32_isa.specs.Steps as leads
 use Rattle.rv32_isa.specs.Regions.{HasRegions}
 use Rattle.rv32_isa.specs.Machine.{Run, stream_of}
-use Rattle.rv32_isa.proofs.Words.{little-word_bytes, length-word_bytes}
-use Rattle.rv32_isa.proofs.Registers.{IsRegs, put, put_regs, put_same}
-use Rattle.rv32_isa.proofs.Fetch.{Stands, stands_back, Before, next_place, outcome_of, obeys}
-use Rattle.rv32_isa.proofs.Straight.{AllPlain, regs_after, moved, onto, plain_run}
-use Rattle.rv32_isa.proofs.Lookup.{File, holding, holding_same, holding_other, holding_again, constant_is, file_after, file_is, read_at, read_is, put_is, regs_after_regs, look}
-use Rattle.rv32_isa.proofs.Data.{Holds, holds_within, holds_read}
-use Rattle.rv32_isa.proofs.Calls.{AsksWrite, write_run, exit_run}
-use Rattle.rv32_isa.proofs.Memory.{put_bytes_long, put_bytes_here, put_bytes_below, put_bytes_over, stack_read, statics_may, stack_may, statics_put, stack_put, lw_goes, sw_goes, sb_goes}
-use Rattle.rv32_isa.proofs.Jumps.{placed, jal_goes, jalr_goes, branches_to, branch_goes}
+use Rattle.rv32_isa.proofs.ForCallers.{little-word_bytes, length-word_bytes}
+use Rattle.rv32_logic.specs.Registers.{IsRegs, put, File, holding, read_at, reg_of, file_of_run}
+use Rattle.rv32_logic.proofs.ForCallers.{put_regs, put_same, stands_back, next_place, obeys, plain_run, holding_same, holding_other, holding_again, constant_is, file_is, read_is, put_is, regs_after_regs, look, holds_within, holds_read, write_run, exit_run, put_bytes_long, put_bytes_here, put_bytes_below, put_bytes_over, stack_read, statics_may, stack_may, statics_put, stack_put, lw_goes, sw_goes, sb_goes, jal_goes, jalr_goes, branch_goes, signed12_small, added_small, plain_address}
+use Rattle.rv32_logic.specs.Placed.{Stands, Before, outcome_of}
+use Rattle.rv32_logic.specs.Straight.{AllPlain, regs_after, moved, onto, file_after}
+use Rattle.rv32_logic.specs.Data.{Holds}
+use Rattle.rv32_logic.specs.Calls.{AsksWrite}
+use Rattle.rv32_logic.specs.Jumps.{placed, branches_to}
 use Rattle.arc_top.specs.Code.{word, trap_line, variable_at, data_of, load_code, load_slot, save_slot, write_code, exit_code, trap_at, line_at, to_trap, ahead, back}
-use Rattle.arc_top.proofs.Ready.{Setting, reg_of, file_of_run, stepping, Ready, slot_of, Moved, Saved, Stored, TextStands, Reaches, Tells, Writes}
+use Rattle.arc_top.proofs.Ready.{Setting, stepping, Ready, slot_of, Moved, Saved, Stored, TextStands, Reaches, Tells, Writes}
 use Rattle.arc_top.proofs.Contents.{word_fits, length-data_of, among_data, holds_variable, holds_text, holds_trap}
-
--- twelve bits of a number that isn't negative
-signed12_small : (n : ℕ) → n < 2048 → signed12 n ≡ n
-signed12_small n lt = cond-true (nat_lt n 2048) n (n + 2 ^ 32 - 4096) (lt-ltb n 2048 lt)
-
--- a sum that needs no more than a word
-added_small : (base n : ℕ) → base + n < 2 ^ 32 → added base n ≡ base + n
-added_small base n lt = omega arith
-
--- an address that a register has
-plain_address : (n at : ℕ) → n ≡ at → at < 2 ^ 32 → added n (signed12 0) ≡ at
-plain_address n at e lt = ap (λ m. added m 0) e ∙ (let f : (at + 0) % 2 ^ 32 ≡ at = omega arith in f)
 
 module _ (x : Setting) (c : ℕ) where
   -- ---- one instruction
@@ -313,29 +301,6 @@ module _ (x : Setting) (c : ℕ) where
       let far : with_sign (2 ^ 12) n ≡ n + 2 ^ 32 - 2 * 2 ^ 12 = cond-false (nat_lt n (2 ^ 12)) n (n + 2 ^ 32 - 2 * 2 ^ 12) (le-ltb n (2 ^ 12) (omega arith)) in
       let there : added s.pc (with_sign (2 ^ 12) n) ≡ code_at + to = ap (added s.pc) far ∙ (let e : (s.pc + (n + 2 ^ 32 - 2 * 2 ^ 12)) % 2 ^ 32 ≡ code_at + to = omega arith in e) in
       branch_moves values off to (Bne rs1 rs2 n) true n rest r a (λ link word. ap (λ b. act r.state link word (branch r.state (not b) n)) (tested values off r (λ file. (file rs1 == file rs2)) ready ∙ test)) there (omega arith) stands ready
-
-  -- ---- runs put together
-
-  pub reaches_then : (p q : ℕ) (r : Run) (a : Meter Event) (Good Good' : Run → Type 0) → Reaches x c p r a Good → ((s : Run) → Good s → Reaches x c q s a Good') → Reaches x c (p + q) r a Good'
-  reaches_then p q r a Good Good' h next = let n = next h.0 h.2 in (n.0, comes_on (stepping x) c p q r h.0 n.0 a a a h.1 n.1, n.2)
-
-  pub reaches_map : (p : ℕ) (r : Run) (a : Meter Event) (Good Good' : Run → Type 0) → Reaches x c p r a Good → ((s : Run) → Good s → Good' s) → Reaches x c p r a Good'
-  reaches_map p r a Good Good' h f = (h.0, h.1, f h.0 h.2)
-
-  pub reaches_paid : (p q : ℕ) (r : Run) (a : Meter Event) (Good : Run → Type 0) → p ≤ q → Reaches x c p r a Good → Reaches x c q r a Good
-  reaches_paid p q r a Good le h = (h.0, record { work = h.1.work; paid = omega (arith, h.1.paid, le); falls = h.1.falls; by = h.1.by }, h.2)
-
-  pub reaches_writes : (p q : ℕ) (r : Run) (a : Meter Event) (bytes : List ℕ) (Good Good' : Run → Type 0) → Reaches x c p r a Good → ((s : Run) → Good s → Writes x c q s a bytes Good') → Writes x c (p + q) r a bytes Good'
-  reaches_writes p q r a bytes Good Good' h next = let n = next h.0 h.2 in (n.0, comes_on (stepping x) c p q r h.0 n.0 a a (told (writes Out bytes) a) h.1 n.1, n.2)
-
-  pub writes_then : (p q : ℕ) (r : Run) (a : Meter Event) (bytes : List ℕ) (Good Good' : Run → Type 0) → Writes x c p r a bytes Good → ((s : Run) → Good s → Reaches x c q s (told (writes Out bytes) a) Good') → Writes x c (p + q) r a bytes Good'
-  writes_then p q r a bytes Good Good' h next = let b = told (writes Out bytes) a in let n = next h.0 h.2 in (n.0, comes_on (stepping x) c p q r h.0 n.0 a b b h.1 n.1, n.2)
-
-  pub reaches_halts : (p q : ℕ) (r : Run) (a b : Meter Event) (status : ℕ) (live : Live) (Good : Run → Type 0) → Reaches x c p r a Good → ((s : Run) → Good s → Halts (stepping x) c q s a status live b) → Halts (stepping x) c (p + q) r a status live b
-  reaches_halts p q r a b status live Good h next = comes_halts (stepping x) c p q r h.0 a a b status live h.1 (next h.0 h.2)
-
-  pub reaches_follows : {A : Type 0} (G : A → Meter Event → Run → Type 0) (p q : ℕ) (r : Run) (a : Meter Event) (res : Res (Meter Event) A) (Good : Run → Type 0) → Reaches x c p r a Good → ((s : Run) → Good s → Follows (stepping x) c (λ m. m) G q s a res) → Follows (stepping x) c (λ m. m) G (p + q) r a res
-  reaches_follows G p q r a res Good h next = follows_after (stepping x) c (λ m. m) G p q r h.0 a a res h.1 (next h.0 h.2)
 
   -- ---- calls of the environment
 

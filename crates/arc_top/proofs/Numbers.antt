@@ -7,7 +7,8 @@ use Rattle.std.proofs.lemmas.Bool.{ne_eqb}
 use Rattle.arc_base.specs.declared.outside.Stream.TheVariants.{Out}
 use Rattle.arc_base.specs.Event.{Event, writes}
 use Rattle.arc_base.specs.BigStep.{Meter, told}
-use Rattle.arc_base.proofs.Follows.{Comes, comes_on}
+use Rattle.arc_base.specs.Simulation.{Comes}
+use Rattle.arc_base.proofs.ForCallers.{comes_on, reaches_paid}
 use Rattle.nim_core.specs.Ints.{fits}
 use Rattle.nim_core.specs.Meaning.{Values, line_of}
 use Rattle.rv32_isa.specs.declared.instr.Instr.{Instr}
@@ -16,11 +17,13 @@ use Rattle.rv32_isa.specs.Image.{stack_at}
 use Rattle.rv32_isa.specs.State.{put_bytes}
 use Rattle.rv32_isa.specs.Values.{added, subtracted, quotient, remainder, is_less_signed}
 use Rattle.rv32_isa.specs.Machine.{Run}
-use Rattle.rv32_isa.proofs.Fetch.{Stands, stands_front, stands_back}
-use Rattle.rv32_isa.proofs.Lookup.{File, file_after}
+use Rattle.rv32_logic.specs.Placed.{Stands}
+use Rattle.rv32_logic.proofs.ForCallers.{stands_front, stands_back}
+use Rattle.rv32_logic.specs.Registers.{File, reg_of, file_of_run}
+use Rattle.rv32_logic.specs.Straight.{file_after}
 use Rattle.arc_top.specs.Code.{word, line_end, number_front, number_digits, number_sign, number_write, number_code}
-use Rattle.arc_top.proofs.Ready.{Setting, stepping, Ready, Moved, Reaches, Writes, reg_of, file_of_run}
-use Rattle.arc_top.proofs.Moves.{plain_moves, bge_moves, bne_back_moves, store_byte_moves, write_stack_moves, reaches_paid}
+use Rattle.arc_top.proofs.Ready.{Setting, stepping, Ready, Moved, Reaches, Writes}
+use Rattle.arc_top.proofs.Moves.{plain_moves, bge_moves, bne_back_moves, store_byte_moves, write_stack_moves}
 use Rattle.arc_top.proofs.Digits.{put_in_front, fits_pos, fits_negsuc, word_small, magnitude_small, word_pos, word_negsuc, pos_word, negsuc_word, opposite_word}
 
 -- ---- the parts of the code
@@ -146,7 +149,7 @@ module _ (x : Setting) (c : ℕ) (values : Values) where
           let five = word (pos n) in
           let m = bge_moves x c values (off + 4) (off + 12) 5 0 8 false (Sub 8 0 5 ∷ Addi 9 0 10 ∷ []) s a (omega arith) (omega arith) refl (ap (λ w. is_less_signed w 0) g.line.five_is ∙ pos_word n fit) code.3 g.line.ready in
           let line = line_moved (off + 4) (off + 12) five text (file_of_run s) s m.0 g.line m.2 g.line.five_is g.line.six in
-          reaches_paid x c 1 2 s a (Sized (off + 12) five n text) (omega arith) (m.0, m.1, record { line = line; eight = m.2.reg_is 8 ∙ g.eight ∙ word_pos n (fits_pos n fit) })
+          reaches_paid (stepping x) c 1 2 s a (Sized (off + 12) five n text) (omega arith) (m.0, m.1, record { line = line; eight = m.2.reg_is 8 ∙ g.eight ∙ word_pos n (fits_pos n fit) })
       sized (negsuc n) s fit g =
           let five = word (negsuc n) in
           let m = bge_moves x c values (off + 4) (off + 8) 5 0 8 true (Sub 8 0 5 ∷ Addi 9 0 10 ∷ []) s a (omega arith) (omega arith) refl (ap (λ w. is_less_signed w 0) g.line.five_is ∙ negsuc_word n fit) code.3 g.line.ready in
@@ -213,7 +216,7 @@ module _ (x : Setting) (c : ℕ) (values : Values) where
   signs (pos n) off text r a fit short code h =
       let five = word (pos n) in
       let m = bge_moves x c values off (off + 16) 5 0 16 false (minus ++ store) r a refl (omega arith) refl (ap (λ w. is_less_signed w 0) h.five_is ∙ pos_word n fit) code h.ready in
-      reaches_paid x c 1 4 r a (Line (off + 16) five text) (omega arith) (m.0, m.1, line_moved off (off + 16) five text (file_of_run r) r m.0 h m.2 h.five_is h.six)
+      reaches_paid (stepping x) c 1 4 r a (Line (off + 16) five text) (omega arith) (m.0, m.1, line_moved off (off + 16) five text (file_of_run r) r m.0 h m.2 h.five_is h.six)
   signs (negsuc n) off text r a fit short code h =
       let five = word (negsuc n) in
       let m = bge_moves x c values off (off + 4) 5 0 16 true (minus ++ store) r a refl (omega arith) refl (ap (λ w. is_less_signed w 0) h.five_is ∙ negsuc_word n fit) code h.ready in

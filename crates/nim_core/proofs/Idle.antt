@@ -25,7 +25,7 @@ turns_write zero values work = refl
 turns_write (suc n) values work = turns_write n (put values 0 (pos 0)) _
 
 pub idle_runs : (plan : Plan) (heap : ℕ) (input : List ℕ) (n : ℕ) → (meaning idle plan heap input n).phase ≡ Running
-idle_runs plan heap input n = turns_run n (put (λ _. pos 0) 0 (pos 0)) _
+idle_runs plan heap input n = turns_run n (put (λ _. pos 0) 0 (pos 0)) 3
 
 pub idle_writes : (plan : Plan) (heap : ℕ) (input : List ℕ) (n : ℕ) → (meaning idle plan heap input n).events ≡ []
-idle_writes plan heap input n = turns_write n (put (λ _. pos 0) 0 (pos 0)) _
+idle_writes plan heap input n = turns_write n (put (λ _. pos 0) 0 (pos 0)) 3

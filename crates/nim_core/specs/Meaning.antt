@@ -4,7 +4,7 @@ use Rattle.std.specs.Fmt.{signed_decimal}
 use Rattle.arc_base.specs.Event.{Event, writes}
 use Rattle.arc_base.specs.declared.outside.Stream.TheVariants.{Out, Err}
 use Rattle.arc_base.specs.Behaviour.{Behaviour, no_objects}
-use Rattle.arc_base.specs.BigStep.{Meter, Res, Got, Over, then_do, ticked, told, with_units, spend, Turn, Again, Leave, turns, seen_of}
+use Rattle.arc_base.specs.BigStep.{Meter, Res, Got, Over, then_do, ticked, told, with_units, spend, Turn, Again, Leave, turns, begun, whole}
 use Rattle.nim_core.specs.declared.plan.Plan.{Plan}
 use Rattle.nim_core.specs.Program.{Expr, Number, Variable, Negate, Binary, Cond, Stmt, Declare, Assign, EchoInt, EchoText, Quit, If, While, Stmts, Empty, Then, Program}
 use Rattle.nim_core.specs.Traps.{trap_text}
@@ -80,5 +80,4 @@ abbrev mutual
 -- first. Each entry of a loop's body spends a unit, and where none is left the run still goes on. No statement has a
 -- site, takes memory or reads yet, and there are no objects. A normal end has status 0.
 abbrev pub meaning : Program → Plan → (heap : ℕ) → (input : List ℕ) → Behaviour Event
-meaning program plan heap input n =
-    seen_of (λ state. state) (λ _. 0) (λ _. no_objects) (exec_all program.start (λ _. pos 0) (record { units = n; out = []; work = 0 }))
+meaning program plan heap input = whole (λ state. state) (λ _. 0) (λ _. no_objects) (λ n. exec_all program.start (λ _. pos 0) (begun n))

@@ -1,6 +1,6 @@
 // Pieces of code that others are made of.
 ghost use Rattle.std.specs.Prelude.{◌≡◌, ◌<◌, ◌^◌, ◌%◌, ◌++◌, [], ◌∷◌, OnOk};
-ghost use Rattle.rv32_isa.proofs.Fetch.{AllInRange};
+ghost use Rattle.rv32_isa.specs.Row.{AllInRange};
 ghost use Rattle.arc_top.specs.Code.{code_bytes, load_code, load_slot, save_slot, write_code, exit_code};
 
 use crate::words::push_word;
