@@ -1,5 +1,5 @@
 -- The steps of reading the length of an array.
-use Rattle.std.proofs.Common.{◌≡◌, ℕ, ◌+◌, ◌<◌, ◌≤◌, List, length, Bool, true, false, refl, sym, ap, subst, ◌∙◌, arith}
+use Rattle.std.proofs.Common.{◌≡◌, ℕ, ◌+◌, ◌<◌, ◌≤◌, List, length, true, false, refl, ap, subst, ◌∙◌, arith}
 use Rattle.std.specs.Prelude.{Option, Some, None}
 use Rattle.arc_base.specs.declared.place.Place.{Place}
 use Rattle.arc_base.specs.declared.place.Code.{Code}
@@ -11,7 +11,7 @@ use Rattle.indent_scanner.specs.declared.token.Token.{Token}
 use Rattle.nim_tree.specs.Terms.{Term, levels}
 use Rattle.parse_exprs.specs.declared.input.Input.{Input}
 use Rattle.parse_exprs.specs.declared.layout.Layout.TheVariants.{Brackets}
-use Rattle.parse_exprs.specs.Look.{Origin, comma_at}
+use Rattle.parse_exprs.specs.Look.{comma_at}
 use Rattle.parse_exprs.specs.Input.{origin_of, from_at}
 use Rattle.parse_exprs.specs.Outcome as E
 use Rattle.parse_exprs.specs.Parsed as P
@@ -20,7 +20,7 @@ use Rattle.parse_decls.specs.Look.{behind, type_at}
 use Rattle.parse_decls.specs.Outcome.{too_deep, stuck_at, Out, got, unless_stuck, of_expr}
 use Rattle.parse_decls.specs.Run.{most_levels, length_of, run_due_length, run_length}
 use Rattle.parse_decls.specs.Gives.{Told, Fails, Found, Leads}
-use Rattle.parse_decls.proofs.Settling.{settles_if, settles_else, settles_is, settles_unless}
+use Rattle.parse_decls.proofs.Settling.{settles_if, settles_else, settles_unless}
 use Rattle.parse_decls.proofs.Coming.{told_fails, fails_then, fails_leads, fails_stuck, leads_then, leads_on, behind_at, within_at}
 use Rattle.parse_decls.proofs.Lengths.{settles_length, length_is, length_high, length_none}
 

@@ -1,5 +1,5 @@
 -- The length of an array, as a computation and as relations.
-use Rattle.std.proofs.Common.{◌≡◌, ℕ, ◌≤◌, ◌<◌, List, Bool, true, false, refl, sym, ap, subst, ◌∙◌, inl, inr, arith}
+use Rattle.std.proofs.Common.{◌≡◌, ℕ, ◌≤◌, ◌<◌, List, Bool, true, false, refl, sym, ap, ◌∙◌, inl, inr, arith}
 use Rattle.std.specs.Prelude.{◌⊎◌, ⊤, nat_lt, if◌then◌else◌, Option, Some, None}
 use Rattle.std.proofs.lemmas.Bool.{le-ltb, lt-ltb, ltb-true, ltb-false}
 use Rattle.indent_scanner.specs.declared.token.Token.{Token}
@@ -19,7 +19,7 @@ use Rattle.parse_decls.specs.Look.{behind, type_at}
 use Rattle.parse_decls.specs.Outcome.{Why, too_deep, tired, Out, got, bad, Settles}
 use Rattle.parse_decls.specs.Run.{most_levels, length_of, run_due_length, run_length}
 use Rattle.parse_decls.specs.Grammar.{NoLength, n_stops, n_more}
-use Rattle.parse_decls.specs.Faults.{Short, ShortExpr, ShortTerm, FaultsWithin, FaultsLength, f_no_length, f_no_comma, f_opened, f_high}
+use Rattle.parse_decls.specs.Faults.{ShortExpr, ShortTerm, FaultsWithin, FaultsLength, f_no_length, f_no_comma, f_opened, f_high}
 use Rattle.parse_decls.proofs.Settling.{got_one, got_bad, if_split, Branch}
 use Rattle.parse_decls.proofs.Productions.{IsDeep, Parses, bad_one, settles_why, restated, just, Just, shifted, Then, FaultsThen, seq, Guarded, FaultsGuarded, guarded, Either, FaultsEither, either}
 use Rattle.parse_decls.proofs.Pieces.{along}

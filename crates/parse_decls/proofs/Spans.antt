@@ -1,5 +1,5 @@
 -- What is read has at least as many tokens as nodes, and the end of the source is none of them.
-use Rattle.std.proofs.Common.{◌≡◌, ℕ, ◌≤◌, ◌<◌, ◌+◌, ◌-◌, List, [], ◌∷◌, length, drop, Bool, true, false, refl, sym, ap, subst, ◌∙◌, arith}
+use Rattle.std.proofs.Common.{◌≡◌, ℕ, ◌≤◌, ◌+◌, List, [], ◌∷◌, length, drop, Bool, true, false, refl, sym, ap, subst, ◌∙◌, arith}
 use Rattle.std.specs.Prelude.{Option, Some, None, ◌&&◌, ◌||◌, codes, if◌then◌else◌}
 use Rattle.indent_scanner.specs.declared.token.Key.TheVariants as K
 use Rattle.indent_scanner.specs.declared.token.Tok.{Tok}
@@ -23,7 +23,7 @@ use Rattle.parse_exprs.specs.Look.{Origin, spelling, goes_on, is_name, is_punct,
 use Rattle.parse_exprs.specs.Grammar.{IsExpr}
 use Rattle.parse_exprs.specs.Parsed.{HasNoEnd}
 use Rattle.parse_exprs.proofs.Stopping.{both_of}
-use Rattle.parse_exprs.proofs.Spans.{Free, stop, step, expr_spans, size_at, no_end_at}
+use Rattle.parse_exprs.proofs.Spans.{Free, stop, step, expr_spans, no_end_at}
 use Rattle.parse_decls.specs.declared.look.TypeLead.{TypeLead}
 use Rattle.parse_decls.specs.declared.look.TypeLead.TheVariants as L
 use Rattle.parse_decls.specs.declared.look.BodyLead.{BodyLead}

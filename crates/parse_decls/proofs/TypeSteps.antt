@@ -1,6 +1,6 @@
 -- The steps of reading a written type.
-use Rattle.std.proofs.Common.{◌≡◌, ℕ, suc, ◌+◌, ◌-◌, ◌<◌, ◌≤◌, List, [], ◌∷◌, length, drop, refl, sym, ap, subst, ◌∙◌, arith, Bool, true, false}
-use Rattle.std.specs.Prelude.{if◌then◌else◌, Option, Some, None, Result, Ok, Err}
+use Rattle.std.proofs.Common.{◌≡◌, ℕ, suc, ◌+◌, ◌<◌, List, [], ◌∷◌, length, drop, refl, sym, ap, subst, ◌∙◌, arith, true, false}
+use Rattle.std.specs.Prelude.{if◌then◌else◌, Option, Some, None, Result}
 use Rattle.arc_base.specs.declared.place.Place.{Place}
 use Rattle.arc_base.specs.declared.place.Stop.{Stop}
 use Rattle.indent_scanner.specs.declared.token.Token.{Token}
@@ -12,17 +12,17 @@ use Rattle.parse_exprs.specs.declared.input.Input.{Input}
 use Rattle.parse_exprs.specs.declared.input.Bracket.TheVariants.{Square}
 use Rattle.parse_exprs.specs.declared.layout.Layout.{Layout}
 use Rattle.parse_exprs.specs.declared.layout.Layout.TheVariants.{Brackets}
-use Rattle.parse_exprs.specs.Look.{Origin, spelling, place_at, closes_at, stays, colon_at, comma_at}
+use Rattle.parse_exprs.specs.Look.{Origin, spelling, place_at, closes_at, stays, colon_at}
 use Rattle.parse_exprs.specs.Input.{origin_of, from_at}
 use Rattle.parse_decls.specs.declared.look.TypeLead.{TypeLead}
 use Rattle.parse_decls.specs.declared.look.TypeLead.TheVariants as L
 use Rattle.parse_decls.specs.declared.reading.Reading.{Reading}
 use Rattle.parse_decls.specs.Look.{behind, type_at, type_lead, opens_at}
-use Rattle.parse_decls.specs.Outcome.{too_deep, stuck_at, Out, got, bad, then_do, unless_stuck, Settles}
+use Rattle.parse_decls.specs.Outcome.{too_deep, stuck_at, Out, got, then_do, unless_stuck, Settles}
 use Rattle.parse_decls.specs.Run.{run_declareds, run_length, run_type, run_sort, run_inside, run_arguments, Typed, run_part, run_parts, run_written}
 use Rattle.parse_decls.specs.Gives.{Told, Fails, Found, Comes, Leads}
-use Rattle.parse_decls.proofs.Settling.{settles_suc, settles_got, settles_is, settles_if, settles_else, settles_stuck}
-use Rattle.parse_decls.proofs.Coming.{told_fails, fails_then, fails_leads, comes_leads, leads_on, leads_then, leads_past, settles_at, behind_at}
+use Rattle.parse_decls.proofs.Settling.{settles_suc, settles_got, settles_if, settles_else, settles_stuck}
+use Rattle.parse_decls.proofs.Coming.{told_fails, fails_leads, comes_leads, leads_on, leads_then, leads_past, settles_at, behind_at}
 
 -- ---- no level is left, or nothing
 

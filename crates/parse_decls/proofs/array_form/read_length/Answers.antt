@@ -1,4 +1,4 @@
-use Rattle.std.proofs.Common.{◌≤◌, suc, sym, ◌∙◌, refl, arith}
+use Rattle.std.proofs.Common.{sym, ◌∙◌, arith}
 use Rattle.std.proofs.lemmas.Result.{err_from_is_err_and}
 use Rattle.parse_exprs.specs.Input.{from_at}
 use Rattle.parse_decls.proofs.Coming.{comes_leads}

@@ -1,5 +1,4 @@
-use Rattle.std.proofs.Common.{◌≡◌, ◌<◌, ◌≤◌, sym, ◌∙◌, arith}
-use Rattle.nim_tree.specs.Terms.{levels, term_of}
+use Rattle.std.proofs.Common.{sym, ◌∙◌, arith}
 use Rattle.parse_exprs.specs.Input.{from_at}
 use Rattle.parse_decls.proofs.LengthSteps.{types_found, length_found, length_fails, opened_fails, stuck_found}
 use Rattle.parse_decls.proofs.array_form.try_length.Goals as goal

@@ -1,10 +1,9 @@
-use Rattle.std.proofs.Common.{◌≡◌, suc, ◌+◌, ◌-◌, ◌<◌, ◌≤◌, ◌∷◌, refl, sym, ap, ◌∙◌, arith, add-one}
+use Rattle.std.proofs.Common.{◌≡◌, suc, ◌+◌, ◌-◌, ◌∷◌, refl, sym, ap, ◌∙◌, arith, add-one}
 use Rattle.std.specs.Prelude.{Some, option_map}
 use Rattle.std.proofs.lemmas.Result.{err_from_is_err_and}
 use Rattle.nim_tree.specs.Terms.{term_of}
 use Rattle.nim_tree.specs.Types.{written_of, arguments_of, fields_of}
 use Rattle.parse_exprs.specs.declared.input.Bracket.TheVariants.{Square}
-use Rattle.parse_exprs.specs.declared.layout.Layout.TheVariants.{Brackets}
 use Rattle.parse_exprs.specs.Look.{closes_at}
 use Rattle.parse_exprs.specs.Input.{origin_of, from_at}
 use Rattle.parse_decls.specs.declared.look.TypeLead.TheVariants as L
