@@ -18,3 +18,5 @@ pub mod Spanning
 pub mod Sizes
 pub mod Modules
 pub mod Collecting
+mod Ending
+mod Deciding
