@@ -16,4 +16,5 @@ mod tests;
 mod tree;
 mod values;
 
+pub use alone::MOST_ALONE;
 pub use tree::{one_fault, one_tree, parse};
