@@ -1,10 +1,13 @@
 -- Instructions that only write registers, one after another.
 use Rattle.std.specs.Prelude.{ℕ, ◌+◌, ◌*◌, ◌^◌, List, [], ◌∷◌, length, get_or, nat_lt, bit_and, bit_or, bit_xor}
 use Rattle.rv32_isa.specs.declared.instr.Instr.{Instr}
-use Rattle.rv32_isa.specs.declared.instr.Instr.TheVariants.{Lui, Auipc, Jal, Jalr, Beq, Bne, Blt, Bge, Bltu, Bgeu, Lb, Lh, Lw, Lbu, Lhu, Sb, Sh, Sw, Addi, Slti, Sltiu, Xori, Ori, Andi, Slli, Srli, Srai, Add, Sub, Sll, Slt, Sltu, Xor, Srl, Sra, Or, And, Mul, Mulh, Mulhsu, Mulhu, Div, Divu, Rem, Remu, Fence, Ecall, Ebreak}
+use Rattle.rv32_isa.specs.declared.instr.Instr.TheVariants.{Lui, Auipc, Jal, Jalr, Beq, Bne, Blt, Bge, Bltu, Bgeu, Lb, Lh, Lw, Lbu, Lhu, Sb, Sh, Sw, Addi, Slti}
+use Rattle.rv32_isa.specs.declared.instr.Instr.TheVariants.{Sltiu, Xori, Ori, Andi, Slli, Srli, Srai, Add, Sub, Sll, Slt, Sltu, Xor, Srl, Sra, Or, And, Mul}
+use Rattle.rv32_isa.specs.declared.instr.Instr.TheVariants.{Mulh, Mulhsu, Mulhu, Div, Divu, Rem, Remu, Fence, Ecall, Ebreak}
 use Rattle.rv32_isa.specs.Hooks.{code_at}
 use Rattle.rv32_isa.specs.State.{State}
-use Rattle.rv32_isa.specs.Values.{added, subtracted, one_if, is_less_signed, shifted_left, shifted_right, shifted_right_signed, low_product, high_product_signed, high_product_mixed, high_product, quotient_signed, quotient, remainder_signed, remainder}
+use Rattle.rv32_isa.specs.Values.{added, subtracted, one_if, is_less_signed, shifted_left, shifted_right, shifted_right_signed, low_product}
+use Rattle.rv32_isa.specs.Values.{high_product_signed, high_product_mixed, high_product, quotient_signed, quotient, remainder_signed, remainder}
 use Rattle.rv32_isa.specs.Steps.{signed12}
 use Rattle.rv32_isa.specs.Machine.{Run}
 use Rattle.rv32_logic.specs.Registers.{File, put, holding}
