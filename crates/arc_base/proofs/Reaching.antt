@@ -22,10 +22,6 @@ module _ {E S : Type 0} (step : S → Next E S) (c : ℕ) where
       ((t : S) → Good t → Shows step c q t a es Good') → Shows step c (p + q) s a es Good'
   reaches_shows p q s a es Good Good' h next = let n = next h.0 h.2 in (n.0, comes_on step c p q s h.0 n.0 a a (told es a) h.1 n.1, n.2)
 
-  pub shows_then : (p q : ℕ) (s : S) (a : Meter E) (es : List E) (Good Good' : S → Type 0) → Shows step c p s a es Good →
-      ((t : S) → Good t → Reaches step c q t (told es a) Good') → Shows step c (p + q) s a es Good'
-  shows_then p q s a es Good Good' h next = let b = told es a in let n = next h.0 h.2 in (n.0, comes_on step c p q s h.0 n.0 a b b h.1 n.1, n.2)
-
   pub reaches_halts : (p q : ℕ) (s : S) (a b : Meter E) (status : ℕ) (live : Live) (Good : S → Type 0) → Reaches step c p s a Good →
       ((t : S) → Good t → Halts step c q t a status live b) → Halts step c (p + q) s a status live b
   reaches_halts p q s a b status live Good h next = comes_halts step c p q s h.0 a a b status live h.1 (next h.0 h.2)

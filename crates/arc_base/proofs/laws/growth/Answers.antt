@@ -1,4 +1,4 @@
-use Rattle.arc_base.proofs.Grows.{adds_charged, adds_told, tame_got, tame_over, tame_first, tame_change, tame_look, tame_then, tame_spend, tame_loop, steady_by_tame}
+use Rattle.arc_base.proofs.Grows.{adds_charged, adds_told, adds_both, tame_errs, tame_got, tame_over, tame_first, tame_change, tame_look, tame_then, tame_spend, tame_loop, steady_by_tame}
 use Rattle.arc_base.proofs.Right.{sound_by_right}
 use Rattle.arc_base.proofs.laws.growth.Goals as goal
 
@@ -37,3 +37,9 @@ returns-clause-changes g c M change act kept apart t = tame_change M change act 
 
 pub returns-clause-looks : goal.returns-clause-looks
 returns-clause-looks g c M look act same h = tame_look M look act same h
+
+pub returns-clause-both : goal.returns-clause-both
+returns-clause-both g c f h p q = adds_both f h p q
+
+pub returns-clause-wrong : goal.returns-clause-wrong
+returns-clause-wrong g c M = tame_errs M
