@@ -27,6 +27,10 @@ IsNoCommand words = (command : Command) → IsCommand words command → ⊥
 abbrev pub main_of : Command → List ℕ
 main_of (build main out) = main
 
+-- the file to be stored
+abbrev pub out_of : Command → List ℕ
+out_of (build main out) = out
+
 -- the names of the modules that the command compiles, by their numbers
 abbrev pub modules_of : Command → List (List ℕ)
 modules_of command = main_of command ∷ []

@@ -1,6 +1,6 @@
 // The words of a command.
 ghost use Rattle.std.specs.Prelude.{◌≡◌, IfSome, IfNone, map, string_bytes};
-ghost use Rattle.arc_top.specs.Command.{is_option, main_of, command_of, IsCommand, IsNoCommand};
+ghost use Rattle.arc_top.specs.Command.{is_option, main_of, out_of, command_of, IsCommand, IsNoCommand};
 
 /// What is to be done.
 #[derive(Clone, Copy, Debug)]
@@ -16,6 +16,15 @@ impl<'a> Command<'a> {
     {
         match self {
             Command::Build { main, .. } => main,
+        }
+    }
+
+    /// The name of the file to be stored.
+    pub fn out(&self) -> &'a str
+        ensures { result.now ≡ out_of (command_of self.now) }
+    {
+        match self {
+            Command::Build { out, .. } => out,
         }
     }
 }

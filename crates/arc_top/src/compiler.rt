@@ -1,6 +1,6 @@
 // From the bytes of a source to the bytes of its file.
 ghost use Rattle.std.specs.Prelude.{◌≡◌, ◌<◌, ◌≤◌, ℕ, List, length, IfOk, IfErr};
-ghost use Rattle.arc_top.specs.Source.{alone, Refuses};
+ghost use Rattle.arc_top.specs.Source.{alone};
 ghost use Rattle.arc_top.specs.Top.{Compiled, IsProgram, IsNoProgram, source_most};
 ghost use Rattle.arc_top.specs.Compile.{OnTooLong, OnRefused, IsOkOrMemory};
 

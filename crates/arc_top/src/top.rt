@@ -1,16 +1,14 @@
 // The top call.
-ghost use Rattle.std.specs.Prelude.{◌≡◌, ◌≤◌, ◌++◌, [], ◌∷◌, List, ℕ, OnOk, IfOk, IfErr, length, map, string_bytes};
-ghost use Rattle.arc_base.specs.FileCalls.{load};
+ghost use Rattle.std.specs.Prelude.{◌≡◌, ◌≤◌, [], List, ℕ, OnOk, IfOk, IfErr, length, map, string_bytes};
 ghost use Rattle.arc_base.specs.Outside.{Rose, KeepsOthers, Writes};
-ghost use Rattle.arc_base.specs.declared.outside.Loaded.TheVariants as loaded;
 ghost use Rattle.arc_top.specs.Answer.{OnDone, OnUsage, OnCommand, IfNoFile, IfTooLong, IfRefused, OnReadFault, OnStoreFault, OnKept, OnLoaded, OnStored, IsLoadAnswer, IsRefusal};
 ghost use Rattle.arc_top.specs.Compile.{OnTooLong};
-ghost use Rattle.arc_top.specs.Command.{Command as Order, build, modules_of, command_of, IsCommand, IsNoCommand};
+ghost use Rattle.arc_top.specs.Command.{Command, build, modules_of, IsCommand, IsNoCommand};
 ghost use Rattle.arc_top.specs.Report.{report_of};
 ghost use Rattle.arc_top.specs.Top.{Builds, LacksFile, HasLongFile, HasRefused, HasProgram, HasSource, Gave, Asks, Answered, source_most};
 
 use crate::answer::{Answer, FileName};
-use crate::command::{Command, read_words};
+use crate::command::read_words;
 use crate::compiler::{NotCompiled, SOURCE_MOST, compile};
 use crate::report::put_report;
 use arc_base::{Bytes, FileFault, Files, Loaded, Sink, Source};
@@ -85,18 +83,6 @@ fn build<F: Files>(alloc: Global, main: &str, out: &str, files: &mut F) -> Answe
     }
 }
 
-// Does what a command asks for.
-fn carry_out<F: Files>(alloc: Global, command: &Command<'_>, files: &mut F) -> Answer
-    ensures no_usage { OnUsage result ⊥ }
-    ensures answered { Answered (command_of command.now) result (F.held files.old) (F.held files.new)
-        (F.load_faults files.old) (F.load_faults files.new)
-        (F.store_faults files.old) (F.store_faults files.new) (F.calls files.old) (F.calls files.new) }
-{
-    match command {
-        Command::Build { main, out } => build(alloc, main, out, files),
-    }
-}
-
 /// Does what the words say: `build MAIN OUT` compiles the source in the file MAIN and stores the ELF
 /// file under the name OUT.
 ///
@@ -112,11 +98,11 @@ pub fn nimarc<F: Files, I: Source, O: Sink, E: Sink>(
     err: &mut E,
 ) -> Answer
     // What each answer to a command says of the files.
-    ensures answered { (command : Order) → IsCommand (map string_bytes words.now) command
+    ensures answered { (command : Command) → IsCommand (map string_bytes words.now) command
         → Answered command result (F.held files.old) (F.held files.new)
         (F.load_faults files.old) (F.load_faults files.new)
         (F.store_faults files.old) (F.store_faults files.new) (F.calls files.old) (F.calls files.new) }
-    ensures command { OnCommand result ((command : Order) × IsCommand (map string_bytes words.now) command) }
+    ensures command { OnCommand result ((command : Command) × IsCommand (map string_bytes words.now) command) }
 
     // Words that are no command.
     ensures usage { OnUsage result (IsNoCommand (map string_bytes words.now)) }
@@ -127,7 +113,7 @@ pub fn nimarc<F: Files, I: Source, O: Sink, E: Sink>(
     ensures out { out.new ≡ out.old }
 
     // What is said.
-    ensures said { (command : Order) → IsCommand (map string_bytes words.now) command
+    ensures said { (command : Command) → IsCommand (map string_bytes words.now) command
         → Writes (E.written err.old) (E.written err.new) (E.faults err.old) (E.faults err.new)
         (report_of (modules_of command) result) }
     ensures said_usage { OnUsage result
@@ -136,7 +122,7 @@ pub fn nimarc<F: Files, I: Source, O: Sink, E: Sink>(
 {
     match read_words(words) {
         Some(command) => {
-            let answer = carry_out(alloc, &command, files);
+            let answer = build(alloc, command.main(), command.out(), files);
             put_report(err, &[command.main()], &answer);
             answer
         }

@@ -1,5 +1,5 @@
-use Rattle.std.proofs.Common.{rules, ◌≤◌, length, sym, subst}
-use Rattle.arc_top.specs.Top.{HasSource, source_most}
+use Rattle.std.proofs.Common.{rules, sym, subst}
+use Rattle.arc_top.specs.Top.{HasSource}
 use Rattle.arc_top.proofs.Verdicts.{has_program}
 use Rattle.arc_top.proofs.top.build.Goals as goal
 
