@@ -308,7 +308,7 @@ fn answers_have_their_status_and_line(rt: HostRuntime) -> Result<(), Fail> {
     ];
     for (answer, status, line) in &table {
         let mut err = SureSink::new(alloc, 100)?;
-        put_report(&mut err, "a/b.nim", answer);
+        put_report(&mut err, &["a/b.nim"], answer);
         assert_eq!(rt; answer.status(), *status, "of {answer:?}");
         assert_eq!(rt; err.written(), line.as_bytes(), "of {answer:?}");
     }
