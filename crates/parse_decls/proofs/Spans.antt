@@ -22,8 +22,7 @@ use Rattle.parse_exprs.specs.declared.input.Bracket.TheVariants.{Round, Square}
 use Rattle.parse_exprs.specs.Look.{Origin, spelling, goes_on, is_name, is_punct, is_run, kind_at, name_on, closes_at, closing, colon_at, comma_at, bracket_of}
 use Rattle.parse_exprs.specs.Grammar.{IsExpr}
 use Rattle.parse_exprs.specs.Parsed.{HasNoEnd}
-use Rattle.parse_exprs.proofs.Stopping.{both_of}
-use Rattle.parse_exprs.proofs.Spans.{Free, stop, step, expr_spans, size_at, no_end_at}
+use Rattle.parse_exprs.proofs.ForCallers.{both_of, Free, stop, step, expr_spans, size_at, no_end_at}
 use Rattle.parse_decls.specs.declared.look.TypeLead.{TypeLead}
 use Rattle.parse_decls.specs.declared.look.TypeLead.TheVariants as L
 use Rattle.parse_decls.specs.declared.look.BodyLead.{BodyLead}

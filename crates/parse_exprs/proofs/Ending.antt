@@ -12,9 +12,9 @@ use Rattle.parse_exprs.specs.declared.input.Bracket.{Bracket}
 use Rattle.parse_exprs.specs.declared.input.Bracket.TheVariants.{Square}
 use Rattle.parse_exprs.specs.declared.input.Lead.{Lead}
 use Rattle.parse_exprs.specs.declared.input.Lead.TheVariants as L
-use Rattle.parse_exprs.specs.Look.{Origin, spelling, place_at, goes_on, op_at, op_levels, single, sign_of, is_at_sign, is_name, is_punct, kind_at, bracket_at, square_at, closes_at, names_in, names_behind, name_on, suffix_at, stays, operand_at, lead_at, branch_at, is_elif, is_else, is_of, first_of_at, branch_layout, colon_at, comma_at, past_colon, dots_at}
+use Rattle.parse_exprs.specs.Look.{Origin, spelling, place_at, goes_on, op_at, op_levels, single, sign_of, is_at_sign, is_name, is_punct, kind_at, bracket_at, square_at, closes_at, names_in, names_behind, name_on, suffix_at, stays, operand_at, lead_at, branch_at, is_elif, is_else, is_of, first_of_at, branch_layout, colon_at, comma_at, past_colon, dots_at, at_start, past_start, no_command_on, else_on, deeper_line_at, line_layout, closed_at}
 use Rattle.parse_exprs.specs.Outcome.{deep, stuck, Out, bad, then_do, unless_stuck}
-use Rattle.parse_exprs.specs.Run.{behind, made, run_field, run_expr, run_lead, run_level, run_chain, run_more, run_unary, run_signed, run_primary, run_suffixes, run_suffix, run_applied, run_atom, run_group, run_enclosed, run_list, run_parts, run_part, run_if, run_tail, run_value, run_elifs, run_else, run_case, run_branches, run_of, run_labels, run_label, run_ofs, run_otherwise}
+use Rattle.parse_exprs.specs.Run.{behind, made, run_field, run_expr, run_lead, run_level, run_chain, run_more, run_unary, run_signed, run_primary, run_suffixes, run_suffix, run_applied, run_atom, run_group, run_enclosed, run_list, run_parts, run_part, run_if, run_tail, run_value, run_own_line, run_elifs, run_else, run_case, run_branches, run_of, run_labels, run_label, run_ofs, run_otherwise}
 use Rattle.parse_exprs.specs.Ends.{Ends, e_read, e_deep, e_stuck}
 
 -- ---- steps put together
@@ -86,7 +86,7 @@ mutual
   ends_level (suc k) x i zero n ts few le = ends_unary k x i n ts (omega (arith, le))
   ends_level (suc k) x i (suc l) n ts few le =
       ends_then _ (omega arith) (ends_level k x i l n ts (omega (arith, few)) (omega (arith, le)))
-      (λ a mid lt. wider (omega (arith, lt)) (ends_chain k x i l n a mid (omega (arith, few)) (omega (arith, le, lt))))
+      (λ a mid lt. wider (omega (arith, lt)) (ends_chain k x (past_start i) l n a mid (omega (arith, few)) (omega (arith, le, lt))))
 
   ends_chain : (k : ℕ) (x : Origin) (i : Layout) (l n : ℕ) (a : Term) (ts : List Token) → l ≤ 6 → 64 * length ts + 20 ≤ k
       → Ends (suc (length ts)) (run_chain k x i l n a ts)
@@ -113,9 +113,11 @@ mutual
   ends_signed : (k : ℕ) (op : Option UnaryOp) (x : Origin) (i : Layout) (n : ℕ) (tok : Token) (ts : List Token) → 64 * suc (length ts) + 10 ≤ k
       → Ends (suc (length ts)) (run_signed k op x i n tok ts)
   ends_signed zero op x i n tok ts le = absurd (omega (arith, le))
-  ends_signed (suc k) None x i n tok ts le = ends_primary k x i false (suc n) (tok ∷ ts) (omega (arith, le))
+  ends_signed (suc k) None x i n tok ts le =
+      ends_then _ (omega arith) (ends_primary k x i (at_start i) (suc n) (tok ∷ ts) (omega (arith, le)))
+      (λ a rest lt. ends_unless (no_command_on x i rest) rest (e_read lt))
   ends_signed (suc k) (Some op) x i n tok ts le =
-      ends_unless (stays i ts) ts (ends_then _ (omega arith) (ends_unary k x i n ts (omega (arith, le))) (λ a rest lt. e_read (omega (arith, lt))))
+      ends_unless (stays i ts) ts (ends_then _ (omega arith) (ends_unary k x (past_start i) n ts (omega (arith, le))) (λ a rest lt. e_read (omega (arith, lt))))
 
   -- ---- what stands behind an atom
 
@@ -216,14 +218,21 @@ mutual
   ends_tail : (k : ℕ) (x : Origin) (i : Layout) (n : ℕ) (ts : List Token) → 64 * length ts + 21 ≤ k → Ends (length ts) (run_tail k x i n ts)
   ends_tail zero x i n ts le = absurd (omega (arith, le))
   ends_tail (suc k) x i n ts le =
-      ends_unless (stays i ts) ts (ends_then _ (omega arith) (ends_expr k x i n ts (omega (arith, le))) (λ c mid lt.
+      ends_unless (stays i ts) ts (ends_then _ (omega arith) (ends_expr k x (past_start i) n ts (omega (arith, le))) (λ c mid lt.
       ends_then _ (omega (arith, lt)) (ends_value k x i n mid (omega (arith, le, lt))) (λ v rest less. e_read (omega (arith, lt, less)))))
 
-  ends_value : (k : ℕ) (x : Origin) (i : Layout) (n : ℕ) (ts : List Token) → 64 * length ts + 21 ≤ k → Ends (length ts) (run_value k x i n ts)
+  ends_value : (k : ℕ) (x : Origin) (i : Layout) (n : ℕ) (ts : List Token) → 64 * length ts + 22 ≤ k → Ends (length ts) (run_value k x i n ts)
   ends_value zero x i n ts le = absurd (omega (arith, le))
   ends_value (suc k) x i n ts le =
-      let h = behind_within ts in ends_unless (colon_at i ts) ts
-      (ends_unless (stays i (behind ts)) (behind ts) (wider (omega (arith, h)) (ends_expr k x i n (behind ts) (omega (arith, le, h)))))
+      let h = behind_within ts in
+      ends_unless (colon_at i ts) ts (wider h (ends_if (stays i (behind ts)) (ends_expr k x i n (behind ts) (omega (arith, le, h)))
+      (ends_own_line k x i n (behind ts) (omega (arith, le, h)))))
+
+  ends_own_line : (k : ℕ) (x : Origin) (i : Layout) (n : ℕ) (ts : List Token) → 64 * length ts + 21 ≤ k → Ends (length ts) (run_own_line k x i n ts)
+  ends_own_line zero x i n ts le = absurd (omega (arith, le))
+  ends_own_line (suc k) x i n ts le =
+      ends_unless (deeper_line_at i ts) ts (ends_then _ (omega arith) (ends_expr k x (line_layout i ts) n ts (omega (arith, le)))
+      (λ v rest lt. ends_unless (closed_at (line_layout i ts) rest) rest (e_read lt)))
 
   ends_elifs : (k : ℕ) (x : Origin) (i : Layout) (n : ℕ) (some : Choices) (ts : List Token) → 64 * length ts + 1 ≤ k
       → Ends (suc (length ts)) (run_elifs k x i n some ts)
@@ -234,7 +243,7 @@ mutual
       (λ one mid lt. wider (omega (arith, lt)) (ends_elifs k x i n (and_choice some (place_at x tok) one.tests one.value) mid (omega (arith, le, lt)))))
       (e_read (omega arith))
 
-  ends_else : (k : ℕ) (x : Origin) (i : Layout) (n : ℕ) (ts : List Token) → 64 * length ts + 22 ≤ k → Ends (length ts) (run_else k x i n ts)
+  ends_else : (k : ℕ) (x : Origin) (i : Layout) (n : ℕ) (ts : List Token) → 64 * length ts + 23 ≤ k → Ends (length ts) (run_else k x i n ts)
   ends_else zero x i n ts le = absurd (omega (arith, le))
   ends_else (suc k) x i n ts le = let h = behind_within ts in ends_unless (branch_at i is_else ts) ts
       (wider h (ends_value k x i n (behind ts) (omega (arith, le, h))))
@@ -246,7 +255,7 @@ mutual
   ends_case zero x i n tok ts le = absurd (omega (arith, le))
   ends_case (suc k) x i zero tok ts le = e_deep (omega arith)
   ends_case (suc k) x i (suc n) tok ts le =
-      ends_unless (stays i ts) ts (ends_then _ (omega arith) (ends_expr k x i n ts (omega (arith, le))) (λ s mid lt.
+      ends_unless (stays i ts) ts (ends_then _ (omega arith) (ends_expr k x (past_start i) n ts (omega (arith, le))) (λ s mid lt.
       let h = past_within i mid in wider (omega (arith, lt, h)) (ends_branches k x i n (place_at x tok) s (past_colon i mid) (omega (arith, le, lt, h)))))
 
   ends_branches : (k : ℕ) (x : Origin) (i : Layout) (n : ℕ) (at : Place) (s : Term) (ts : List Token) → 64 * length ts + 1 ≤ k
@@ -264,8 +273,8 @@ mutual
   ends_of zero x i n ts le = absurd (omega (arith, le))
   ends_of (suc k) x i n ts le =
       ends_unless (stays i ts) ts (
-      ends_then _ (omega arith) (ends_label k x i n ts (omega (arith, le))) (λ a mid lt.
-      ends_then _ (omega (arith, lt)) (ends_labels k x i n (part a no_parts) mid (omega (arith, le, lt))) (λ labels end less.
+      ends_then _ (omega arith) (ends_label k x (past_start i) n ts (omega (arith, le))) (λ a mid lt.
+      ends_then _ (omega (arith, lt)) (ends_labels k x (past_start i) n (part a no_parts) mid (omega (arith, le, lt))) (λ labels end less.
       ends_then _ (omega (arith, lt, less)) (ends_value k x i n end (omega (arith, le, lt, less))) (λ v rest least. e_read (omega (arith, lt, less, least))))))
 
   ends_labels : (k : ℕ) (x : Origin) (i : Layout) (n : ℕ) (some : Parts) (ts : List Token) → 64 * length ts + 1 ≤ k
@@ -294,10 +303,10 @@ mutual
       (λ one mid lt. wider (omega (arith, lt)) (ends_ofs k x i n (and_choice some (place_at x tok) one.tests one.value) mid (omega (arith, le, lt)))))
       (e_read (omega arith))
 
-  ends_otherwise : (k : ℕ) (x : Origin) (i : Layout) (n : ℕ) (at : Place) (s : Term) (all : Choices) (ts : List Token) → 64 * length ts + 23 ≤ k
+  ends_otherwise : (k : ℕ) (x : Origin) (i : Layout) (n : ℕ) (at : Place) (s : Term) (all : Choices) (ts : List Token) → 64 * length ts + 24 ≤ k
       → Ends (suc (length ts)) (run_otherwise k x i n at s all ts)
   ends_otherwise zero x i n at s all ts le = absurd (omega (arith, le))
   ends_otherwise (suc k) x i n at s all ts le =
       let h = behind_within ts in
-      ends_if (branch_at i is_else ts) (ends_then _ (omega (arith, h)) (ends_value k x i n (behind ts) (omega (arith, le, h)))
+      ends_if (else_on i ts) (ends_then _ (omega (arith, h)) (ends_value k x i n (behind ts) (omega (arith, le, h)))
       (λ e rest lt. e_read (omega (arith, lt, h)))) (e_read (omega arith))
