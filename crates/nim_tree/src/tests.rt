@@ -58,6 +58,6 @@ fn trees_have_levels_and_nodes(rt: HostRuntime) -> Result<(), Fail> {
     assert_eq!(rt; nodes(&tree), 4);
     assert_eq!(rt; group(alloc)?.levels(), 2);
     assert_eq!(rt; plain_type(alloc).levels(), 1);
-    assert_eq!(rt; array_type(alloc)?.levels(), 2);
+    assert_eq!(rt; array_type(alloc)?.levels(), 3);
     Ok(())
 }

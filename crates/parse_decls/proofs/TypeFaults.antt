@@ -82,7 +82,7 @@ fault_type {x} {i} {whole} {n} {why} (f_no_type {ts = ts} t w) = no_type x i who
 fault_type {x} {i} {whole} {n} {why} (f_argument {tok = tok} {ts = ts} q o w) = subst (λ l. SortFaults x i whole n tok l why ts) (sym q) (inl (o, inl w))
 fault_type {x} {i} {whole} {n} {why} (f_arguments {a = a} {tok = tok} {ts = ts} {mid = mid} q o d w) = subst (λ l. SortFaults x i whole n tok l why ts) (sym q) (inl (o, inr (a, mid, d, inl (fault_types w))))
 fault_type {x} {i} {whole} {n} {why} (f_generic {a = a} {all = all} {tok = tok} {ts = ts} {mid = mid} {end = end} q o d t c w) =
-    let e = short_types t.reads t.few_types t.few_terms in
+    let e = short_types t.reads t.few in
     subst (λ l. SortFaults x i whole n tok l why ts) (sym q) (inl (o, inr (a, mid, d, inr (argument a all, end, (e.0, ap (argument a) e.1 ∙ sym (more_arguments a e.0), e.2), inl (c, w)))))
 fault_type {x} {i} {whole} {n} {why} (f_length {tok = tok} {ts = ts} q w) = subst (λ l. SortFaults x i whole n tok l why ts) (sym q) (inl w)
 fault_type {x} {i} {whole} {n} {why} (f_no_comma {length = length} {tok = tok} {ts = ts} {mid = mid} q d c w) = subst (λ l. SortFaults x i whole n tok l why ts) (sym q) (inr (length, mid, d, inl (c, w)))
@@ -98,5 +98,5 @@ fault_type {x} {i} {whole} {n} {why} (f_fields {names = names} {a = a} {tok = to
     subst (λ l. SortFaults x i whole n tok l why ts) (sym q) (inr (o, inr (c, inr (one, mid, d, inl (fault_fields w)))))
 fault_type {x} {i} {whole} {n} {why} (f_tuple {names = names} {a = a} {all = all} {tok = tok} {ts = ts} {mid = mid} {end = end} q o c d t v w) =
     let one : Typed = record { names = names; of = a } in
-    let e = short_fields t.reads t.few_types t.few_terms in
+    let e = short_fields t.reads t.few in
     subst (λ l. SortFaults x i whole n tok l why ts) (sym q) (inr (o, inr (c, inr (one, mid, d, inr (fields names a all, end, (e.0, ap (fields names a) e.1 ∙ sym (more_fields one e.0), e.2), inl (v, w))))))

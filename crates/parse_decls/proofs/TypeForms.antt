@@ -6,7 +6,7 @@ use Rattle.indent_scanner.specs.declared.token.Tok.{Tok}
 use Rattle.indent_scanner.specs.declared.token.Tok.TheVariants as T
 use Rattle.indent_scanner.specs.declared.token.Token.{Token}
 use Rattle.nim_tree.specs.Terms.{Term, levels}
-use Rattle.nim_tree.specs.Types.{Written, named, array, ref_to, tuple_of, no_arguments, argument, no_fields, fields, and_argument, type_levels, most_type_levels, field_levels, type_term_levels, argument_term_levels, field_term_levels}
+use Rattle.nim_tree.specs.Types.{Written, named, array, ref_to, tuple_of, no_arguments, argument, no_fields, fields, and_argument, type_levels, most_type_levels, field_levels}
 use Rattle.parse_exprs.specs.declared.layout.Layout.{Layout}
 use Rattle.parse_exprs.specs.declared.layout.Layout.TheVariants.{Brackets}
 use Rattle.parse_exprs.specs.declared.input.Bracket.TheVariants.{Square}
@@ -16,9 +16,9 @@ use Rattle.parse_decls.specs.declared.look.TypeLead.{TypeLead}
 use Rattle.parse_decls.specs.declared.look.TypeLead.TheVariants as L
 use Rattle.parse_decls.specs.Look.{behind, opens_at, type_lead, type_lead_of, named_lead, type_at, begins_type}
 use Rattle.parse_decls.specs.Outcome.{Why, stuck_at}
-use Rattle.parse_decls.specs.Run.{most_levels, Typed}
+use Rattle.parse_decls.specs.Run.{Typed}
 use Rattle.parse_decls.specs.Grammar.{IsType, t_name, t_generic, t_array, t_ref, t_empty, t_tuple}
-use Rattle.parse_decls.specs.Faults.{Short, ShortTerm, FaultsTerm, FaultsEach, FaultsType, FaultsField}
+use Rattle.parse_decls.specs.Faults.{Short, ShortExpr, FaultsWithin, FaultsEach, FaultsType, FaultsField}
 use Rattle.parse_decls.proofs.Productions.{Just, Then, FaultsThen, Mapped, Guarded, FaultsGuarded, Either, FaultsEither, Headed}
 use Rattle.parse_decls.proofs.Pieces.{along, Gathers}
 use Rattle.parse_decls.proofs.TypeLists.{both_few, left_few, right_few, more_arguments, types_each, types_short, short_types, add_field, more_fields, Part, ShortPart, fields_each, fields_short, short_fields}
@@ -110,14 +110,14 @@ abbrev pub SortReads : Origin → Layout → Token → TypeLead → Written → 
 SortReads x i tok = Sort x i tok (IsType x) (IsExpr x Brackets) (Part x)
 
 abbrev pub ShortSort : Origin → Layout → ℕ → Token → TypeLead → Written → List Token → List Token → Type 0
-ShortSort x i n tok = Sort x i tok (λ i. Short n type_levels type_term_levels (IsType x i)) (ShortTerm x Brackets) (ShortPart x n)
+ShortSort x i n tok = Sort x i tok (λ i. Short n type_levels (IsType x i)) (ShortExpr x Brackets n) (ShortPart x n)
 
 abbrev pub SortFaults : Origin → Layout → List Token → ℕ → Token → TypeLead → Why → List Token → Type 0
-SortFaults x i whole n tok = FaultsSort x i tok (λ i. Short n type_levels type_term_levels (IsType x i)) (ShortTerm x Brackets) (ShortPart x n)
-    (λ i why ts. FaultsType x why i whole n ts) (FaultsTerm x Brackets) (λ why ts. FaultsField x why whole n ts)
+SortFaults x i whole n tok = FaultsSort x i tok (λ i. Short n type_levels (IsType x i)) (ShortExpr x Brackets n) (ShortPart x n)
+    (λ i why ts. FaultsType x why i whole n ts) (FaultsWithin x Brackets whole n) (λ why ts. FaultsField x why whole n ts)
 
 abbrev pub ShortType : Origin → Layout → ℕ → Written → List Token → List Token → Type 0
-ShortType x i n = Short n type_levels type_term_levels (IsType x i)
+ShortType x i n = Short n type_levels (IsType x i)
 
 -- ---- from the grammar
 
@@ -143,31 +143,31 @@ down h = omega (arith, h)
 up : {m n : ℕ} → m ≤ n → suc m ≤ suc n
 up h = omega (arith, h)
 
-sort_short_of : {x : Origin} {i : Layout} {n : ℕ} {b : Written} {ts rest : List Token} → IsType x i b ts rest → type_levels b ≤ suc n → type_term_levels b ≤ most_levels
+sort_short_of : {x : Origin} {i : Layout} {n : ℕ} {b : Written} {ts rest : List Token} → IsType x i b ts rest → type_levels b ≤ suc n
     → Headed (λ tok b ts rest. ShortSort x i n tok (type_lead x i tok ts) b ts rest) b ts rest
-sort_short_of {x} {i} {n} (t_name {tok = tok} {ts = ts} q o) h g = subst (λ l. ShortSort x i n tok l (named (place_at x tok) (spelling x tok) no_arguments) ts ts) (sym q) (inr (o, (refl, refl)))
-sort_short_of {x} {i} {n} (t_generic {a = a} {all = all} {tok = tok} {ts = ts} {mid = mid} {end = end} q o d t c) h g =
-    let e = short_types t (right_few (type_levels a) (down h)) (right_few (type_term_levels a) g) in
-    let s : ShortType x Brackets n a (behind ts) mid = record { reads = d; few_types = left_few (most_type_levels all) (down h); few_terms = left_few (argument_term_levels all) g } in
+sort_short_of {x} {i} {n} (t_name {tok = tok} {ts = ts} q o) h = subst (λ l. ShortSort x i n tok l (named (place_at x tok) (spelling x tok) no_arguments) ts ts) (sym q) (inr (o, (refl, refl)))
+sort_short_of {x} {i} {n} (t_generic {a = a} {all = all} {tok = tok} {ts = ts} {mid = mid} {end = end} q o d t c) h =
+    let e = short_types t (right_few (type_levels a) (down h)) in
+    let s : ShortType x Brackets n a (behind ts) mid = record { reads = d; few = left_few (most_type_levels all) (down h) } in
     subst (λ l. ShortSort x i n tok l (named (place_at x tok) (spelling x tok) (argument a all)) ts (behind end)) (sym q)
     (inl (o, (a, mid, s, (argument a all, end, (e.0, ap (argument a) e.1 ∙ sym (more_arguments a e.0), e.2), (c, (refl, refl))))))
-sort_short_of {x} {i} {n} (t_array {length = length} {a = a} {tok = tok} {ts = ts} {mid = mid} {end = end} q d c t e) h g =
-    let s : ShortType x Brackets n a (behind mid) end = record { reads = t; few_types = down h; few_terms = right_few (levels length) g } in
-    let l : ShortTerm x Brackets length (behind ts) mid = record { reads = d; few = left_few (type_term_levels a) g } in
+sort_short_of {x} {i} {n} (t_array {length = length} {a = a} {tok = tok} {ts = ts} {mid = mid} {end = end} q d c t e) h =
+    let s : ShortType x Brackets n a (behind mid) end = record { reads = t; few = right_few (levels length) (down h) } in
+    let l : ShortExpr x Brackets n length (behind ts) mid = record { reads = d; few = left_few (type_levels a) (down h) } in
     subst (λ l. ShortSort x i n tok l (array (place_at x tok) length a) ts (behind end)) (sym q) (length, mid, l, (c, (a, end, s, (e, (refl, refl)))))
-sort_short_of {x} {i} {n} (t_ref {a = a} {tok = tok} {ts = ts} {rest = rest} q s d) h g =
-    let r : ShortType x i n a ts rest = record { reads = d; few_types = down h; few_terms = g } in
+sort_short_of {x} {i} {n} (t_ref {a = a} {tok = tok} {ts = ts} {rest = rest} q s d) h =
+    let r : ShortType x i n a ts rest = record { reads = d; few = down h } in
     subst (λ l. ShortSort x i n tok l (ref_to (place_at x tok) a) ts rest) (sym q) (s, (a, refl, r))
-sort_short_of {x} {i} {n} (t_empty {tok = tok} {ts = ts} q o c) h g = subst (λ l. ShortSort x i n tok l (tuple_of (place_at x tok) no_fields) ts (behind (behind ts))) (sym q) (o, inl (c, (refl, refl)))
-sort_short_of {x} {i} {n} (t_tuple {names = names} {a = a} {all = all} {tok = tok} {ts = ts} {mid = mid} {end = end} q o v d t c) h g =
+sort_short_of {x} {i} {n} (t_empty {tok = tok} {ts = ts} q o c) h = subst (λ l. ShortSort x i n tok l (tuple_of (place_at x tok) no_fields) ts (behind (behind ts))) (sym q) (o, inl (c, (refl, refl)))
+sort_short_of {x} {i} {n} (t_tuple {names = names} {a = a} {all = all} {tok = tok} {ts = ts} {mid = mid} {end = end} q o v d t c) h =
     let one : Typed = record { names = names; of = a } in
-    let e = short_fields t (right_few (type_levels a) (down h)) (right_few (type_term_levels a) g) in
-    let s : ShortPart x n one (behind ts) mid = record { reads = d; few_types = left_few (field_levels all) (down h); few_terms = left_few (field_term_levels all) g } in
+    let e = short_fields t (right_few (type_levels a) (down h)) in
+    let s : ShortPart x n one (behind ts) mid = record { reads = d; few = left_few (field_levels all) (down h) } in
     subst (λ l. ShortSort x i n tok l (tuple_of (place_at x tok) (fields names a all)) ts (behind end)) (sym q)
     (o, inr (v, (one, mid, s, (fields names a all, end, (e.0, ap (fields names a) e.1 ∙ sym (more_fields one e.0), e.2), (c, (refl, refl))))))
 
 pub sort_short : {x : Origin} {i : Layout} {n : ℕ} {b : Written} {ts rest : List Token} → ShortType x i (suc n) b ts rest → Headed (λ tok b ts rest. ShortSort x i n tok (type_lead x i tok ts) b ts rest) b ts rest
-sort_short s = sort_short_of s.reads s.few_types s.few_terms
+sort_short s = sort_short_of s.reads s.few
 
 -- ---- to the grammar
 
@@ -180,17 +180,17 @@ sort_is {x} {tok = tok} {ts = ts} L.Name q (inl s) =
     let a = s.1.0 in let g = s.1.3.2 in
     let t = types_short g.2 in
     made_type (s.1.3.3.1.0 ∙ ap (named (place_at x tok) (spelling x tok)) (g.1 ∙ more_arguments a g.0)) s.1.3.3.1.1
-    (record { reads = t_generic q s.0 s.1.2.reads t.reads s.1.3.3.0; few_types = up (both_few s.1.2.few_types t.few_types); few_terms = both_few s.1.2.few_terms t.few_terms })
-sort_is L.Name q (inr s) = made_type s.1.0 s.1.1 (record { reads = t_name q s.0; few_types = omega arith; few_terms = omega arith })
+    (record { reads = t_generic q s.0 s.1.2.reads t.reads s.1.3.3.0; few = up (both_few s.1.2.few t.few) })
+sort_is L.Name q (inr s) = made_type s.1.0 s.1.1 (record { reads = t_name q s.0; few = omega arith })
 sort_is L.Array q s = made_type s.3.1.3.1.0 s.3.1.3.1.1
-    (record { reads = t_array q s.2.reads s.3.0 s.3.1.2.reads s.3.1.3.0; few_types = up s.3.1.2.few_types; few_terms = both_few s.2.few s.3.1.2.few_terms })
-sort_is L.Ref q s = made_type s.1.1 refl (record { reads = t_ref q s.0 s.1.2.reads; few_types = up s.1.2.few_types; few_terms = s.1.2.few_terms })
-sort_is L.Tuple q (o, inl s) = made_type s.1.0 s.1.1 (record { reads = t_empty q o s.0; few_types = omega arith; few_terms = omega arith })
+    (record { reads = t_array q s.2.reads s.3.0 s.3.1.2.reads s.3.1.3.0; few = up (both_few s.2.few s.3.1.2.few) })
+sort_is L.Ref q s = made_type s.1.1 refl (record { reads = t_ref q s.0 s.1.2.reads; few = up s.1.2.few })
+sort_is L.Tuple q (o, inl s) = made_type s.1.0 s.1.1 (record { reads = t_empty q o s.0; few = omega arith })
 sort_is {x} {tok = tok} L.Tuple q (o, inr s) =
     let one = s.1.0 in let g = s.1.3.2 in
     let t = fields_short g.2 in
     made_type (s.1.3.3.1.0 ∙ ap (tuple_of (place_at x tok)) (g.1 ∙ more_fields one g.0)) s.1.3.3.1.1
-    (record { reads = t_tuple q o s.0 s.1.2.reads t.reads s.1.3.3.0; few_types = up (both_few s.1.2.few_types t.few_types); few_terms = both_few s.1.2.few_terms t.few_terms })
+    (record { reads = t_tuple q o s.0 s.1.2.reads t.reads s.1.3.3.0; few = up (both_few s.1.2.few t.few) })
 
 pub short_sort : {x : Origin} {i : Layout} {n : ℕ} (b : Written) (ts rest : List Token) → Headed (λ tok b ts rest. ShortSort x i n tok (type_lead x i tok ts) b ts rest) b ts rest → ShortType x i (suc n) b ts rest
 short_sort b [] rest s = absurd s

@@ -20,7 +20,7 @@ use Rattle.parse_decls.specs.declared.look.TypeLead.TheVariants as L
 use Rattle.parse_decls.specs.declared.reading.Reading.{Reading}
 use Rattle.parse_decls.specs.Look.{behind, type_at, type_lead, opens_at}
 use Rattle.parse_decls.specs.Outcome.{too_deep, stuck_at, Out, got, bad, then_do, unless_stuck, Settles, of_expr}
-use Rattle.parse_decls.specs.Run.{most_levels, run_declareds, run_type, run_sort, run_arguments, Typed, run_part, run_parts, run_written}
+use Rattle.parse_decls.specs.Run.{run_declareds, run_type, run_sort, run_arguments, Typed, run_part, run_parts, run_written}
 use Rattle.parse_decls.specs.Gives.{Told, Fails, Found, Comes, Leads}
 use Rattle.parse_decls.proofs.Settling.{settles_suc, settles_got, settles_is, settles_if, settles_else, settles_stuck}
 use Rattle.parse_decls.proofs.Coming.{told_fails, fails_then, fails_leads, comes_leads, leads_on, leads_then, leads_past, settles_at, behind_at}
@@ -89,7 +89,7 @@ element_run input whole n tok length ts k = then_do (run_type k (origin_of input
 
 abbrev pub array_run : Input → List Token → ℕ → Token → List Token → ℕ → Out Written
 array_run input whole n tok ts k =
-    then_do (of_expr ts (run_expr k (origin_of input) Brackets most_levels ts)) (λ length mid. unless_stuck (comma_at Brackets mid) mid (element_run input whole n tok length (behind mid) k))
+    then_do (of_expr whole (run_expr k (origin_of input) Brackets n ts)) (λ length mid. unless_stuck (comma_at Brackets mid) mid (element_run input whole n tok length (behind mid) k))
 
 pub array_leads : (input : Input) (i : Layout) (whole : List Token) (n : ℕ) (tok : Token) (at : ℕ)
     → Leads (array_run input whole n tok (from_at input (at + 1 + 1))) (λ k. run_sort k L.Array (origin_of input) i whole n tok (from_at input (at + 1)))

@@ -3,7 +3,7 @@ use Rattle.std.proofs.Common.{◌≡◌, ℕ, zero, suc, ◌≤◌, List, ◌∷
 use Rattle.std.specs.Prelude.{◌⊎◌, if◌then◌else◌}
 use Rattle.indent_scanner.specs.declared.token.Token.{Token}
 use Rattle.nim_tree.specs.declared.name.Declared.{Declared}
-use Rattle.nim_tree.specs.Types.{Written, named, array, ref_to, tuple_of, no_arguments, argument, no_fields, fields, and_argument, type_levels, type_term_levels}
+use Rattle.nim_tree.specs.Types.{Written, named, array, ref_to, tuple_of, no_arguments, argument, no_fields, fields, and_argument, type_levels}
 use Rattle.parse_exprs.specs.declared.layout.Layout.{Layout}
 use Rattle.parse_exprs.specs.declared.layout.Layout.TheVariants.{Brackets}
 use Rattle.parse_exprs.specs.declared.input.Bracket.TheVariants.{Square}
@@ -12,14 +12,14 @@ use Rattle.parse_decls.specs.declared.look.TypeLead.{TypeLead}
 use Rattle.parse_decls.specs.declared.look.TypeLead.TheVariants as L
 use Rattle.parse_decls.specs.Look.{behind, opens_at, type_lead, type_at}
 use Rattle.parse_decls.specs.Outcome.{Why, too_deep, stuck_at, tired, Out, got, bad, Settles}
-use Rattle.parse_decls.specs.Run.{most_levels, Typed, run_type, run_sort, run_arguments, run_part, run_parts}
+use Rattle.parse_decls.specs.Run.{Typed, run_type, run_sort, run_arguments, run_part, run_parts}
 use Rattle.parse_decls.specs.Grammar.{IsType, IsField, t_field, Declareds}
 use Rattle.parse_decls.specs.Faults.{FaultsDeclareds, FaultsType, f_no_level, f_no_type, FaultsField, f_field_names, f_field_colon, f_field_type}
 use Rattle.parse_decls.proofs.Settling.{got_bad, settles_suc}
 use Rattle.parse_decls.proofs.Productions.{IsDeep, Parses, bad_one, restated, stepped, failing, headed, placed, just, shifted, Then, FaultsThen, seq, Mapped, mapped, Guarded, FaultsGuarded, guarded, either}
 use Rattle.parse_decls.proofs.Pieces.{gathers}
 use Rattle.parse_decls.proofs.NameLists.{declareds}
-use Rattle.parse_decls.proofs.Exprs.{term}
+use Rattle.parse_decls.proofs.Exprs.{within}
 use Rattle.parse_decls.proofs.TypeLists.{add_field, Part, ShortPart}
 use Rattle.parse_decls.proofs.TypeForms.{type_begins, some_type_level, SortReads, ShortSort, SortFaults, ShortType, sort_reads, sort_short, short_sort}
 use Rattle.parse_decls.proofs.TypeFaults.{type_fault, fault_type}
@@ -35,7 +35,7 @@ if_bad true v w why e f g = f refl (sym (bad_one e))
 if_bad false v w why e f g = g refl (sym (bad_one e))
 
 no_level : (x : Origin) → TypesParse x zero
-no_level x i whole = record { sound = sound; complete = λ a ts rest d. some_type_level a d.few_types; deep = deep; stops = stops; faults = λ why ts w. faults w }
+no_level x i whole = record { sound = sound; complete = λ a ts rest d. some_type_level a d.few; deep = deep; stops = stops; faults = λ why ts w. faults w }
   where
     sound : (k : ℕ) (ts : List Token) (a : Written) (rest : List Token) → run_type k x i whole zero ts ≡ got a rest → ShortType x i zero a ts rest
     sound zero ts a rest e = got_bad (sym e)
@@ -60,14 +60,14 @@ no_level x i whole = record { sound = sound; complete = λ a ts rest d. some_typ
 pub part : (x : Origin) (n : ℕ) → TypesParse x n → (whole : List Token) → Parses (λ k ts. run_part k x whole n ts) (Part x) (ShortPart x n) (λ why ts. FaultsField x why whole n ts)
 part x n p whole =
     restated (stepped (seq (declareds x Brackets Brackets) (λ names. guarded (colon_at Brackets) (mapped (λ a. let one : Typed = record { names = names; of = a } in one) (shifted behind (p Brackets whole))))) (λ ts. refl) (λ k ts. refl))
-    (λ one ts rest d. done one ts rest d) (λ one ts rest d. from d.reads d.few_types d.few_terms) (λ one ts rest d. reads d) fault back
+    (λ one ts rest d. done one ts rest d) (λ one ts rest d. from d.reads d.few) (λ one ts rest d. reads d) fault back
   where
     done : (one : Typed) (ts rest : List Token) → Then (Declareds x Brackets Brackets) (λ names. Guarded (colon_at Brackets) (Mapped (λ a. let one : Typed = record { names = names; of = a } in one) (λ a ts rest. ShortType x Brackets n a (behind ts) rest))) one ts rest → ShortPart x n one ts rest
-    done one ts rest d = subst (λ one. ShortPart x n one ts rest) (sym d.3.1.1) (record { reads = t_field d.2 d.3.0 d.3.1.2.reads; few_types = d.3.1.2.few_types; few_terms = d.3.1.2.few_terms })
+    done one ts rest d = subst (λ one. ShortPart x n one ts rest) (sym d.3.1.1) (record { reads = t_field d.2 d.3.0 d.3.1.2.reads; few = d.3.1.2.few })
 
-    from : {names : List Declared} {a : Written} {ts rest : List Token} → IsField x names a ts rest → type_levels a ≤ n → type_term_levels a ≤ most_levels
+    from : {names : List Declared} {a : Written} {ts rest : List Token} → IsField x names a ts rest → type_levels a ≤ n
         → let one : Typed = record { names = names; of = a } in Then (Declareds x Brackets Brackets) (λ names. Guarded (colon_at Brackets) (Mapped (λ a. let one : Typed = record { names = names; of = a } in one) (λ a ts rest. ShortType x Brackets n a (behind ts) rest))) one ts rest
-    from (t_field {names = names} {a = a} {mid = mid} d c t) h g = (names, mid, d, (c, (a, refl, record { reads = t; few_types = h; few_terms = g })))
+    from (t_field {names = names} {a = a} {mid = mid} d c t) h = (names, mid, d, (c, (a, refl, record { reads = t; few = h })))
 
     reads : {names : List Declared} {a : Written} {ts rest : List Token} → IsField x names a ts rest
         → let one : Typed = record { names = names; of = a } in Then (Declareds x Brackets Brackets) (λ names. Guarded (colon_at Brackets) (Mapped (λ a. let one : Typed = record { names = names; of = a } in one) (λ a ts rest. IsType x Brackets a (behind ts) rest))) one ts rest
@@ -93,7 +93,7 @@ sort x n p i whole tok L.Name =
     (λ all. guarded (closes_at Square) (shifted behind (just (named (place_at x tok) (spelling x tok) all))))))
     (just (named (place_at x tok) (spelling x tok) no_arguments))) (λ ts. refl) (λ k ts. refl)
 sort x n p i whole tok L.Array =
-    stepped (seq (shifted behind (term x Brackets)) (λ length. guarded (comma_at Brackets) (seq (shifted behind (p Brackets whole))
+    stepped (seq (shifted behind (within x Brackets whole n)) (λ length. guarded (comma_at Brackets) (seq (shifted behind (p Brackets whole))
     (λ a. guarded (closes_at Square) (shifted behind (just (array (place_at x tok) length a))))))) (λ ts. refl) (λ k ts. refl)
 sort x n p i whole tok L.Ref = stepped (guarded (stays i) (mapped (ref_to (place_at x tok)) (p i whole))) (λ ts. refl) (λ k ts. refl)
 sort x n p i whole tok L.Tuple =

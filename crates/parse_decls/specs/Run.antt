@@ -110,7 +110,7 @@ abbrev mutual
       unless_stuck (closes_at Square end) end (got (named (place_at x tok) (spelling x tok) all) (behind end))))
       else got (named (place_at x tok) (spelling x tok) no_arguments) ts
   run_sort (suc k) L.Array x i whole n tok ts =
-      then_do (of_expr (behind ts) (run_expr k x Brackets most_levels (behind ts))) (λ length mid.
+      then_do (of_expr whole (run_expr k x Brackets n (behind ts))) (λ length mid.
       unless_stuck (comma_at Brackets mid) mid (
       then_do (run_type k x Brackets whole n (behind mid)) (λ a end.
       unless_stuck (closes_at Square end) end (got (array (place_at x tok) length a) (behind end)))))

@@ -14,7 +14,7 @@ use crate::look::{TypeLead, opens_at, type_at, type_lead};
 use crate::make::{make_array, make_named, make_ref, make_tuple};
 use crate::name::{bytes_of, read_declareds};
 use crate::reading::{Reading, and_one, stuck, too_deep};
-use crate::values::{MOST_LEVELS, read_value};
+use crate::values::{MOST_LEVELS, read_within};
 use arc_base::Stop;
 use indent_scanner::Token;
 use nim_tree::{Field, TypeTree};
@@ -139,7 +139,7 @@ fn read_array(
     ensures { Comes written_of (λ k. run_sort k L.Array (origin_of input.now) layout (from_at input.now whole) left token (from_at input.now (at + 1))) input.now (suc at) result }
 {
     let open = at + 1;
-    let length = read_value(alloc, input, open + 1, Layout::Brackets)?;
+    let length = read_within(alloc, input, open + 1, Layout::Brackets, whole, left)?;
     if !input.comma_at(length.next, Layout::Brackets) {
         return Err(stuck(input, length.next));
     }

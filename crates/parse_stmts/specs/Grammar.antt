@@ -41,8 +41,8 @@ use Rattle.nim_tree.specs.declared.stmt.Binding.{Binding}
 use Rattle.nim_tree.specs.declared.stmt.Binding.TheVariants as B
 use Rattle.nim_tree.specs.Lists.{highest}
 use Rattle.nim_tree.specs.Terms.{Term, range, Parts, no_parts, part, and_part, place_of, levels}
-use Rattle.nim_tree.specs.Types.{Declaration, declaration_levels, declaration_term_levels}
-use Rattle.nim_tree.specs.Statements.{Definition, definition_term_levels, definition_type_levels, Head, head_term_levels, head_type_levels, Course, each, up_to, below, Statement, discards, returns, raises, breaks, continues, imports, evaluates, assigns, commands, defines, types, repeats, counts, tries, defers, proclaims, branches, selects, Statements, empty, and_statement, Branches, no_branches, and_branch, Handlers, no_handlers}
+use Rattle.nim_tree.specs.Types.{Declaration, declaration_levels}
+use Rattle.nim_tree.specs.Statements.{Definition, definition_levels, Head, head_type_levels, Course, each, up_to, below, Statement, discards, returns, raises, breaks, continues, imports, evaluates, assigns, commands, defines, types, repeats, counts, tries, defers, proclaims, branches, selects, Statements, empty, and_statement, Branches, no_branches, and_branch, Handlers, no_handlers}
 use Rattle.parse_exprs.specs.declared.layout.Layout.{Layout}
 use Rattle.parse_exprs.specs.declared.layout.Layout.TheVariants.{Brackets, Lines}
 use Rattle.parse_exprs.specs.Look.{Origin, place_at, stays, colon_at, comma_at, past_colon, dots_at, expr_at, lead_at, branch_at, is_elif, is_else, is_of, first_of_at, is_punct}
@@ -84,13 +84,13 @@ pub data NoCommand (x : Origin) (n : ℕ) : List Token → Type 0 where
 
 -- definitions, declarations of types, and what stands behind `proc`
 abbrev pub AreDefinitions : Origin → ℕ → List Definition → List Token → List Token → Type 0
-AreDefinitions x n = Short 64 (highest definition_type_levels) (highest definition_term_levels) (IsDefinitionBlock x n)
+AreDefinitions x n = Short 64 (highest definition_levels) (IsDefinitionBlock x n)
 
 abbrev pub AreTypes : Origin → ℕ → List Declaration → List Token → List Token → Type 0
-AreTypes x n = Short 64 (highest declaration_levels) (highest declaration_term_levels) (IsDeclarations x n)
+AreTypes x n = Short 64 (highest declaration_levels) (IsDeclarations x n)
 
 abbrev pub IsProcedure : Origin → ℕ → Head → List Token → List Token → Type 0
-IsProcedure x n = Short 64 head_type_levels head_term_levels (IsHead x (Lines n))
+IsProcedure x n = Short 64 head_type_levels (IsHead x (Lines n))
 
 -- ---- simple statements
 
