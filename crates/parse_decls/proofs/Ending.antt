@@ -187,7 +187,7 @@ mutual
       let g = behind_within end in ends_unless (closes_at Square end) end (e_read (omega (arith, h, lt, less, g)))))) (e_read (omega arith))
   ends_sort (suc k) L.Array x i whole n tok ts part le =
       let h = behind_within ts in
-      ends_then _ (ends_expr k x Brackets (behind ts) (omega (arith, le, h))) (λ length mid lt.
+      ends_then _ (ends_of whole (omega (arith, part, h)) (exprs_end x Brackets n (behind ts) k (omega (arith, le, h)))) (λ length mid lt.
       let g = behind_within mid in
       ends_unless (comma_at Brackets mid) mid (
       ends_then _ (ends_type k x Brackets whole n (behind mid) (omega (arith, part, h, lt, g)) (omega (arith, le, h, lt, g))) (λ a end less.
