@@ -29,7 +29,7 @@ use Rattle.parse_decls.proofs.Shorts.{each_short, short_each, maybe_short, short
 -- ---- written types
 
 pub written : (x : Origin) (i : Layout) → Parses (λ k ts. run_written k x i ts) (IsType x i) (ShortType x i most_levels) (FaultsWritten x i)
-written x i = placed (λ at. types x most_levels i at)
+written x i = placed (λ at. types x most_levels (omega arith) i at)
 
 abbrev pub ShortTyped : Origin → Layout → Written → List Token → List Token → Type 0
 ShortTyped x i = Short most_levels type_levels (IsTyped x i)

@@ -42,7 +42,7 @@ fault_runs whole ts F.too_deep w = settles_of whole (fails_expr w)
 fault_runs whole ts (F.stuck_at rest) w = settles_of whole (fails_expr w)
 
 -- at most so many, or more
-few_or_many : (m n : ℕ) → (m ≤ n) ⊎ (n < m)
+pub few_or_many : (m n : ℕ) → (m ≤ n) ⊎ (n < m)
 few_or_many m zero = zero_or m
   where
     zero_or : (m : ℕ) → (m ≤ 0) ⊎ (0 < m)

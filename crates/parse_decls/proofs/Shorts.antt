@@ -3,7 +3,7 @@ use Rattle.std.proofs.Common.{ℕ, ◌≤◌, List, Bool, arith}
 use Rattle.std.specs.Prelude.{Option}
 use Rattle.indent_scanner.specs.declared.token.Token.{Token}
 use Rattle.nim_tree.specs.Lists.{highest, if_there}
-use Rattle.parse_decls.specs.Grammar.{Each, e_over, e_next, Listed, e_first, Perhaps, e_missing, e_present, Maybe, e_none, e_some}
+use Rattle.parse_decls.specs.Grammar.{Each, e_over, e_next, Listed, e_first, Maybe, e_none, e_some}
 use Rattle.parse_decls.specs.Faults.{Short}
 use Rattle.parse_decls.proofs.TypeLists.{both_few, left_few, right_few}
 

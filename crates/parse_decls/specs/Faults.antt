@@ -4,7 +4,7 @@
 -- level too many, which names the first token of the whole of it; or another token has to stand there, and where the language
 -- leaves out what stands there, a keyword or a pragma, that is said. What was read before it is as the grammar says, and its
 -- types and expressions have no level too many (`Short`).
-use Rattle.std.specs.Prelude.{◌≡◌, ℕ, zero, suc, ◌≤◌, Bool, true, false, List, [], ◌∷◌, Option, Some, None}
+use Rattle.std.specs.Prelude.{◌≡◌, ℕ, zero, suc, ◌≤◌, ◌<◌, Bool, true, false, List, [], ◌∷◌, Option, Some, None}
 use Rattle.indent_scanner.specs.declared.token.Token.{Token}
 use Rattle.nim_tree.specs.declared.name.Name.{Name}
 use Rattle.nim_tree.specs.declared.name.Declared.{Declared}
@@ -24,7 +24,7 @@ use Rattle.parse_decls.specs.declared.look.BodyLead.TheVariants as B
 use Rattle.parse_decls.specs.Look.{behind, deeper_at, stands_at, level_at, proc_name_on, opens_at, equals_at, of_at, separator_at, is_pragma_close, pragmas_at, pragma_named, type_lead, type_at, past_mode, body_lead, more_members_at, past_comma}
 use Rattle.parse_decls.specs.Outcome.{Why, too_deep, left_out, stuck_at}
 use Rattle.parse_decls.specs.Run.{most_levels}
-use Rattle.parse_decls.specs.Grammar.{Listed, Names, Declareds, IsName, IsDeclared, Generics, IsPragma, Pragmas, IsType, IsTypes, IsField, IsFields, IsTyped, Annotation, IsDefined, IsDefinitionBlock, Parent, IsDeclaration, IsDeclarations, IsParameter, ParameterList, IsHead}
+use Rattle.parse_decls.specs.Grammar.{Listed, Names, Declareds, IsName, IsDeclared, Generics, IsPragma, Pragmas, HoldsTypes, IsType, IsTypes, IsField, IsFields, IsTyped, Annotation, IsDefined, IsDefinitionBlock, Parent, IsDeclaration, IsDeclarations, IsParameter, ParameterList, IsHead}
 
 -- this is read, and has at most n levels
 pub record Short {A : Type 0} (n : ℕ) (levels : A → ℕ) (Reads : A → List Token → List Token → Type 0) (a : A) (ts rest : List Token) : Type 0 where
@@ -100,22 +100,29 @@ ShortTerm x i = ShortExpr x i most_levels
 
 -- ---- written types
 
+-- behind the bracket of an array, in what begins at whole, where n levels are left
+pub data FaultsLength (x : Origin) (why : Why) (whole : List Token) (n : ℕ) (ts : List Token) : Type 0 where
+  -- a length and a comma have to stand there, since no type begins
+  f_no_length : type_at ts ≡ false → FaultsWithin x Brackets whole n why ts → FaultsLength x why whole n ts
+  f_no_comma : {a : Term} {mid : List Token} → type_at ts ≡ false → ShortExpr x Brackets n a ts mid → comma_at Brackets mid ≡ false → why ≡ stuck_at mid → FaultsLength x why whole n ts
+  -- a length opens a level too many
+  f_opened : type_at ts ≡ true → F.FaultsExpr x F.too_deep Brackets most_levels ts → why ≡ too_deep whole → FaultsLength x why whole n ts
+  f_high : {a : Term} {mid : List Token} → type_at ts ≡ true → ShortTerm x Brackets a ts mid → comma_at Brackets mid ≡ true → n < levels a → why ≡ too_deep whole → FaultsLength x why whole n ts
+
 -- FaultsType x why i whole n ts: a part of the type that begins at whole, where n more levels are left
 mutual
   pub data FaultsType (x : Origin) (why : Why) : Layout → List Token → ℕ → List Token → Type 0 where
     f_no_level : {i : Layout} {whole ts : List Token} → type_at ts ≡ true → why ≡ too_deep whole → FaultsType x why i whole zero ts
     f_no_type : {i : Layout} {whole : List Token} {n : ℕ} {ts : List Token} → type_at ts ≡ false → why ≡ stuck_at ts → FaultsType x why i whole n ts
-    f_argument : {i : Layout} {whole : List Token} {n : ℕ} {tok : Token} {ts : List Token} → type_lead x i tok ts ≡ L.Name → opens_at i Square ts ≡ true
+    f_argument : {i : Layout} {whole : List Token} {n : ℕ} {tok : Token} {ts : List Token} → HoldsTypes x i tok ts
         → FaultsType x why Brackets whole n (behind ts) → FaultsType x why i whole (suc n) (tok ∷ ts)
-    f_arguments : {i : Layout} {whole : List Token} {n : ℕ} {a : Written} {tok : Token} {ts mid : List Token} → type_lead x i tok ts ≡ L.Name → opens_at i Square ts ≡ true
+    f_arguments : {i : Layout} {whole : List Token} {n : ℕ} {a : Written} {tok : Token} {ts mid : List Token} → HoldsTypes x i tok ts
         → Short n type_levels (IsType x Brackets) a (behind ts) mid → FaultsTypes x why whole n mid → FaultsType x why i whole (suc n) (tok ∷ ts)
-    f_generic : {i : Layout} {whole : List Token} {n : ℕ} {a : Written} {all : Arguments} {tok : Token} {ts mid end : List Token} → type_lead x i tok ts ≡ L.Name → opens_at i Square ts ≡ true
+    f_generic : {i : Layout} {whole : List Token} {n : ℕ} {a : Written} {all : Arguments} {tok : Token} {ts mid end : List Token} → HoldsTypes x i tok ts
         → Short n type_levels (IsType x Brackets) a (behind ts) mid → Short n most_type_levels (IsTypes x) all mid end
         → closes_at Square end ≡ false → why ≡ stuck_at end → FaultsType x why i whole (suc n) (tok ∷ ts)
     f_length : {i : Layout} {whole : List Token} {n : ℕ} {tok : Token} {ts : List Token} → type_lead x i tok ts ≡ L.Array
-        → FaultsWithin x Brackets whole n why (behind ts) → FaultsType x why i whole (suc n) (tok ∷ ts)
-    f_no_comma : {i : Layout} {whole : List Token} {n : ℕ} {length : Term} {tok : Token} {ts mid : List Token} → type_lead x i tok ts ≡ L.Array
-        → ShortExpr x Brackets n length (behind ts) mid → comma_at Brackets mid ≡ false → why ≡ stuck_at mid → FaultsType x why i whole (suc n) (tok ∷ ts)
+        → FaultsLength x why whole n (behind ts) → FaultsType x why i whole (suc n) (tok ∷ ts)
     f_element : {i : Layout} {whole : List Token} {n : ℕ} {length : Term} {tok : Token} {ts mid : List Token} → type_lead x i tok ts ≡ L.Array
         → ShortExpr x Brackets n length (behind ts) mid → comma_at Brackets mid ≡ true → FaultsType x why Brackets whole n (behind mid) → FaultsType x why i whole (suc n) (tok ∷ ts)
     f_array : {i : Layout} {whole : List Token} {n : ℕ} {length : Term} {a : Written} {tok : Token} {ts mid end : List Token} → type_lead x i tok ts ≡ L.Array

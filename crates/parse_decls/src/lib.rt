@@ -1,6 +1,7 @@
 //! The parser of declarations: names, written types, definitions, and heads of procedures.
 #![tactic(auto)]
 
+mod array_form;
 mod body;
 mod declare;
 mod define;

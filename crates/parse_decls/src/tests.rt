@@ -452,7 +452,7 @@ fn sixty_four_levels_are_read(rt: HostRuntime) -> Result<(), Fail> {
             "let x: ref array[",
             "- ",
             "1, int]",
-            "E5 NestTooDeep 1:18",
+            "E5 NestTooDeep 1:8",
         ),
     ];
     for (times, front, level, back, end) in table {

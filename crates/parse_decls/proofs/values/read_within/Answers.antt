@@ -1,4 +1,3 @@
-use Rattle.std.proofs.Common.{suc, ◌+◌}
 use Rattle.parse_exprs.specs.Input.{origin_of, from_at}
 use Rattle.parse_exprs.specs.Parsed.{ExprRun}
 use Rattle.parse_decls.proofs.Steps.{none_given, of_settles}
