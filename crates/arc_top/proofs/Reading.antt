@@ -14,8 +14,7 @@ use Rattle.indent_scanner.proofs.OneReading.{refused_once as bytes_refused_once}
 use Rattle.nim_tree.specs.Statements.{Statements}
 use Rattle.parse_stmts.specs.Grammar.{IsModule}
 use Rattle.parse_stmts.specs.Parsed.{IsRefused}
-use Rattle.parse_stmts.proofs.Verdicts.{module_once, module_stands}
-use Rattle.parse_stmts.proofs.Verdicts.{refused_once as tokens_refused_once}
+use Rattle.parse_stmts.proofs.ForCallers.{module_once, module_stands, refused_once as tokens_refused_once}
 use Rattle.nim_core.specs.Program.{Program}
 use Rattle.arc_top.specs.declared.compiler.NotCompiled.{NotCompiled}
 use Rattle.arc_top.specs.Compile.{IsStop, IsOkOrMemory}

@@ -9,7 +9,7 @@ use Rattle.nim_tree.specs.Terms.{Term, Parts, no_parts, part, and_part, most_lev
 use Rattle.nim_tree.specs.Statements.{Definition, definition_levels, definition_term_levels, definition_type_levels, Course, course_term_levels, Statement, evaluates, branches, selects, Statements, empty, then as next, and_statement, Branches, no_branches, branch, and_branch, Handlers, no_handlers, handler, block_levels_of, block_levels, levels_if_block, branch_block_levels, handler_block_levels, term_levels_of, term_levels, branch_term_levels, handler_term_levels, type_levels_of, type_levels, branch_type_levels, handler_type_levels}
 use Rattle.parse_exprs.specs.Look.{Origin, place_at, branch_at, first_of_at, first_goes_on, branch_goes_on, is_of}
 use Rattle.parse_exprs.specs.declared.layout.Layout.TheVariants.{Lines}
-use Rattle.parse_exprs.proofs.Stopping.{both_of, false_true}
+use Rattle.parse_exprs.proofs.ForCallers.{both_of, false_true}
 use Rattle.parse_decls.specs.Grammar.{e_none, e_some}
 use Rattle.parse_stmts.specs.Run.{Caught, and_caught, branch_level}
 use Rattle.parse_stmts.specs.Grammar.{Optional, MoreOperands, o_over, o_next, IsPlain, p_command, p_value, p_assign, IsSimple, i_discard, i_return, i_raise, i_break, i_continue, i_import, i_define, i_plain, IsLine, l_last, l_more, IsLabel, a_one, a_range, MoreLabels, a_over, a_next, IsCourse, f_each, f_up_to, f_below, AreStatements, s_over, s_next, IsStatement, s_line, s_alone, s_choice, s_compound, IsCompound, c_if, c_case, c_while, c_for, c_try, c_defer, c_proc, c_forward, c_type, c_section, IsBody, b_body, IsBlock, b_line, b_deeper, IsBranch, r_branch, MoreElifs, r_over, r_elif, IsElse, r_no_else, r_else, AreBranches, r_branches, IsOf, r_of, MoreOfs, r_last, r_next, IsHandler, h_bare, h_typed, MoreHandlers, h_over, h_last, h_next, IsFinally, h_no_finally, h_finally, IsModule}
