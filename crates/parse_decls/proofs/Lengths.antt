@@ -10,11 +10,7 @@ use Rattle.parse_exprs.specs.Grammar.{IsExpr}
 use Rattle.parse_exprs.specs.Faults as F
 use Rattle.parse_exprs.specs.Outcome as E
 use Rattle.parse_exprs.specs.Run.{run_expr}
-use Rattle.parse_exprs.proofs.Sound.{sound_expr}
-use Rattle.parse_exprs.proofs.Complete.{complete_expr}
-use Rattle.parse_exprs.proofs.FaultsSound.{faults_expr}
-use Rattle.parse_exprs.proofs.FaultsComplete.{fails_expr}
-use Rattle.parse_exprs.proofs.Laws.{expr_agrees}
+use Rattle.parse_exprs.proofs.ForCallers.{sound_expr, complete_expr, faults_expr, fails_expr, expr_agrees}
 use Rattle.parse_decls.specs.Look.{behind, type_at}
 use Rattle.parse_decls.specs.Outcome.{Why, too_deep, tired, Out, got, bad, Settles}
 use Rattle.parse_decls.specs.Run.{most_levels, length_of, run_due_length, run_length}
