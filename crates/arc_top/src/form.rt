@@ -38,7 +38,8 @@ fn choice_in(
     branches: &[Branch],
     otherwise: &[Stmt],
 ) -> Result<Line, Stop>
-    ensures { Answers line_of (as_choice at (branches_of branches.now) (as_lines false (statements_of otherwise.now))) result }
+    ensures { Answers line_of
+        (as_choice at (branches_of branches.now) (as_lines false (statements_of otherwise.now))) result }
 {
     let Some(branch) = branches.first() else {
         return Err(left_out(at));
@@ -55,7 +56,8 @@ fn choice_in(
 // A loop with its test.
 #[cycle(lines)]
 fn repetition_in(alloc: Global, at: Place, condition: &Expr, body: &[Stmt]) -> Result<Line, Stop>
-    ensures { Answers line_of (as_repetition at (term_of condition.now) (as_lines false (statements_of body.now))) result }
+    ensures { Answers line_of
+        (as_repetition at (term_of condition.now) (as_lines false (statements_of body.now))) result }
 {
     let test = test_in(alloc, condition)?;
     let inside = lines_in(alloc, false, body)?;
