@@ -2,20 +2,23 @@
 use Rattle.std.proofs.Common.{◌≡◌, ℕ, ◌+◌, ◌*◌, ◌≤◌, pos, List, [], ◌++◌, length, refl, sym, ap, subst, ◌∙◌, arith}
 use Rattle.std.proofs.lemmas.List.{length-replicate}
 use Rattle.arc_base.specs.Event.{Event}
-use Rattle.arc_base.specs.Behaviour.{Agrees}
+use Rattle.arc_base.specs.Behaviour.{Agrees, no_objects}
 use Rattle.arc_base.specs.BigStep.{Meter}
-use Rattle.arc_base.proofs.Follows.{Follows, WillEnd, comes_refl, follows_after, follows_map, agrees_by_units}
+use Rattle.arc_base.specs.Simulation.{Follows, WillEnd}
+use Rattle.arc_base.proofs.ForCallers.{comes_refl, follows_after, follows_map, agrees_by_units}
 use Rattle.nim_core.specs.declared.plan.Plan.{Plan}
 use Rattle.nim_core.specs.Program.{Program}
 use Rattle.nim_core.specs.Traps.{Trap, Overflow, DivisionByZero}
 use Rattle.nim_core.specs.Meaning.{Values, exec_all, meaning}
-use Rattle.nim_core.proofs.Steadiness.{meaning_sound}
+use Rattle.nim_core.proofs.ForCallers.{meaning_sound}
 use Rattle.rv32_isa.specs.declared.instr.Instr.{Instr}
 use Rattle.rv32_isa.specs.Image.{Image}
 use Rattle.rv32_isa.specs.State.{first_state}
 use Rattle.rv32_isa.specs.Machine.{Run, arrival, step, start, machine}
-use Rattle.rv32_isa.proofs.Words.{length-code}
-use Rattle.rv32_isa.proofs.Fetch.{Stands, stands_front, stands_back, stands_all}
+use Rattle.rv32_isa.proofs.ForCallers.{length-code}
+use Rattle.rv32_logic.specs.Placed.{Stands}
+use Rattle.rv32_logic.proofs.ForCallers.{stands_front, stands_back, stands_all}
+use Rattle.arc_top.specs.Objects.{live_objects}
 use Rattle.arc_top.specs.Code.{code_bytes, variable_at, trap_at, trap_code, data_of, texts, start_code, end_code, stmts_code, program_code, ArePlain}
 use Rattle.arc_top.proofs.Contents.{length-data_of}
 use Rattle.arc_top.proofs.InRange.{program_in_range}
@@ -60,6 +63,8 @@ module _ (program : Program) (image : Image) (is : IsImageOf program image) wher
 
   abbrev setting : Setting
   setting = record {
+    live = live_objects;
+    none_live = λ s. refl;
     hooks = image.hooks;
     quiet = λ pc. ap (λ hooks. arrival hooks pc) is.hooks;
     code = image.code;
@@ -81,9 +86,9 @@ module _ (program : Program) (image : Image) (is : IsImageOf program image) wher
 
   -- where the meaning has answered, the machine ends by itself
   abbrev Done : Values → Meter Event → Run → Type 0
-  Done = WillEnd (step image.hooks) pace same (λ _. 0) (λ _. []) 3
+  Done = WillEnd (step live_objects image.hooks) pace same (λ _. 0) (λ _. no_objects) 3
 
-  program_follows : (input : List ℕ) (n : ℕ) → Follows (step image.hooks) pace same Done 2 (start image input) (first n) (exec_all program.start (λ _. pos 0) (first n))
+  program_follows : (input : List ℕ) (n : ℕ) → Follows (step live_objects image.hooks) pace same Done 2 (start image input) (first n) (exec_all program.start (λ _. pos 0) (first n))
   program_follows input n =
       let x = setting in
       let begun = started input n in
@@ -91,12 +96,12 @@ module _ (program : Program) (image : Image) (is : IsImageOf program image) wher
       let end = 88 + 4 * length inside in
       let body_stands : Stands image.code 88 body = stands_back image.code 0 start_code body code_stands in
       let all_texts : TextStands x (variable_at count) (texts program.start) = record { pre = []; post = is.padding; texts_are = refl; from_is = omega arith } in
-      follows_after (step image.hooks) pace same Done 2 0 (start image input) begun.0 (first n) (first n) (exec_all program.start (λ _. pos 0) (first n)) begun.1
-      (follows_map (step image.hooks) pace same (λ values b s. Ready x values end s) Done 0 0 begun.0 (first n) (exec_all program.start (λ _. pos 0) (first n))
+      follows_after (step live_objects image.hooks) pace same Done 2 0 (start image input) begun.0 (first n) (first n) (exec_all program.start (λ _. pos 0) (first n)) begun.1
+      (follows_map (step live_objects image.hooks) pace same (λ values b s. Ready x values end s) Done 0 0 begun.0 (first n) (exec_all program.start (λ _. pos 0) (first n))
       (stmts_follow x program.start (variable_at count) 88 (λ _. pos 0) begun.0 (first n) is.plain all_texts (stands_front image.code 88 inside end_code body_stands) begun.2)
-      (λ values b s h. (s, comes_refl (step image.hooks) pace s b, end_halts x values end s b (stands_back image.code 88 inside end_code body_stands) h)))
+      (λ values b s h. (s, comes_refl (step live_objects image.hooks) pace s b, end_halts x values end s b (stands_back image.code 88 inside end_code body_stands) h)))
 
   -- the image of a program, on any input, agrees with what the program means under any plan and heap
-  pub image_agrees : (plan : Plan) (heap : ℕ) (input : List ℕ) → Agrees (machine image input) (meaning program plan heap input)
+  pub image_agrees : (plan : Plan) (heap : ℕ) (input : List ℕ) → Agrees (machine live_objects image input) (meaning program plan heap input)
   image_agrees plan heap input =
-      agrees_by_units (step image.hooks) pace 2 3 same (λ _. 0) (λ _. []) (start image input) (λ n. exec_all program.start (λ _. pos 0) (first n)) (meaning_sound program plan heap input) (program_follows input)
+      agrees_by_units (step live_objects image.hooks) pace 2 3 same (λ _. 0) (λ _. no_objects) (start image input) (λ n. exec_all program.start (λ _. pos 0) (first n)) (meaning_sound program plan heap input) (program_follows input)

@@ -6,7 +6,7 @@ use Rattle.std.proofs.lemmas.Int.{ints, of_z-to_z, wrapping_mul_is, int_wrap_fit
 use Rattle.std.proofs.lemmas.Bool.{false_from_ne_true, eqb-true, eqb-false, cond-false}
 use Rattle.std.proofs.lemmas.Bool.Decides.{same_from_decides, Decides-eqb, Decides-int_eq}
 use Rattle.nim_core.specs.Ints.{low, fits, low_byte}
-use Rattle.nim_core.proofs.Ranges as ranges
+use Rattle.nim_core.proofs.ForCallers as ranges
 use Rattle.rv32_isa.specs.Values.{signed, added, subtracted, one_if, is_less_signed, low_product, high_product_signed, shifted_right_signed, quotient_signed, remainder_signed}
 use Rattle.arc_top.specs.Code.{word}
 

@@ -11,7 +11,7 @@ use Rattle.nim_tree.specs.Terms as term
 use Rattle.nim_tree.specs.Terms.{Term, Parts, no_parts, part}
 use Rattle.nim_tree.specs.Statements as tree
 use Rattle.nim_tree.specs.Statements.{Definition, Statement, Statements, Branches}
-use Rattle.arc_top.specs.Refusal.{Refusal, and_then, IsRefusal}
+use Rattle.arc_base.specs.Refusal.{Refusal, and_then, IsRefusal}
 use Rattle.arc_top.specs.Lines.{echo_int, Lines}
 use Rattle.arc_top.specs.Form.{wanted, left_out, operator_of, comparison_of, as_sum, as_test, lone_name, as_definition, as_section, as_assignment, is_name, as_shown, as_echo, as_quit, as_call, as_evaluation, as_tests, no_further, as_repetition, as_line, as_choice, as_lines, form_of}
 

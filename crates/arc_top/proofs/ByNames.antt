@@ -4,7 +4,7 @@ use Rattle.std.specs.Prelude.{Option, Some, None, Result, Ok, Err, ◌⊎◌}
 use Rattle.arc_base.specs.declared.place.Place.{Place}
 use Rattle.arc_base.specs.declared.place.Code.{Code}
 use Rattle.arc_base.specs.declared.place.Code.TheVariants.{UnknownName, Redefined}
-use Rattle.arc_top.specs.Refusal.{Refusal, and_then, IsRefusal}
+use Rattle.arc_base.specs.Refusal.{Refusal, and_then, IsRefusal}
 use Rattle.arc_top.specs.Lines.{Sum, int, name, opposite, operation, Test, Line, declare, assign, echo_int, echo_text, quit, branch, loop, Lines, empty, then}
 use Rattle.arc_top.specs.Names.{Scope, find, found, unless_found, check_sum, check_test, check_line, check_lines, check}
 

@@ -6,8 +6,8 @@ use Rattle.nim_core.specs.Ints.{fits}
 use Rattle.nim_core.specs.Meaning.{Values, put}
 use Rattle.nim_core.specs.Traps.{Trap, Overflow, DivisionByZero}
 use Rattle.rv32_isa.specs.Words.{word_bytes}
-use Rattle.rv32_isa.proofs.Words.{length-word_bytes}
-use Rattle.rv32_isa.proofs.Data.{Holds}
+use Rattle.rv32_isa.proofs.ForCallers.{length-word_bytes}
+use Rattle.rv32_logic.specs.Data.{Holds}
 use Rattle.arc_top.specs.Code.{word, trap_line, line_at, variable_at, variable_words, data_of}
 
 -- ---- words of ints

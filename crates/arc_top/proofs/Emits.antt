@@ -6,11 +6,11 @@ use Rattle.nim_core.specs.declared.program.Cond.{Cond as RustCond}
 use Rattle.nim_core.specs.declared.program.Stmt.{Stmt as RustStmt}
 use Rattle.nim_core.specs.declared.program.Stmt.TheVariants as rust_stmt
 use Rattle.nim_core.specs.Program.{Expr, Cond, Declare, Assign, EchoInt, Quit, If, While, Stmts, cond_of, stmt_of, stmts_of}
-use Rattle.nim_core.proofs.Rows.{conditional, repeated}
+use Rattle.nim_core.proofs.ForCallers.{conditional, repeated}
 use Rattle.rv32_isa.specs.declared.instr.Instr.{Instr}
 use Rattle.rv32_isa.specs.declared.instr.Instr.TheVariants.{Jal}
 use Rattle.rv32_isa.specs.Words.{word_bytes}
-use Rattle.rv32_isa.proofs.Words.{length-code}
+use Rattle.rv32_isa.proofs.ForCallers.{length-code}
 use Rattle.arc_top.specs.Code.{code_bytes, variable_words, ahead, back, cond_code, texts, stmt_code, stmts_code, most_slots, IsPlainExpr}
 use Rattle.arc_top.specs.Emission.{most_variables, CanEmitExpr, CanEmitCond, CanEmitStmt, CanEmitStmts}
 use Rattle.arc_top.proofs.Sizes.{choice_length, loop_length}

@@ -4,19 +4,22 @@ use Rattle.std.proofs.lemmas.List.{drop-take, take-take}
 use Rattle.std.specs.Fmt.{signed_decimal}
 use Rattle.arc_base.specs.declared.outside.Stream.TheVariants.{Out}
 use Rattle.arc_base.specs.Event.{Event, writes}
+use Rattle.arc_base.specs.Behaviour.{no_objects}
 use Rattle.arc_base.specs.BigStep.{Meter, Res, Got, Over, Going, Errs, then_do, ticked, told, with_units, spend, Turn, Leave, turns}
-use Rattle.arc_base.proofs.Follows as generic
-use Rattle.arc_base.proofs.Follows.{Comes, Turned, comes_on, line, waits_here, follows_after, follows_paid, follows_then, follows_map, follows_here, follows_turns}
+use Rattle.arc_base.specs.Simulation as generic
+use Rattle.arc_base.specs.Simulation.{Comes, Turned}
+use Rattle.arc_base.proofs.ForCallers.{comes_on, line, waits_here, follows_after, follows_paid, follows_then, follows_map, follows_here, follows_turns, follows_weaker}
 use Rattle.nim_core.specs.Program.{Expr, Number, Variable, Negate, Binary, Cond, Stmt, Declare, Assign, EchoInt, EchoText, Quit, If, While, Stmts, Empty, Then}
 use Rattle.nim_core.specs.declared.program.Operator.{Operator}
 use Rattle.nim_core.specs.Ints.{applied, negated, compared, low_byte}
 use Rattle.nim_core.specs.Meaning.{Values, put, line_of, outcome, eval, test, either, again, entered, turn, exec, exec_all}
 use Rattle.rv32_isa.specs.declared.instr.Instr.{Instr}
 use Rattle.rv32_isa.specs.Words.{little}
-use Rattle.rv32_isa.specs.Machine.{Run, step}
-use Rattle.rv32_isa.proofs.Fetch.{Stands, stands_front, stands_back}
+use Rattle.rv32_isa.specs.Machine.{Run}
+use Rattle.rv32_logic.specs.Placed.{Stands}
+use Rattle.rv32_logic.proofs.ForCallers.{stands_front, stands_back, stands_within}
 use Rattle.arc_top.specs.Code.{load_slot, ahead, back, exit_code, number_code, expr_code, cond_code, texts, stmt_texts, assign_code, stmt_code, stmts_code, most_slots, IsPlainExpr, IsPlainCond, IsPlainStmt, ArePlain}
-use Rattle.arc_top.proofs.Ready.{Setting, Ready, TextStands, slot_of, SameBelow, Reaches}
+use Rattle.arc_top.proofs.Ready.{Setting, stepping, Ready, TextStands, slot_of, SameBelow, Reaches}
 use Rattle.arc_top.proofs.PieceRuns.{Settled, Poised, pace, same, operate_code, opposite_code, variable_code, compare_code, literal_runs, variable_runs, opposite_follows, operate_follows, assign_runs, compare_runs, ahead_runs, back_runs, number_runs, text_runs, quit_halts}
 
 -- ---- slots
@@ -48,28 +51,14 @@ text_back x from a b h = record {
   from_is = omega (arith, h.from_is, length-append h.pre a);
 }
 
--- ---- code
-
--- code that isn't empty ends in the code
-stands_within : (code : List ℕ) (off : ℕ) (i : Instr) (is : List Instr) → Stands code off (i ∷ is) → off + 4 * length (i ∷ is) ≤ length code
-stands_within code off i [] h = omega (arith, h.0)
-stands_within code off i (j ∷ is) h = omega (arith, stands_within code (off + 4) j is h.3)
-
 module _ (x : Setting) where
   -- the machine follows what a part of the tree comes to
   abbrev Follows : {A : Type 0} → (A → Meter Event → Run → Type 0) → ℕ → Run → Meter Event → Res (Meter Event) A → Type 0
-  Follows Good q r a res = generic.Follows (step x.hooks) pace same Good q r a res
-
-  -- the same, where less is asked of an answer
-  follows_as : {A : Type 0} (Good Good' : A → Meter Event → Run → Type 0) (q : ℕ) (r : Run) (a : Meter Event) (res : Res (Meter Event) A) → ((z : A) (b : Meter Event) (s : Run) → Good z b s → Good' z b s) → Follows Good q r a res → Follows Good' q r a res
-  follows_as Good Good' q r a (Got z b) g f = (f.0, f.1, g z b f.0 f.2)
-  follows_as Good Good' q r a (Over status live b) g f = f
-  follows_as Good Good' q r a (Going b) g f = f
-  follows_as Good Good' q r a (Errs b) g f = tt
+  Follows Good q r a res = generic.Follows (stepping x) pace same Good q r a res
 
   -- a unit of the meaning's work pays for all
   tick_pays : {A : Type 0} (Good : A → Meter Event → Run → Type 0) (q : ℕ) (r : Run) (a : Meter Event) (res : Res (Meter Event) A) → q ≤ pace → Follows Good q r (ticked a) res → Follows Good 0 r a res
-  tick_pays Good q r a res le f = follows_paid (step x.hooks) pace same Good q 0 r a (ticked a) res refl refl (omega (arith, le)) f
+  tick_pays Good q r a res le f = follows_paid (stepping x) pace same Good q 0 r a (ticked a) res refl refl (omega (arith, le)) f
 
   -- ---- expressions
 
@@ -84,9 +73,9 @@ module _ (x : Setting) where
       let mid = off + 4 * length code in
       let own_stands = stands_back x.code off code own stands in
       let end : mid + 4 * length own ≡ off + 4 * length (code ++ own) = omega (arith, length-append code own) in
-      follows_then (step x.hooks) pace same (Settled x values mid slot r) (Settled x values (off + 4 * length (code ++ own)) slot r) 0 0 r a (eval operand values a) _ first
+      follows_then (stepping x) pace same (Settled x values mid slot r) (Settled x values (off + 4 * length (code ++ own)) slot r) 0 0 r a (eval operand values a) _ first
       (λ u b s _ h. tick_pays (Settled x values (off + 4 * length (code ++ own)) slot r) 26 s b (outcome (negated u) (ticked b)) (omega arith)
-      (follows_as (Settled x values (mid + 4 * length own) slot s) (Settled x values (off + 4 * length (code ++ own)) slot r) 26 s (ticked b) (outcome (negated u) (ticked b))
+      (follows_weaker (stepping x) pace same (Settled x values (mid + 4 * length own) slot s) (Settled x values (off + 4 * length (code ++ own)) slot r) 26 s (ticked b) (outcome (negated u) (ticked b))
       (λ z d t g. (subst (λ n. Ready x values n t) end g.0, record { slot_is = g.1.slot_is; fit = g.1.fit; below = g.1.below ∙ h.1.below }))
       (opposite_follows x u slot values mid s (ticked b) (omega arith) h.1.fit h.1.slot_is own_stands h.0)))
 
@@ -100,11 +89,11 @@ module _ (x : Setting) where
       let last = off + 4 * length (first_code ++ (second_code ++ own)) in
       let own_stands = stands_back x.code one second_code own (stands_back x.code off first_code (second_code ++ own) stands) in
       let end : two + 4 * length own ≡ last = omega (arith, length-append first_code (second_code ++ own), length-append second_code own) in
-      follows_then (step x.hooks) pace same (Settled x values one slot r) (Settled x values last slot r) 0 0 r a (eval left values a) _ first
+      follows_then (stepping x) pace same (Settled x values one slot r) (Settled x values last slot r) 0 0 r a (eval left values a) _ first
       (λ u b s _ g.
-      follows_then (step x.hooks) pace same (Settled x values two (suc slot) s) (Settled x values last slot r) 0 0 s b (eval right values b) _ (second b s g.0)
+      follows_then (stepping x) pace same (Settled x values two (suc slot) s) (Settled x values last slot r) 0 0 s b (eval right values b) _ (second b s g.0)
       (λ v d t _ h. tick_pays (Settled x values last slot r) 27 t d (outcome (applied operator u v) (ticked d)) (omega arith)
-      (follows_as (Settled x values (two + 4 * length own) slot t) (Settled x values last slot r) 27 t (ticked d) (outcome (applied operator u v) (ticked d))
+      (follows_weaker (stepping x) pace same (Settled x values (two + 4 * length own) slot t) (Settled x values last slot r) 27 t (ticked d) (outcome (applied operator u v) (ticked d))
       (λ z m w k. (subst (λ n. Ready x values n w) end k.0, record { slot_is = k.1.slot_is; fit = k.1.fit; below = k.1.below ∙ below_less slot s t h.1.below ∙ g.1.below }))
       (operate_follows x operator u v slot values two t (ticked d) lt g.1.fit h.1.fit (slot_kept slot s t h.1.below ∙ g.1.slot_is) h.1.slot_is own_stands h.0))))
 
@@ -144,18 +133,18 @@ module _ (x : Setting) where
       let last = off + 4 * length (left ++ (right ++ own)) in
       let rest = stands_back x.code off left (right ++ own) stands in
       let end : two + 12 ≡ last = omega (arith, length-append left (right ++ own), length-append right own) in
-      follows_then (step x.hooks) pace same (Settled x values one 0 r) (Decided values last) 0 0 r a (eval condition.left values a) _
+      follows_then (stepping x) pace same (Settled x values one 0 r) (Decided values last) 0 0 r a (eval condition.left values a) _
       (eval_follows condition.left 0 most_slots values off r a plain.0 (omega arith) (stands_front x.code off left (right ++ own) stands) ready)
       (λ u b s _ g.
-      follows_then (step x.hooks) pace same (Settled x values two 1 s) (Decided values last) 0 0 s b (eval condition.right values b) _
+      follows_then (stepping x) pace same (Settled x values two 1 s) (Decided values last) 0 0 s b (eval condition.right values b) _
       (eval_follows condition.right 1 most_slots values one s b plain.1 (omega arith) (stands_front x.code one right own rest) g.0)
       (λ v d t _ h. tick_pays (Decided values last) 2 t d (Got (compared condition.comparison u v) (ticked d)) (omega arith)
       (subst (λ n. Reaches x pace 2 t (ticked d) (Poised x values n (compared condition.comparison u v))) end
       (compare_runs x condition.comparison u v values two t (ticked d) g.1.fit h.1.fit (slot_kept 0 s t h.1.below ∙ g.1.slot_is) h.1.slot_is (stands_back x.code one right own rest) h.0))))
 
   -- past the branch
-  branch_comes : (values : Values) (off : ℕ) (holds : Bool) (s : Run) (b : Meter Event) (h : Poised x values off holds s) → Comes (step x.hooks) pace 1 s b h.next b
-  branch_comes values off holds s b h = line (step x.hooks) pace 1 s h.next [] 1 b b h.goes (append-nil b.out) (omega arith) (omega arith) (omega arith)
+  branch_comes : (values : Values) (off : ℕ) (holds : Bool) (s : Run) (b : Meter Event) (h : Poised x values off holds s) → Comes (stepping x) pace 1 s b h.next b
+  branch_comes values off holds s b h = line (stepping x) pace 1 s h.next [] 1 b b h.goes (append-nil b.out) (omega arith) (omega arith) (omega arith)
 
   -- ---- statements
 
@@ -170,7 +159,7 @@ module _ (x : Setting) where
       let mid = off + 4 * length code in
       let last = off + 4 * length (code ++ own) in
       let end : mid + 16 ≡ last = omega (arith, length-append code own) in
-      follows_then (step x.hooks) pace same (Settled x values mid 0 r) (Behind last) 0 0 r a (eval value values a) _
+      follows_then (stepping x) pace same (Settled x values mid 0 r) (Behind last) 0 0 r a (eval value values a) _
       (eval_follows value 0 most_slots values off r a plain (omega arith) (stands_front x.code off code own stands) ready)
       (λ z b s _ h. tick_pays (Behind last) 4 s b (Got (put values variable z) (ticked b)) (omega arith)
       (subst (λ n. Reaches x pace 4 s (ticked b) (Ready x (put values variable z) n)) end
@@ -183,22 +172,22 @@ module _ (x : Setting) where
       let mid = off + 4 * length code in
       let last = off + 4 * length (code ++ own) in
       let end : mid + 4 * length own ≡ last = omega (arith, length-append code own) in
-      follows_then (step x.hooks) pace same (Settled x values mid 0 r) (Behind last) 0 0 r a (eval value values a) _
+      follows_then (stepping x) pace same (Settled x values mid 0 r) (Behind last) 0 0 r a (eval value values a) _
       (eval_follows value 0 most_slots values off r a plain (omega arith) (stands_front x.code off code own stands) ready)
       (λ z b s _ h.
       let d = told (writes Out (line_of (signed_decimal z))) (ticked b) in
       tick_pays (Behind last) 101 s b (Got values d) (omega arith)
-      (subst (λ n. (t : Run) × Comes (step x.hooks) pace 101 s (ticked b) t d × Ready x values n t) end
+      (subst (λ n. (t : Run) × Comes (stepping x) pace 101 s (ticked b) t d × Ready x values n t) end
       (number_runs x z values mid s (ticked b) h.1.fit h.1.slot_is (stands_back x.code off code own stands) h.0)))
 
-  quit_follows : (status : Expr) (off last : ℕ) (values : Values) (r : Run) (a : Meter Event) → IsPlainExpr x.count most_slots status → Stands x.code off (expr_code status 0 ++ (load_slot 10 0 ∷ exit_code)) → Ready x values off r → Follows (Behind last) 0 r a (then_do (eval status values a) (λ z after. Over (low_byte z) [] (ticked after)))
+  quit_follows : (status : Expr) (off last : ℕ) (values : Values) (r : Run) (a : Meter Event) → IsPlainExpr x.count most_slots status → Stands x.code off (expr_code status 0 ++ (load_slot 10 0 ∷ exit_code)) → Ready x values off r → Follows (Behind last) 0 r a (then_do (eval status values a) (λ z after. Over (low_byte z) no_objects (ticked after)))
   quit_follows status off last values r a plain stands ready =
       let code = expr_code status 0 in
       let own = load_slot 10 0 ∷ exit_code in
       let mid = off + 4 * length code in
-      follows_then (step x.hooks) pace same (Settled x values mid 0 r) (Behind last) 0 0 r a (eval status values a) _
+      follows_then (stepping x) pace same (Settled x values mid 0 r) (Behind last) 0 0 r a (eval status values a) _
       (eval_follows status 0 most_slots values off r a plain (omega arith) (stands_front x.code off code own stands) ready)
-      (λ z b s _ h. tick_pays (Behind last) 3 s b (Over (low_byte z) [] (ticked b)) (omega arith)
+      (λ z b s _ h. tick_pays (Behind last) 3 s b (Over (low_byte z) no_objects (ticked b)) (omega arith)
       (quit_halts x z values mid s (ticked b) h.1.fit h.1.slot_is (stands_back x.code off code own stands) h.0))
 
   -- ---- branches
@@ -251,21 +240,21 @@ module _ (x : Setting) where
       either_follows true s b h =
           let end = second_at + 4 * length second in
           let there : first_at + 4 * length first + 4 * (length second + 1) ≡ end = omega arith in
-          follows_after (step x.hooks) pace same (Behind end) 1 1 s h.next b b (holds b) (branch_comes values tested true s b h)
-          (follows_map (step x.hooks) pace same (Behind (first_at + 4 * length first)) (Behind end) 0 1 h.next b (holds b) (first_follows h.next b h.ready)
+          follows_after (stepping x) pace same (Behind end) 1 1 s h.next b b (holds b) (branch_comes values tested true s b h)
+          (follows_map (stepping x) pace same (Behind (first_at + 4 * length first)) (Behind end) 0 1 h.next b (holds b) (first_follows h.next b h.ready)
           (λ after d t k. subst (λ n. Reaches x pace 1 t d (Ready x after n)) there (ahead_runs x (length second + 1) after (first_at + 4 * length first) t d (omega (arith, stands.within)) stands.leave k)))
       either_follows false s b h =
           let end = second_at + 4 * length second in
           let there : tested + 4 * (length first + 2) ≡ second_at = omega arith in
           let jump : Reaches x pace 1 h.next b (Ready x values second_at) = subst (λ n. Reaches x pace 1 h.next b (Ready x values n)) there (ahead_runs x (length first + 2) values tested h.next b (omega (arith, stands.within)) stands.over h.ready) in
-          follows_after (step x.hooks) pace same (Behind end) 2 0 s jump.0 b b (fails b) (comes_on (step x.hooks) pace 1 1 s h.next jump.0 b b b (branch_comes values tested false s b h) jump.1) (second_follows jump.0 b jump.2)
+          follows_after (stepping x) pace same (Behind end) 2 0 s jump.0 b b (fails b) (comes_on (stepping x) pace 1 1 s h.next jump.0 b b b (branch_comes values tested false s b h) jump.1) (second_follows jump.0 b jump.2)
 
       if_follows : (r : Run) (a : Meter Event) → IsPlainCond x.count condition → Ready x values off r → Follows (Behind (off + 4 * length branched)) 0 r a (then_do (test condition values (ticked a)) (either holds fails))
       if_follows r a plain ready =
           let end = second_at + 4 * length second in
           subst (λ n. Follows (Behind n) 0 r a (then_do (test condition values (ticked a)) (either holds fails))) if_end
           (tick_pays (Behind end) 2 r a (then_do (test condition values (ticked a)) (either holds fails)) (omega arith)
-          (follows_then (step x.hooks) pace same (Decided values tested) (Behind end) 0 2 r (ticked a) (test condition values (ticked a)) (either holds fails) (test_follows condition values off r (ticked a) plain stands.test ready)
+          (follows_then (stepping x) pace same (Decided values tested) (Behind end) 0 2 r (ticked a) (test condition values (ticked a)) (either holds fails) (test_follows condition values off r (ticked a) plain stands.test ready)
           (λ answer b s _ h. either_follows answer s b h)))
 
   -- ---- loops
@@ -320,18 +309,18 @@ module _ (x : Setting) where
       Left values b s = Poised x values asked false s
 
       abbrev Round : ℕ → Turn Values Values → Meter Event → Run → Type 0
-      Round u = Turned (step x.hooks) pace same Inv Left u
+      Round u = Turned same Inv Left u
 
       -- the branch is the step for the unit that the body's entry spends
       body_follows : (values : Values) (u : ℕ) (s : Run) (b : Meter Event) → b.units ≤ u → Poised x values asked true s → (n : ℕ) → b.units ≡ n → Follows (Round u) 0 s b (spend n b (λ left. then_do (body values (ticked (with_units left b))) again))
-      body_follows values u s b le h zero e = waits_here (step x.hooks) pace s b e
+      body_follows values u s b le h zero e = waits_here (stepping x) pace s b e
       body_follows values u s b le h (suc n) e =
           let d : Meter Event = ticked (with_units n b) in
           let res = then_do (body values d) again in
-          let enter : Comes (step x.hooks) pace 1 s (ticked b) h.next d = line (step x.hooks) pace 1 s h.next [] 1 (ticked b) d h.goes (append-nil b.out) (omega (arith, e)) (omega (arith, e)) (omega arith) in
+          let enter : Comes (stepping x) pace 1 s (ticked b) h.next d = line (stepping x) pace 1 s h.next [] 1 (ticked b) d h.goes (append-nil b.out) (omega (arith, e)) (omega (arith, e)) (omega arith) in
           tick_pays (Round u) 2 s b res (omega arith)
-          (follows_after (step x.hooks) pace same (Round u) 1 1 s h.next (ticked b) d res enter
-          (follows_then (step x.hooks) pace same (Behind turn_at) (Round u) 0 1 h.next d (body values d) again (inside_follows values h.next d h.ready)
+          (follows_after (stepping x) pace same (Round u) 1 1 s h.next (ticked b) d res enter
+          (follows_then (stepping x) pace same (Behind turn_at) (Round u) 0 1 h.next d (body values d) again (inside_follows values h.next d h.ready)
           (λ after m t less k.
           let count = length inside + suc (length (cond_code condition)) in
           let g = back_runs x count after off t m stands.again (subst (λ n. Ready x after n t) loop_back k) in
@@ -339,11 +328,11 @@ module _ (x : Setting) where
 
       pick_follows : (values : Values) (u : ℕ) (answer : Bool) (s : Run) (b : Meter Event) → b.units ≤ u → Poised x values asked answer s → Follows (Round u) 0 s b (either (entered body values) (Got (Leave values)) answer b)
       pick_follows values u true s b le h = body_follows values u s b le h b.units refl
-      pick_follows values u false s b le h = follows_here (step x.hooks) pace same (Round u) s (Leave values) b h
+      pick_follows values u false s b le h = follows_here (stepping x) pace same (Round u) s (Leave values) b h
 
       turn_follows : (values : Values) (b : Meter Event) (s : Run) → Ready x values off s → Follows (Round b.units) 0 s b (turn (test condition) body values b)
       turn_follows values b s ready =
-          follows_then (step x.hooks) pace same (Decided values asked) (Round b.units) 0 0 s b (test condition values b) (either (entered body values) (Got (Leave values))) (test_follows condition values off s b plain stands.test ready)
+          follows_then (stepping x) pace same (Decided values asked) (Round b.units) 0 0 s b (test condition values b) (either (entered body values) (Got (Leave values))) (test_follows condition values off s b plain stands.test ready)
           (λ answer d t le h. pick_follows values b.units answer t d le h)
 
       loop_follows : (values : Values) (r : Run) (a : Meter Event) → Ready x values off r → Follows (Behind (off + 4 * length looped)) 0 r a (turns (suc a.units) (turn (test condition) body) values (ticked a))
@@ -352,11 +341,11 @@ module _ (x : Setting) where
           let res = turns (suc a.units) (turn (test condition) body) values (ticked a) in
           let there : asked + 4 * (length inside + 2) ≡ end = omega (arith, loop_end) in
           tick_pays (Behind end) 2 r a res (omega arith)
-          (follows_map (step x.hooks) pace same Left (Behind end) 0 2 r (ticked a) res
-          (follows_turns (step x.hooks) pace same Inv Left (turn (test condition) body) turn_follows (suc a.units) values (ticked a) r (omega arith) ready)
+          (follows_map (stepping x) pace same Left (Behind end) 0 2 r (ticked a) res
+          (follows_turns (stepping x) pace same Inv Left (turn (test condition) body) turn_follows (suc a.units) values (ticked a) r (omega arith) ready)
           (λ after d t h.
           let jump : Reaches x pace 1 h.next d (Ready x after end) = subst (λ n. Reaches x pace 1 h.next d (Ready x after n)) there (ahead_runs x (length inside + 2) after asked h.next d (omega (arith, stands.within)) stands.over h.ready) in
-          (jump.0, comes_on (step x.hooks) pace 1 1 t h.next jump.0 d d d (branch_comes after asked false t d h) jump.1, jump.2)))
+          (jump.0, comes_on (stepping x) pace 1 1 t h.next jump.0 d d d (branch_comes after asked false t d h) jump.1, jump.2)))
 
   -- ---- all statements
 
@@ -394,7 +383,7 @@ module _ (x : Setting) where
     pub stmts_follow : (stmts : Stmts) → StmtsFollow stmts
     stmts_follow Empty from off values r a plain text stands ready =
         let e : off ≡ off + 4 * 0 = omega arith in
-        subst (λ n. Follows (Behind n) 0 r a (Got values a)) e (follows_here (step x.hooks) pace same (Behind off) r values a ready)
+        subst (λ n. Follows (Behind n) 0 r a (Got values a)) e (follows_here (stepping x) pace same (Behind off) r values a ready)
     stmts_follow (Then stmt rest) from off values r a plain text stands ready =
         let first = stmt_code stmt from in
         let next = from + length (stmt_texts stmt) in
@@ -402,6 +391,6 @@ module _ (x : Setting) where
         let mid = off + 4 * length first in
         let end : mid + 4 * length others ≡ off + 4 * length (first ++ others) = omega (arith, length-append first others) in
         subst (λ n. Follows (Behind n) 0 r a (exec_all (Then stmt rest) values a)) end
-        (follows_then (step x.hooks) pace same (Behind mid) (Behind (mid + 4 * length others)) 0 0 r a (exec stmt values a) (exec_all rest)
+        (follows_then (stepping x) pace same (Behind mid) (Behind (mid + 4 * length others)) 0 0 r a (exec stmt values a) (exec_all rest)
         (stmt_follows stmt from off values r a plain.0 (text_front x from (stmt_texts stmt) (texts rest) text) (stands_front x.code off first others stands) ready)
         (λ after b s _ h. stmts_follow rest next mid after s b plain.1 (text_back x from (stmt_texts stmt) (texts rest) text) (stands_back x.code off first others stands) h))

@@ -12,7 +12,7 @@ use Rattle.nim_tree.specs.Statements as tree
 use Rattle.nim_tree.specs.Statements.{Definition, Statement, Statements, Branches, definition_term_levels, term_levels_of, term_levels, branch_term_levels}
 use Rattle.nim_tree.specs.Weights as full
 use Rattle.nim_tree.specs.Weights.{weight_in, weight_maybe, definition_weights, statement_weight, branch_weights}
-use Rattle.arc_top.specs.Refusal.{Refusal, and_then}
+use Rattle.arc_base.specs.Refusal.{Refusal, and_then}
 use Rattle.arc_top.specs.Lines.{Sum, opposite, operation, Test, Line, declare, assign, echo_int, quit, branch, loop, Lines, sum_weight, test_weight, weight, weights}
 use Rattle.arc_top.specs.Lines as built
 use Rattle.arc_top.specs.Form.{wanted, left_out, operator_of, comparison_of, as_sum, as_test, lone_name, as_definition, as_section, as_assignment, is_name, as_shown, as_echo, as_quit, as_call, as_evaluation, as_tests, no_further, as_repetition, as_line, as_choice, as_lines, form_of}

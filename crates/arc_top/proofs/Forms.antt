@@ -10,7 +10,7 @@ use Rattle.nim_tree.specs.Terms.{parts_of}
 use Rattle.nim_tree.specs.Statements as tree
 use Rattle.nim_tree.specs.Statements.{Statement, Statements}
 use Rattle.arc_top.specs.declared.form.lines.Line.{Line as RustLine}
-use Rattle.arc_top.specs.Refusal.{Refusal, and_then, IsRefusal}
+use Rattle.arc_base.specs.Refusal.{Refusal, and_then, IsRefusal}
 use Rattle.arc_top.specs.Lines.{Line, Lines, empty, then, line_of, lines_of}
 use Rattle.arc_top.specs.Form.{left_out, as_echo, as_quit, as_tests, as_line, as_lines}
 

@@ -2,7 +2,7 @@
 use Rattle.std.proofs.Common.{◌≡◌, ℕ, ◌+◌, ◌*◌, ◌%◌, ◌≤◌, List, [], ◌++◌, length, ap, ◌∙◌, arith, length-append, append_assoc, pos}
 use Rattle.nim_core.specs.Program.{Stmts, Program}
 use Rattle.rv32_isa.specs.Image.{Image}
-use Rattle.rv32_isa.proofs.Words.{length-code}
+use Rattle.rv32_isa.proofs.ForCallers.{length-code}
 use Rattle.arc_top.specs.Code.{code_bytes, variable_at, data_of, texts, stmts_code, start_code, end_code, program_code, ArePlain, stmts_weight}
 use Rattle.arc_top.specs.Emission.{CanEmitStmts}
 use Rattle.arc_top.proofs.Agreement.{IsImageOf}

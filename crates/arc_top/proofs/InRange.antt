@@ -6,8 +6,8 @@ use Rattle.nim_core.specs.declared.program.Comparison.{Comparison}
 use Rattle.nim_core.specs.declared.program.Comparison.TheVariants.{Equal, Less, AtMost}
 use Rattle.nim_core.specs.Program.{Expr, Number, Variable, Negate, Binary, Cond, Stmt, Declare, Assign, EchoInt, EchoText, Quit, If, While, Stmts, Empty, Then}
 use Rattle.rv32_isa.specs.declared.instr.Instr.TheVariants.{Lw, Sw, Addi, Ecall}
-use Rattle.rv32_isa.specs.Row.{IsInRange}
-use Rattle.rv32_isa.proofs.Fetch.{AllInRange, all_in_range-append}
+use Rattle.rv32_isa.specs.Row.{IsInRange, AllInRange}
+use Rattle.rv32_logic.proofs.ForCallers.{all_in_range-append}
 use Rattle.arc_top.specs.Code.{word, variable_at, load_code, load_slot, save_slot, write_code, exit_code, operator_code, negate_code, expr_code, cond_code, ahead, back, number_code, assign_code, texts, stmt_texts, stmt_code, stmts_code, start_code, end_code, program_code, most_slots, IsPlainExpr, IsPlainCond, IsPlainStmt, ArePlain}
 use Rattle.arc_top.proofs.PieceRuns.{operate_code, opposite_code, variable_code, compare_code}
 

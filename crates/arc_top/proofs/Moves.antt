@@ -5,8 +5,10 @@ use Rattle.std.proofs.lemmas.Bool.{lt-ltb, le-ltb, cond-true, cond-false, cond_b
 use Rattle.arc_base.specs.declared.outside.Stream.{Stream}
 use Rattle.arc_base.specs.declared.outside.Stream.TheVariants.{Out, Err}
 use Rattle.arc_base.specs.Event.{Event, writes}
+use Rattle.arc_base.specs.Behaviour.{Live, no_objects}
 use Rattle.arc_base.specs.BigStep.{Meter, Res, told}
-use Rattle.arc_base.proofs.Follows.{Comes, Halts, Follows, comes_on, comes_halts, follows_after}
+use Rattle.arc_base.specs.Simulation.{Comes, Halts, Follows}
+use Rattle.arc_base.proofs.ForCallers.{comes_on, comes_halts, follows_after}
 use Rattle.nim_core.specs.Ints.{fits}
 use Rattle.nim_core.specs.Meaning.{Values, put as put_value}
 use Rattle.nim_core.specs.Traps.{Trap, Overflow, DivisionByZero}
@@ -18,34 +20,21 @@ use Rattle.rv32_isa.specs.Hooks.{code_at}
 use Rattle.rv32_isa.specs.Image.{statics_at, stack_at}
 use Rattle.rv32_isa.specs.State.{State, skip, put_bytes, readable, writable, filled}
 use Rattle.rv32_isa.specs.Values.{with_sign, added, is_less_signed}
-use Rattle.rv32_isa.specs.Steps.{signed12, branch, act, obey}
+use Rattle.rv32_isa.specs.Steps.{signed12, branch, act, obey, next_pc}
 use Rattle.rv32_isa.specs.Steps as leads
 use Rattle.rv32_isa.specs.Regions.{HasRegions}
-use Rattle.rv32_isa.specs.Machine.{Run, stream_of, step}
-use Rattle.rv32_isa.proofs.Words.{little-word_bytes, length-word_bytes}
-use Rattle.rv32_isa.proofs.Registers.{IsRegs, put, put_regs, put_same}
-use Rattle.rv32_isa.proofs.Fetch.{Stands, stands_back, Before, next_place, obeys}
-use Rattle.rv32_isa.proofs.Straight.{AllPlain, regs_after, moved, onto, plain_run}
-use Rattle.rv32_isa.proofs.Lookup.{File, holding, holding_same, holding_other, holding_again, constant_is, file_after, file_is, read_at, read_is, put_is, regs_after_regs, look}
-use Rattle.rv32_isa.proofs.Data.{Holds, holds_within, holds_read}
-use Rattle.rv32_isa.proofs.Calls.{AsksWrite, write_run, exit_run}
-use Rattle.rv32_isa.proofs.Memory.{put_bytes_long, put_bytes_here, put_bytes_below, put_bytes_over, stack_read, statics_may, stack_may, statics_put, stack_put, lw_goes, sw_goes, sb_goes}
-use Rattle.rv32_isa.proofs.Jumps.{placed, jal_goes, jalr_goes, branches_to, branch_goes}
+use Rattle.rv32_isa.specs.Machine.{Run, stream_of}
+use Rattle.rv32_isa.proofs.ForCallers.{little-word_bytes, length-word_bytes}
+use Rattle.rv32_logic.specs.Registers.{IsRegs, put, File, holding, read_at, reg_of, file_of_run}
+use Rattle.rv32_logic.proofs.ForCallers.{put_regs, put_same, stands_back, next_place, obeys, plain_run, holding_same, holding_other, holding_again, constant_is, file_is, read_is, put_is, regs_after_regs, look, holds_within, holds_read, write_run, exit_run, put_bytes_long, put_bytes_here, put_bytes_below, put_bytes_over, stack_read, statics_may, stack_may, statics_put, stack_put, lw_goes, sw_goes, sb_goes, jal_goes, jalr_goes, branch_goes, signed12_small, added_small, plain_address}
+use Rattle.rv32_logic.specs.Placed.{Stands, Before, outcome_of}
+use Rattle.rv32_logic.specs.Straight.{AllPlain, regs_after, moved, onto, file_after}
+use Rattle.rv32_logic.specs.Data.{Holds}
+use Rattle.rv32_logic.specs.Calls.{AsksWrite}
+use Rattle.rv32_logic.specs.Jumps.{placed, branches_to}
 use Rattle.arc_top.specs.Code.{word, trap_line, variable_at, data_of, load_code, load_slot, save_slot, write_code, exit_code, trap_at, line_at, to_trap, ahead, back}
-use Rattle.arc_top.proofs.Ready.{Setting, reg_of, file_of_run, Ready, slot_of, Moved, Saved, Stored, TextStands, Reaches, Tells, Writes}
+use Rattle.arc_top.proofs.Ready.{Setting, stepping, Ready, slot_of, Moved, Saved, Stored, TextStands, Reaches, Tells, Writes}
 use Rattle.arc_top.proofs.Contents.{word_fits, length-data_of, among_data, holds_variable, holds_text, holds_trap}
-
--- twelve bits of a number that isn't negative
-signed12_small : (n : ℕ) → n < 2048 → signed12 n ≡ n
-signed12_small n lt = cond-true (nat_lt n 2048) n (n + 2 ^ 32 - 4096) (lt-ltb n 2048 lt)
-
--- a sum that needs no more than a word
-added_small : (base n : ℕ) → base + n < 2 ^ 32 → added base n ≡ base + n
-added_small base n lt = omega arith
-
--- an address that a register has
-plain_address : (n at : ℕ) → n ≡ at → at < 2 ^ 32 → added n (signed12 0) ≡ at
-plain_address n at e lt = ap (λ m. added m 0) e ∙ (let f : (at + 0) % 2 ^ 32 ≡ at = omega arith in f)
 
 module _ (x : Setting) (c : ℕ) where
   -- ---- one instruction
@@ -55,8 +44,8 @@ module _ (x : Setting) (c : ℕ) where
       let e = ready.keeps.code_is in
       record { place = ready.place; code = subst (λ l. Stands l off is) (sym e) stands; small = subst (λ l. length l ≤ 524288) (sym e) x.small }
 
-  goes : (values : Values) (off : ℕ) (i : Instr) (rest : List Instr) (r : Run) (a : Meter Event) (next : State) → Stands x.code off (i ∷ rest) → Ready x values off r → obey r.state (word_of i) i ≡ leads.Goes next → Comes (step x.hooks) c 1 r a (onto r next) a
-  goes values off i rest r a next stands ready e = obeys x.hooks c r off i rest next a (before values off (i ∷ rest) r stands ready) e (x.quiet next.pc)
+  goes : (values : Values) (off : ℕ) (i : Instr) (rest : List Instr) (r : Run) (a : Meter Event) (next : State) → Stands x.code off (i ∷ rest) → Ready x values off r → outcome_of r.state i ≡ leads.Goes next → Comes (stepping x) c 1 r a (onto r next) a
+  goes values off i rest r a next stands ready e = obeys x.live x.hooks c r off i rest next a (before values off (i ∷ rest) r stands ready) e (x.quiet next.pc)
 
   -- where only registers and the place are other ones
   moved_ready : (values : Values) (off to : ℕ) (regs : List ℕ) (pc : ℕ) (file : File) (r : Run) → pc ≡ code_at + to → to % 4 ≡ 0 → IsRegs regs → ((number : ℕ) → get_or regs number 0 ≡ file number) → file 2 ≡ file_of_run r 2 → Ready x values off r → Moved x values to file r (onto r (moved r.state regs pc))
@@ -74,7 +63,7 @@ module _ (x : Setting) (c : ℕ) where
   plain_moves values off to is rest r a end plain base stands ready =
       let regs = r.state.regs in
       let good = ready.keeps.regs in
-      let ran = plain_run x.hooks c is rest r off a plain (before values off (is ++ rest) r stands ready) (λ pc _ _. x.quiet pc) in
+      let ran = plain_run x.live x.hooks c is rest r off a plain (before values off (is ++ rest) r stands ready) (λ pc _ _. x.quiet pc) in
       let old = ready.whole in
       (onto r (moved r.state (regs_after is regs) (code_at + (off + 4 * length is))), ran, moved_ready values off to (regs_after is regs) _ (file_after is (file_of_run r)) r (ap (λ n. code_at + n) end) (omega arith) (regs_after_regs is regs good) (λ number. look is regs number good) (base (file_of_run r)) ready)
 
@@ -108,7 +97,7 @@ module _ (x : Setting) (c : ℕ) where
       let good = ready.keeps.regs in
       let old = ready.whole in
       let next = moved r.state (put regs rd n) ((r.state.pc + 4) % 2 ^ 32) in
-      (onto r next, goes values off i rest r a next stands ready (lw_goes r.state (word_of i) rd rs1 d at bytes at_is whole read), moved_ready values off to (put regs rd n) _ (holding (file_of_run r) rd n) r (next_is values off to i rest r end stands ready) (omega arith) (put_regs regs rd n good) (λ number. put_is regs rd n number good) (holding_other (file_of_run r) rd n 2 (λ e. ne (sym e))) ready)
+      (onto r next, goes values off i rest r a next stands ready (lw_goes r.state (next_pc r.state) (word_of i) rd rs1 d at bytes at_is whole read), moved_ready values off to (put regs rd n) _ (holding (file_of_run r) rd n) r (next_is values off to i rest r end stands ready) (omega arith) (put_regs regs rd n good) (λ number. put_is regs rd n number good) (holding_other (file_of_run r) rd n 2 (λ e. ne (sym e))) ready)
 
   pub load_moves : (values : Values) (off to rd slot : ℕ) (rest : List Instr) (r : Run) (a : Meter Event) → off + 4 ≡ to → 0 < rd → rd < 32 → rd ≢ 2 → slot < 256 → Stands x.code off (load_slot rd slot ∷ rest) → Ready x values off r → Reaches x c 1 r a (Moved x values to (holding (file_of_run r) rd (slot_of r slot)) r)
   load_moves values off to rd slot rest r a end pos lt ne small stands ready =
@@ -158,7 +147,7 @@ module _ (x : Setting) (c : ℕ) where
       ∙ ap little (put_bytes_here s.stack bytes d (omega arith))
       ∙ little-word_bytes w (word_fits value fit) in (
         onto r (skip next),
-        goes values off i rest r a (skip next) stands ready (sw_goes s next (word_of i) 2 rs d at (slot_address values off d r (omega arith) ready) (omega arith) (stack_may s d 4 (omega arith)) is),
+        goes values off i rest r a (skip next) stands ready (sw_goes s next (next_pc s) (word_of i) 2 rs d at (slot_address values off d r (omega arith) ready) (omega arith) (stack_may s d 4 (omega arith)) is),
         record { ready = stored.ready; reg_is = stored.reg_is; saved = record { slot_is = slot_is; fit = fit; below = put_bytes_below s.stack bytes d d (omega arith) (omega arith) } },
       )
 
@@ -170,7 +159,7 @@ module _ (x : Setting) (c : ℕ) where
       let next = record s { stack = put_bytes s.stack at bytes } in
       let stack = ready.keeps.stack in
       let old = ready.whole in
-      (onto r (skip next), goes values off i rest r a (skip next) stands ready (sb_goes s next (word_of i) 6 7 0 (stack_at + at) (plain_address (reg_of r 6) (stack_at + at) at_is (omega arith)) (stack_may s at 1 (omega arith)) (stack_put s at bytes (regions values off r ready) (omega arith) (omega arith))), stored_ready values off to at bytes _ r (next_is values off to i rest r end stands ready) (omega arith) (omega arith) ready)
+      (onto r (skip next), goes values off i rest r a (skip next) stands ready (sb_goes s next (next_pc s) (word_of i) 6 7 0 (stack_at + at) (plain_address (reg_of r 6) (stack_at + at) at_is (omega arith)) (stack_may s at 1 (omega arith)) (stack_put s at bytes (regions values off r ready) (omega arith) (omega arith))), stored_ready values off to at bytes _ r (next_is values off to i rest r end stands ready) (omega arith) (omega arith) ready)
 
   pub save_variable_moves : (values : Values) (off to number : ℕ) (value : ℤ) (rest : List Instr) (r : Run) (a : Meter Event) → off + 4 ≡ to → number < x.count → reg_of r 6 ≡ variable_at number → reg_of r 5 ≡ word value → fits value ≡ true → Stands x.code off (Sw 6 5 0 ∷ rest) → Ready x values off r → Reaches x c 1 r a (Ready x (put_value values number value) to)
   save_variable_moves values off to number value rest r a end lt at_is reg_is fit stands ready =
@@ -197,7 +186,7 @@ module _ (x : Setting) (c : ℕ) where
       ∙ put_bytes_over h.pre before_it bytes h.post (omega arith)
       ∙ sym (h.later value) in (
         onto r (skip next),
-        goes values off i rest r a (skip next) stands ready (sw_goes s next (word_of i) 6 5 0 at (plain_address (reg_of r 6) at at_is (omega arith)) (omega arith) (ap (λ n. writable s n 4) at_d ∙ statics_may s d 4 (omega arith)) is),
+        goes values off i rest r a (skip next) stands ready (sw_goes s next (next_pc s) (word_of i) 6 5 0 at (plain_address (reg_of r 6) at at_is (omega arith)) (omega arith) (ap (λ n. writable s n 4) at_d ∙ statics_may s d 4 (omega arith)) is),
         record {
           place = next_is values off to i rest r end stands ready;
           whole = omega arith;
@@ -224,7 +213,7 @@ module _ (x : Setting) (c : ℕ) where
 
   -- ---- jumps
 
-  placed_moves : (values : Values) (off to : ℕ) (i : Instr) (rest : List Instr) (r : Run) (a : Meter Event) → to % 4 ≡ 0 → obey r.state (word_of i) i ≡ leads.Goes (placed r.state (code_at + to)) → Stands x.code off (i ∷ rest) → Ready x values off r → Reaches x c 1 r a (Moved x values to (file_of_run r) r)
+  placed_moves : (values : Values) (off to : ℕ) (i : Instr) (rest : List Instr) (r : Run) (a : Meter Event) → to % 4 ≡ 0 → outcome_of r.state i ≡ leads.Goes (placed r.state (code_at + to)) → Stands x.code off (i ∷ rest) → Ready x values off r → Reaches x c 1 r a (Moved x values to (file_of_run r) r)
   placed_moves values off to i rest r a whole is stands ready =
       let regs = r.state.regs in
       let good = ready.keeps.regs in
@@ -238,7 +227,7 @@ module _ (x : Setting) (c : ℕ) where
       let old = ready.whole in
       let far : with_sign (2 ^ 20) d ≡ d = cond-true (nat_lt d (2 ^ 20)) d (d + 2 ^ 32 - 2 * 2 ^ 20) (lt-ltb d (2 ^ 20) (omega arith)) in
       let there : added s.pc (with_sign (2 ^ 20) d) ≡ code_at + to = ap (added s.pc) far ∙ (let e : (s.pc + d) % 2 ^ 32 ≡ code_at + to = omega arith in e) in
-      placed_moves values off to (ahead count) rest r a (omega arith) (jal_goes s _ d (code_at + to) there (omega arith)) stands ready
+      placed_moves values off to (ahead count) rest r a (omega arith) (jal_goes s (next_pc s) _ d (code_at + to) there (omega arith)) stands ready
 
   pub back_moves : (values : Values) (off to count : ℕ) (rest : List Instr) (r : Run) (a : Meter Event) → off ≡ to + 4 * count → Stands x.code off (back count ∷ rest) → Ready x values off r → Reaches x c 1 r a (Moved x values to (file_of_run r) r)
   back_moves values off to count rest r a begin stands ready =
@@ -250,15 +239,15 @@ module _ (x : Setting) (c : ℕ) where
       let small = x.small in
       let far : with_sign (2 ^ 20) d ≡ d + 2 ^ 32 - 2 * 2 ^ 20 = cond-false (nat_lt d (2 ^ 20)) d (d + 2 ^ 32 - 2 * 2 ^ 20) (le-ltb d (2 ^ 20) (omega arith)) in
       let there : added s.pc (with_sign (2 ^ 20) d) ≡ code_at + to = ap (added s.pc) far ∙ (let e : (s.pc + (d + 2 ^ 32 - 2 * 2 ^ 20)) % 2 ^ 32 ≡ code_at + to = omega arith in e) in
-      placed_moves values off to (back count) rest r a (omega arith) (jal_goes s _ d (code_at + to) there (omega arith)) stands ready
+      placed_moves values off to (back count) rest r a (omega arith) (jal_goes s (next_pc s) _ d (code_at + to) there (omega arith)) stands ready
 
   -- ---- branches, by whether they are taken
 
-  branch_moves : (values : Values) (off to : ℕ) (i : Instr) (taken : Bool) (d : ℕ) (rest : List Instr) (r : Run) (a : Meter Event) → ((word : ℕ) → obey r.state word i ≡ act r.state word (branch r.state taken d)) → branches_to r.state taken d ≡ code_at + to → to % 4 ≡ 0 → Stands x.code off (i ∷ rest) → Ready x values off r → Reaches x c 1 r a (Moved x values to (file_of_run r) r)
+  branch_moves : (values : Values) (off to : ℕ) (i : Instr) (taken : Bool) (d : ℕ) (rest : List Instr) (r : Run) (a : Meter Event) → ((link word : ℕ) → obey r.state link word i ≡ act r.state link word (branch r.state taken d)) → branches_to r.state taken d ≡ code_at + to → to % 4 ≡ 0 → Stands x.code off (i ∷ rest) → Ready x values off r → Reaches x c 1 r a (Moved x values to (file_of_run r) r)
   branch_moves values off to i taken d rest r a is there whole stands ready =
-      placed_moves values off to i rest r a whole (is (word_of i) ∙ branch_goes r.state (word_of i) taken d (code_at + to) there (omega arith)) stands ready
+      placed_moves values off to i rest r a whole (is (next_pc r.state) (word_of i) ∙ branch_goes r.state (next_pc r.state) (word_of i) taken d (code_at + to) there (omega arith)) stands ready
 
-  forward_moves : (values : Values) (off to : ℕ) (i : Instr) (taken : Bool) (d : ℕ) (rest : List Instr) (r : Run) (a : Meter Event) → ((word : ℕ) → obey r.state word i ≡ act r.state word (branch r.state taken d)) → (if taken then off + d else off + 4) ≡ to → d < 2048 → d % 4 ≡ 0 → Stands x.code off (i ∷ rest) → Ready x values off r → Reaches x c 1 r a (Moved x values to (file_of_run r) r)
+  forward_moves : (values : Values) (off to : ℕ) (i : Instr) (taken : Bool) (d : ℕ) (rest : List Instr) (r : Run) (a : Meter Event) → ((link word : ℕ) → obey r.state link word i ≡ act r.state link word (branch r.state taken d)) → (if taken then off + d else off + 4) ≡ to → d < 2048 → d % 4 ≡ 0 → Stands x.code off (i ∷ rest) → Ready x values off r → Reaches x c 1 r a (Moved x values to (file_of_run r) r)
   forward_moves values off to i true d rest r a is end small by_words stands ready =
       let s = r.state in
       let place = ready.place in
@@ -278,30 +267,30 @@ module _ (x : Setting) (c : ℕ) where
 
   pub beq_moves : (values : Values) (off to rs1 rs2 d : ℕ) (same : Bool) (rest : List Instr) (r : Run) (a : Meter Event) → (if same then off + d else off + 4) ≡ to → d < 2048 → d % 4 ≡ 0 → (file_of_run r rs1 == file_of_run r rs2) ≡ same → Stands x.code off (Beq rs1 rs2 d ∷ rest) → Ready x values off r → Reaches x c 1 r a (Moved x values to (file_of_run r) r)
   beq_moves values off to rs1 rs2 d same rest r a end small by_words test stands ready =
-      forward_moves values off to (Beq rs1 rs2 d) same d rest r a (λ word. ap (λ b. act r.state word (branch r.state b d)) (tested values off r (λ file. (file rs1 == file rs2)) ready ∙ test)) end small by_words stands ready
+      forward_moves values off to (Beq rs1 rs2 d) same d rest r a (λ link word. ap (λ b. act r.state link word (branch r.state b d)) (tested values off r (λ file. (file rs1 == file rs2)) ready ∙ test)) end small by_words stands ready
 
   pub bne_moves : (values : Values) (off to rs1 rs2 d : ℕ) (same : Bool) (rest : List Instr) (r : Run) (a : Meter Event) → (if same then off + 4 else off + d) ≡ to → d < 2048 → d % 4 ≡ 0 → (file_of_run r rs1 == file_of_run r rs2) ≡ same → Stands x.code off (Bne rs1 rs2 d ∷ rest) → Ready x values off r → Reaches x c 1 r a (Moved x values to (file_of_run r) r)
   bne_moves values off to rs1 rs2 d true rest r a end small by_words test stands ready =
-      forward_moves values off to (Bne rs1 rs2 d) false d rest r a (λ word. ap (λ b. act r.state word (branch r.state (not b) d)) (tested values off r (λ file. (file rs1 == file rs2)) ready ∙ test)) end small by_words stands ready
+      forward_moves values off to (Bne rs1 rs2 d) false d rest r a (λ link word. ap (λ b. act r.state link word (branch r.state (not b) d)) (tested values off r (λ file. (file rs1 == file rs2)) ready ∙ test)) end small by_words stands ready
   bne_moves values off to rs1 rs2 d false rest r a end small by_words test stands ready =
-      forward_moves values off to (Bne rs1 rs2 d) true d rest r a (λ word. ap (λ b. act r.state word (branch r.state (not b) d)) (tested values off r (λ file. (file rs1 == file rs2)) ready ∙ test)) end small by_words stands ready
+      forward_moves values off to (Bne rs1 rs2 d) true d rest r a (λ link word. ap (λ b. act r.state link word (branch r.state (not b) d)) (tested values off r (λ file. (file rs1 == file rs2)) ready ∙ test)) end small by_words stands ready
 
   pub blt_moves : (values : Values) (off to rs1 rs2 d : ℕ) (less : Bool) (rest : List Instr) (r : Run) (a : Meter Event) → (if less then off + d else off + 4) ≡ to → d < 2048 → d % 4 ≡ 0 → is_less_signed (file_of_run r rs1) (file_of_run r rs2) ≡ less → Stands x.code off (Blt rs1 rs2 d ∷ rest) → Ready x values off r → Reaches x c 1 r a (Moved x values to (file_of_run r) r)
   blt_moves values off to rs1 rs2 d less rest r a end small by_words test stands ready =
-      forward_moves values off to (Blt rs1 rs2 d) less d rest r a (λ word. ap (λ b. act r.state word (branch r.state b d)) (tested values off r (λ file. is_less_signed (file rs1) (file rs2)) ready ∙ test)) end small by_words stands ready
+      forward_moves values off to (Blt rs1 rs2 d) less d rest r a (λ link word. ap (λ b. act r.state link word (branch r.state b d)) (tested values off r (λ file. is_less_signed (file rs1) (file rs2)) ready ∙ test)) end small by_words stands ready
 
   pub bge_moves : (values : Values) (off to rs1 rs2 d : ℕ) (less : Bool) (rest : List Instr) (r : Run) (a : Meter Event) → (if less then off + 4 else off + d) ≡ to → d < 2048 → d % 4 ≡ 0 → is_less_signed (file_of_run r rs1) (file_of_run r rs2) ≡ less → Stands x.code off (Bge rs1 rs2 d ∷ rest) → Ready x values off r → Reaches x c 1 r a (Moved x values to (file_of_run r) r)
   bge_moves values off to rs1 rs2 d true rest r a end small by_words test stands ready =
-      forward_moves values off to (Bge rs1 rs2 d) false d rest r a (λ word. ap (λ b. act r.state word (branch r.state (not b) d)) (tested values off r (λ file. is_less_signed (file rs1) (file rs2)) ready ∙ test)) end small by_words stands ready
+      forward_moves values off to (Bge rs1 rs2 d) false d rest r a (λ link word. ap (λ b. act r.state link word (branch r.state (not b) d)) (tested values off r (λ file. is_less_signed (file rs1) (file rs2)) ready ∙ test)) end small by_words stands ready
   bge_moves values off to rs1 rs2 d false rest r a end small by_words test stands ready =
-      forward_moves values off to (Bge rs1 rs2 d) true d rest r a (λ word. ap (λ b. act r.state word (branch r.state (not b) d)) (tested values off r (λ file. is_less_signed (file rs1) (file rs2)) ready ∙ test)) end small by_words stands ready
+      forward_moves values off to (Bge rs1 rs2 d) true d rest r a (λ link word. ap (λ b. act r.state link word (branch r.state (not b) d)) (tested values off r (λ file. is_less_signed (file rs1) (file rs2)) ready ∙ test)) end small by_words stands ready
 
   -- back where they differ
   pub bne_back_moves : (values : Values) (off to rs1 rs2 d : ℕ) (same : Bool) (rest : List Instr) (r : Run) (a : Meter Event) → (if same then off + 4 else off - d) ≡ to → d ≤ off → d % 4 ≡ 0 → 0 < d → d < 4096 → (file_of_run r rs1 == file_of_run r rs2) ≡ same → Stands x.code off (Bne rs1 rs2 (2 ^ 13 - d) ∷ rest) → Ready x values off r → Reaches x c 1 r a (Moved x values to (file_of_run r) r)
   bne_back_moves values off to rs1 rs2 d true rest r a end within by_words some small test stands ready =
       let old = ready.whole in
       let i = Bne rs1 rs2 (2 ^ 13 - d) in
-      branch_moves values off to i false (2 ^ 13 - d) rest r a (λ word. ap (λ b. act r.state word (branch r.state (not b) (2 ^ 13 - d))) (tested values off r (λ file. (file rs1 == file rs2)) ready ∙ test)) (next_is values off to i rest r end stands ready) (omega arith) stands ready
+      branch_moves values off to i false (2 ^ 13 - d) rest r a (λ link word. ap (λ b. act r.state link word (branch r.state (not b) (2 ^ 13 - d))) (tested values off r (λ file. (file rs1 == file rs2)) ready ∙ test)) (next_is values off to i rest r end stands ready) (omega arith) stands ready
   bne_back_moves values off to rs1 rs2 d false rest r a end within by_words some small test stands ready =
       let s = r.state in
       let place = ready.place in
@@ -311,30 +300,7 @@ module _ (x : Setting) (c : ℕ) where
       let n = 2 ^ 13 - d in
       let far : with_sign (2 ^ 12) n ≡ n + 2 ^ 32 - 2 * 2 ^ 12 = cond-false (nat_lt n (2 ^ 12)) n (n + 2 ^ 32 - 2 * 2 ^ 12) (le-ltb n (2 ^ 12) (omega arith)) in
       let there : added s.pc (with_sign (2 ^ 12) n) ≡ code_at + to = ap (added s.pc) far ∙ (let e : (s.pc + (n + 2 ^ 32 - 2 * 2 ^ 12)) % 2 ^ 32 ≡ code_at + to = omega arith in e) in
-      branch_moves values off to (Bne rs1 rs2 n) true n rest r a (λ word. ap (λ b. act r.state word (branch r.state (not b) n)) (tested values off r (λ file. (file rs1 == file rs2)) ready ∙ test)) there (omega arith) stands ready
-
-  -- ---- runs put together
-
-  pub reaches_then : (p q : ℕ) (r : Run) (a : Meter Event) (Good Good' : Run → Type 0) → Reaches x c p r a Good → ((s : Run) → Good s → Reaches x c q s a Good') → Reaches x c (p + q) r a Good'
-  reaches_then p q r a Good Good' h next = let n = next h.0 h.2 in (n.0, comes_on (step x.hooks) c p q r h.0 n.0 a a a h.1 n.1, n.2)
-
-  pub reaches_map : (p : ℕ) (r : Run) (a : Meter Event) (Good Good' : Run → Type 0) → Reaches x c p r a Good → ((s : Run) → Good s → Good' s) → Reaches x c p r a Good'
-  reaches_map p r a Good Good' h f = (h.0, h.1, f h.0 h.2)
-
-  pub reaches_paid : (p q : ℕ) (r : Run) (a : Meter Event) (Good : Run → Type 0) → p ≤ q → Reaches x c p r a Good → Reaches x c q r a Good
-  reaches_paid p q r a Good le h = (h.0, record { work = h.1.work; paid = omega (arith, h.1.paid, le); falls = h.1.falls; by = h.1.by }, h.2)
-
-  pub reaches_writes : (p q : ℕ) (r : Run) (a : Meter Event) (bytes : List ℕ) (Good Good' : Run → Type 0) → Reaches x c p r a Good → ((s : Run) → Good s → Writes x c q s a bytes Good') → Writes x c (p + q) r a bytes Good'
-  reaches_writes p q r a bytes Good Good' h next = let n = next h.0 h.2 in (n.0, comes_on (step x.hooks) c p q r h.0 n.0 a a (told (writes Out bytes) a) h.1 n.1, n.2)
-
-  pub writes_then : (p q : ℕ) (r : Run) (a : Meter Event) (bytes : List ℕ) (Good Good' : Run → Type 0) → Writes x c p r a bytes Good → ((s : Run) → Good s → Reaches x c q s (told (writes Out bytes) a) Good') → Writes x c (p + q) r a bytes Good'
-  writes_then p q r a bytes Good Good' h next = let b = told (writes Out bytes) a in let n = next h.0 h.2 in (n.0, comes_on (step x.hooks) c p q r h.0 n.0 a b b h.1 n.1, n.2)
-
-  pub reaches_halts : (p q : ℕ) (r : Run) (a b : Meter Event) (status : ℕ) (live : List ℕ) (Good : Run → Type 0) → Reaches x c p r a Good → ((s : Run) → Good s → Halts (step x.hooks) c q s a status live b) → Halts (step x.hooks) c (p + q) r a status live b
-  reaches_halts p q r a b status live Good h next = comes_halts (step x.hooks) c p q r h.0 a a b status live h.1 (next h.0 h.2)
-
-  pub reaches_follows : {A : Type 0} (G : A → Meter Event → Run → Type 0) (p q : ℕ) (r : Run) (a : Meter Event) (res : Res (Meter Event) A) (Good : Run → Type 0) → Reaches x c p r a Good → ((s : Run) → Good s → Follows (step x.hooks) c (λ m. m) G q s a res) → Follows (step x.hooks) c (λ m. m) G (p + q) r a res
-  reaches_follows G p q r a res Good h next = follows_after (step x.hooks) c (λ m. m) G p q r h.0 a a res h.1 (next h.0 h.2)
+      branch_moves values off to (Bne rs1 rs2 n) true n rest r a (λ link word. ap (λ b. act r.state link word (branch r.state (not b) n)) (tested values off r (λ file. (file rs1 == file rs2)) ready ∙ test)) there (omega arith) stands ready
 
   -- ---- calls of the environment
 
@@ -346,7 +312,7 @@ module _ (x : Setting) (c : ℕ) where
       let good = ready.keeps.regs in
       let old = ready.whole in
       let pc = (r.state.pc + 4) % 2 ^ 32 in
-      (onto r (moved r.state (put regs 10 n) pc), write_run x.hooks c r off rest stream bytes a (before values off (Ecall ∷ rest) r stands ready) asks (x.quiet pc), moved_ready values off to (put regs 10 n) pc (holding (file_of_run r) 10 n) r (next_is values off to Ecall rest r end stands ready) (omega arith) (put_regs regs 10 n good) (λ number. put_is regs 10 n number good) refl ready)
+      (onto r (moved r.state (put regs 10 n) pc), write_run x.live x.hooks c r off rest stream bytes a (before values off (Ecall ∷ rest) r stands ready) asks (x.quiet pc), moved_ready values off to (put regs 10 n) pc (holding (file_of_run r) 10 n) r (next_is values off to Ecall rest r end stands ready) (omega arith) (put_regs regs 10 n good) (λ number. put_is regs 10 n number good) refl ready)
 
   pub write_stack_moves : (values : Values) (off to at n : ℕ) (rest : List Instr) (r : Run) (a : Meter Event) → off + 4 ≡ to → 0 < n → at + n ≤ 65536 → reg_of r 17 ≡ 64 → reg_of r 10 ≡ 1 → reg_of r 11 ≡ stack_at + at → reg_of r 12 ≡ n → Stands x.code off (Ecall ∷ rest) → Ready x values off r → Writes x c 1 r a (take n (drop at r.state.stack)) (Moved x values to (holding (file_of_run r) 10 n) r)
   write_stack_moves values off to at n rest r a end some within number stream from size stands ready =
@@ -379,7 +345,7 @@ module _ (x : Setting) (c : ℕ) where
         bytes_are = ap (λ i. readable s.state i (reg_of s 12)) from ∙ ap (readable s.state at) size_is ∙ read;
       } in
       let w = call_moves values (off + 24) to stream bytes rest s a (omega arith) asks (stands_back x.code off is (Ecall ∷ rest) stands) m.2.ready in
-      (w.0, comes_on (step x.hooks) c 6 1 r s w.0 a a (told (writes stream bytes) a) m.1 w.1, w.2.ready)
+      (w.0, comes_on (stepping x) c 6 1 r s w.0 a a (told (writes stream bytes) a) m.1 w.1, w.2.ready)
 
   pub write_text_moves : (values : Values) (off to from n : ℕ) (bytes : List ℕ) (rest : List Instr) (r : Run) (a : Meter Event) → off + 28 ≡ to → n ≡ length bytes → 0 < n → TextStands x from bytes → Stands x.code off (write_code 1 from n ++ (Ecall ∷ rest)) → Ready x values off r → Writes x c 7 r a bytes (Ready x values to)
   write_text_moves values off to from n bytes rest r a end size some text stands ready =
@@ -389,14 +355,15 @@ module _ (x : Setting) (c : ℕ) where
 
   -- ---- ends
 
-  pub exit_halts : (values : Values) (off status : ℕ) (rest : List Instr) (r : Run) (a : Meter Event) → reg_of r 10 % 256 ≡ status → Stands x.code off (exit_code ++ rest) → Ready x values off r → Halts (step x.hooks) c 2 r a status [] a
+  pub exit_halts : (values : Values) (off status : ℕ) (rest : List Instr) (r : Run) (a : Meter Event) → reg_of r 10 % 256 ≡ status → Stands x.code off (exit_code ++ rest) → Ready x values off r → Halts (stepping x) c 2 r a status no_objects a
   exit_halts values off status rest r a status_is stands ready =
       let m = plain_moves values off (off + 4) (Addi 17 0 93 ∷ []) (Ecall ∷ rest) r a refl (tt, tt) (λ file. refl) stands ready in
       let s = m.0 in
-      let exiting = exit_run x.hooks c s (off + 4) rest status a (before values (off + 4) (Ecall ∷ rest) s stands.3 m.2.ready) (m.2.reg_is 17) (ap (λ n. n % 256) (m.2.reg_is 10) ∙ status_is) in
-      comes_halts (step x.hooks) c 1 1 r s a a a status [] m.1 exiting
+      let exited = exit_run x.live x.hooks c s (off + 4) rest status a (before values (off + 4) (Ecall ∷ rest) s stands.3 m.2.ready) (m.2.reg_is 17) (ap (λ n. n % 256) (m.2.reg_is 10) ∙ status_is) in
+      let exiting = subst (λ live. Halts (stepping x) c 1 s a status live a) (x.none_live s.state) exited in
+      comes_halts (stepping x) c 1 1 r s a a a status no_objects m.1 exiting
 
-  trap_ends : (values : Values) (trap : Trap) (r : Run) (a : Meter Event) → Ready x values (trap_at trap) r → Halts (step x.hooks) c 10 r a 1 [] (told (writes Err (trap_line trap)) a)
+  trap_ends : (values : Values) (trap : Trap) (r : Run) (a : Meter Event) → Ready x values (trap_at trap) r → Halts (stepping x) c 10 r a 1 no_objects (told (writes Err (trap_line trap)) a)
   trap_ends values trap r a ready =
       let off = trap_at trap in
       let b = told (writes Err (trap_line trap)) a in
@@ -408,7 +375,7 @@ module _ (x : Setting) (c : ℕ) where
       let stands = stands_back x.code off (writing ++ Ecall ∷ []) ending (x.traps trap) in
       let m = plain_moves values (off + 28) (off + 32) (Addi 10 0 1 ∷ []) exit_code w.0 b (omega arith) (tt, tt) (λ file. refl) stands w.2 in
       let exiting = exit_halts values (off + 32) 1 [] m.0 b (ap (λ k. k % 256) (m.2.reg_is 10)) (stands_back x.code off (writing ++ Ecall ∷ Addi 10 0 1 ∷ []) exit_code (x.traps trap)) m.2.ready in
-      comes_halts (step x.hooks) c 7 3 r w.0 a b b 1 [] w.1 (comes_halts (step x.hooks) c 1 2 w.0 m.0 b b b 1 [] m.1 exiting)
+      comes_halts (stepping x) c 7 3 r w.0 a b b 1 no_objects w.1 (comes_halts (stepping x) c 1 2 w.0 m.0 b b b 1 no_objects m.1 exiting)
 
   -- to the code of a trap
   trap_moves : (values : Values) (off : ℕ) (trap : Trap) (rest : List Instr) (r : Run) (a : Meter Event) → Stands x.code off (to_trap trap ++ rest) → Ready x values off r → Reaches x c 2 r a (Ready x values (trap_at trap))
@@ -419,13 +386,13 @@ module _ (x : Setting) (c : ℕ) where
       let from : reg_of s 9 ≡ code_at = m.2.reg_is 9 in
       let there : added code_at (signed12 (trap_at trap)) / 2 * 2 ≡ code_at + trap_at trap = elim trap as (λ t. added code_at (signed12 (trap_at t)) / 2 * 2 ≡ code_at + trap_at t) [ Overflow ↦ refl | DivisionByZero ↦ refl ] in
       let whole : trap_at trap % 4 ≡ 0 = elim trap as (λ t. trap_at t % 4 ≡ 0) [ Overflow ↦ refl | DivisionByZero ↦ refl ] in
-      let jump = placed_moves values (off + 4) (trap_at trap) i rest s a whole (jalr_goes s.state (word_of i) 9 (trap_at trap) (code_at + trap_at trap) (ap (λ n. added n (signed12 (trap_at trap)) / 2 * 2) from ∙ there) (omega arith)) stands.3 m.2.ready in
-      (jump.0, comes_on (step x.hooks) c 1 1 r s jump.0 a a a m.1 jump.1, jump.2.ready)
+      let jump = placed_moves values (off + 4) (trap_at trap) i rest s a whole (jalr_goes s.state (next_pc s.state) (word_of i) 9 (trap_at trap) (code_at + trap_at trap) (ap (λ n. added n (signed12 (trap_at trap)) / 2 * 2) from ∙ there) (omega arith)) stands.3 m.2.ready in
+      (jump.0, comes_on (stepping x) c 1 1 r s jump.0 a a a m.1 jump.1, jump.2.ready)
 
-  pub trap_halts : (values : Values) (off : ℕ) (trap : Trap) (rest : List Instr) (r : Run) (a : Meter Event) → Stands x.code off (to_trap trap ++ rest) → Ready x values off r → Halts (step x.hooks) c 12 r a 1 [] (told (writes Err (trap_line trap)) a)
+  pub trap_halts : (values : Values) (off : ℕ) (trap : Trap) (rest : List Instr) (r : Run) (a : Meter Event) → Stands x.code off (to_trap trap ++ rest) → Ready x values off r → Halts (stepping x) c 12 r a 1 no_objects (told (writes Err (trap_line trap)) a)
   trap_halts values off trap rest r a stands ready =
       let m = trap_moves values off trap rest r a stands ready in
-      comes_halts (step x.hooks) c 2 10 r m.0 a a _ 1 [] m.1 (trap_ends values trap m.0 a m.2)
+      comes_halts (stepping x) c 2 10 r m.0 a a _ 1 no_objects m.1 (trap_ends values trap m.0 a m.2)
 
   -- ---- the beginning
 
@@ -447,7 +414,7 @@ module _ (x : Setting) (c : ℕ) where
         keeps = record { code_is = code_is; regs = put_regs r.state.regs 2 stack_at good; base = base; data_is = data_is; heap = heap; stack = stack; fit = fit };
       } in
       let m = ahead_moves values 4 88 21 rest s a refl (omega arith) stands.3 ready in
-      (m.0, comes_on (step x.hooks) c 1 1 r s m.0 a a a (plain_run x.hooks c first (ahead 21 ∷ rest) r 0 a (tt, tt) begin (λ pc _ _. x.quiet pc)) m.1, m.2.ready)
+      (m.0, comes_on (stepping x) c 1 1 r s m.0 a a a (plain_run x.live x.hooks c first (ahead 21 ∷ rest) r 0 a (tt, tt) begin (λ pc _ _. x.quiet pc)) m.1, m.2.ready)
 
   -- ---- smaller facts
 

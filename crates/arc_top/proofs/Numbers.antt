@@ -7,7 +7,8 @@ use Rattle.std.proofs.lemmas.Bool.{ne_eqb}
 use Rattle.arc_base.specs.declared.outside.Stream.TheVariants.{Out}
 use Rattle.arc_base.specs.Event.{Event, writes}
 use Rattle.arc_base.specs.BigStep.{Meter, told}
-use Rattle.arc_base.proofs.Follows.{Comes, comes_on}
+use Rattle.arc_base.specs.Simulation.{Comes}
+use Rattle.arc_base.proofs.ForCallers.{comes_on, reaches_paid}
 use Rattle.nim_core.specs.Ints.{fits}
 use Rattle.nim_core.specs.Meaning.{Values, line_of}
 use Rattle.rv32_isa.specs.declared.instr.Instr.{Instr}
@@ -15,12 +16,14 @@ use Rattle.rv32_isa.specs.declared.instr.Instr.TheVariants.{Bne, Bge, Sb, Addi, 
 use Rattle.rv32_isa.specs.Image.{stack_at}
 use Rattle.rv32_isa.specs.State.{put_bytes}
 use Rattle.rv32_isa.specs.Values.{added, subtracted, quotient, remainder, is_less_signed}
-use Rattle.rv32_isa.specs.Machine.{Run, step}
-use Rattle.rv32_isa.proofs.Fetch.{Stands, stands_front, stands_back}
-use Rattle.rv32_isa.proofs.Lookup.{File, file_after}
+use Rattle.rv32_isa.specs.Machine.{Run}
+use Rattle.rv32_logic.specs.Placed.{Stands}
+use Rattle.rv32_logic.proofs.ForCallers.{stands_front, stands_back}
+use Rattle.rv32_logic.specs.Registers.{File, reg_of, file_of_run}
+use Rattle.rv32_logic.specs.Straight.{file_after}
 use Rattle.arc_top.specs.Code.{word, line_end, number_front, number_digits, number_sign, number_write, number_code}
-use Rattle.arc_top.proofs.Ready.{Setting, Ready, Moved, Reaches, Writes, reg_of, file_of_run}
-use Rattle.arc_top.proofs.Moves.{plain_moves, bge_moves, bne_back_moves, store_byte_moves, write_stack_moves, reaches_paid}
+use Rattle.arc_top.proofs.Ready.{Setting, stepping, Ready, Moved, Reaches, Writes}
+use Rattle.arc_top.proofs.Moves.{plain_moves, bge_moves, bne_back_moves, store_byte_moves, write_stack_moves}
 use Rattle.arc_top.proofs.Digits.{put_in_front, fits_pos, fits_negsuc, word_small, magnitude_small, word_pos, word_negsuc, pos_word, negsuc_word, opposite_word}
 
 -- ---- the parts of the code
@@ -129,7 +132,7 @@ module _ (x : Setting) (c : ℕ) (values : Values) where
       let m = plain_moves x c values off (off + 8) place (store ++ rest) r a refl (tt, (tt, tt)) (λ file. refl) code h in
       let six : reg_of m.0 6 ≡ stack_at + (line_end - 1) = m.2.reg_is 6 ∙ ap (λ w. added w (line_end - 1)) h.keeps.base in
       let put = stores (off + 8) (off + 12) five (line_end - 1) 10 [] rest m.0 a (omega arith) (m.2.reg_is 5 ∙ e5) six refl (m.2.reg_is 7) (omega arith) refl (stands_back x.code off place (store ++ rest) code) m.2.ready in
-      (put.0, comes_on (step x.hooks) c 2 1 r m.0 put.0 a a a m.1 put.1, put.2.line)
+      (put.0, comes_on (stepping x) c 2 1 r m.0 put.0 a a a m.1 put.1, put.2.line)
 
   -- the magnitude
   sizes : (z : ℤ) (off : ℕ) (text : List ℕ) (r : Run) (a : Meter Event) → fits z ≡ true → Stands x.code off size → Line off (word z) text r → Reaches x c 3 r a (Sized (off + 12) (word z) (unsigned_abs z) text)
@@ -139,14 +142,14 @@ module _ (x : Setting) (c : ℕ) (values : Values) where
       let line = line_moved off (off + 4) (word z) text _ r m.0 h m.2 h.five_is h.six in
       let first : Sized (off + 4) (word z) (word z) text m.0 = record { line = line; eight = m.2.reg_is 8 ∙ ap (λ w. added w 0) h.five_is ∙ whole } in
       let next = sized z m.0 fit first in
-      (next.0, comes_on (step x.hooks) c 1 2 r m.0 next.0 a a a m.1 next.1, next.2)
+      (next.0, comes_on (stepping x) c 1 2 r m.0 next.0 a a a m.1 next.1, next.2)
     where
       sized : (z : ℤ) (s : Run) → fits z ≡ true → Sized (off + 4) (word z) (word z) text s → Reaches x c 2 s a (Sized (off + 12) (word z) (unsigned_abs z) text)
       sized (pos n) s fit g =
           let five = word (pos n) in
           let m = bge_moves x c values (off + 4) (off + 12) 5 0 8 false (Sub 8 0 5 ∷ Addi 9 0 10 ∷ []) s a (omega arith) (omega arith) refl (ap (λ w. is_less_signed w 0) g.line.five_is ∙ pos_word n fit) code.3 g.line.ready in
           let line = line_moved (off + 4) (off + 12) five text (file_of_run s) s m.0 g.line m.2 g.line.five_is g.line.six in
-          reaches_paid x c 1 2 s a (Sized (off + 12) five n text) (omega arith) (m.0, m.1, record { line = line; eight = m.2.reg_is 8 ∙ g.eight ∙ word_pos n (fits_pos n fit) })
+          reaches_paid (stepping x) c 1 2 s a (Sized (off + 12) five n text) (omega arith) (m.0, m.1, record { line = line; eight = m.2.reg_is 8 ∙ g.eight ∙ word_pos n (fits_pos n fit) })
       sized (negsuc n) s fit g =
           let five = word (negsuc n) in
           let m = bge_moves x c values (off + 4) (off + 8) 5 0 8 true (Sub 8 0 5 ∷ Addi 9 0 10 ∷ []) s a (omega arith) (omega arith) refl (ap (λ w. is_less_signed w 0) g.line.five_is ∙ negsuc_word n fit) code.3 g.line.ready in
@@ -154,7 +157,7 @@ module _ (x : Setting) (c : ℕ) (values : Values) where
           let q = plain_moves x c values (off + 8) (off + 12) (Sub 8 0 5 ∷ []) (Addi 9 0 10 ∷ []) m.0 a (omega arith) (tt, tt) (λ file. refl) (stands_back x.code off (Addi 8 5 0 ∷ Bge 5 0 8 ∷ []) (Sub 8 0 5 ∷ Addi 9 0 10 ∷ []) code) m.2.ready in
           let end = line_moved (off + 8) (off + 12) five text (file_after (Sub 8 0 5 ∷ []) (file_of_run m.0)) m.0 q.0 line q.2 line.five_is line.six in
           let small = fits_negsuc n fit in
-          (q.0, comes_on (step x.hooks) c 1 1 s m.0 q.0 a a a m.1 q.1, record { line = end; eight = q.2.reg_is 8 ∙ ap (λ w. subtracted 0 w) (line.five_is ∙ word_negsuc n small) ∙ opposite_word n small })
+          (q.0, comes_on (stepping x) c 1 1 s m.0 q.0 a a a m.1 q.1, record { line = end; eight = q.2.reg_is 8 ∙ ap (λ w. subtracted 0 w) (line.five_is ∙ word_negsuc n small) ∙ opposite_word n small })
 
   -- the base
   bases : (off five n : ℕ) (text : List ℕ) (r : Run) (a : Meter Event) → Stands x.code off (Addi 9 0 10 ∷ []) → Sized off five n text r → Reaches x c 1 r a (Turn (off + 4) five n text)
@@ -173,7 +176,7 @@ module _ (x : Setting) (c : ℕ) (values : Values) where
       let seven : added (remainder (reg_of r 8) (reg_of r 9)) 48 ≡ 48 + n % 10 = (λ i. added (remainder (h.eight i) (h.nine i)) 48) ∙ low in
       let eight : quotient (reg_of r 8) (reg_of r 9) ≡ n / 10 = λ i. quotient (h.eight i) (h.nine i) in
       let put = extends off (off + 16) (off + 20) five (48 + n % 10) text (Bne 8 0 (2 ^ 13 - 20) ∷ []) (file_after digit (file_of_run r)) r m.0 a h.line short m.2 h.line.five_is refl seven (omega arith) (omega arith) (stands_back x.code off digit rest code) in
-      (put.0, comes_on (step x.hooks) c 4 1 r m.0 put.0 a a a m.1 put.1, record { line = put.2.line; eight = put.2.same 8 ∙ (m.2.reg_is 8 ∙ eight); nine = put.2.same 9 ∙ (m.2.reg_is 9 ∙ h.nine) })
+      (put.0, comes_on (stepping x) c 4 1 r m.0 put.0 a a a m.1 put.1, record { line = put.2.line; eight = put.2.same 8 ∙ (m.2.reg_is 8 ∙ eight); nine = put.2.same 9 ∙ (m.2.reg_is 9 ∙ h.nine) })
 
   module _ (off five : ℕ) (a : Meter Event) (code : Stands x.code off number_digits) where
     -- the digits of a number come in front of the line
@@ -190,7 +193,7 @@ module _ (x : Setting) (c : ℕ) (values : Values) where
         let same : 48 + n % 10 ≡ 48 + n = omega arith in
         let m = bne_back_moves x c values (off + 20) (off + 24) 8 0 20 true [] t.0 a (omega arith) (omega arith) refl (omega arith) (omega arith) (ap (λ w. w == 0) (t.2.eight ∙ none)) behind t.2.line.ready in
         let line = line_moved (off + 20) (off + 24) five ((48 + n % 10) ∷ text) (file_of_run t.0) t.0 m.0 t.2.line m.2 t.2.line.five_is t.2.line.six in
-        (m.0, comes_on (step x.hooks) c 5 1 r t.0 m.0 a a a t.1 m.1, subst (λ d. Line (off + 24) five (d ∷ text) m.0) same line)
+        (m.0, comes_on (stepping x) c 5 1 r t.0 m.0 a a a t.1 m.1, subst (λ d. Line (off + 24) five (d ∷ text) m.0) same line)
 
     more : (n : ℕ) (digits : List ℕ) → 10 ≤ n → Spelled (n / 10) digits → Spelled n (digits ++ (48 + n % 10) ∷ [])
     more n digits large spelled text r small short h =
@@ -201,8 +204,8 @@ module _ (x : Setting) (c : ℕ) (values : Values) where
         let line = line_moved (off + 20) off five (d ∷ text) (file_of_run t.0) t.0 m.0 t.2.line m.2 t.2.line.five_is t.2.line.six in
         let rest = spelled (d ∷ text) m.0 (omega arith) (omega arith) (record { line = line; eight = m.2.reg_is 8 ∙ t.2.eight; nine = m.2.reg_is 9 ∙ t.2.nine }) in
         let pace : 6 + 6 * length digits ≡ 6 * length (digits ++ d ∷ []) = omega arith in
-        let turn = comes_on (step x.hooks) c 5 1 r t.0 m.0 a a a t.1 m.1 in
-        (rest.0, subst (λ p. Comes (step x.hooks) c p r a rest.0 a) pace (comes_on (step x.hooks) c 6 (6 * length digits) r m.0 rest.0 a a a turn rest.1), subst (λ l. Line (off + 24) five l rest.0) (sym (append_assoc digits (d ∷ []) text)) rest.2)
+        let turn = comes_on (stepping x) c 5 1 r t.0 m.0 a a a t.1 m.1 in
+        (rest.0, subst (λ p. Comes (stepping x) c p r a rest.0 a) pace (comes_on (stepping x) c 6 (6 * length digits) r m.0 rest.0 a a a turn rest.1), subst (λ l. Line (off + 24) five l rest.0) (sym (append_assoc digits (d ∷ []) text)) rest.2)
 
     spells : (n : ℕ) → n < 2 ^ 32 → Spelled n (decimal n)
     spells n small = decimal_by_steps Spelled last more n (omega arith)
@@ -213,14 +216,14 @@ module _ (x : Setting) (c : ℕ) (values : Values) where
   signs (pos n) off text r a fit short code h =
       let five = word (pos n) in
       let m = bge_moves x c values off (off + 16) 5 0 16 false (minus ++ store) r a refl (omega arith) refl (ap (λ w. is_less_signed w 0) h.five_is ∙ pos_word n fit) code h.ready in
-      reaches_paid x c 1 4 r a (Line (off + 16) five text) (omega arith) (m.0, m.1, line_moved off (off + 16) five text (file_of_run r) r m.0 h m.2 h.five_is h.six)
+      reaches_paid (stepping x) c 1 4 r a (Line (off + 16) five text) (omega arith) (m.0, m.1, line_moved off (off + 16) five text (file_of_run r) r m.0 h m.2 h.five_is h.six)
   signs (negsuc n) off text r a fit short code h =
       let five = word (negsuc n) in
       let m = bge_moves x c values off (off + 4) 5 0 16 true (minus ++ store) r a refl (omega arith) refl (ap (λ w. is_less_signed w 0) h.five_is ∙ negsuc_word n fit) code h.ready in
       let line = line_moved off (off + 4) five text (file_of_run r) r m.0 h m.2 h.five_is h.six in
       let q = plain_moves x c values (off + 4) (off + 12) minus store m.0 a (omega arith) (tt, (tt, tt)) (λ file. refl) code.3 m.2.ready in
       let put = extends (off + 4) (off + 12) (off + 16) five 45 text [] (file_after minus (file_of_run m.0)) m.0 q.0 a line short q.2 line.five_is refl refl (omega arith) (omega arith) (stands_back x.code off (Bge 5 0 16 ∷ minus) store code) in
-      (put.0, comes_on (step x.hooks) c 1 3 r m.0 put.0 a a a m.1 (comes_on (step x.hooks) c 2 1 m.0 q.0 put.0 a a a q.1 put.1), put.2.line)
+      (put.0, comes_on (stepping x) c 1 3 r m.0 put.0 a a a m.1 (comes_on (stepping x) c 2 1 m.0 q.0 put.0 a a a q.1 put.1), put.2.line)
 
   -- ---- the write
 
@@ -232,8 +235,8 @@ module _ (x : Setting) (c : ℕ) (values : Values) where
       let count : reg_of m.0 12 ≡ length text = m.2.reg_is 12 ∙ (λ i. subtracted (added (h.ready.keeps.base i) line_end) (h.six i)) ∙ omega (arith, h.ends) in
       let w = write_stack_moves x c values (off + 20) (off + 24) h.at (length text) [] m.0 a (omega arith) some (omega (arith, h.ends)) (m.2.reg_is 17) (m.2.reg_is 10) from count (stands_back x.code off arguments (Ecall ∷ []) code) m.2.ready in
       let bytes : take (length text) (drop h.at m.0.state.stack) ≡ text = ap (λ l. take (length text) (drop h.at l)) m.2.stack ∙ h.bytes in
-      let shown = subst (λ l. Comes (step x.hooks) c 1 m.0 a w.0 (told (writes Out l) a)) bytes w.1 in
-      (w.0, comes_on (step x.hooks) c 5 1 r m.0 w.0 a a (told (writes Out text) a) m.1 shown, w.2.ready)
+      let shown = subst (λ l. Comes (stepping x) c 1 m.0 a w.0 (told (writes Out l) a)) bytes w.1 in
+      (w.0, comes_on (stepping x) c 5 1 r m.0 w.0 a a (told (writes Out text) a) m.1 shown, w.2.ready)
 
   -- ---- the whole
 
@@ -244,7 +247,7 @@ module _ (x : Setting) (c : ℕ) (values : Values) where
       let t = sizes z (off + 12) (10 ∷ []) s.0 a fit sizing s.2 in
       let b = bases (off + 12 + 12) (word z) (unsigned_abs z) (10 ∷ []) t.0 a (stands_back x.code (off + 12) (Addi 8 5 0 ∷ Bge 5 0 8 ∷ Sub 8 0 5 ∷ []) (Addi 9 0 10 ∷ []) sizing) t.2 in
       let there : off + 12 + 12 + 4 ≡ off + 28 = omega arith in
-      (b.0, comes_on (step x.hooks) c 3 4 r s.0 b.0 a a a s.1 (comes_on (step x.hooks) c 3 1 s.0 t.0 b.0 a a a t.1 b.1), subst (λ n. Turn n (word z) (unsigned_abs z) (10 ∷ []) b.0) there b.2)
+      (b.0, comes_on (stepping x) c 3 4 r s.0 b.0 a a a s.1 (comes_on (stepping x) c 3 1 s.0 t.0 b.0 a a a t.1 b.1), subst (λ n. Turn n (word z) (unsigned_abs z) (10 ∷ []) b.0) there b.2)
 
   -- the digits, the sign and the write
   digits_show : (z : ℤ) (off : ℕ) (r : Run) (a : Meter Event) → fits z ≡ true → Stands x.code off (number_digits ++ (number_sign ++ number_write)) → Turn off (word z) (unsigned_abs z) (10 ∷ []) r → Writes x c 70 r a (line_of (signed_decimal z)) (Ready x values (off + 24 + 16 + 24))
@@ -261,7 +264,7 @@ module _ (x : Setting) (c : ℕ) (values : Values) where
       let signed = subst (λ l. Line (off + 24 + 16) (word z) l s.0) (signed_line z) s.2 in
       let w = shows (off + 24 + 16) (word z) line s.0 a some (stands_back x.code (off + 24) number_sign number_write sign_code) signed in
       let b = told (writes Out line) a in
-      let run = comes_on (step x.hooks) c (6 * length (decimal n)) 10 r d.0 w.0 a a b d.1 (comes_on (step x.hooks) c 4 6 d.0 s.0 w.0 a a b s.1 w.1) in
+      let run = comes_on (stepping x) c (6 * length (decimal n)) 10 r d.0 w.0 a a b d.1 (comes_on (stepping x) c 4 6 d.0 s.0 w.0 a a b s.1 w.1) in
       (w.0, record { work = run.work; paid = omega (arith, run.paid); falls = run.falls; by = run.by }, w.2)
 
 module _ (x : Setting) (c : ℕ) where
@@ -271,6 +274,6 @@ module _ (x : Setting) (c : ℕ) where
       let b = told (writes Out (line_of (signed_decimal z))) a in
       let f = fronts x c values z off r a fit e5 (stands_front x.code off number_front rest code) h in
       let w = digits_show x c values z (off + 28) f.0 a fit (stands_back x.code off number_front rest code) f.2 in
-      let run = comes_on (step x.hooks) c 7 70 r f.0 w.0 a a b f.1 w.1 in
+      let run = comes_on (stepping x) c 7 70 r f.0 w.0 a a b f.1 w.1 in
       let there : off + 28 + 24 + 16 + 24 ≡ off + 92 = omega arith in
       (w.0, record { work = run.work; paid = omega (arith, run.paid); falls = run.falls; by = run.by }, subst (λ n. Ready x values n w.0) there w.2)

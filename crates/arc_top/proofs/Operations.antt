@@ -3,7 +3,7 @@ use Rattle.std.proofs.Common.{◌≡◌, ◌≢◌, ◌⊎◌, inl, inr, ℕ, ze
 use Rattle.std.proofs.lemmas.Bool.{cond-true}
 use Rattle.arc_base.specs.Event.{Event}
 use Rattle.arc_base.specs.BigStep.{Meter}
-use Rattle.arc_base.proofs.Follows.{Follows}
+use Rattle.arc_base.specs.Simulation.{Follows}
 use Rattle.nim_core.specs.declared.program.Operator.{Operator}
 use Rattle.nim_core.specs.declared.program.Operator.TheVariants.{Add as Plus, Subtract, Multiply, Divide, Modulo}
 use Rattle.nim_core.specs.declared.program.Comparison.{Comparison}
@@ -14,13 +14,15 @@ use Rattle.nim_core.specs.Traps.{Trap, Overflow, DivisionByZero}
 use Rattle.rv32_isa.specs.declared.instr.Instr.{Instr}
 use Rattle.rv32_isa.specs.declared.instr.Instr.TheVariants.{Lui, Beq, Bne, Addi, Slti, Srai, Add, Sub, Slt, Mul, Mulh, Div, Rem}
 use Rattle.rv32_isa.specs.Values.{added, subtracted, one_if, is_less_signed, low_product, high_product_signed, shifted_right_signed, quotient_signed, remainder_signed}
-use Rattle.rv32_isa.specs.Machine.{Run, step}
-use Rattle.rv32_isa.proofs.Fetch.{Stands, stands_back}
-use Rattle.rv32_isa.proofs.Straight.{AllPlain}
-use Rattle.rv32_isa.proofs.Lookup.{File, file_after}
+use Rattle.rv32_isa.specs.Machine.{Run}
+use Rattle.rv32_logic.specs.Placed.{Stands}
+use Rattle.rv32_logic.proofs.ForCallers.{stands_back}
+use Rattle.rv32_logic.specs.Straight.{AllPlain, file_after}
+use Rattle.rv32_logic.specs.Registers.{File, reg_of, file_of_run}
+use Rattle.arc_base.proofs.ForCallers.{reaches_map, reaches_paid, reaches_follows}
 use Rattle.arc_top.specs.Code.{word, to_trap, add_code, subtract_code, multiply_code, divisor_code, divide_code, modulo_code, operator_code, negate_code, skip_where}
-use Rattle.arc_top.proofs.Ready.{Setting, Ready, Moved, Reaches, reg_of, file_of_run}
-use Rattle.arc_top.proofs.Moves.{plain_moves, beq_moves, bne_moves, blt_moves, bge_moves, trap_halts, reaches_map, reaches_paid, reaches_follows}
+use Rattle.arc_top.proofs.Ready.{Setting, stepping, Ready, Moved, Reaches}
+use Rattle.arc_top.proofs.Moves.{plain_moves, beq_moves, bne_moves, blt_moves, bge_moves, trap_halts}
 use Rattle.arc_top.proofs.Arithmetic.{added_is, sum_fits, subtracted_is, difference_fits, product_is, product_fits, word_same, word_apart, not_zero, quotient_fits, quotient_is, rem_fits, remainder_is, opposite_is, is_least, equal_is, less_is, greater_is}
 
 -- the machine has gone from r to s, where a number stands in x7
@@ -34,10 +36,10 @@ pub record Computed (x : Setting) (values : Values) (off : ℕ) (r : Run) (z : �
 module _ (x : Setting) (c : ℕ) (values : Values) (to : ℕ) (r : Run) (a : Meter Event) where
   -- from s the machine comes to what an operation gives
   abbrev Computes : (p : ℕ) → Run → Checked → Type 0
-  Computes p s given = Follows (step x.hooks) c (λ m. m) (λ z b t. Computed x values to r z t) p s a (outcome given a)
+  Computes p s given = Follows (stepping x) c (λ m. m) (λ z b t. Computed x values to r z t) p s a (outcome given a)
 
   computes_after : (p q : ℕ) (s : Run) (given : Checked) (Good : Run → Type 0) → Reaches x c p s a Good → ((t : Run) → Good t → Computes q t given) → Computes (p + q) s given
-  computes_after p q s given Good h f = reaches_follows x c (λ z b t. Computed x values to r z t) p q s a (outcome given a) Good h f
+  computes_after p q s given Good h f = reaches_follows (stepping x) c (λ m. m) (λ z b t. Computed x values to r z t) p q s a (outcome given a) Good h f
 
   traps : (off p : ℕ) (trap : Trap) (rest : List Instr) (s : Run) → Stands x.code off (to_trap trap ++ rest) → Ready x values off s → Computes (12 + p) s (Trapped trap)
   traps off p trap rest s code ready =
@@ -47,8 +49,8 @@ module _ (x : Setting) (c : ℕ) (values : Values) (to : ℕ) (r : Run) (a : Met
   -- an instruction leaves the number in x7, and it is the last one
   last_run : (off p : ℕ) (i : Instr) (rest : List Instr) (z : ℤ) (s : Run) → off + 4 ≡ to → 0 < p → AllPlain (i ∷ []) → ((file : File) → file_after (i ∷ []) file 2 ≡ file 2) → file_after (i ∷ []) (file_of_run s) 7 ≡ word z → fits z ≡ true → s.state.stack ≡ r.state.stack → Stands x.code off (i ∷ rest) → Ready x values off s → Computes p s (Fine z)
   last_run off p i rest z s end paid plain base is fit stack code ready =
-      reaches_paid x c 1 p s a (Computed x values to r z) paid
-      (reaches_map x c 1 s a (Moved x values to (file_after (i ∷ []) (file_of_run s)) s) (Computed x values to r z) (plain_moves x c values off to (i ∷ []) rest s a end plain base code ready)
+      reaches_paid (stepping x) c 1 p s a (Computed x values to r z) paid
+      (reaches_map (stepping x) c 1 s a (Moved x values to (file_after (i ∷ []) (file_of_run s)) s) (Computed x values to r z) (plain_moves x c values off to (i ∷ []) rest s a end plain base code ready)
       (λ t m. record { ready = m.ready; result = m.reg_is 7 ∙ is; fit = fit; stack = m.stack ∙ stack }))
 
   -- ---- sums, differences and products
@@ -69,8 +71,8 @@ module _ (x : Setting) (c : ℕ) (values : Values) (to : ℕ) (r : Run) (a : Met
       by : Stands x.code (off + 12) (Beq 8 9 12 ∷ (to_trap Overflow ++ rest)) → Stands x.code (off + 16) (to_trap Overflow ++ rest) → (s : Run) → Moved x values (off + 12) (file_after (i ∷ j ∷ k ∷ []) (file_of_run r)) r s → (b : Bool) → fits z ≡ b → Computes 21 s (if b then Fine z else Trapped Overflow)
       by branch trap_stands s m true e =
           let t : (file_of_run s 8 == file_of_run s 9) ≡ true = ap₂ (λ p q. p == q) (m.reg_is 8) (m.reg_is 9) ∙ test ∙ e in
-          reaches_paid x c 1 21 s a (Computed x values to r z) (omega arith)
-          (reaches_map x c 1 s a (Moved x values to (file_of_run s) s) (Computed x values to r z) (beq_moves x c values (off + 12) to 8 9 12 true (to_trap Overflow ++ rest) s a (omega arith) (omega arith) refl t branch m.ready)
+          reaches_paid (stepping x) c 1 21 s a (Computed x values to r z) (omega arith)
+          (reaches_map (stepping x) c 1 s a (Moved x values to (file_of_run s) s) (Computed x values to r z) (beq_moves x c values (off + 12) to 8 9 12 true (to_trap Overflow ++ rest) s a (omega arith) (omega arith) refl t branch m.ready)
           (λ d n. record { ready = n.ready; result = n.reg_is 7 ∙ m.reg_is 7 ∙ value e; fit = e; stack = n.stack ∙ m.stack }))
       by branch trap_stands s m false e =
           let t : (file_of_run s 8 == file_of_run s 9) ≡ false = ap₂ (λ p q. p == q) (m.reg_is 8) (m.reg_is 9) ∙ test ∙ e in
@@ -212,14 +214,14 @@ module _ (x : Setting) (c : ℕ) (values : Values) (to : ℕ) (r : Run) (a : Met
 -- ---- all operations, from x5 and x6 to x7
 
 module _ (x : Setting) (c : ℕ) where
-  pub operator_runs : (operator : Operator) (u v : ℤ) (values : Values) (off to : ℕ) (rest : List Instr) (r : Run) (a : Meter Event) → off + 4 * length (operator_code operator) ≡ to → fits u ≡ true → fits v ≡ true → reg_of r 5 ≡ word u → reg_of r 6 ≡ word v → Stands x.code off (operator_code operator ++ rest) → Ready x values off r → Follows (step x.hooks) c (λ m. m) (λ z b s. Computed x values to r z s) 24 r a (outcome (applied operator u v) a)
+  pub operator_runs : (operator : Operator) (u v : ℤ) (values : Values) (off to : ℕ) (rest : List Instr) (r : Run) (a : Meter Event) → off + 4 * length (operator_code operator) ≡ to → fits u ≡ true → fits v ≡ true → reg_of r 5 ≡ word u → reg_of r 6 ≡ word v → Stands x.code off (operator_code operator ++ rest) → Ready x values off r → Follows (stepping x) c (λ m. m) (λ z b s. Computed x values to r z s) 24 r a (outcome (applied operator u v) a)
   operator_runs Plus u v values off to rest r a = add_runs x c values to r a off rest u v
   operator_runs Subtract u v values off to rest r a = subtract_runs x c values to r a off rest u v
   operator_runs Multiply u v values off to rest r a = multiply_runs x c values to r a off rest u v
   operator_runs Divide u v values off to rest r a = divide_runs x c values to r a off rest u v
   operator_runs Modulo u v values off to rest r a = modulo_runs x c values to r a off rest u v
 
-  pub negate_runs : (u : ℤ) (values : Values) (off to : ℕ) (rest : List Instr) (r : Run) (a : Meter Event) → off + 20 ≡ to → fits u ≡ true → reg_of r 5 ≡ word u → Stands x.code off (negate_code ++ rest) → Ready x values off r → Follows (step x.hooks) c (λ m. m) (λ z b s. Computed x values to r z s) 24 r a (outcome (negated u) a)
+  pub negate_runs : (u : ℤ) (values : Values) (off to : ℕ) (rest : List Instr) (r : Run) (a : Meter Event) → off + 20 ≡ to → fits u ≡ true → reg_of r 5 ≡ word u → Stands x.code off (negate_code ++ rest) → Ready x values off r → Follows (stepping x) c (λ m. m) (λ z b s. Computed x values to r z s) 24 r a (outcome (negated u) a)
   negate_runs u values off to rest r a = opposite_run x c values to r a off rest u
 
   -- skips an instruction just where the comparison of x5 and x6 holds

@@ -10,7 +10,7 @@ use Rattle.nim_core.specs.Program.{Cond, If, While, Stmt, Stmts, Empty, Then, st
 use Rattle.arc_top.specs.declared.form.lines.Test.{Test as RustTest}
 use Rattle.arc_top.specs.declared.form.lines.Line.{Line as RustLine}
 use Rattle.arc_top.specs.declared.form.lines.Line.TheVariants as rust_line
-use Rattle.arc_top.specs.Refusal.{Refusal, and_then, IsRefusal}
+use Rattle.arc_base.specs.Refusal.{Refusal, and_then, IsRefusal}
 use Rattle.arc_top.specs.Lines.{Test, branch, loop, then, Line, Lines, test_of, line_of, lines_of}
 use Rattle.arc_top.specs.Names.{Scope, Given, gives, check_test, check_line, check_lines, UsesInts, UseInts}
 use Rattle.arc_top.proofs.LineRows.{conditional, repeated}

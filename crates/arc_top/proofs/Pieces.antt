@@ -3,7 +3,7 @@ use Rattle.std.proofs.Common.{◌≡◌, ℕ, zero, suc, ◌+◌, ◌<◌, ◌�
 use Rattle.std.proofs.lemmas.List.{take_all, take-append-le, take_min, length-map}
 use Rattle.std.proofs.Math.Seq.{take-append-add}
 use Rattle.arc_base.specs.Outside.{Grown}
-use Rattle.arc_base.proofs.Grown.{grown_more}
+use Rattle.arc_base.proofs.ForCallers.{grown_more}
 use Rattle.arc_top.specs.Report.{joined}
 
 module _ {A : Type 0} (now : A → List ℕ) where

@@ -9,7 +9,7 @@ use Rattle.indent_scanner.specs.Words.{normal}
 use Rattle.indent_scanner.proofs.Characters.{meaning_short}
 use Rattle.nim_core.specs.Program.{Expr, Number, Variable, Negate, Binary, Cond, Stmt, Declare, Assign, EchoInt, Quit, If, While, Stmts, Then, Program}
 use Rattle.arc_top.specs.Code.{IsPlainExpr, IsPlainCond, IsPlainStmt, ArePlain, expr_weight, cond_weight, stmt_weight, stmts_weight}
-use Rattle.arc_top.specs.Refusal.{and_then}
+use Rattle.arc_base.specs.Refusal.{and_then}
 use Rattle.arc_top.specs.Lines.{Sum, int, name, opposite, operation, Test, Line, declare, assign, echo_int, echo_text, quit, branch, loop, Lines, empty, then, sum_weight, test_weight, weight, weights}
 use Rattle.arc_top.specs.Names.{Scope, Given, gives, names_of, find, found, unless_found, declared, check_sum, check_test, check_line, check_lines, check, HasInts, TestsInts, UsesInts, UseInts}
 use Rattle.arc_top.proofs.Steps.{and_then_ok, ok_same}

@@ -9,17 +9,15 @@ use Rattle.arc_base.specs.declared.place.Stop.TheVariants.{Refused, Memory}
 use Rattle.arc_base.specs.Stops.{OnRefusal}
 use Rattle.indent_scanner.specs.declared.token.Token.{Token}
 use Rattle.indent_scanner.specs.Tokens.{Tokens}
-use Rattle.indent_scanner.proofs.OneReading.{once, apart}
-use Rattle.indent_scanner.proofs.OneReading.{refused_once as bytes_refused_once}
+use Rattle.indent_scanner.proofs.OneReading.{once, apart, refused_once as bytes_refused_once}
 use Rattle.nim_tree.specs.Statements.{Statements}
 use Rattle.parse_stmts.specs.Grammar.{IsModule}
 use Rattle.parse_stmts.specs.Parsed.{IsRefused}
-use Rattle.parse_stmts.proofs.Verdicts.{module_once, module_stands}
-use Rattle.parse_stmts.proofs.Verdicts.{refused_once as tokens_refused_once}
+use Rattle.parse_stmts.proofs.ForCallers.{module_once, module_stands, refused_once as tokens_refused_once}
 use Rattle.nim_core.specs.Program.{Program}
 use Rattle.arc_top.specs.declared.compiler.NotCompiled.{NotCompiled}
 use Rattle.arc_top.specs.Compile.{IsStop, IsOkOrMemory}
-use Rattle.arc_top.specs.Refusal.{Refusal, IsRefusal}
+use Rattle.arc_base.specs.Refusal.{Refusal, IsRefusal}
 use Rattle.arc_top.specs.Lines.{Lines}
 use Rattle.arc_top.specs.Form.{form_of}
 use Rattle.arc_top.specs.Names.{check}

@@ -3,8 +3,10 @@ use Rattle.std.proofs.Common.{◌≡◌, ℕ, ◌+◌, ◌*◌, ◌%◌, ◌≤�
 use Rattle.arc_base.specs.declared.outside.Stream.{Stream}
 use Rattle.arc_base.specs.declared.outside.Stream.TheVariants.{Out}
 use Rattle.arc_base.specs.Event.{Event, writes}
-use Rattle.arc_base.specs.BigStep.{Meter, told}
-use Rattle.arc_base.proofs.Follows.{Comes}
+use Rattle.arc_base.specs.Behaviour.{no_objects}
+use Rattle.arc_base.specs.Stepping.{Next}
+use Rattle.arc_base.specs.BigStep.{Meter}
+use Rattle.arc_base.specs.Simulation as generic
 use Rattle.nim_core.specs.Ints.{fits}
 use Rattle.nim_core.specs.Meaning.{Values}
 use Rattle.nim_core.specs.Traps.{Trap}
@@ -12,16 +14,17 @@ use Rattle.rv32_isa.specs.declared.image.HookAt.{HookAt}
 use Rattle.rv32_isa.specs.Words.{little}
 use Rattle.rv32_isa.specs.Hooks.{code_at}
 use Rattle.rv32_isa.specs.Image.{stack_at}
-use Rattle.rv32_isa.specs.State.{put_bytes}
-use Rattle.rv32_isa.specs.Machine.{Run, arrival, step}
-use Rattle.rv32_isa.proofs.Registers.{IsRegs}
-use Rattle.rv32_isa.proofs.Fetch.{Stands}
-use Rattle.rv32_isa.proofs.Lookup.{File, file_at}
+use Rattle.rv32_isa.specs.State.{State, put_bytes}
+use Rattle.rv32_isa.specs.Machine.{Run, Lives, arrival, step}
+use Rattle.rv32_logic.specs.Registers.{IsRegs, File, file_at, reg_of, file_of_run}
+use Rattle.rv32_logic.specs.Placed.{Stands}
 use Rattle.arc_top.specs.Code.{word, variable_at, data_of, trap_at, trap_code}
 
--- what a machine with the program's image keeps: no hook begins anywhere, the code with the traps at its front, the
+-- what a machine with the program's image keeps: no objects are live, no hook begins anywhere, the code with the traps at its front, the
 -- number of the variables, and the texts
 pub record Setting : Type 0 where
+  pub live : Lives
+  pub none_live : (s : State) → live s ≡ no_objects
   pub hooks : List HookAt
   pub quiet : (pc : ℕ) → arrival hooks pc ≡ []
   pub code : List ℕ
@@ -31,9 +34,9 @@ pub record Setting : Type 0 where
   pub fit : 40 + 4 * count + length texts ≤ 1048576
   pub traps : (trap : Trap) → Stands code (trap_at trap) (trap_code trap)
 
--- the register's word
-abbrev pub reg_of : Run → ℕ → ℕ
-reg_of r number = get_or r.state.regs number 0
+-- a step of the machine
+abbrev pub stepping : Setting → Run → Next Event Run
+stepping x = step x.live x.hooks
 
 -- all but the program counter and the registers other than x0 and x2
 pub record Keeps (x : Setting) (values : Values) (r : Run) : Type 0 where
@@ -50,10 +53,6 @@ pub record Ready (x : Setting) (values : Values) (off : ℕ) (r : Run) : Type 0 
   pub place : r.state.pc ≡ code_at + off
   pub whole : off % 4 ≡ 0
   pub keeps : Keeps x values r
-
--- the words of its registers
-abbrev pub file_of_run : Run → File
-file_of_run r = file_at r.state.regs
 
 -- ---- slots
 
@@ -102,13 +101,12 @@ pub record TextStands (x : Setting) (from : ℕ) (bytes : List ℕ) : Type 0 whe
 
 -- ---- what runs
 
--- the machine comes with no work of the meaning but so many instructions to a run with this fact
 abbrev pub Reaches : Setting → (c p : ℕ) → Run → Meter Event → (Run → Type 0) → Type 0
-Reaches x c p r a Good = (s : Run) × Comes (step x.hooks) c p r a s a × Good s
+Reaches x c p r a Good = generic.Reaches (stepping x) c p r a Good
 
 -- it shows these bytes on a stream meanwhile
 abbrev pub Tells : Setting → (c p : ℕ) → Run → Meter Event → Stream → (bytes : List ℕ) → (Run → Type 0) → Type 0
-Tells x c p r a stream bytes Good = (s : Run) × Comes (step x.hooks) c p r a s (told (writes stream bytes) a) × Good s
+Tells x c p r a stream bytes Good = generic.Shows (stepping x) c p r a (writes stream bytes) Good
 
 abbrev pub Writes : Setting → (c p : ℕ) → Run → Meter Event → (bytes : List ℕ) → (Run → Type 0) → Type 0
 Writes x c p r a bytes Good = Tells x c p r a Out bytes Good

@@ -1,7 +1,7 @@
 -- Steps that were not refused.
 use Rattle.std.proofs.Common.{◌≡◌, Ok, Err, Result, Option, Some, None, refl}
 use Rattle.arc_base.specs.declared.place.Place.{Place}
-use Rattle.arc_top.specs.Refusal.{Refusal, and_then}
+use Rattle.arc_base.specs.Refusal.{Refusal, and_then}
 use Rattle.arc_top.specs.Form.{wanted}
 
 -- a refusal is no success

@@ -21,7 +21,7 @@ use Rattle.nim_core.specs.declared.program.Operator.{Operator}
 use Rattle.nim_core.specs.declared.program.Operator.TheVariants.{Add, Subtract, Multiply, Divide, Modulo}
 use Rattle.nim_core.specs.declared.program.Comparison.{Comparison}
 use Rattle.nim_core.specs.declared.program.Comparison.TheVariants.{Equal, Less, AtMost}
-use Rattle.arc_top.specs.Refusal.{Refusal, and_then, refused}
+use Rattle.arc_base.specs.Refusal.{Refusal, and_then, refused}
 use Rattle.arc_top.specs.Lines.{Sum, int, name, opposite, operation, Test, Line, declare, assign, echo_int, echo_text, quit, branch, loop, Lines}
 use Rattle.arc_top.specs.Lines as built
 

@@ -1,10 +1,10 @@
-pub mod Refusal
 pub mod Lines
 pub mod Form
 pub mod Names
 pub mod Source
 pub mod Elf
 pub mod Command
+pub mod Objects
 pub mod Code
 pub mod Emission
 pub mod Answer

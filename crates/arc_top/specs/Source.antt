@@ -12,7 +12,7 @@ use Rattle.parse_stmts.specs.Grammar.{IsModule}
 use Rattle.parse_stmts.specs.Parsed.{HasFew}
 use Rattle.parse_stmts.specs.Parsed.{IsRefused as IsRefusedByTokens}
 use Rattle.nim_core.specs.Program.{Program}
-use Rattle.arc_top.specs.Refusal.{IsRefusal}
+use Rattle.arc_base.specs.Refusal.{IsRefusal}
 use Rattle.arc_top.specs.Lines.{Lines}
 use Rattle.arc_top.specs.Form.{form_of}
 use Rattle.arc_top.specs.Names.{check}

@@ -9,6 +9,7 @@ use Rattle.nim_core.specs.Program.{Program}
 use Rattle.nim_core.specs.Meaning.{meaning}
 use Rattle.rv32_isa.specs.Machine.{machine}
 use Rattle.arc_top.specs.Source.{Reads, Refuses}
+use Rattle.arc_top.specs.Objects.{live_objects}
 use Rattle.arc_top.specs.Elf.{File, Elf}
 
 -- the plan of a program without sites
@@ -25,7 +26,7 @@ pub record Compiled (source bytes : List ℕ) : Type 0 where
   pub reads_only : (other : Program) → Reads source other → other ≡ program
   pub elf : Elf bytes file
   pub elf_only : (other : File) → Elf bytes other → other ≡ file
-  pub agrees : (input : List ℕ) → Agrees (machine file.image input) (meaning program file.plan file.image.heap input)
+  pub agrees : (input : List ℕ) → Agrees (machine live_objects file.image input) (meaning program file.plan file.image.heap input)
   pub plan : file.plan ≡ empty_plan
   pub heap : file.image.heap ≡ 16777216
   pub stack : file.image.stack ≡ 65536

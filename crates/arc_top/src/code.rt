@@ -8,8 +8,10 @@ ghost use Rattle.nim_core.specs.declared.plan.Plan.{Plan};
 ghost use Rattle.nim_core.specs.Program.{program_of, expr_of, cond_of, stmt_of, stmts_of};
 ghost use Rattle.nim_core.specs.Meaning.{meaning};
 ghost use Rattle.rv32_isa.specs.declared.instr.Instr.{Instr};
+ghost use Rattle.rv32_isa.specs.declared.instr.Instr.TheVariants.{Ecall, Addi};
 ghost use Rattle.rv32_isa.specs.Image.{image_of};
 ghost use Rattle.rv32_isa.specs.Machine.{machine};
+ghost use Rattle.arc_top.specs.Objects.{live_objects};
 ghost use Rattle.arc_top.specs.Code.{code_bytes, variable_words, data_of, load_slot, write_code, exit_code, expr_code, cond_code, ahead, back, number_code, stmt_texts, texts, assign_code, stmt_code, stmts_code, start_code, end_code, ArePlain, stmts_weight};
 ghost use Rattle.arc_top.specs.Emission.{CanEmitExpr, CanEmitCond, CanEmitStmt, CanEmitStmts};
 
@@ -27,7 +29,8 @@ use self::pieces::{
 use crate::words::push_word;
 use arc_base::{Bytes, Items, Memory};
 use nim_core::{Cond, Expr, Program, Stmt};
-use rv32_isa::{Image, Instr, STATICS_AT};
+use rv32_isa::build::{jal, lui, sw};
+use rv32_isa::{Image, STATICS_AT};
 use std::alloc::Global;
 
 /// The stream of the lines of traps.
@@ -62,14 +65,7 @@ fn emit_assign(code: &mut Bytes, value: &Expr, variable: u32) -> Result<(), Memo
     emit_expr(code, value, 0)?;
     emit(code, &[load_slot(LEFT, 0)])?;
     emit_load(code, RIGHT, variable_at(variable))?;
-    emit(
-        code,
-        &[Instr::Sw {
-            rs1: RIGHT,
-            rs2: LEFT,
-            offset: 0,
-        }],
-    )
+    emit(code, &[sw(RIGHT, LEFT, 0)])
 }
 
 // The line of a number.
@@ -85,7 +81,7 @@ fn emit_echo_int(code: &mut Bytes, value: &Expr) -> Result<(), Memory>
 // The line of a text, which stands in the data.
 fn emit_echo_text(code: &mut Bytes, statics: &mut Bytes, text: &[u8]) -> Result<(), Memory>
     requires { length statics.old + length text.now < 2 ^ 20 }
-    ensures code { OnOk result (code.new ≡ code.old ++ code_bytes (write_code 1 (0x100000 + length statics.old) (length text.now + 1) ++ Instr.Ecall ∷ [])) }
+    ensures code { OnOk result (code.new ≡ code.old ++ code_bytes (write_code 1 (0x100000 + length statics.old) (length text.now + 1) ++ Ecall ∷ [])) }
     ensures statics { OnOk result (statics.new ≡ statics.old ++ (text.now ++ 10 ∷ [])) }
 {
     let at = STATICS_AT + statics.as_slice().len() as u32;
@@ -204,7 +200,7 @@ fn emit_block(alloc: Global, statics: &mut Bytes, stmts: &[Stmt]) -> Result<Byte
 
 // What a trap does: its line to standard error, and the exit with status 1.
 fn emit_trap(code: &mut Bytes, at: u32, len: u32) -> Result<(), Memory>
-    ensures { OnOk result (code.new ≡ code.old ++ code_bytes (write_code 2 at len ++ (Instr.Ecall ∷ Instr.Addi 10 0 1 ∷ exit_code))) }
+    ensures { OnOk result (code.new ≡ code.old ++ code_bytes (write_code 2 at len ++ (Ecall ∷ Addi 10 0 1 ∷ exit_code))) }
 {
     emit_write(code, STANDARD_ERROR, at, len)?;
     emit(code, &[set(ARGUMENT_0, 1)])?;
@@ -215,19 +211,7 @@ fn emit_trap(code: &mut Bytes, at: u32, len: u32) -> Result<(), Memory>
 fn emit_start(code: &mut Bytes) -> Result<(), Memory>
     ensures { OnOk result (code.new ≡ code.old ++ code_bytes start_code) }
 {
-    emit(
-        code,
-        &[
-            Instr::Lui {
-                rd: SLOTS,
-                imm: UPPER_STACK,
-            },
-            Instr::Jal {
-                rd: ZERO,
-                offset: OVER_TRAPS,
-            },
-        ],
-    )?;
+    emit(code, &[lui(SLOTS, UPPER_STACK), jal(ZERO, OVER_TRAPS)])?;
     emit_trap(code, OVERFLOW_LINE_AT, OVERFLOW_LINE.len() as u32)?;
     emit_trap(code, ZERO_DIVISOR_LINE_AT, ZERO_DIVISOR_LINE.len() as u32)
 }
@@ -278,7 +262,7 @@ pub fn lower(alloc: Global, program: &Program, heap: u32, stack: u32) -> Result<
     requires globals { length program.now.globals ≤ 4096 }
     requires heap { heap ≤ 16777216 }
     requires stack { stack ≡ 65536 }
-    ensures agrees { IfOk result (λ image. (plan : Plan) (input : List ℕ) → Agrees (machine (image_of image) input) (meaning (program_of program.now) plan heap input)) }
+    ensures agrees { IfOk result (λ image. (plan : Plan) (input : List ℕ) → Agrees (machine live_objects (image_of image) input) (meaning (program_of program.now) plan heap input)) }
     ensures sizes { IfOk result (λ image. (image.heap ≡ heap) × (image.stack ≡ stack)) }
     ensures hooks { IfOk result (λ image. image.hooks ≡ []) }
 {

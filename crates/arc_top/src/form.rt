@@ -6,7 +6,7 @@ ghost use Rattle.arc_base.specs.declared.place.Code.{Code as Kind};
 ghost use Rattle.arc_base.specs.declared.place.Code.TheVariants.{LeftOut};
 ghost use Rattle.nim_tree.specs.Terms.{term_of, parts_of};
 ghost use Rattle.nim_tree.specs.Statements.{Statements, branches_of, statement_of, statements_of, tree_of};
-ghost use Rattle.arc_top.specs.Refusal.{IsRefusal};
+ghost use Rattle.arc_base.specs.Refusal.{IsRefusal};
 ghost use Rattle.arc_top.specs.Lines as line;
 ghost use Rattle.arc_top.specs.Lines.{test_of, line_of, lines_of};
 ghost use Rattle.arc_top.specs.Form.{as_tests, as_choice, as_repetition, as_line, as_lines, form_of};

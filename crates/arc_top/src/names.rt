@@ -7,7 +7,7 @@ ghost use Rattle.arc_base.specs.declared.place.Code.TheVariants.{UnknownName, Re
 ghost use Rattle.arc_base.specs.declared.place.Stop.TheVariants as Stop;
 ghost use Rattle.nim_core.specs.Program as Node;
 ghost use Rattle.nim_core.specs.Program.{expr_of, cond_of, stmt_of, stmts_of, program_of};
-ghost use Rattle.arc_top.specs.Refusal.{IsRefusal};
+ghost use Rattle.arc_base.specs.Refusal.{IsRefusal};
 ghost use Rattle.arc_top.specs.Lines.{Lines, name, declare, assign, sum_of, test_of, line_of, lines_of, weight, weights};
 ghost use Rattle.arc_top.specs.Names.{names_of, find, found, unless_found, declared, check_sum, check_test, check_line, check_lines, check, gives, HasInts, TestsInts, UsesInts, UseInts};
 
@@ -35,7 +35,7 @@ fn find(alloc: Global, scope: &Scope, text: &[u8]) -> Result<Option<usize>, Memo
         .names
         .as_slice()
         .iter()
-        .position(|name| wanted.as_slice() == name.as_slice());
+        .position(|name| wanted == *name);
     Ok(number)
 }
 
@@ -97,10 +97,8 @@ fn negate(alloc: Global, at: Place, operand: Expr) -> Result<Expr, Stop>
     ensures gives { IfOk result (λ e. expr_of e ≡ Node.Negate at (expr_of operand)) }
     ensures memory { IfErr result (λ stop. stop ≡ Stop.Memory) }
 {
-    match Box::new(alloc, operand) {
-        Ok(operand) => Ok(Expr::Negate { at, operand }),
-        Err(_) => Err(Stop::Memory),
-    }
+    let operand = Box::new(alloc, operand)?;
+    Ok(Expr::Negate { at, operand })
 }
 
 fn binary(
@@ -113,18 +111,14 @@ fn binary(
     ensures gives { IfOk result (λ e. expr_of e ≡ Node.Binary at operator (expr_of left) (expr_of right)) }
     ensures memory { IfErr result (λ stop. stop ≡ Stop.Memory) }
 {
-    match Box::new(alloc, left) {
-        Ok(left) => match Box::new(alloc, right) {
-            Ok(right) => Ok(Expr::Binary {
-                at,
-                operator,
-                left,
-                right,
-            }),
-            Err(_) => Err(Stop::Memory),
-        },
-        Err(_) => Err(Stop::Memory),
-    }
+    let left = Box::new(alloc, left)?;
+    let right = Box::new(alloc, right)?;
+    Ok(Expr::Binary {
+        at,
+        operator,
+        left,
+        right,
+    })
 }
 
 // A comparison of two ints.

@@ -1,7 +1,8 @@
 -- The values of characters, byte by byte.
-use Rattle.std.proofs.Common.{◌≡◌, ℕ, suc, ◌+◌, ◌-◌, ◌<◌, ◌≤◌, List, [], ◌∷◌, length, get_or, take, drop, Bool, true, false, ap, ◌∙◌, arith, get_or-drop, add-zero, length-drop}
+use Rattle.std.proofs.Common.{◌≡◌, ℕ, suc, ◌+◌, ◌-◌, ◌<◌, ◌≤◌, List, [], ◌∷◌, ◌++◌, length, get_or, take, drop, Bool, true, false, ap, ◌∙◌, arith, get_or-drop, add-zero, length-drop}
 use Rattle.std.specs.Prelude.{Option, Some, None, cond, ◌==◌}
-use Rattle.std.proofs.lemmas.List.{at_drop_more, length-take}
+use Rattle.std.proofs.lemmas.List.{at_drop_more, length-take, length-append}
+use Rattle.std.proofs.Math.Seq.{take-append_seam}
 use Rattle.indent_scanner.specs.declared.token.Tok.{Tok}
 use Rattle.indent_scanner.specs.declared.token.Tok.TheVariants as T
 use Rattle.indent_scanner.specs.declared.shape.Quote.TheVariants as Q
@@ -10,7 +11,7 @@ use Rattle.indent_scanner.specs.declared.shape.Shape.TheVariants.{Inside}
 use Rattle.indent_scanner.specs.Words.{lower, folded, normal}
 use Rattle.indent_scanner.specs.Shape.{step}
 use Rattle.indent_scanner.specs.Meaning.{inner, IsTextOf}
-use Rattle.indent_scanner.specs.Grammar.{IsText, a_text}
+use Rattle.indent_scanner.specs.Grammar.{IsText, a_text, IsQuoted}
 use Rattle.indent_scanner.proofs.GrammarLiterals.{values_are}
 use Rattle.indent_scanner.specs.ByForm.{onto, value_of, read_on, values, meaning}
 
@@ -60,6 +61,16 @@ name_short (b ∷ bytes) = let e = folded_short bytes in omega (arith, e)
 
 inner_short : (bytes : List ℕ) → length (inner bytes) ≤ length bytes
 inner_short bytes = let e = length-take (length bytes - 2) (drop 1 bytes) in let f = length-drop 1 bytes in omega (arith, e, f)
+
+inner_between : (between : List ℕ) → inner (96 ∷ between ++ 96 ∷ []) ≡ between
+inner_between between =
+    let l = length-append between (96 ∷ []) in
+    let n : suc (length (between ++ 96 ∷ [])) - 2 ≡ length between = omega (arith, l) in
+    ap (λ k. take k (between ++ 96 ∷ [])) n ∙ take-append_seam between (96 ∷ [])
+
+-- what stands between the backticks
+pub quoted_inner : (bytes text : List ℕ) → text ≡ inner bytes → (q : IsQuoted bytes) → text ≡ q.inner
+quoted_inner bytes text is q = is ∙ ap inner q.is ∙ inner_between q.inner
 
 pub meaning_short : (kind : Tok) (bytes : List ℕ) → length (meaning kind bytes) ≤ length bytes
 meaning_short (T.Key key) bytes = omega arith

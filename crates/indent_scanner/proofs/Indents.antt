@@ -7,7 +7,7 @@ use Rattle.indent_scanner.specs.declared.token.Tok.TheVariants.{End}
 use Rattle.indent_scanner.specs.declared.token.Token.{Token}
 use Rattle.indent_scanner.specs.declared.here.Here.{Here}
 use Rattle.indent_scanner.specs.declared.piece.Piece.TheVariants.{Gap, Found}
-use Rattle.indent_scanner.specs.Tokens.{mark_length, first_place, one_space, over_byte, over_gap, over_token, token_at, Reads, ends, gap, token, Tokens, line_feeds}
+use Rattle.indent_scanner.specs.Tokens.{mark_length, first_place, one_space, over_byte, over_gap, over_token, token_at, TokensFrom, ends, gap, token, Tokens, line_feeds}
 use Rattle.indent_scanner.specs.Spacing.{comments, is_inside, spaces_outside, last_bytes, line_before, IsIndented}
 use Rattle.indent_scanner.proofs.Bools.{by_test, by_cond, both_true, are_false}
 use Rattle.indent_scanner.proofs.Outcomes.{begins_within}
@@ -104,7 +104,7 @@ not_within a n k h = by_test _ (nat_le a k && nat_lt k (a + n)) (λ e. let f = b
 is_within : (a n k : ℕ) → a ≤ k → k < a + n → (nat_le a k && nat_lt k (a + n)) ≡ true
 is_within a n k low high = grind (arith, low, high)
 
-none_before : (here : Here) (bytes : List ℕ) (tokens : List Token) (r : Reads here bytes tokens) (k : ℕ) → k < here.start → is_inside (comments r) k ≡ false
+none_before : (here : Here) (bytes : List ℕ) (tokens : List Token) (r : TokensFrom here bytes tokens) (k : ℕ) → k < here.start → is_inside (comments r) k ≡ false
 none_before here _ _ ends k lt = refl
 none_before here bytes tokens (gap true n b r) k lt =
     let e = gap_start true (take n bytes) here in
@@ -121,7 +121,7 @@ module _ (source mark : List ℕ) (is_mark : length mark ≡ mark_length source)
   counts_here : (done bytes : List ℕ) (here : Here) → Reached source mark done bytes here → Counts cs done here → (k : ℕ) → here.spaces ≡ Some k → k ≡ spaces_outside cs (here.start - length (line_before source here.start)) (line_before source here.start)
   counts_here done bytes here h counts k e = counts k e ∙ sym (ap (λ x. spaces_outside cs (here.start - length (last_bytes x)) (last_bytes x)) (bytes_before source mark is_mark done bytes here h))
 
-  all_indented : (done bytes : List ℕ) (here : Here) (tokens : List Token) → Reached source mark done bytes here → Counts cs done here → (r : Reads here bytes tokens) → ((k : ℕ) → here.start ≤ k → is_inside cs k ≡ is_inside (comments r) k) → All (IsIndented source cs) tokens
+  all_indented : (done bytes : List ℕ) (here : Here) (tokens : List Token) → Reached source mark done bytes here → Counts cs done here → (r : TokensFrom here bytes tokens) → ((k : ℕ) → here.start ≤ k → is_inside cs k ≡ is_inside (comments r) k) → All (IsIndented source cs) tokens
   all_indented done _ here _ h counts ends same = All-cons (IsIndented source cs) (token_at here End 0 []) [] (counts_here done [] here h counts) (All-nil (IsIndented source cs))
   all_indented done bytes here tokens h counts (gap true n b r) same =
       let w = begins_within bytes (Gap true n) b in let long = length-take-le n bytes w.1 in let start = gap_start true (take n bytes) here in

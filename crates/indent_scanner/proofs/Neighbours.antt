@@ -7,7 +7,7 @@ use Rattle.indent_scanner.specs.declared.token.Tok.TheVariants.{End}
 use Rattle.indent_scanner.specs.declared.token.Token.{Token}
 use Rattle.indent_scanner.specs.declared.here.Here.{Here}
 use Rattle.indent_scanner.specs.declared.piece.Piece.TheVariants.{Gap, Found}
-use Rattle.indent_scanner.specs.Tokens.{mark_length, first_place, one_space, spaces_over, over_byte, over_gap, over_token, is_apart, token_at, Reads, ends, gap, token, Tokens}
+use Rattle.indent_scanner.specs.Tokens.{mark_length, first_place, one_space, spaces_over, over_byte, over_gap, over_token, is_apart, token_at, TokensFrom, ends, gap, token, Tokens}
 use Rattle.indent_scanner.specs.Spacing.{is_end, touches, Beside, IsFirst, IsSpaced}
 use Rattle.indent_scanner.proofs.Bools.{by_test, by_cond, or_right, are_false}
 use Rattle.indent_scanner.proofs.Firsts.{begins_tells}
@@ -84,14 +84,14 @@ record Next (t u : Token) : Type 0 where
   same : u.line ≡ t.line → u.indent ≡ None
   new : u.line ≢ t.line → u.indent ≢ None
 
-next_is : (t : Token) (here : Here) (bytes : List ℕ) (tokens : List Token) → Behind t here → Reads here bytes tokens → HeadIs (Next t) tokens
+next_is : (t : Token) (here : Here) (bytes : List ℕ) (tokens : List Token) → Behind t here → TokensFrom here bytes tokens → HeadIs (Next t) tokens
 next_is t here _ _ h ends = record { before = h.apart; same = h.same; new = h.new }
 next_is t here bytes tokens h (gap comment n b r) = next_is t (over_gap comment here (take n bytes)) (drop n bytes) tokens (behind_gap comment t (take n bytes) here h) r
 next_is t here bytes _ h (token kind n b r) = record { before = h.apart; same = h.same; new = h.new }
 
 -- ---- what follows a token
 
-reads_from : (here : Here) (bytes : List ℕ) (tokens : List Token) → Reads here bytes tokens → HeadIs (λ u. here.start ≤ u.start) tokens
+reads_from : (here : Here) (bytes : List ℕ) (tokens : List Token) → TokensFrom here bytes tokens → HeadIs (λ u. here.start ≤ u.start) tokens
 reads_from here _ _ ends = omega arith
 reads_from here bytes tokens (gap comment n b r) =
     let e = gap_start comment (take n bytes) here in
@@ -102,7 +102,7 @@ not_end : (kind : Tok) → kind ≢ End → is_end kind ≡ false
 not_end End h = absurd (h refl)
 not_end _ h = refl
 
-after_is : (here : Here) (bytes : List ℕ) (tokens : List Token) → Reads here bytes tokens → HeadIs (λ u. is_apart bytes ≡ (is_end u.kind || not (u.start == here.start))) tokens
+after_is : (here : Here) (bytes : List ℕ) (tokens : List Token) → TokensFrom here bytes tokens → HeadIs (λ u. is_apart bytes ≡ (is_end u.kind || not (u.start == here.start))) tokens
 after_is here _ _ ends = refl
 after_is here bytes tokens (gap comment n b r) =
     let e = gap_start comment (take n bytes) here in let w = begins_within bytes (Gap comment n) b in let long = length-take-le n bytes w.1 in let one = w.0 in
@@ -119,7 +119,7 @@ abbrev Chain : List Token → Type 0
 Chain [] = Unit {0}
 Chain (t ∷ tokens) = HeadIs (Beside t) tokens × Chain tokens
 
-chain : (here : Here) (bytes : List ℕ) (tokens : List Token) → Reads here bytes tokens → Chain tokens
+chain : (here : Here) (bytes : List ℕ) (tokens : List Token) → TokensFrom here bytes tokens → Chain tokens
 chain here _ _ ends = (tt, tt)
 chain here bytes tokens (gap comment n b r) = chain (over_gap comment here (take n bytes)) (drop n bytes) tokens r
 chain here bytes _ (token {tokens = tail} kind n b r) =
@@ -147,14 +147,14 @@ fresh_gap : (comment : Bool) (bytes : List ℕ) (here : Here) → Fresh here →
 fresh_gap comment [] here f = f
 fresh_gap comment (b ∷ bytes) here f = fresh_gap comment bytes (over_byte comment here b) (fresh_byte comment here b f)
 
-first_is : (here : Here) (bytes : List ℕ) (tokens : List Token) → Fresh here → Reads here bytes tokens → HeadIs IsFirst tokens
+first_is : (here : Here) (bytes : List ℕ) (tokens : List Token) → Fresh here → TokensFrom here bytes tokens → HeadIs IsFirst tokens
 first_is here _ _ f ends = record { before = f.apart; indented = f.some }
 first_is here bytes tokens f (gap comment n b r) = first_is (over_gap comment here (take n bytes)) (drop n bytes) tokens (fresh_gap comment (take n bytes) here f) r
 first_is here bytes _ f (token kind n b r) = record { before = f.apart; indented = f.some }
 
 -- ---- the last token
 
-not_empty : (here : Here) (bytes : List ℕ) (tokens : List Token) → Reads here bytes tokens → tokens ≢ []
+not_empty : (here : Here) (bytes : List ℕ) (tokens : List Token) → TokensFrom here bytes tokens → tokens ≢ []
 not_empty here _ _ ends e = cc
 not_empty here bytes tokens (gap comment n b r) e = not_empty (over_gap comment here (take n bytes)) (drop n bytes) tokens r e
 not_empty here bytes _ (token kind n b r) e = cc
@@ -168,7 +168,7 @@ last_cons : (t : Token) (tail : List Token) → tail ≢ [] → LastIs tail → 
 last_cons t [] h l = absurd (h refl)
 last_cons t (u ∷ tail) h l = l
 
-last_is : (here : Here) (bytes : List ℕ) (tokens : List Token) → Reads here bytes tokens → LastIs tokens
+last_is : (here : Here) (bytes : List ℕ) (tokens : List Token) → TokensFrom here bytes tokens → LastIs tokens
 last_is here _ _ ends = refl
 last_is here bytes tokens (gap comment n b r) = last_is (over_gap comment here (take n bytes)) (drop n bytes) tokens r
 last_is here bytes _ (token {tokens = tail} kind n b r) =

@@ -14,7 +14,7 @@ use Rattle.indent_scanner.specs.declared.piece.Opening.TheVariants.{Known, Shape
 use Rattle.indent_scanner.specs.Shape.{step, is_whole, and_then, form}
 use Rattle.indent_scanner.specs.ByForm.{opening_of, piece_of, code_of, Takes, IsWithin}
 use Rattle.indent_scanner.specs.Pieces.{Begins}
-use Rattle.indent_scanner.specs.Tokens.{over_gap, over_token, token_at, Reads, ends, gap, token, Stops, here_it_is, behind_gap, behind_token, mark_length, first_place, Tokens, IsRefused}
+use Rattle.indent_scanner.specs.Tokens.{over_gap, over_token, token_at, TokensFrom, ends, gap, token, RefusedFrom, here_it_is, behind_gap, behind_token, mark_length, first_place, Tokens, IsRefused}
 use Rattle.indent_scanner.proofs.Bools.{by_test}
 use Rattle.indent_scanner.proofs.Fronts.{then_form, longest_at, no_front_at}
 use Rattle.indent_scanner.proofs.Beginnings.{takes_within, opening_sound}
@@ -69,7 +69,7 @@ begins_within (b ∷ rest) p x = let y = begun b rest in subst (IsWithin (b ∷ 
 -- ---- piece by piece to the end or to a refusal
 
 abbrev Outcome : Here → List ℕ → Type 0
-Outcome here bytes = ((tokens : List Token) × Reads here bytes tokens) ⊎ ((code : Code) × (at : Here) × Stops here bytes code at)
+Outcome here bytes = ((tokens : List Token) × TokensFrom here bytes tokens) ⊎ ((code : Code) × (at : Here) × RefusedFrom here bytes code at)
 
 past_gap : (here : Here) (bytes : List ℕ) (comment : Bool) (n : ℕ) → Begins bytes (Gap comment n) → Outcome (over_gap comment here (take n bytes)) (drop n bytes) → Outcome here bytes
 past_gap here bytes comment n b (inl x) = inl (x.0, gap comment n b x.1)

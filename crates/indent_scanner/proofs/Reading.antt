@@ -13,33 +13,33 @@ use Rattle.indent_scanner.specs.declared.token.Token.{Token}
 use Rattle.indent_scanner.specs.declared.here.Here.{Here}
 use Rattle.indent_scanner.specs.declared.piece.Piece.TheVariants.{Gap, Found, Refused}
 use Rattle.indent_scanner.specs.Pieces.{Begins}
-use Rattle.indent_scanner.specs.Tokens.{over_gap, over_token, token_at, Reads, ends, gap, token, Stops, here_it_is, behind_gap, behind_token, LiesIn, Fits, IsInner, HasByte, token_bytes, PlaceFits, mark_length, first_place, refusal, Tokens, IsRefused, IsEnded}
+use Rattle.indent_scanner.specs.Tokens.{over_gap, over_token, token_at, TokensFrom, ends, gap, token, RefusedFrom, here_it_is, behind_gap, behind_token, LiesIn, Fits, IsInner, HasByte, token_bytes, PlaceFits, mark_length, first_place, refusal, Tokens, IsRefused, IsEnded}
 use Rattle.indent_scanner.proofs.Rows.{begins_once}
 
 -- ---- what tokens from here on say of the piece here
 
-pub reads_gap : (here : Here) (bytes : List ℕ) (tokens : List Token) (comment : Bool) (n : ℕ) → Begins bytes (Gap comment n) → Reads here bytes tokens → Reads (over_gap comment here (take n bytes)) (drop n bytes) tokens
+pub reads_gap : (here : Here) (bytes : List ℕ) (tokens : List Token) (comment : Bool) (n : ℕ) → Begins bytes (Gap comment n) → TokensFrom here bytes tokens → TokensFrom (over_gap comment here (take n bytes)) (drop n bytes) tokens
 reads_gap here bytes tokens comment n b ends = absurd b
 reads_gap here bytes tokens comment n b (gap other m c r) =
     let e = begins_once bytes (Gap other m) (Gap comment n) c b in
     let comments : other ≡ comment = cc in let lengths : m ≡ n = cc in
-    subst (λ x. Reads (over_gap x here (take n bytes)) (drop n bytes) tokens) comments (subst (λ x. Reads (over_gap other here (take x bytes)) (drop x bytes) tokens) lengths r)
+    subst (λ x. TokensFrom (over_gap x here (take n bytes)) (drop n bytes) tokens) comments (subst (λ x. TokensFrom (over_gap other here (take x bytes)) (drop x bytes) tokens) lengths r)
 reads_gap here bytes _ comment n b (token kind m c r) = let e = begins_once bytes (Found kind m) (Gap comment n) c b in (let f : ⊥ = cc in absurd f)
 
-pub reads_token : (here : Here) (bytes : List ℕ) (tokens : List Token) (kind : Tok) (n : ℕ) → Begins bytes (Found kind n) → Reads here bytes tokens → (tail : List Token) × (tokens ≡ token_at here kind n (drop n bytes) ∷ tail) × Reads (over_token here n) (drop n bytes) tail
+pub reads_token : (here : Here) (bytes : List ℕ) (tokens : List Token) (kind : Tok) (n : ℕ) → Begins bytes (Found kind n) → TokensFrom here bytes tokens → (tail : List Token) × (tokens ≡ token_at here kind n (drop n bytes) ∷ tail) × TokensFrom (over_token here n) (drop n bytes) tail
 reads_token here bytes tokens kind n b ends = absurd b
 reads_token here bytes tokens kind n b (gap other m c r) = let e = begins_once bytes (Gap other m) (Found kind n) c b in (let f : ⊥ = cc in absurd f)
 reads_token here bytes _ kind n b (token {tokens = tail} other m c r) =
     let e = begins_once bytes (Found other m) (Found kind n) c b in
     let kinds : other ≡ kind = cc in let lengths : m ≡ n = cc in
-    (tail, ap (λ k. token_at here k m (drop m bytes) ∷ tail) kinds ∙ ap (λ x. token_at here kind x (drop x bytes) ∷ tail) lengths, subst (λ x. Reads (over_token here x) (drop x bytes) tail) lengths r)
+    (tail, ap (λ k. token_at here k m (drop m bytes) ∷ tail) kinds ∙ ap (λ x. token_at here kind x (drop x bytes) ∷ tail) lengths, subst (λ x. TokensFrom (over_token here x) (drop x bytes) tail) lengths r)
 
-pub reads_none : (here : Here) (bytes : List ℕ) (tokens : List Token) (code : Code) (k : ℕ) → Begins bytes (Refused code k) → Reads here bytes tokens → ⊥
+pub reads_none : (here : Here) (bytes : List ℕ) (tokens : List Token) (code : Code) (k : ℕ) → Begins bytes (Refused code k) → TokensFrom here bytes tokens → ⊥
 reads_none here bytes tokens code k b ends = b
 reads_none here bytes tokens code k b (gap other m c r) = let e = begins_once bytes (Gap other m) (Refused code k) c b in (let f : ⊥ = cc in f)
 reads_none here bytes _ code k b (token kind m c r) = let e = begins_once bytes (Found kind m) (Refused code k) c b in (let f : ⊥ = cc in f)
 
-pub reads_end : (here : Here) (bytes : List ℕ) (tokens : List Token) → bytes ≡ [] → Reads here bytes tokens → tokens ≡ token_at here End 0 [] ∷ []
+pub reads_end : (here : Here) (bytes : List ℕ) (tokens : List Token) → bytes ≡ [] → TokensFrom here bytes tokens → tokens ≡ token_at here End 0 [] ∷ []
 reads_end here bytes tokens e ends = refl
 reads_end here bytes tokens e (gap other m c r) = absurd (subst (λ x. Begins x (Gap other m)) e c)
 reads_end here bytes _ e (token kind m c r) = absurd (subst (λ x. Begins x (Found kind m)) e c)
@@ -47,9 +47,9 @@ reads_end here bytes _ e (token kind m c r) = absurd (subst (λ x. Begins x (Fou
 -- ---- the tokens so far
 
 pub record SoFar (first here : Here) (all rest : List ℕ) (done : List Token) : Type 0 where
-  pub leads : (tail : List Token) → Reads here rest tail → Reads first all (done ++ tail)
-  pub only : (tokens : List Token) → Reads first all tokens → (tail : List Token) × (tokens ≡ done ++ tail) × Reads here rest tail
-  pub stops : (code : Code) (at : Here) → Stops here rest code at → Stops first all code at
+  pub leads : (tail : List Token) → TokensFrom here rest tail → TokensFrom first all (done ++ tail)
+  pub only : (tokens : List Token) → TokensFrom first all tokens → (tail : List Token) × (tokens ≡ done ++ tail) × TokensFrom here rest tail
+  pub stops : (code : Code) (at : Here) → RefusedFrom here rest code at → RefusedFrom first all code at
 
 pub over_a_gap : (first here : Here) (all rest : List ℕ) (done : List Token) (comment : Bool) (n : ℕ) → SoFar first here all rest done → Begins rest (Gap comment n) → SoFar first (over_gap comment here (take n rest)) all (drop n rest) done
 over_a_gap first here all rest done comment n h b = record {
@@ -62,23 +62,23 @@ pub over_a_token : (first here : Here) (all rest : List ℕ) (done : List Token)
 over_a_token first here all rest done kind n h b =
     let t = token_at here kind n (drop n rest) in
     record {
-      leads = λ tail r. subst (Reads first all) (sym (append_assoc done (t ∷ []) tail)) (h.leads (t ∷ tail) (token kind n b r));
+      leads = λ tail r. subst (TokensFrom first all) (sym (append_assoc done (t ∷ []) tail)) (h.leads (t ∷ tail) (token kind n b r));
       only = λ tokens r. let a = h.only tokens r in let c = reads_token here rest a.0 kind n b a.2 in (c.0, a.1 ∙ ap (λ x. done ++ x) c.1 ∙ sym (append_assoc done (t ∷ []) c.0), c.2);
       stops = λ code at s. h.stops code at (behind_token kind n b s);
     }
 
-pub whole : (first here : Here) (all rest : List ℕ) (done : List Token) → SoFar first here all rest done → rest ≡ [] → Reads first all (done ++ token_at here End 0 rest ∷ [])
-whole first here all rest done h e = h.leads (token_at here End 0 rest ∷ []) (subst (λ x. Reads here x (token_at here End 0 x ∷ [])) (sym e) ends)
+pub whole : (first here : Here) (all rest : List ℕ) (done : List Token) → SoFar first here all rest done → rest ≡ [] → TokensFrom first all (done ++ token_at here End 0 rest ∷ [])
+whole first here all rest done h e = h.leads (token_at here End 0 rest ∷ []) (subst (λ x. TokensFrom here x (token_at here End 0 x ∷ [])) (sym e) ends)
 
-pub whole_once : (first here : Here) (all rest : List ℕ) (done : List Token) → SoFar first here all rest done → rest ≡ [] → (others : List Token) → Reads first all others → others ≡ done ++ token_at here End 0 rest ∷ []
+pub whole_once : (first here : Here) (all rest : List ℕ) (done : List Token) → SoFar first here all rest done → rest ≡ [] → (others : List Token) → TokensFrom first all others → others ≡ done ++ token_at here End 0 rest ∷ []
 whole_once first here all rest done h e others r =
     let a = h.only others r in
     a.1 ∙ ap (λ x. done ++ x) (reads_end here rest a.0 e a.2 ∙ ap (λ x. token_at here End 0 x ∷ []) (sym e))
 
-pub refused_here : (first here : Here) (all rest : List ℕ) (done : List Token) (code : Code) (k : ℕ) → SoFar first here all rest done → Begins rest (Refused code k) → Stops first all code (over_gap true here (take k rest))
+pub refused_here : (first here : Here) (all rest : List ℕ) (done : List Token) (code : Code) (k : ℕ) → SoFar first here all rest done → Begins rest (Refused code k) → RefusedFrom first all code (over_gap true here (take k rest))
 refused_here first here all rest done code k h b = h.stops code (over_gap true here (take k rest)) (here_it_is code k b)
 
-pub none_here : (first here : Here) (all rest : List ℕ) (done : List Token) (code : Code) (k : ℕ) → SoFar first here all rest done → Begins rest (Refused code k) → (tokens : List Token) → Reads first all tokens → ⊥
+pub none_here : (first here : Here) (all rest : List ℕ) (done : List Token) (code : Code) (k : ℕ) → SoFar first here all rest done → Begins rest (Refused code k) → (tokens : List Token) → TokensFrom first all tokens → ⊥
 none_here first here all rest done code k h b tokens r = let a = h.only tokens r in reads_none here rest a.0 code k b a.2
 
 -- ---- one turn of the scanner
@@ -146,15 +146,15 @@ module _ (source : List ℕ) (done more : List Token) (t : Token) (here : Here) 
 pub nothing_left : (rest : List ℕ) → (length rest == 0) ≡ true → rest ≡ []
 nothing_left rest e = nil_from_length rest (eqb-true (length rest) 0 e)
 
-pub tokens_are : (first here : Here) (all rest : List ℕ) (done more : List Token) (t : Token) → SoFar first here all rest done → rest ≡ [] → t ≡ token_at here End 0 rest → more ≡ done ++ t ∷ [] → Reads first all more
-tokens_are first here all rest done more t h e token_is more_is = subst (Reads first all) (sym (more_is ∙ ap (λ x. done ++ x ∷ []) token_is)) (whole first here all rest done h e)
+pub tokens_are : (first here : Here) (all rest : List ℕ) (done more : List Token) (t : Token) → SoFar first here all rest done → rest ≡ [] → t ≡ token_at here End 0 rest → more ≡ done ++ t ∷ [] → TokensFrom first all more
+tokens_are first here all rest done more t h e token_is more_is = subst (TokensFrom first all) (sym (more_is ∙ ap (λ x. done ++ x ∷ []) token_is)) (whole first here all rest done h e)
 
 pub is_refused : (source : List ℕ) (number : ℕ) (here place : Here) (rest text : List ℕ) (done : List Token) (code : Code) (k : ℕ) (stop : Stop) → SoFar (first_place (mark_length source)) here (drop (mark_length source) source) rest done → Begins rest (Refused code k) → place ≡ over_gap true here text → text ≡ take k rest → stop ≡ refusal number place code → OnRefusal stop (IsRefused source number)
 is_refused source number here place rest text done code k stop h b place_is text_is stop_is =
     subst (λ x. OnRefusal x (IsRefused source number)) (sym stop_is)
     (record {
       here = place;
-      stops = subst (Stops (first_place (mark_length source)) (drop (mark_length source) source) code) (sym (place_is ∙ ap (over_gap true here) text_is)) (refused_here (first_place (mark_length source)) here (drop (mark_length source) source) rest done code k h b);
+      stops = subst (RefusedFrom (first_place (mark_length source)) (drop (mark_length source) source) code) (sym (place_is ∙ ap (over_gap true here) text_is)) (refused_here (first_place (mark_length source)) here (drop (mark_length source) source) rest done code k h b);
       in_module = refl;
       on_line = refl;
       at_column = refl;

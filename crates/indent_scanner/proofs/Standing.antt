@@ -14,7 +14,7 @@ use Rattle.indent_scanner.specs.declared.here.Here.{Here}
 use Rattle.indent_scanner.specs.declared.piece.Piece.TheVariants.{Found}
 use Rattle.indent_scanner.specs.Bytes.{byte_at}
 use Rattle.indent_scanner.specs.Meaning.{IsSpelled, IsSpelledIn}
-use Rattle.indent_scanner.specs.Tokens.{mark_length, first_place, over_byte, over_gap, over_token, token_at, Reads, ends, gap, token, Stops, here_it_is, behind_gap, behind_token, Tokens, IsRefused, before, line_feeds, last_line, StandsAt, StandsIn}
+use Rattle.indent_scanner.specs.Tokens.{mark_length, first_place, over_byte, over_gap, over_token, token_at, TokensFrom, ends, gap, token, RefusedFrom, here_it_is, behind_gap, behind_token, Tokens, IsRefused, before, line_feeds, last_line, StandsAt, StandsIn}
 use Rattle.indent_scanner.proofs.Bools.{by_test, by_cond, both_true}
 use Rattle.indent_scanner.proofs.Feeds.{NoFeed}
 use Rattle.indent_scanner.proofs.Spelling.{IsToken, begins_holds}
@@ -130,7 +130,7 @@ record Known (source : List ℕ) (t : Token) : Type 0 where
 spelled_in : (source mark : List ℕ) → length mark ≡ mark_length source → (kind : Tok) (n : ℕ) (done bytes : List ℕ) (here : Here) → Reached source mark done bytes here → IsSpelled kind (take n bytes) → IsSpelled kind (take n (drop here.start source))
 spelled_in source mark is_mark kind n done bytes here r s = subst (λ x. IsSpelled kind (take n x)) (sym (bytes_behind source mark is_mark done bytes here r)) s
 
-reads_known : (source mark : List ℕ) → length mark ≡ mark_length source → (done bytes : List ℕ) (here : Here) (tokens : List Token) → Reached source mark done bytes here → Reads here bytes tokens → All (Known source) tokens
+reads_known : (source mark : List ℕ) → length mark ≡ mark_length source → (done bytes : List ℕ) (here : Here) (tokens : List Token) → Reached source mark done bytes here → TokensFrom here bytes tokens → All (Known source) tokens
 reads_known source mark is_mark done _ here _ r ends = All-cons (Known source) (token_at here T.End 0 []) [] (record { standing = stands source mark is_mark done [] here r; spelling = refl }) (All-nil (Known source))
 reads_known source mark is_mark done bytes here tokens r (gap comment n b reads) = reads_known source mark is_mark (done ++ take n bytes) (drop n bytes) (over_gap comment here (take n bytes)) tokens (over_the_gap source mark is_mark comment n done bytes here r) reads
 reads_known source mark is_mark done bytes here _ r (token {tokens = tail} kind n b reads) =
@@ -138,7 +138,7 @@ reads_known source mark is_mark done bytes here _ r (token {tokens = tail} kind 
     All-cons (Known source) (token_at here kind n (drop n bytes)) tail (record { standing = stands source mark is_mark done bytes here r; spelling = spelled_in source mark is_mark kind n done bytes here r t.spelled })
     (reads_known source mark is_mark (done ++ take n bytes) (drop n bytes) (over_token here n) tail (over_the_token source mark is_mark kind n done bytes here t r) reads)
 
-stops_stand : (source mark : List ℕ) → length mark ≡ mark_length source → (done bytes : List ℕ) (here at : Here) (code : Code) → Reached source mark done bytes here → Stops here bytes code at → StandsAt source at.start at.line at.column
+stops_stand : (source mark : List ℕ) → length mark ≡ mark_length source → (done bytes : List ℕ) (here at : Here) (code : Code) → Reached source mark done bytes here → RefusedFrom here bytes code at → StandsAt source at.start at.line at.column
 stops_stand source mark is_mark done bytes here _ code r (here_it_is _ k b) = stands source mark is_mark (done ++ take k bytes) (drop k bytes) (over_gap true here (take k bytes)) (over_the_gap source mark is_mark true k done bytes here r)
 stops_stand source mark is_mark done bytes here at code r (behind_gap comment n b stops) = stops_stand source mark is_mark (done ++ take n bytes) (drop n bytes) (over_gap comment here (take n bytes)) at code (over_the_gap source mark is_mark comment n done bytes here r) stops
 stops_stand source mark is_mark done bytes here at code r (behind_token kind n b stops) = stops_stand source mark is_mark (done ++ take n bytes) (drop n bytes) (over_token here n) at code (over_the_token source mark is_mark kind n done bytes here (begins_holds bytes (Found kind n) b) r) stops

@@ -4,7 +4,7 @@ use Rattle.indent_scanner.specs.declared.token.Tok.{Tok}
 use Rattle.indent_scanner.specs.declared.token.Tok.TheVariants.{End}
 use Rattle.indent_scanner.specs.declared.token.Token.{Token}
 use Rattle.indent_scanner.specs.declared.here.Here.{Here}
-use Rattle.indent_scanner.specs.Tokens.{Reads, ends, gap, token, before, line_feeds}
+use Rattle.indent_scanner.specs.Tokens.{TokensFrom, ends, gap, token, before, line_feeds}
 
 abbrev pub is_end : Tok → Bool
 is_end End = true
@@ -36,7 +36,7 @@ pub record IsSpaced (tokens : List Token) : Type 0 where
 -- ---- indents
 
 -- where the comments begin of what is read from here, and how many bytes they have
-abbrev pub comments : {here : Here} {bytes : List ℕ} {tokens : List Token} → Reads here bytes tokens → List (ℕ × ℕ)
+abbrev pub comments : {here : Here} {bytes : List ℕ} {tokens : List Token} → TokensFrom here bytes tokens → List (ℕ × ℕ)
 comments ends = []
 comments {here = here} (gap true n b r) = (here.start, n) ∷ comments r
 comments (gap false n b r) = comments r

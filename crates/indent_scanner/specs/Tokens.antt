@@ -66,30 +66,30 @@ token_at here kind n behind = record {
 -- ---- sources
 
 -- from here on the bytes are these tokens, with gaps between them
-pub data Reads : Here → List ℕ → List Token → Type 0 where
-  ends : {here : Here} → Reads here [] (token_at here End 0 [] ∷ [])
+pub data TokensFrom : Here → List ℕ → List Token → Type 0 where
+  ends : {here : Here} → TokensFrom here [] (token_at here End 0 [] ∷ [])
   gap : {here : Here} {bytes : List ℕ} {tokens : List Token} (comment : Bool) (n : ℕ) → Begins bytes (Gap comment n)
-      → Reads (over_gap comment here (take n bytes)) (drop n bytes) tokens → Reads here bytes tokens
+      → TokensFrom (over_gap comment here (take n bytes)) (drop n bytes) tokens → TokensFrom here bytes tokens
   token : {here : Here} {bytes : List ℕ} {tokens : List Token} (kind : Tok) (n : ℕ) → Begins bytes (Found kind n)
-      → Reads (over_token here n) (drop n bytes) tokens → Reads here bytes (token_at here kind n (drop n bytes) ∷ tokens)
+      → TokensFrom (over_token here n) (drop n bytes) tokens → TokensFrom here bytes (token_at here kind n (drop n bytes) ∷ tokens)
 
 -- from here on tokens and gaps lead to a piece that is refused, at that place
-pub data Stops : Here → List ℕ → Code → Here → Type 0 where
+pub data RefusedFrom : Here → List ℕ → Code → Here → Type 0 where
   here_it_is : {here : Here} {bytes : List ℕ} (code : Code) (k : ℕ) → Begins bytes (Refused code k)
-      → Stops here bytes code (over_gap true here (take k bytes))
+      → RefusedFrom here bytes code (over_gap true here (take k bytes))
   behind_gap : {here at : Here} {bytes : List ℕ} {code : Code} (comment : Bool) (n : ℕ) → Begins bytes (Gap comment n)
-      → Stops (over_gap comment here (take n bytes)) (drop n bytes) code at → Stops here bytes code at
+      → RefusedFrom (over_gap comment here (take n bytes)) (drop n bytes) code at → RefusedFrom here bytes code at
   behind_token : {here at : Here} {bytes : List ℕ} {code : Code} (kind : Tok) (n : ℕ) → Begins bytes (Found kind n)
-      → Stops (over_token here n) (drop n bytes) code at → Stops here bytes code at
+      → RefusedFrom (over_token here n) (drop n bytes) code at → RefusedFrom here bytes code at
 
 -- the source is these tokens
 abbrev pub Tokens : List ℕ → List Token → Type 0
-Tokens source tokens = Reads (first_place (mark_length source)) (drop (mark_length source) source) tokens
+Tokens source tokens = TokensFrom (first_place (mark_length source)) (drop (mark_length source) source) tokens
 
 -- the source of a module is refused
 pub record IsRefused (source : List ℕ) (module_number : ℕ) (code : Code) (at : Place) : Type 0 where
   pub here : Here
-  pub stops : Stops (first_place (mark_length source)) (drop (mark_length source) source) code here
+  pub stops : RefusedFrom (first_place (mark_length source)) (drop (mark_length source) source) code here
   pub in_module : at.«module» ≡ module_number
   pub on_line : at.line ≡ here.line
   pub at_column : at.column ≡ here.column

@@ -13,7 +13,7 @@ mod words;
 
 pub use laws::{each_token, one_reading, text_characters};
 pub use source::scan;
-pub use text::{characters_of, normal_form, text_of};
+pub use text::{characters_of, inner_of, normal_form, text_of};
 pub use token::{Key, Tok, Token};
 pub use words::is_named;
 

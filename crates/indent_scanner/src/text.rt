@@ -5,7 +5,8 @@ ghost use Rattle.indent_scanner.specs.declared.shape.Shape.TheVariants as Open;
 ghost use Rattle.indent_scanner.specs.Words.{normal, folded};
 ghost use Rattle.indent_scanner.specs.Meaning.{inner, IsTextOf, bytes_of};
 ghost use Rattle.indent_scanner.specs.ByForm.{values, value_of, meaning, characters};
-ghost use Rattle.indent_scanner.specs.Grammar.{IsText};
+ghost use Rattle.indent_scanner.specs.Grammar.{IsText, IsQuoted};
+ghost use Rattle.indent_scanner.specs.declared.token.Tok.TheVariants as Kind;
 ghost use Rattle.indent_scanner.specs.Tokens.{LiesIn};
 
 use crate::bytes::byte_at;
@@ -94,6 +95,17 @@ pub fn characters_of(alloc: Global, text: &[u8]) -> Result<Bytes, Memory>
     ensures short { IfOk result (λ read. length read ≤ length text.now) }
 {
     text_in(alloc, Tok::Text, text)
+}
+
+/// The inner text of a name in backticks, from the bytes that it is written with, backticks among them.
+///
+/// It is what [`text_of`] gives for a token of these bytes.
+pub fn inner_of(alloc: Global, name: &[u8]) -> Result<Bytes, Memory>
+    ensures inner { IfOk result (λ text. (name_in : IsQuoted name.now) → text ≡ name_in.inner) }
+    ensures token { IfOk result (λ text. IsTextOf Kind.Quoted name.now text) }
+    ensures short { IfOk result (λ text. length text ≤ length name.now) }
+{
+    text_in(alloc, Tok::Quoted, name)
 }
 
 /// The characters of a text, the normal form of a name, or the inner text of a name in backticks.

@@ -1,6 +1,5 @@
-mod Right
-mod Whole
-pub mod Steadiness
-pub mod Ranges
-pub mod Rows
+pub mod ForCallers
+mod Steadiness
 mod Idle
+mod Ranges
+mod Rows

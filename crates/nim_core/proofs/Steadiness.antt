@@ -1,95 +1,100 @@
 -- Each meaning only grows, and none is wrong.
-use Rattle.std.proofs.Common.{ℕ, zero, suc, pos, Bool, true, false, List, [], ◌<◌, ◌≤◌, refl, arith}
+use Rattle.std.proofs.Common.{ℕ, zero, suc, pos, Bool, true, false, List, ◌<◌, ◌≤◌, refl, arith}
 use Rattle.std.specs.Fmt.{signed_decimal}
-use Rattle.arc_base.specs.Event.{writes}
+use Rattle.arc_base.specs.Event.{Event, writes}
 use Rattle.arc_base.specs.declared.outside.Stream.TheVariants.{Out, Err}
-use Rattle.arc_base.specs.Behaviour.{Steady, Sound}
-use Rattle.arc_base.specs.BigStep.{Res, Got, Over, Going, Errs, then_do, ticked, with_units, spend, Again, Leave, turns}
-use Rattle.arc_base.proofs.Agreeing.{prefix_refl}
-use Rattle.arc_base.proofs.Grows.{Falls, Tame, Spends, tame_then, tame_got, tame_after, tame_tick, tame_over, tame_spend, tame_loop}
+use Rattle.arc_base.specs.Behaviour.{no_objects, Steady, Sound}
+use Rattle.arc_base.specs.BigStep.{Res, Got, Over, Going, Errs, then_do, ticked, told, with_units, begun, spend, Again, Leave, turns}
+use Rattle.arc_base.specs.Growth.{Tame, Falls, Spends, Right, bare}
+use Rattle.arc_base.proofs.ForCallers.{adds_charged, adds_told, tame_got, tame_over, tame_first, tame_then, tame_spend, tame_loop, steady_by_tame, right_then, right_spend, right_turns, sound_by_right}
 use Rattle.nim_core.specs.declared.plan.Plan.{Plan}
 use Rattle.nim_core.specs.Program.{Expr, Number, Variable, Negate, Binary, Cond, Stmt, Declare, Assign, EchoInt, EchoText, Quit, If, While, Stmts, Empty, Then, Program}
 use Rattle.nim_core.specs.Traps.{trap_text}
 use Rattle.nim_core.specs.Ints.{Checked, Fine, Trapped, applied, negated, compared, low_byte}
 use Rattle.nim_core.specs.Meaning.{State, Values, put, line_of, outcome, eval, test, either, again, entered, turn, exec, exec_all, meaning}
-use Rattle.nim_core.proofs.Right.{Right, right_then, right_spend, right_turns}
-use Rattle.nim_core.proofs.Whole.{whole_steady, whole_sound}
 
 -- ---- with more units a meaning goes further
 
-tame_ended : {A : Type 0} (status : ℕ) (live : List ℕ) → Tame {A = A} (λ (a : State). Over status live a)
-tame_ended status live = record { grows = λ a. prefix_refl a.out; falls = λ a. tt; grown = λ k a. refl }
+-- a work of one, and events, that come first
+tame_tick : {A : Type 0} (act : State → Res State A) → Tame bare act → Tame bare (λ a. act (ticked a))
+tame_tick act t = tame_first bare ticked act (adds_charged 1) t
 
-tame_outcome : (given : Checked) → Tame (outcome given)
-tame_outcome (Fine value) = tame_got value
-tame_outcome (Trapped trap) = tame_over (writes Err (line_of (trap_text trap))) 1 []
+tame_told : {A : Type 0} (es : List Event) (act : State → Res State A) → Tame bare act → Tame bare (λ a. act (told es a))
+tame_told es act t = tame_first bare (told es) act (adds_told es) t
 
-tame_eval : (expr : Expr) (values : Values) → Tame (eval expr values)
-tame_eval (Number at value) values = tame_tick _ (tame_got value)
-tame_eval (Variable at number) values = tame_tick _ (tame_got (values number))
-tame_eval (Negate at operand) values = tame_then (eval operand values) _ (tame_eval operand values) (λ x. tame_tick (outcome (negated x)) (tame_outcome (negated x)))
+tame_ended : {A : Type 0} (status : ℕ) → Tame {E = Event} {A = A} bare (λ a. Over status no_objects a)
+tame_ended status = tame_over bare status (λ _. no_objects) (λ a s. refl)
+
+tame_outcome : (given : Checked) → Tame bare (outcome given)
+tame_outcome (Fine value) = tame_got bare value
+tame_outcome (Trapped trap) = tame_told (writes Err (line_of (trap_text trap))) _ (tame_ended 1)
+
+tame_eval : (expr : Expr) (values : Values) → Tame bare (eval expr values)
+tame_eval (Number at value) values = tame_tick _ (tame_got bare value)
+tame_eval (Variable at number) values = tame_tick _ (tame_got bare (values number))
+tame_eval (Negate at operand) values = tame_then bare (eval operand values) _ (tame_eval operand values) (λ x. tame_tick (outcome (negated x)) (tame_outcome (negated x)))
 tame_eval (Binary at operator left right) values =
-    tame_then (eval left values) _ (tame_eval left values) (λ x. tame_then (eval right values) _ (tame_eval right values) (λ y. tame_tick (outcome (applied operator x y)) (tame_outcome (applied operator x y))))
+    tame_then bare (eval left values) _ (tame_eval left values) (λ x. tame_then bare (eval right values) _ (tame_eval right values) (λ y. tame_tick (outcome (applied operator x y)) (tame_outcome (applied operator x y))))
 
-tame_test : (condition : Cond) (values : Values) → Tame (test condition values)
+tame_test : (condition : Cond) (values : Values) → Tame bare (test condition values)
 tame_test condition values =
-    tame_then (eval condition.left values) _ (tame_eval condition.left values) (λ x. tame_then (eval condition.right values) _ (tame_eval condition.right values) (λ y. tame_tick _ (tame_got (compared condition.comparison x y))))
+    tame_then bare (eval condition.left values) _ (tame_eval condition.left values) (λ x. tame_then bare (eval condition.right values) _ (tame_eval condition.right values) (λ y. tame_tick _ (tame_got bare (compared condition.comparison x y))))
 
-tame_either : {A : Type 0} (holds fails : State → Res State A) → Tame holds → Tame fails → (b : Bool) → Tame (either holds fails b)
+tame_either : {A : Type 0} (holds fails : State → Res State A) → Tame bare holds → Tame bare fails → (b : Bool) → Tame bare (either holds fails b)
 tame_either holds fails h f true = h
 tame_either holds fails h f false = f
 
-module _ (condition : Values → State → Res State Bool) (body : Values → State → Res State Values) (tame_condition : (values : Values) → Tame (condition values)) (tame_body : (values : Values) → Tame (body values)) where
-  tame_entered : (values : Values) → Tame (entered body values)
-  tame_entered values = tame_spend (λ a. then_do (body values (ticked a)) again) (tame_then (λ a. body values (ticked a)) again (tame_tick (body values) (tame_body values)) (λ after. tame_got (Again after)))
+module _ (condition : Values → State → Res State Bool) (body : Values → State → Res State Values) (tame_condition : (values : Values) → Tame bare (condition values)) (tame_body : (values : Values) → Tame bare (body values)) where
+  tame_entered : (values : Values) → Tame bare (entered body values)
+  tame_entered values = tame_spend bare (λ a. then_do (body values (ticked a)) again) (tame_then bare (λ a. body values (ticked a)) again (tame_tick (body values) (tame_body values)) (λ after. tame_got bare (Again after)))
 
-  tame_turn : (values : Values) → Tame (turn condition body values)
-  tame_turn values = tame_then (condition values) _ (tame_condition values) (tame_either (entered body values) (Got (Leave values)) (tame_entered values) (tame_got (Leave values)))
+  tame_turn : (values : Values) → Tame bare (turn condition body values)
+  tame_turn values = tame_then bare (condition values) _ (tame_condition values) (tame_either (entered body values) (Got (Leave values)) (tame_entered values) (tame_got bare (Leave values)))
 
   -- a body that was entered has spent a unit
-  after_spends : (u most : ℕ) → u < most → (r : Res State Values) → Falls u r → Spends most (then_do r again)
+  after_spends : (u most : ℕ) → u < most → (r : Res State Values) → Falls bare u r → Spends bare most (then_do r again)
   after_spends u most lt (Got values b) falls = omega (arith, lt, falls)
   after_spends u most lt (Over status live b) falls = tt
   after_spends u most lt (Going b) falls = tt
   after_spends u most lt (Errs b) falls = tt
 
-  body_spends : (values : Values) (most u : ℕ) (b : State) → u ≤ most → Spends most (spend u b (λ left. then_do (body values (ticked (with_units left b))) again))
+  body_spends : (values : Values) (most u : ℕ) (b : State) → u ≤ most → Spends bare most (spend u b (λ left. then_do (body values (ticked (with_units left b))) again))
   body_spends values most zero b le = tt
   body_spends values most (suc u) b le = after_spends u most (omega (arith, le)) (body values (ticked (with_units u b))) ((tame_body values).falls (ticked (with_units u b)))
 
-  either_spends : (values : Values) (most : ℕ) (holds : Bool) (b : State) → b.units ≤ most → Spends most (either (entered body values) (Got (Leave values)) holds b)
+  either_spends : (values : Values) (most : ℕ) (holds : Bool) (b : State) → b.units ≤ most → Spends bare most (either (entered body values) (Got (Leave values)) holds b)
   either_spends values most true b le = body_spends values most b.units b le
   either_spends values most false b le = tt
 
-  test_spends : (values : Values) (most : ℕ) (r : Res State Bool) → Falls most r → Spends most (then_do r (either (entered body values) (Got (Leave values))))
+  test_spends : (values : Values) (most : ℕ) (r : Res State Bool) → Falls bare most r → Spends bare most (then_do r (either (entered body values) (Got (Leave values))))
   test_spends values most (Got holds b) falls = either_spends values most holds b falls
   test_spends values most (Over status live b) falls = tt
   test_spends values most (Going b) falls = tt
   test_spends values most (Errs b) falls = tt
 
-  turn_spends : (values : Values) (a : State) → Spends a.units (turn condition body values a)
+  turn_spends : (values : Values) (a : State) → Spends bare a.units (turn condition body values a)
   turn_spends values a = test_spends values a.units (condition values a) ((tame_condition values).falls a)
 
-  tame_while : (values : Values) → Tame (λ a. turns (suc a.units) (turn condition body) values (ticked a))
-  tame_while values = tame_tick (λ a. turns (suc a.units) (turn condition body) values a) (tame_loop (turn condition body) tame_turn turn_spends values)
+  tame_while : (values : Values) → Tame bare (λ a. turns (suc a.units) (turn condition body) values (ticked a))
+  tame_while values = tame_tick (λ a. turns (suc a.units) (turn condition body) values a) (tame_loop bare (turn condition body) tame_turn turn_spends values)
 
 mutual
-  tame_exec : (stmt : Stmt) (values : Values) → Tame (exec stmt values)
-  tame_exec (Declare at variable value) values = tame_then (eval value values) _ (tame_eval value values) (λ x. tame_tick _ (tame_got (put values variable x)))
-  tame_exec (Assign at variable value) values = tame_then (eval value values) _ (tame_eval value values) (λ x. tame_tick _ (tame_got (put values variable x)))
-  tame_exec (EchoInt at value) values = tame_then (eval value values) _ (tame_eval value values) (λ x. tame_after (writes Out (line_of (signed_decimal x))) _ (tame_got values))
-  tame_exec (EchoText at text) values = tame_after (writes Out (line_of text)) _ (tame_got values)
-  tame_exec (Quit at status) values = tame_then (eval status values) _ (tame_eval status values) (λ x. tame_tick _ (tame_ended (low_byte x) []))
+  tame_exec : (stmt : Stmt) (values : Values) → Tame bare (exec stmt values)
+  tame_exec (Declare at variable value) values = tame_then bare (eval value values) _ (tame_eval value values) (λ x. tame_tick _ (tame_got bare (put values variable x)))
+  tame_exec (Assign at variable value) values = tame_then bare (eval value values) _ (tame_eval value values) (λ x. tame_tick _ (tame_got bare (put values variable x)))
+  tame_exec (EchoInt at value) values = tame_then bare (eval value values) _ (tame_eval value values) (λ x. tame_tick _ (tame_told (writes Out (line_of (signed_decimal x))) _ (tame_got bare values)))
+  tame_exec (EchoText at text) values = tame_tick _ (tame_told (writes Out (line_of text)) _ (tame_got bare values))
+  tame_exec (Quit at status) values = tame_then bare (eval status values) _ (tame_eval status values) (λ x. tame_tick _ (tame_ended (low_byte x)))
   tame_exec (If at condition then_branch else_branch) values =
-      tame_then (λ a. test condition values (ticked a)) _ (tame_tick (test condition values) (tame_test condition values)) (tame_either (exec_all then_branch values) (exec_all else_branch values) (tame_all then_branch values) (tame_all else_branch values))
+      tame_then bare (λ a. test condition values (ticked a)) _ (tame_tick (test condition values) (tame_test condition values)) (tame_either (exec_all then_branch values) (exec_all else_branch values) (tame_all then_branch values) (tame_all else_branch values))
   tame_exec (While at condition body) values = tame_while (test condition) (exec_all body) (tame_test condition) (tame_all body) values
 
-  tame_all : (stmts : Stmts) (values : Values) → Tame (exec_all stmts values)
-  tame_all Empty values = tame_got values
-  tame_all (Then first rest) values = tame_then (exec first values) _ (tame_exec first values) (tame_all rest)
+  tame_all : (stmts : Stmts) (values : Values) → Tame bare (exec_all stmts values)
+  tame_all Empty values = tame_got bare values
+  tame_all (Then first rest) values = tame_then bare (exec first values) _ (tame_exec first values) (tame_all rest)
 
 pub meaning_steady : (program : Program) (plan : Plan) (heap : ℕ) (input : List ℕ) → Steady (meaning program plan heap input)
-meaning_steady program plan heap input = whole_steady (λ _. 0) [] (exec_all program.start (λ _. pos 0)) (tame_all program.start (λ _. pos 0))
+meaning_steady program plan heap input = steady_by_tame bare (λ _. 0) (λ _. no_objects) (λ a s. refl) (exec_all program.start (λ _. pos 0)) (tame_all program.start (λ _. pos 0)) (begun 0)
 
 -- ---- no meaning is wrong
 
@@ -135,4 +140,4 @@ mutual
   right_all (Then first rest) values a = right_then (exec first values a) _ (right_exec first values a) (right_all rest)
 
 pub meaning_sound : (program : Program) (plan : Plan) (heap : ℕ) (input : List ℕ) → Sound (meaning program plan heap input)
-meaning_sound program plan heap input = whole_sound (λ _. 0) [] (exec_all program.start (λ _. pos 0)) (right_all program.start (λ _. pos 0))
+meaning_sound program plan heap input = sound_by_right (λ a. a) (λ _. 0) (λ _. no_objects) (λ n. exec_all program.start (λ _. pos 0) (begun n)) (λ n. right_all program.start (λ _. pos 0) (begun n))

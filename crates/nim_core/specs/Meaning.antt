@@ -3,8 +3,8 @@ use Rattle.std.specs.Prelude.{ℕ, suc, ℤ, pos, Bool, true, false, if◌then�
 use Rattle.std.specs.Fmt.{signed_decimal}
 use Rattle.arc_base.specs.Event.{Event, writes}
 use Rattle.arc_base.specs.declared.outside.Stream.TheVariants.{Out, Err}
-use Rattle.arc_base.specs.Behaviour.{Behaviour}
-use Rattle.arc_base.specs.BigStep.{Meter, Res, Got, Over, then_do, ticked, told, with_units, spend, Turn, Again, Leave, turns, seen_of}
+use Rattle.arc_base.specs.Behaviour.{Behaviour, no_objects}
+use Rattle.arc_base.specs.BigStep.{Meter, Res, Got, Over, then_do, ticked, told, with_units, spend, Turn, Again, Leave, turns, begun, whole}
 use Rattle.nim_core.specs.declared.plan.Plan.{Plan}
 use Rattle.nim_core.specs.Program.{Expr, Number, Variable, Negate, Binary, Cond, Stmt, Declare, Assign, EchoInt, EchoText, Quit, If, While, Stmts, Empty, Then, Program}
 use Rattle.nim_core.specs.Traps.{trap_text}
@@ -28,7 +28,7 @@ line_of text = text ++ 10 ∷ []
 -- a trap writes its line to standard error, and ends the run with status 1
 abbrev pub outcome : Checked → State → Res State ℤ
 outcome (Fine value) state = Got value state
-outcome (Trapped trap) state = Over 1 [] (told (writes Err (line_of (trap_text trap))) state)
+outcome (Trapped trap) state = Over 1 no_objects (told (writes Err (line_of (trap_text trap))) state)
 
 -- The value of an expression. Operands are evaluated from left to right, and each node's work is one.
 abbrev pub eval : Expr → Values → State → Res State ℤ
@@ -67,7 +67,7 @@ abbrev mutual
   exec (Assign at variable value) values state = then_do (eval value values state) (λ x after. Got (put values variable x) (ticked after))
   exec (EchoInt at value) values state = then_do (eval value values state) (λ x after. Got values (told (writes Out (line_of (signed_decimal x))) (ticked after)))
   exec (EchoText at text) values state = Got values (told (writes Out (line_of text)) (ticked state))
-  exec (Quit at status) values state = then_do (eval status values state) (λ x after. Over (low_byte x) [] (ticked after))
+  exec (Quit at status) values state = then_do (eval status values state) (λ x after. Over (low_byte x) no_objects (ticked after))
   exec (If at condition then_branch else_branch) values state = then_do (test condition values (ticked state)) (either (exec_all then_branch values) (exec_all else_branch values))
   exec (While at condition body) values state = turns (suc state.units) (turn (test condition) (exec_all body)) values (ticked state)
 
@@ -80,5 +80,4 @@ abbrev mutual
 -- first. Each entry of a loop's body spends a unit, and where none is left the run still goes on. No statement has a
 -- site, takes memory or reads yet, and there are no objects. A normal end has status 0.
 abbrev pub meaning : Program → Plan → (heap : ℕ) → (input : List ℕ) → Behaviour Event
-meaning program plan heap input n =
-    seen_of (λ state. state) (λ _. 0) (λ _. []) (exec_all program.start (λ _. pos 0) (record { units = n; out = []; work = 0 }))
+meaning program plan heap input = whole (λ state. state) (λ _. 0) (λ _. no_objects) (λ n. exec_all program.start (λ _. pos 0) (begun n))

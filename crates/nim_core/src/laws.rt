@@ -5,7 +5,7 @@ ghost use Rattle.std.specs.Int.{w32};
 ghost use Rattle.arc_base.specs.declared.place.Place.{Place};
 ghost use Rattle.arc_base.specs.Event.{writes};
 ghost use Rattle.arc_base.specs.declared.outside.Stream.TheVariants.{Out, Err};
-ghost use Rattle.arc_base.specs.Behaviour.{Running, Ended, Steady, Sound};
+ghost use Rattle.arc_base.specs.Behaviour.{Running, Ended, no_objects, Steady, Sound};
 ghost use Rattle.arc_base.specs.Stepping.{seen};
 ghost use Rattle.nim_core.specs.declared.plan.Plan.{Plan};
 ghost use Rattle.nim_core.specs.declared.program.Operator.{Operator};
@@ -42,19 +42,19 @@ pub fn meanings()
 
 /// What small programs do with so many units: what they write, how they stand, and their work.
 pub fn examples()
-    ensures overflowing { (plan : Plan) (heap : ℕ) (input : List ℕ) → meaning overflowing plan heap input 0 ≡ seen (writes Err (codes "Error: overflow\n")) (Ended 1 []) 5 }
-    ensures opposite { (plan : Plan) (heap : ℕ) (input : List ℕ) → meaning opposite plan heap input 0 ≡ seen (writes Out (codes "-2147483648\n") ++ writes Err (codes "Error: overflow\n")) (Ended 1 []) 10 }
-    ensures least_div { (plan : Plan) (heap : ℕ) (input : List ℕ) → meaning least_div plan heap input 0 ≡ seen (writes Err (codes "Error: overflow\n")) (Ended 1 []) 7 }
-    ensures least_mod { (plan : Plan) (heap : ℕ) (input : List ℕ) → meaning least_mod plan heap input 0 ≡ seen (writes Out (codes "0\n")) (Ended 0 []) 8 }
-    ensures zero_div { (plan : Plan) (heap : ℕ) (input : List ℕ) → meaning zero_div plan heap input 0 ≡ seen (writes Out (codes "before\n") ++ writes Err (codes "Error: division by zero\n")) (Ended 1 []) 4 }
-    ensures zero_mod { (plan : Plan) (heap : ℕ) (input : List ℕ) → meaning zero_mod plan heap input 0 ≡ seen (writes Err (codes "Error: division by zero\n")) (Ended 1 []) 3 }
-    ensures rounding { (plan : Plan) (heap : ℕ) (input : List ℕ) → meaning rounding plan heap input 0 ≡ seen (writes Out (codes "-3\n-1\n-3\n1\n")) (Ended 0 []) 20 }
-    ensures left_first { (plan : Plan) (heap : ℕ) (input : List ℕ) → meaning left_first plan heap input 0 ≡ seen (writes Err (codes "Error: overflow\n")) (Ended 1 []) 3 }
-    ensures counting { (plan : Plan) (heap : ℕ) (input : List ℕ) → meaning counting plan heap input 3 ≡ seen (writes Out (codes "0\n1\n2\n")) (Ended 3 []) 38 }
+    ensures overflowing { (plan : Plan) (heap : ℕ) (input : List ℕ) → meaning overflowing plan heap input 0 ≡ seen (writes Err (codes "Error: overflow\n")) (Ended 1 no_objects) 5 }
+    ensures opposite { (plan : Plan) (heap : ℕ) (input : List ℕ) → meaning opposite plan heap input 0 ≡ seen (writes Out (codes "-2147483648\n") ++ writes Err (codes "Error: overflow\n")) (Ended 1 no_objects) 10 }
+    ensures least_div { (plan : Plan) (heap : ℕ) (input : List ℕ) → meaning least_div plan heap input 0 ≡ seen (writes Err (codes "Error: overflow\n")) (Ended 1 no_objects) 7 }
+    ensures least_mod { (plan : Plan) (heap : ℕ) (input : List ℕ) → meaning least_mod plan heap input 0 ≡ seen (writes Out (codes "0\n")) (Ended 0 no_objects) 8 }
+    ensures zero_div { (plan : Plan) (heap : ℕ) (input : List ℕ) → meaning zero_div plan heap input 0 ≡ seen (writes Out (codes "before\n") ++ writes Err (codes "Error: division by zero\n")) (Ended 1 no_objects) 4 }
+    ensures zero_mod { (plan : Plan) (heap : ℕ) (input : List ℕ) → meaning zero_mod plan heap input 0 ≡ seen (writes Err (codes "Error: division by zero\n")) (Ended 1 no_objects) 3 }
+    ensures rounding { (plan : Plan) (heap : ℕ) (input : List ℕ) → meaning rounding plan heap input 0 ≡ seen (writes Out (codes "-3\n-1\n-3\n1\n")) (Ended 0 no_objects) 20 }
+    ensures left_first { (plan : Plan) (heap : ℕ) (input : List ℕ) → meaning left_first plan heap input 0 ≡ seen (writes Err (codes "Error: overflow\n")) (Ended 1 no_objects) 3 }
+    ensures counting { (plan : Plan) (heap : ℕ) (input : List ℕ) → meaning counting plan heap input 3 ≡ seen (writes Out (codes "0\n1\n2\n")) (Ended 3 no_objects) 38 }
     ensures counting_on { (plan : Plan) (heap : ℕ) (input : List ℕ) → meaning counting plan heap input 2 ≡ seen (writes Out (codes "0\n1\n")) Running 26 }
     ensures endless { (plan : Plan) (heap : ℕ) (input : List ℕ) → meaning endless plan heap input 5 ≡ seen (writes Out (codes "0\n1\n2\n3\n4\n")) Running 56 }
     ensures idle { (plan : Plan) (heap : ℕ) (input : List ℕ) (n : ℕ) → (meaning idle plan heap input n).phase ≡ Running }
     ensures silent { (plan : Plan) (heap : ℕ) (input : List ℕ) (n : ℕ) → (meaning idle plan heap input n).events ≡ [] }
-    ensures quitting { (plan : Plan) (heap : ℕ) (input : List ℕ) → meaning quitting plan heap input 0 ≡ seen [] (Ended 255 []) 3 }
-    ensures choosing { (plan : Plan) (heap : ℕ) (input : List ℕ) → meaning choosing plan heap input 0 ≡ seen (writes Out (codes "equal\nnot less\n")) (Ended 0 []) 16 }
+    ensures quitting { (plan : Plan) (heap : ℕ) (input : List ℕ) → meaning quitting plan heap input 0 ≡ seen [] (Ended 255 no_objects) 3 }
+    ensures choosing { (plan : Plan) (heap : ℕ) (input : List ℕ) → meaning choosing plan heap input 0 ≡ seen (writes Out (codes "equal\nnot less\n")) (Ended 0 no_objects) 16 }
 {}

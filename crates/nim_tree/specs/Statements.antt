@@ -21,7 +21,7 @@ use Rattle.nim_tree.specs.declared.stmt.Stmt.TheBlock.{Row_of-Stmt, end_of-Stmt,
 use Rattle.nim_tree.specs.declared.stmt.Stmt.TheVariants as S
 use Rattle.nim_tree.specs.Lists.{highest, total, if_there, one}
 use Rattle.nim_tree.specs.Terms.{Term, Parts, term_of, parts_of, levels, most_levels, nodes, nodes_in}
-use Rattle.nim_tree.specs.Types.{Written, Declaration, written_of, declaration_of, type_levels as written_levels, declaration_levels, type_term_levels, declaration_term_levels, type_nodes, declaration_nodes}
+use Rattle.nim_tree.specs.Types.{Written, Declaration, written_of, declaration_of, type_levels as written_levels, declaration_levels, type_nodes, declaration_nodes}
 
 -- names with one type and one value
 pub record Definition : Type 0 where
@@ -187,13 +187,7 @@ abbrev mutual
   handler_block_levels (handler at names binding body rest) = max (block_levels body) (handler_block_levels rest)
 
 abbrev pub definition_term_levels : Definition → ℕ
-definition_term_levels d = max (if_there type_term_levels d.annotation) (if_there levels d.value)
-
-abbrev pub parameter_term_levels : Parameters → ℕ
-parameter_term_levels p = type_term_levels p.of
-
-abbrev pub head_term_levels : Head → ℕ
-head_term_levels h = max (highest parameter_term_levels h.params) (if_there type_term_levels h.gives)
+definition_term_levels d = if_there levels d.value
 
 abbrev pub course_term_levels : Course → ℕ
 course_term_levels (each value) = levels value
@@ -201,8 +195,8 @@ course_term_levels (up_to first last) = max (levels first) (levels last)
 course_term_levels (below first end) = max (levels first) (levels end)
 
 abbrev mutual
-  -- the most levels of an expression in a statement, where each value, target, callee, operand, condition, selector, label,
-  -- end of a course and length of an array is an expression of its own
+  -- the most levels of an expression in a statement, where each value, target, callee, operand, condition, selector, label and
+  -- end of a course is an expression of its own; the length of an array is a part of its type
   pub term_levels_of : Statement → ℕ
   term_levels_of (discards at value) = if_there levels value
   term_levels_of (returns at value) = if_there levels value
@@ -214,14 +208,14 @@ abbrev mutual
   term_levels_of (assigns at op target value) = max (levels target) (levels value)
   term_levels_of (commands at callee operands) = max (levels callee) (most_levels operands)
   term_levels_of (defines at binding definitions) = highest definition_term_levels definitions
-  term_levels_of (types at declarations) = highest declaration_term_levels declarations
+  term_levels_of (types at declarations) = 0
   term_levels_of (branches at all otherwise) = max (branch_term_levels all) (term_levels otherwise)
   term_levels_of (selects at selector all otherwise) = max (levels selector) (max (branch_term_levels all) (term_levels otherwise))
   term_levels_of (repeats at condition body) = max (levels condition) (term_levels body)
   term_levels_of (counts at variable course body) = max (course_term_levels course) (term_levels body)
   term_levels_of (tries at body all finally) = max (max (term_levels body) (handler_term_levels all)) (term_levels finally)
   term_levels_of (defers at body) = term_levels body
-  term_levels_of (proclaims at head body) = max (head_term_levels head) (term_levels body)
+  term_levels_of (proclaims at head body) = term_levels body
 
   -- those of the highest statement
   pub term_levels : Statements → ℕ
@@ -244,6 +238,10 @@ parameter_type_levels p = written_levels p.of
 
 abbrev pub head_type_levels : Head → ℕ
 head_type_levels h = max (highest parameter_type_levels h.params) (if_there written_levels h.gives)
+
+-- those of its written type and of its value
+abbrev pub definition_levels : Definition → ℕ
+definition_levels d = max (definition_type_levels d) (definition_term_levels d)
 
 abbrev mutual
   -- the most levels of a written type in a statement

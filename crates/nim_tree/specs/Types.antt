@@ -66,11 +66,11 @@ fields_in _ = no_fields
 -- ---- how deep they are
 
 abbrev mutual
-  -- a name without arguments has one level, any other type one more than the highest of its arguments, target, element or
-  -- fields; the length of an array is an expression of its own
+  -- a name without arguments has one level, any other type one more than the highest of its arguments, length, element, target
+  -- or fields
   pub type_levels : Written → ℕ
   type_levels (named at text arguments) = suc (most_type_levels arguments)
-  type_levels (array at length element) = suc (type_levels element)
+  type_levels (array at length element) = suc (max (levels length) (type_levels element))
   type_levels (ref_to at target) = suc (type_levels target)
   type_levels (tuple_of at inside) = suc (field_levels inside)
 
@@ -93,31 +93,6 @@ body_levels (alias of) = type_levels of
 
 abbrev pub declaration_levels : Declaration → ℕ
 declaration_levels d = body_levels d.body
-
-abbrev mutual
-  -- the most levels of an expression in it: of the length of an array
-  pub type_term_levels : Written → ℕ
-  type_term_levels (named at text arguments) = argument_term_levels arguments
-  type_term_levels (array at length element) = max (levels length) (type_term_levels element)
-  type_term_levels (ref_to at target) = type_term_levels target
-  type_term_levels (tuple_of at inside) = field_term_levels inside
-
-  pub argument_term_levels : Arguments → ℕ
-  argument_term_levels no_arguments = 0
-  argument_term_levels (argument first rest) = max (type_term_levels first) (argument_term_levels rest)
-
-  pub field_term_levels : Fields → ℕ
-  field_term_levels no_fields = 0
-  field_term_levels (fields names of rest) = max (type_term_levels of) (field_term_levels rest)
-
-abbrev pub body_term_levels : Body → ℕ
-body_term_levels (object at is_ref parent inside) = field_term_levels inside
-body_term_levels (enum at members) = 0
-body_term_levels (distinct at base) = type_term_levels base
-body_term_levels (alias of) = type_term_levels of
-
-abbrev pub declaration_term_levels : Declaration → ℕ
-declaration_term_levels d = body_term_levels d.body
 
 -- ---- how large they are
 

@@ -3,12 +3,13 @@ ghost use Rattle.std.specs.Prelude.{◌≡◌, ◌-◌, ◌^◌, min};
 ghost use Rattle.nim_tree.specs.Statements.{tree_of, statement_of, statements_of, branches_of, handlers_of, term_levels_of, term_levels, branch_term_levels, handler_term_levels};
 
 use crate::expr::most_levels;
-use crate::part_depth::{in_course, in_declarations, in_definitions, in_head, in_value};
+use crate::part_depth::{in_course, in_definitions, in_value};
 use crate::{Branch, Handler, Module, Stmt};
 
 /// The most levels of an expression, or 4,294,967,295 where there are more.
 ///
-/// Each value, target, callee, operand, condition, selector, label, end of a `for` and length of an array is one of its own.
+/// Each value, target, callee, operand, condition, selector, label and end of a `for` is one of its own; the length of an array
+/// counts in the levels of its type.
 pub fn expr_depth(tree: &Module) -> u32
     ensures { result ≡ min (term_levels (tree_of tree.now)) (2 ^ 32 - 1) }
 {
@@ -23,7 +24,7 @@ fn in_statement(statement: &Stmt) -> u32
         Stmt::Discard { value, .. } | Stmt::Return { value, .. } | Stmt::Raise { value, .. } => {
             in_value(value)
         }
-        Stmt::Break { .. } | Stmt::Continue { .. } | Stmt::Import { .. } => 0,
+        Stmt::Break { .. } | Stmt::Continue { .. } | Stmt::Import { .. } | Stmt::Types { .. } => 0,
         Stmt::Eval { value, .. } => value.levels(),
         Stmt::Assign { target, value, .. } => target.levels().max(value.levels()),
         Stmt::Command {
@@ -32,7 +33,6 @@ fn in_statement(statement: &Stmt) -> u32
             ..
         } => callee.levels().max(most_levels(operands)),
         Stmt::Define { defs, .. } => in_definitions(defs),
-        Stmt::Types { defs, .. } => in_declarations(defs),
         Stmt::If { .. } => {
             in_branches(statement.branches()).max(in_statements(statement.closing()))
         }
@@ -45,8 +45,7 @@ fn in_statement(statement: &Stmt) -> u32
         Stmt::Try { .. } => in_statements(statement.body())
             .max(in_handlers(statement.handlers()))
             .max(in_statements(statement.closing())),
-        Stmt::Defer { .. } => in_statements(statement.body()),
-        Stmt::Proc { head, .. } => in_head(head).max(in_statements(statement.body())),
+        Stmt::Defer { .. } | Stmt::Proc { .. } => in_statements(statement.body()),
     }
 }
 

@@ -56,7 +56,7 @@ impl TypeTree {
 
     /// Its levels, or 4,294,967,295 where it has more.
     ///
-    /// A name without arguments has one level, any other type one more than the highest type in it.
+    /// A name without arguments has one level, any other type one more than the highest type or length in it.
     pub fn levels(&self) -> u32
         ensures { result ≡ min (type_levels (written_of self.now)) (2 ^ 32 - 1) }
     {
@@ -70,7 +70,11 @@ fn levels_of(tree: &TypeTree) -> u32
 {
     match tree {
         TypeTree::Named { .. } => argument_levels(tree.arguments()).saturating_add(1),
-        TypeTree::Array { element, .. } => levels_of(element).saturating_add(1),
+        TypeTree::Array {
+            length,
+            element,
+            ..
+        } => length.levels().max(levels_of(element)).saturating_add(1),
         TypeTree::Ref { target, .. } => levels_of(target).saturating_add(1),
         TypeTree::Tuple { .. } => field_levels(tree.fields()).saturating_add(1),
     }

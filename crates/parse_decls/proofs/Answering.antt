@@ -1,6 +1,6 @@
 -- What a call says of the text, from what its run comes to.
-use Rattle.std.proofs.Common.{◌≡◌, ℕ, ◌+◌, ◌-◌, ◌≤◌, List, length, drop, refl, inl, inr, arith}
-use Rattle.std.specs.Prelude.{◌⊎◌, Result, Ok, Err, IfOk, IfErr}
+use Rattle.std.proofs.Common.{◌≡◌, ℕ, ◌-◌, ◌≤◌, List, length, drop, refl, inl, inr, arith}
+use Rattle.std.specs.Prelude.{Result, Ok, Err, IfOk, IfErr}
 use Rattle.std.proofs.lemmas.List.{length-drop}
 use Rattle.arc_base.specs.declared.place.Place.{Place}
 use Rattle.arc_base.specs.declared.place.Code.{Code}
@@ -12,7 +12,7 @@ use Rattle.parse_exprs.specs.declared.input.Input.{Input}
 use Rattle.parse_exprs.specs.Look.{Origin}
 use Rattle.parse_exprs.specs.Input.{origin_of, from_at}
 use Rattle.parse_exprs.specs.Parsed.{HasNoEnd}
-use Rattle.parse_decls.specs.Outcome.{Why, too_deep, left_out, stuck, tired, Out, got, bad, Settles}
+use Rattle.parse_decls.specs.Outcome.{Why, too_deep, left_out, stuck, tired, Out, got, Settles}
 use Rattle.parse_decls.specs.Claims.{IsOnly, ReadsNone, IsRefused, Agree}
 use Rattle.parse_decls.specs.declared.reading.Reading.{Reading}
 use Rattle.parse_decls.specs.Gives.{Tells, Refuses, Fails, Comes}

@@ -1,6 +1,6 @@
 -- The steps of reading a declaration of a type.
-use Rattle.std.proofs.Common.{◌≡◌, ℕ, zero, suc, ◌+◌, ◌<◌, ◌≤◌, List, [], ◌∷◌, length, drop, refl, sym, ap, subst, ◌∙◌, arith, Bool, true, false}
-use Rattle.std.specs.Prelude.{if◌then◌else◌, Result, Ok, Err}
+use Rattle.std.proofs.Common.{◌≡◌, ℕ, suc, ◌+◌, ◌<◌, List, [], ◌∷◌, length, drop, refl, sym, ap, subst, ◌∙◌, Bool, true, false}
+use Rattle.std.specs.Prelude.{if◌then◌else◌, Result}
 use Rattle.arc_base.specs.declared.place.Place.{Place}
 use Rattle.arc_base.specs.declared.place.Stop.{Stop}
 use Rattle.indent_scanner.specs.declared.token.Key.TheVariants as K
@@ -20,11 +20,11 @@ use Rattle.parse_decls.specs.declared.look.BodyLead.{BodyLead}
 use Rattle.parse_decls.specs.declared.look.BodyLead.TheVariants as B
 use Rattle.parse_decls.specs.declared.reading.Reading.{Reading}
 use Rattle.parse_decls.specs.Look.{behind, body_lead, body_lead_of, object_at}
-use Rattle.parse_decls.specs.Outcome.{stuck_at, Out, got, bad, then_do, unless_stuck, Settles}
-use Rattle.parse_decls.specs.Run.{run_body, run_body_by, run_object, run_enum, run_distinct, run_alias}
+use Rattle.parse_decls.specs.Outcome.{stuck_at, Out, got, then_do, unless_stuck, Settles}
+use Rattle.parse_decls.specs.Run.{run_body, run_body_by, run_object, run_enum, run_distinct}
 use Rattle.parse_decls.specs.Gives.{Told, Fails, Comes, Leads}
 use Rattle.parse_decls.proofs.Settling.{settles_got}
-use Rattle.parse_decls.proofs.Coming.{told_fails, comes_leads, comes_at, behind_at, within_at}
+use Rattle.parse_decls.proofs.Coming.{told_fails, comes_at, behind_at, within_at}
 
 -- what reading goes on as behind the `=`
 abbrev pub declared_run : Input → ℕ → Declared → List Name → List Token → ℕ → Out Declaration

@@ -1,8 +1,6 @@
 -- What a run comes to, put together of what its parts come to.
 use Rattle.std.proofs.Common.{◌≡◌, ℕ, zero, suc, ◌+◌, [], ◌∷◌, drop, add-one, ◌<◌, ◌≤◌, List, Bool, true, false, refl, sym, ap, subst, ◌∙◌, arith}
-use Rattle.std.specs.Prelude.{if◌then◌else◌, Option, Some, None, Result, Ok, Err, length, ⊤}
-use Rattle.arc_base.specs.declared.place.Place.{Place}
-use Rattle.arc_base.specs.declared.place.Code.{Code}
+use Rattle.std.specs.Prelude.{if◌then◌else◌, Option, Some, None, Result, Ok, Err, length}
 use Rattle.arc_base.specs.declared.place.Stop.{Stop}
 use Rattle.arc_base.specs.declared.place.Stop.TheVariants.{Refused, Memory}
 use Rattle.indent_scanner.specs.declared.token.Token.{Token}

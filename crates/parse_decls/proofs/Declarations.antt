@@ -5,7 +5,7 @@ use Rattle.indent_scanner.specs.declared.token.Token.{Token}
 use Rattle.nim_tree.specs.declared.name.Name.{Name}
 use Rattle.nim_tree.specs.declared.name.Declared.{Declared}
 use Rattle.nim_tree.specs.Lists.{highest}
-use Rattle.nim_tree.specs.Types.{Written, Fields, no_fields, fields, Body, object, enum, distinct, alias, Declaration, type_levels, type_term_levels, field_levels, field_term_levels, body_levels, body_term_levels, declaration_levels, declaration_term_levels}
+use Rattle.nim_tree.specs.Types.{Written, Fields, no_fields, fields, Body, object, enum, distinct, alias, Declaration, type_levels, field_levels, body_levels, declaration_levels}
 use Rattle.parse_exprs.specs.declared.layout.Layout.{Layout}
 use Rattle.parse_exprs.specs.declared.layout.Layout.TheVariants.{Brackets, Lines}
 use Rattle.parse_exprs.specs.Look.{Origin, place_at, name_on, stays, comma_at}
@@ -47,21 +47,21 @@ lines_from : {x : Origin} {n : ℕ} {all : Fields} {ts rest : List Token} → Is
 lines_from (o_over h) = ([], refl, e_over h)
 lines_from (o_field {names = names} {a = a} {mid = mid} g d s t) = let r = lines_from t in let one : Typed = a_line names a in (one ∷ r.0, ap (fields names a) r.1, e_next {a = one} g (mid, d, s) r.2)
 
-lines_short : {x : Origin} {n : ℕ} {all : Fields} {ts rest : List Token} → IsFieldLines x n all ts rest → field_levels all ≤ most_levels → field_term_levels all ≤ most_levels
+lines_short : {x : Origin} {n : ℕ} {all : Fields} {ts rest : List Token} → IsFieldLines x n all ts rest → field_levels all ≤ most_levels
     → (items : List Typed) × (all ≡ fields_from items) × Each (stands_at n) (λ ts. ts) (Line x n (ShortTyped x (Lines n))) items ts rest
-lines_short (o_over h) p q = ([], refl, e_over h)
-lines_short {x} {n} (o_field {names = names} {a = a} {all = all} {mid = mid} {end = end} g d s t) p q =
-    let r = lines_short t (right_few (type_levels a) p) (right_few (type_term_levels a) q) in
+lines_short (o_over h) p = ([], refl, e_over h)
+lines_short {x} {n} (o_field {names = names} {a = a} {all = all} {mid = mid} {end = end} g d s t) p =
+    let r = lines_short t (right_few (type_levels a) p) in
     let one : Typed = a_line names a in
-    let f : ShortTyped x (Lines n) a mid end = record { reads = s; few_types = left_few (field_levels all) p; few_terms = left_few (field_term_levels all) q } in
+    let f : ShortTyped x (Lines n) a mid end = record { reads = s; few = left_few (field_levels all) p } in
     (one ∷ r.0, ap (fields names a) r.1, e_next {a = one} g (mid, d, f) r.2)
 
 abbrev pub ShortFieldLines : Origin → ℕ → Fields → List Token → List Token → Type 0
-ShortFieldLines x n = Short most_levels field_levels field_term_levels (IsFieldLines x n)
+ShortFieldLines x n = Short most_levels field_levels (IsFieldLines x n)
 
 short_lines : {x : Origin} {n : ℕ} {items : List Typed} {ts rest : List Token} → Each (stands_at n) (λ ts. ts) (Line x n (ShortTyped x (Lines n))) items ts rest → ShortFieldLines x n (fields_from items) ts rest
-short_lines (e_over h) = record { reads = o_over h; few_types = omega arith; few_terms = omega arith }
-short_lines (e_next g d t) = let r = short_lines t in record { reads = o_field g d.1 d.2.reads r.reads; few_types = both_few d.2.few_types r.few_types; few_terms = both_few d.2.few_terms r.few_terms }
+short_lines (e_over h) = record { reads = o_over h; few = omega arith }
+short_lines (e_next g d t) = let r = short_lines t in record { reads = o_field g d.1 d.2.reads r.reads; few = both_few d.2.few r.few }
 
 line_fault : {x : Origin} {n : ℕ} {why : Why} {ts : List Token} → FaultsEach (stands_at n) (λ ts. ts) (Line x n (ShortTyped x (Lines n))) (FaultsThen (Declareds x Brackets (Lines n)) (FaultsDeclareds x Brackets (Lines n)) (λ names. FaultsTyped x (Lines n))) why ts
     → FaultsFieldLines x n why ts
@@ -79,24 +79,24 @@ field_lines x n =
     restated (gathers (stands_at n) (λ ts. ts) add_field (λ k some ts. run_fields k x n some ts) (line x n) (λ some ts. refl)
     (λ k some ts. refl) no_fields)
     (λ a ts rest d. subst (λ a. ShortFieldLines x n a ts rest) (sym (d.1 ∙ gathered_fields d.0)) (short_lines d.2))
-    (λ a ts rest d. let r = lines_short d.reads d.few_types d.few_terms in (r.0, r.1 ∙ sym (gathered_fields r.0), r.2))
+    (λ a ts rest d. let r = lines_short d.reads d.few in (r.0, r.1 ∙ sym (gathered_fields r.0), r.2))
     (λ a ts rest d. let r = lines_from d in (r.0, r.1 ∙ sym (gathered_fields r.0), r.2))
     (λ why ts w. line_fault w) (λ why ts w. fault_line w)
 
 abbrev pub ShortFieldBlock : Origin → ℕ → Fields → List Token → List Token → Type 0
-ShortFieldBlock x n = Short most_levels field_levels field_term_levels (FieldBlock x n)
+ShortFieldBlock x n = Short most_levels field_levels (FieldBlock x n)
 
 pub field_block : (x : Origin) (n : ℕ) → Parses (λ k ts. run_field_block k x n ts) (FieldBlock x n) (ShortFieldBlock x n) (FaultsFieldBlock x n)
-field_block x n = restated (perhaps (deeper_at n) no_fields (placed (λ at. field_lines x (level_at at)))) (λ a ts rest d. done d) (λ a ts rest d. from d.reads d.few_types d.few_terms) (λ a ts rest d. d) (λ why ts w. w) (λ why ts w. w)
+field_block x n = restated (perhaps (deeper_at n) no_fields (placed (λ at. field_lines x (level_at at)))) (λ a ts rest d. done d) (λ a ts rest d. from d.reads d.few) (λ a ts rest d. d) (λ why ts w. w) (λ why ts w. w)
   where
     done : {a : Fields} {ts rest : List Token} → Perhaps (deeper_at n) no_fields (λ a ts rest. ShortFieldLines x (level_at ts) a ts rest) a ts rest → ShortFieldBlock x n a ts rest
-    done (e_missing h) = record { reads = e_missing h; few_types = omega arith; few_terms = omega arith }
-    done (e_present h d) = record { reads = e_present h d.reads; few_types = d.few_types; few_terms = d.few_terms }
+    done (e_missing h) = record { reads = e_missing h; few = omega arith }
+    done (e_present h d) = record { reads = e_present h d.reads; few = d.few }
 
-    from : {a : Fields} {ts rest : List Token} → FieldBlock x n a ts rest → field_levels a ≤ most_levels → field_term_levels a ≤ most_levels
+    from : {a : Fields} {ts rest : List Token} → FieldBlock x n a ts rest → field_levels a ≤ most_levels
         → Perhaps (deeper_at n) no_fields (λ a ts rest. ShortFieldLines x (level_at ts) a ts rest) a ts rest
-    from (e_missing h) p q = e_missing h
-    from (e_present h d) p q = e_present h (record { reads = d; few_types = p; few_terms = q })
+    from (e_missing h) p = e_missing h
+    from (e_present h d) p = e_present h (record { reads = d; few = p })
 
 -- ---- members
 
@@ -167,7 +167,7 @@ form x n tok B.Distinct = guarded (stays (Lines n)) (mapped (distinct (place_at 
 form x n tok B.Alias = shifted (λ ts. tok ∷ ts) (mapped alias (written x (Lines n)))
 
 abbrev pub ShortBody : Origin → ℕ → Body → List Token → List Token → Type 0
-ShortBody x n = Short most_levels body_levels body_term_levels (IsBody x n)
+ShortBody x n = Short most_levels body_levels (IsBody x n)
 
 body_reads : {x : Origin} {n : ℕ} {b : Body} {ts rest : List Token} → IsBody x n b ts rest
     → Headed (λ tok b ts rest. Form x n tok (IsType x (Lines n)) (FieldBlock x n) (body_lead (Lines n) (tok ∷ ts)) b ts rest) b ts rest
@@ -179,28 +179,28 @@ body_reads {x} {n} (o_enum {all = all} {tok = tok} {ts = ts} {rest = rest} q d) 
 body_reads {x} {n} (o_distinct {a = a} {tok = tok} {ts = ts} {rest = rest} q s d) = subst (λ l. Form x n tok (IsType x (Lines n)) (FieldBlock x n) l (distinct (place_at x tok) a) ts rest) (sym q) (s, (a, refl, d))
 body_reads {x} {n} (o_alias {a = a} {tok = tok} {ts = ts} {rest = rest} q d) = subst (λ l. Form x n tok (IsType x (Lines n)) (FieldBlock x n) l (alias a) ts rest) (sym q) (a, refl, d)
 
-body_short : {x : Origin} {n : ℕ} {b : Body} {ts rest : List Token} → IsBody x n b ts rest → body_levels b ≤ most_levels → body_term_levels b ≤ most_levels
+body_short : {x : Origin} {n : ℕ} {b : Body} {ts rest : List Token} → IsBody x n b ts rest → body_levels b ≤ most_levels
     → Headed (λ tok b ts rest. ShortForm x n tok (body_lead (Lines n) (tok ∷ ts)) b ts rest) b ts rest
-body_short {x} {n} (o_object {parent = parent} {all = all} {tok = tok} {ts = ts} {mid = mid} {rest = rest} q p f) h g =
-    let s : ShortFieldBlock x n all mid rest = record { reads = f; few_types = h; few_terms = g } in
+body_short {x} {n} (o_object {parent = parent} {all = all} {tok = tok} {ts = ts} {mid = mid} {rest = rest} q p f) h =
+    let s : ShortFieldBlock x n all mid rest = record { reads = f; few = h } in
     subst (λ l. ShortForm x n tok l (object (place_at x tok) false parent all) ts rest) (sym q) (parent, mid, p, (all, refl, s))
-body_short {x} {n} (o_ref_object {parent = parent} {all = all} {tok = tok} {ts = ts} {mid = mid} {rest = rest} q p f) h g =
-    let s : ShortFieldBlock x n all mid rest = record { reads = f; few_types = h; few_terms = g } in
+body_short {x} {n} (o_ref_object {parent = parent} {all = all} {tok = tok} {ts = ts} {mid = mid} {rest = rest} q p f) h =
+    let s : ShortFieldBlock x n all mid rest = record { reads = f; few = h } in
     subst (λ l. ShortForm x n tok l (object (place_at x tok) true parent all) ts rest) (sym q) (parent, mid, p, (all, refl, s))
-body_short {x} {n} (o_enum {all = all} {tok = tok} {ts = ts} {rest = rest} q d) h g = subst (λ l. ShortForm x n tok l (enum (place_at x tok) all) ts rest) (sym q) (all, refl, d)
-body_short {x} {n} (o_distinct {a = a} {tok = tok} {ts = ts} {rest = rest} q v d) h g =
-    let s : ShortType x (Lines n) most_levels a ts rest = record { reads = d; few_types = h; few_terms = g } in
+body_short {x} {n} (o_enum {all = all} {tok = tok} {ts = ts} {rest = rest} q d) h = subst (λ l. ShortForm x n tok l (enum (place_at x tok) all) ts rest) (sym q) (all, refl, d)
+body_short {x} {n} (o_distinct {a = a} {tok = tok} {ts = ts} {rest = rest} q v d) h =
+    let s : ShortType x (Lines n) most_levels a ts rest = record { reads = d; few = h } in
     subst (λ l. ShortForm x n tok l (distinct (place_at x tok) a) ts rest) (sym q) (v, (a, refl, s))
-body_short {x} {n} (o_alias {a = a} {tok = tok} {ts = ts} {rest = rest} q d) h g =
-    let s : ShortType x (Lines n) most_levels a (tok ∷ ts) rest = record { reads = d; few_types = h; few_terms = g } in
+body_short {x} {n} (o_alias {a = a} {tok = tok} {ts = ts} {rest = rest} q d) h =
+    let s : ShortType x (Lines n) most_levels a (tok ∷ ts) rest = record { reads = d; few = h } in
     subst (λ l. ShortForm x n tok l (alias a) ts rest) (sym q) (a, refl, s)
 
 form_is : {x : Origin} {n : ℕ} {b : Body} {tok : Token} {ts rest : List Token} (l : BodyLead) → body_lead (Lines n) (tok ∷ ts) ≡ l → ShortForm x n tok l b ts rest → ShortBody x n b (tok ∷ ts) rest
-form_is {x} {n} {tok = tok} {ts = ts} {rest = rest} B.Object q s = subst (λ b. ShortBody x n b (tok ∷ ts) rest) (sym s.3.1) (record { reads = o_object q s.2 s.3.2.reads; few_types = s.3.2.few_types; few_terms = s.3.2.few_terms })
-form_is {x} {n} {tok = tok} {ts = ts} {rest = rest} B.RefObject q s = subst (λ b. ShortBody x n b (tok ∷ ts) rest) (sym s.3.1) (record { reads = o_ref_object q s.2 s.3.2.reads; few_types = s.3.2.few_types; few_terms = s.3.2.few_terms })
-form_is {x} {n} {tok = tok} {ts = ts} {rest = rest} B.Enum q s = subst (λ b. ShortBody x n b (tok ∷ ts) rest) (sym s.1) (record { reads = o_enum q s.2; few_types = omega arith; few_terms = omega arith })
-form_is {x} {n} {tok = tok} {ts = ts} {rest = rest} B.Distinct q s = subst (λ b. ShortBody x n b (tok ∷ ts) rest) (sym s.1.1) (record { reads = o_distinct q s.0 s.1.2.reads; few_types = s.1.2.few_types; few_terms = s.1.2.few_terms })
-form_is {x} {n} {tok = tok} {ts = ts} {rest = rest} B.Alias q s = subst (λ b. ShortBody x n b (tok ∷ ts) rest) (sym s.1) (record { reads = o_alias q s.2.reads; few_types = s.2.few_types; few_terms = s.2.few_terms })
+form_is {x} {n} {tok = tok} {ts = ts} {rest = rest} B.Object q s = subst (λ b. ShortBody x n b (tok ∷ ts) rest) (sym s.3.1) (record { reads = o_object q s.2 s.3.2.reads; few = s.3.2.few })
+form_is {x} {n} {tok = tok} {ts = ts} {rest = rest} B.RefObject q s = subst (λ b. ShortBody x n b (tok ∷ ts) rest) (sym s.3.1) (record { reads = o_ref_object q s.2 s.3.2.reads; few = s.3.2.few })
+form_is {x} {n} {tok = tok} {ts = ts} {rest = rest} B.Enum q s = subst (λ b. ShortBody x n b (tok ∷ ts) rest) (sym s.1) (record { reads = o_enum q s.2; few = omega arith })
+form_is {x} {n} {tok = tok} {ts = ts} {rest = rest} B.Distinct q s = subst (λ b. ShortBody x n b (tok ∷ ts) rest) (sym s.1.1) (record { reads = o_distinct q s.0 s.1.2.reads; few = s.1.2.few })
+form_is {x} {n} {tok = tok} {ts = ts} {rest = rest} B.Alias q s = subst (λ b. ShortBody x n b (tok ∷ ts) rest) (sym s.1) (record { reads = o_alias q s.2.reads; few = s.2.few })
 
 short_body : {x : Origin} {n : ℕ} (b : Body) (ts rest : List Token) → Headed (λ tok b ts rest. ShortForm x n tok (body_lead (Lines n) (tok ∷ ts)) b ts rest) b ts rest → ShortBody x n b ts rest
 short_body b [] rest s = absurd s
@@ -234,7 +234,7 @@ fault_body {x} {n} {why} (f_alias {tok = tok} {ts = ts} q w) = subst (λ l. Form
 pub body : (x : Origin) (n : ℕ) → Parses (λ k ts. run_body k x n ts) (IsBody x n) (ShortBody x n) (FaultsBody x n)
 body x n =
     restated (headed (λ k ts. run_body k x n ts) (λ tok. placed (λ at. form x n tok (body_lead (Lines n) (tok ∷ at)))) (λ k. refl) (λ k tok ts. refl))
-    short_body (λ b ts rest s. body_short s.reads s.few_types s.few_terms) (λ b ts rest d. body_reads d) body_fault (λ why ts w. fault_body w)
+    short_body (λ b ts rest s. body_short s.reads s.few) (λ b ts rest d. body_reads d) body_fault (λ why ts w. fault_body w)
 
 -- ---- declarations
 
@@ -258,14 +258,13 @@ declaration x first n =
         subst (λ d. ShortDeclaration x first n d ts rest) (sym w.3.3.1.1.1)
         (record {
           reads = record { past_name = w.1; past_parameters = w.3.1; name = w.2; parameters = w.3.2; equals = w.3.3.0; stays = w.3.3.1.0; body = w.3.3.1.1.2.reads };
-          few_types = w.3.3.1.1.2.few_types;
-          few_terms = w.3.3.1.1.2.few_terms;
+          few = w.3.3.1.1.2.few;
         })
 
     from : (d : Declaration) (ts rest : List Token) → ShortDeclaration x first n d ts rest → Whole x first n (ShortBody x n) d ts rest
     from d ts rest s =
         let r = s.reads in
-        let b : ShortBody x n d.body (behind r.past_parameters) rest = record { reads = r.body; few_types = s.few_types; few_terms = s.few_terms } in
+        let b : ShortBody x n d.body (behind r.past_parameters) rest = record { reads = r.body; few = s.few } in
         (d.name, r.past_name, r.name, (d.parameters, r.past_parameters, r.parameters, (r.equals, (r.stays, (d.body, refl, b)))))
 
     reads : (d : Declaration) (ts rest : List Token) → IsDeclaration x first n d ts rest → Whole x first n (IsBody x n) d ts rest
@@ -293,17 +292,17 @@ declarations x n =
     restated (either (deeper_at n)
     (placed (λ at. each (stands_at (level_at at)) (λ ts. ts) (λ k some ts. run_declarations k x (level_at at) some ts) (declaration x Brackets (level_at at)) (λ some ts. refl) (λ k some ts. refl)))
     (mapped (λ d. d ∷ []) (declaration x (Lines n) n)))
-    (λ a ts rest d. done a ts rest d) (λ a ts rest d. from d.reads d.few_types d.few_terms) (λ a ts rest d. reads d) fault back
+    (λ a ts rest d. done a ts rest d) (λ a ts rest d. from d.reads d.few) (λ a ts rest d. reads d) fault back
   where
     done : (a : List Declaration) (ts rest : List Token) → Either (deeper_at n) (λ a ts rest. Each (stands_at (level_at ts)) (λ ts. ts) (ShortDeclaration x Brackets (level_at ts)) a ts rest) (Mapped (λ d. d ∷ []) (ShortDeclaration x (Lines n) n)) a ts rest
         → ShortDeclarations x n a ts rest
-    done a ts rest (inl e) = let s = each_short e.1 in record { reads = o_declarations e.0 s.reads; few_types = s.few_types; few_terms = s.few_terms }
-    done a ts rest (inr e) = subst (λ a. ShortDeclarations x n a ts rest) (sym e.1.1) (record { reads = o_declaration e.0 e.1.2.reads; few_types = both_few e.1.2.few_types (omega arith); few_terms = both_few e.1.2.few_terms (omega arith) })
+    done a ts rest (inl e) = let s = each_short e.1 in record { reads = o_declarations e.0 s.reads; few = s.few }
+    done a ts rest (inr e) = subst (λ a. ShortDeclarations x n a ts rest) (sym e.1.1) (record { reads = o_declaration e.0 e.1.2.reads; few = both_few e.1.2.few (omega arith) })
 
-    from : {a : List Declaration} {ts rest : List Token} → IsDeclarations x n a ts rest → highest declaration_levels a ≤ most_levels → highest declaration_term_levels a ≤ most_levels
+    from : {a : List Declaration} {ts rest : List Token} → IsDeclarations x n a ts rest → highest declaration_levels a ≤ most_levels
         → Either (deeper_at n) (λ a ts rest. Each (stands_at (level_at ts)) (λ ts. ts) (ShortDeclaration x Brackets (level_at ts)) a ts rest) (Mapped (λ d. d ∷ []) (ShortDeclaration x (Lines n) n)) a ts rest
-    from (o_declarations h d) p q = inl (h, short_each d p q)
-    from (o_declaration {d = one} h d) p q = inr (h, (one, refl, record { reads = d; few_types = left_few 0 p; few_terms = left_few 0 q }))
+    from (o_declarations h d) p = inl (h, short_each d p)
+    from (o_declaration {d = one} h d) p = inr (h, (one, refl, record { reads = d; few = left_few 0 p }))
 
     reads : {a : List Declaration} {ts rest : List Token} → IsDeclarations x n a ts rest
         → Either (deeper_at n) (λ a ts rest. Each (stands_at (level_at ts)) (λ ts. ts) (IsDeclaration x Brackets (level_at ts)) a ts rest) (Mapped (λ d. d ∷ []) (IsDeclaration x (Lines n) n)) a ts rest

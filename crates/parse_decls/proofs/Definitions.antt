@@ -6,8 +6,8 @@ use Rattle.nim_tree.specs.declared.name.Declared.{Declared}
 use Rattle.nim_tree.specs.declared.name.Pragma.{Pragma}
 use Rattle.nim_tree.specs.Lists.{highest, if_there}
 use Rattle.nim_tree.specs.Terms.{Term, levels}
-use Rattle.nim_tree.specs.Types.{Written, type_levels, type_term_levels}
-use Rattle.nim_tree.specs.Statements.{Definition, definition_type_levels, definition_term_levels}
+use Rattle.nim_tree.specs.Types.{Written, type_levels}
+use Rattle.nim_tree.specs.Statements.{Definition, definition_levels}
 use Rattle.parse_exprs.specs.declared.layout.Layout.{Layout}
 use Rattle.parse_exprs.specs.declared.layout.Layout.TheVariants.{Brackets, Lines}
 use Rattle.parse_exprs.specs.Look.{Origin, stays, colon_at}
@@ -29,15 +29,15 @@ use Rattle.parse_decls.proofs.Shorts.{each_short, short_each, maybe_short, short
 -- ---- written types
 
 pub written : (x : Origin) (i : Layout) → Parses (λ k ts. run_written k x i ts) (IsType x i) (ShortType x i most_levels) (FaultsWritten x i)
-written x i = placed (λ at. types x most_levels i at)
+written x i = placed (λ at. types x most_levels (omega arith) i at)
 
 abbrev pub ShortTyped : Origin → Layout → Written → List Token → List Token → Type 0
-ShortTyped x i = Short most_levels type_levels type_term_levels (IsTyped x i)
+ShortTyped x i = Short most_levels type_levels (IsTyped x i)
 
 pub typed : (x : Origin) (i : Layout) → Parses (λ k ts. run_typed k x i ts) (IsTyped x i) (ShortTyped x i) (FaultsTyped x i)
 typed x i = restated (guarded (colon_at i) (shifted behind (guarded (stays i) (written x i))))
-    (λ a ts rest d. record { reads = record { colon = d.0; stays = d.1.0; of = d.1.1.reads }; few_types = d.1.1.few_types; few_terms = d.1.1.few_terms })
-    (λ a ts rest d. (d.reads.colon, (d.reads.stays, record { reads = d.reads.of; few_types = d.few_types; few_terms = d.few_terms })))
+    (λ a ts rest d. record { reads = record { colon = d.0; stays = d.1.0; of = d.1.1.reads }; few = d.1.1.few })
+    (λ a ts rest d. (d.reads.colon, (d.reads.stays, record { reads = d.reads.of; few = d.few })))
     (λ a ts rest d. (d.colon, (d.stays, d.of)))
     fault back
   where
@@ -51,7 +51,7 @@ typed x i = restated (guarded (colon_at i) (shifted behind (guarded (stays i) (w
     back why ts (f_type c s w) = inr (c, inr (s, w))
 
 pub annotation : (x : Origin) (i : Layout) → Parses (λ k ts. run_annotation k x i ts) (Annotation x i) (ShortAnnotation x i) (FaultsAnnotation x i)
-annotation x i = restated (maybe (colon_at i) (typed x i)) (λ a ts rest d. maybe_short d) (λ a ts rest d. short_maybe d.reads d.few_types d.few_terms) (λ a ts rest d. d) (λ why ts w. w) (λ why ts w. w)
+annotation x i = restated (maybe (colon_at i) (typed x i)) (λ a ts rest d. maybe_short d) (λ a ts rest d. short_maybe d.reads d.few) (λ a ts rest d. d) (λ why ts w. w) (λ why ts w. w)
 
 -- ---- values
 
@@ -101,15 +101,14 @@ defined x first i =
         subst (λ d. ShortDefined x first i d ts rest) (sym w.3.3.3.1)
         (record {
           reads = record { past_names = w.1; past_pragmas = w.3.1; past_type = w.3.3.1; names = w.2; pragmas = w.3.2; annotation = w.3.3.2.reads; value = w.3.3.3.2.reads };
-          few_types = w.3.3.2.few_types;
-          few_terms = both_few w.3.3.2.few_terms w.3.3.3.2.few;
+          few = both_few w.3.3.2.few w.3.3.3.2.few;
         })
 
     from : (d : Definition) (ts rest : List Token) → ShortDefined x first i d ts rest → Then (Declareds x first i) (λ names. Then (Pragmas x i) (λ all. Then (ShortAnnotation x i) (λ a. Mapped (made names all a) (ShortGiven x i)))) d ts rest
     from d ts rest s =
         let r = s.reads in
-        let a : ShortAnnotation x i d.annotation r.past_pragmas r.past_type = record { reads = r.annotation; few_types = s.few_types; few_terms = left_few (if_there levels d.value) s.few_terms } in
-        let v : ShortGiven x i d.value r.past_type rest = record { reads = r.value; few = right_few (if_there type_term_levels d.annotation) s.few_terms } in
+        let a : ShortAnnotation x i d.annotation r.past_pragmas r.past_type = record { reads = r.annotation; few = left_few (if_there levels d.value) s.few } in
+        let v : ShortGiven x i d.value r.past_type rest = record { reads = r.value; few = right_few (if_there type_levels d.annotation) s.few } in
         (d.names, r.past_names, r.names, (d.pragmas, r.past_pragmas, r.pragmas, (d.annotation, r.past_type, a, (d.value, refl, v))))
 
     reads : (d : Definition) (ts rest : List Token) → IsDefined x first i d ts rest → Then (Declareds x first i) (λ names. Then (Pragmas x i) (λ all. Then (Annotation x i) (λ a. Mapped (made names all a) (Given x i)))) d ts rest
@@ -134,16 +133,16 @@ pub definition : (x : Origin) (i : Layout) → Parses (λ k ts. run_def k x i ts
 definition x i = defined x i i
 
 abbrev pub ShortDefinitions : Origin → ℕ → List Definition → List Token → List Token → Type 0
-ShortDefinitions x n = Short most_levels (highest definition_type_levels) (highest definition_term_levels) (Definitions x n)
+ShortDefinitions x n = Short most_levels (highest definition_levels) (Definitions x n)
 
 pub definitions : (x : Origin) (n : ℕ) → Parses (λ k ts. run_defs k x n [] ts) (Definitions x n) (ShortDefinitions x n) (FaultsDefinitions x n)
 definitions x n = restated (each (stands_at n) (λ ts. ts) (λ k some ts. run_defs k x n some ts) (defined x Brackets (Lines n)) (λ some ts. refl) (λ k some ts. refl))
-    (λ a ts rest d. each_short d) (λ a ts rest d. short_each d.reads d.few_types d.few_terms) (λ a ts rest d. d) (λ why ts w. w) (λ why ts w. w)
+    (λ a ts rest d. each_short d) (λ a ts rest d. short_each d.reads d.few) (λ a ts rest d. d) (λ why ts w. w) (λ why ts w. w)
 
 pub definition_block : (x : Origin) (n : ℕ) → Parses (λ k ts. run_def_block k x n ts) (IsDefinitionBlock x n) (ShortDefinitionBlock x n) (FaultsDefinitionBlock x n)
 definition_block x n = restated (guarded (deeper_at n) (placed (λ at. definitions x (level_at at))))
-    (λ a ts rest d. record { reads = record { deeper = d.0; lines = d.1.reads }; few_types = d.1.few_types; few_terms = d.1.few_terms })
-    (λ a ts rest d. (d.reads.deeper, record { reads = d.reads.lines; few_types = d.few_types; few_terms = d.few_terms }))
+    (λ a ts rest d. record { reads = record { deeper = d.0; lines = d.1.reads }; few = d.1.few })
+    (λ a ts rest d. (d.reads.deeper, record { reads = d.reads.lines; few = d.few }))
     (λ a ts rest d. (d.deeper, d.lines))
     fault back
   where

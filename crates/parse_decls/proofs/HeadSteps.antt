@@ -1,5 +1,5 @@
 -- The steps of reading the head of a procedure.
-use Rattle.std.proofs.Common.{◌≡◌, ℕ, suc, ◌+◌, List, [], ◌∷◌, refl, sym, ap, ◌∙◌, true, false}
+use Rattle.std.proofs.Common.{◌≡◌, ℕ, ◌+◌, List, [], ◌∷◌, sym, true}
 use Rattle.std.specs.Prelude.{if◌then◌else◌}
 use Rattle.indent_scanner.specs.declared.token.Token.{Token}
 use Rattle.nim_tree.specs.declared.name.Name.{Name}
@@ -13,11 +13,11 @@ use Rattle.parse_exprs.specs.declared.layout.Layout.TheVariants.{Brackets}
 use Rattle.parse_exprs.specs.Look.{closes_at}
 use Rattle.parse_exprs.specs.Input.{origin_of, from_at}
 use Rattle.parse_decls.specs.Look.{behind, mode_at, past_mode, opens_at}
-use Rattle.parse_decls.specs.Outcome.{Out, got, then_do, Settles}
+use Rattle.parse_decls.specs.Outcome.{Out, got, then_do}
 use Rattle.parse_decls.specs.Run.{run_written, run_param, run_more_params, run_params}
 use Rattle.parse_decls.specs.Gives.{Leads}
 use Rattle.parse_decls.proofs.Settling.{settles_if}
-use Rattle.parse_decls.proofs.Coming.{settles_at, behind_at, leads_past}
+use Rattle.parse_decls.proofs.Coming.{settles_at, behind_at}
 
 abbrev pub parameter : List Name → ParamMode → Written → Parameters
 parameter names mode a = record { names = names; mode = mode; of = a }

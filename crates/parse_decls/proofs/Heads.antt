@@ -7,8 +7,8 @@ use Rattle.nim_tree.specs.declared.name.Declared.{Declared}
 use Rattle.nim_tree.specs.declared.name.Pragma.{Pragma}
 use Rattle.nim_tree.specs.declared.stmt.ParamMode.{ParamMode}
 use Rattle.nim_tree.specs.Lists.{highest, if_there}
-use Rattle.nim_tree.specs.Types.{Written, type_levels, type_term_levels}
-use Rattle.nim_tree.specs.Statements.{Parameters, Head, parameter_type_levels, parameter_term_levels}
+use Rattle.nim_tree.specs.Types.{Written, type_levels}
+use Rattle.nim_tree.specs.Statements.{Parameters, Head, parameter_type_levels}
 use Rattle.parse_exprs.specs.declared.layout.Layout.{Layout}
 use Rattle.parse_exprs.specs.declared.layout.Layout.TheVariants.{Brackets}
 use Rattle.parse_exprs.specs.declared.input.Bracket.TheVariants.{Round}
@@ -49,7 +49,7 @@ parameter x =
     done : (p : Parameters) (ts rest : List Token) → WholeParam x (ShortType x Brackets most_levels) p ts rest → ShortParameter x p ts rest
     done p ts rest w =
         subst (λ p. ShortParameter x p ts rest) (sym w.3.1.1)
-        (record { reads = record { past_names = w.1; names = w.2; colon = w.3.0; mode = refl; of = w.3.1.2.reads }; few_types = w.3.1.2.few_types; few_terms = w.3.1.2.few_terms })
+        (record { reads = record { past_names = w.1; names = w.2; colon = w.3.0; mode = refl; of = w.3.1.2.reads }; few = w.3.1.2.few })
 
     same_mode : (names : List Name) (a : Written) {m mode : ParamMode} → m ≡ mode → made_param names m a ≡ made_param names mode a
     same_mode names a e = ap (λ m. made_param names m a) e
@@ -57,7 +57,7 @@ parameter x =
     from : (p : Parameters) (ts rest : List Token) → ShortParameter x p ts rest → WholeParam x (ShortType x Brackets most_levels) p ts rest
     from p ts rest s =
         let r = s.reads in
-        let a : ShortType x Brackets most_levels p.of (past_mode x (behind r.past_names)) rest = record { reads = r.of; few_types = s.few_types; few_terms = s.few_terms } in
+        let a : ShortType x Brackets most_levels p.of (past_mode x (behind r.past_names)) rest = record { reads = r.of; few = s.few } in
         (p.names, r.past_names, r.names, (r.colon, (p.of, same_mode p.names p.of r.mode, a)))
 
     reads : (p : Parameters) (ts rest : List Token) → IsParameter x p ts rest → WholeParam x (IsType x Brackets) p ts rest
@@ -78,7 +78,7 @@ abbrev InParentheses : Origin → (Parameters → List Token → List Token → 
 InParentheses x P = Either (λ ts. closes_at Round (behind ts)) (λ a ts rest. Just [] a (behind (behind ts)) rest) (Closed (closes_at Round) (Listed P separator_at behind P))
 
 abbrev ShortParameters : Origin → List Parameters → List Token → List Token → Type 0
-ShortParameters x = Short most_levels (highest parameter_type_levels) (highest parameter_term_levels) (IsParameters x)
+ShortParameters x = Short most_levels (highest parameter_type_levels) (IsParameters x)
 
 abbrev ParenthesesFaults : Origin → Why → List Token → Type 0
 ParenthesesFaults x = FaultsEither (λ ts. closes_at Round (behind ts)) (λ why ts. ⊥)
@@ -88,18 +88,18 @@ pub parameter_list : (x : Origin) (i : Layout) → Parses (λ k ts. run_params k
 parameter_list x i =
     restated (perhaps (opens_at i Round) []
     (restated (either (λ ts. closes_at Round (behind ts)) (shifted (λ ts. behind (behind ts)) (just [])) (closed_list separator_at behind (closes_at Round) (λ k some ts. run_more_params k x some ts) (parameter x) (λ some ts. refl) (λ k some ts. refl)))
-    (λ a ts rest d. done a ts rest d) (λ a ts rest d. from d.reads d.few_types d.few_terms) (λ a ts rest d. reads d) fault back))
-    (λ a ts rest d. short d) (λ a ts rest d. long d.reads d.few_types d.few_terms) (λ a ts rest d. d) (λ why ts w. w) (λ why ts w. w)
+    (λ a ts rest d. done a ts rest d) (λ a ts rest d. from d.reads d.few) (λ a ts rest d. reads d) fault back))
+    (λ a ts rest d. short d) (λ a ts rest d. long d.reads d.few) (λ a ts rest d. d) (λ why ts w. w) (λ why ts w. w)
   where
     done : (a : List Parameters) (ts rest : List Token) → InParentheses x (ShortParameter x) a ts rest → ShortParameters x a ts rest
-    done a ts rest (inl e) = along (λ a r. ShortParameters x a ts r) e.1.0 e.1.1 (record { reads = h_none e.0; few_types = omega arith; few_terms = omega arith })
+    done a ts rest (inl e) = along (λ a r. ShortParameters x a ts r) e.1.0 e.1.1 (record { reads = h_none e.0; few = omega arith })
     done a ts rest (inr e) =
         let s = listed_short e.1.inside in
-        record { reads = h_some e.0 (record { end = e.1.end; inside = s.reads; closed = e.1.closed; next = e.1.next }); few_types = s.few_types; few_terms = s.few_terms }
+        record { reads = h_some e.0 (record { end = e.1.end; inside = s.reads; closed = e.1.closed; next = e.1.next }); few = s.few }
 
-    from : {a : List Parameters} {ts rest : List Token} → IsParameters x a ts rest → highest parameter_type_levels a ≤ most_levels → highest parameter_term_levels a ≤ most_levels → InParentheses x (ShortParameter x) a ts rest
-    from (h_none h) p q = inl (h, (refl, refl))
-    from (h_some h d) p q = inr (h, record { end = d.end; inside = short_listed d.inside p q; closed = d.closed; next = d.next })
+    from : {a : List Parameters} {ts rest : List Token} → IsParameters x a ts rest → highest parameter_type_levels a ≤ most_levels → InParentheses x (ShortParameter x) a ts rest
+    from (h_none h) p = inl (h, (refl, refl))
+    from (h_some h d) p = inr (h, record { end = d.end; inside = short_listed d.inside p; closed = d.closed; next = d.next })
 
     reads : {a : List Parameters} {ts rest : List Token} → IsParameters x a ts rest → InParentheses x (IsParameter x) a ts rest
     reads (h_none h) = inl (h, (refl, refl))
@@ -113,13 +113,13 @@ parameter_list x i =
     back why ts w = inr (w.some, w.at)
 
     short : {a : List Parameters} {ts rest : List Token} → Perhaps (opens_at i Round) [] (ShortParameters x) a ts rest → ShortParameterList x i a ts rest
-    short (e_missing h) = record { reads = e_missing h; few_types = omega arith; few_terms = omega arith }
-    short (e_present h d) = record { reads = e_present h d.reads; few_types = d.few_types; few_terms = d.few_terms }
+    short (e_missing h) = record { reads = e_missing h; few = omega arith }
+    short (e_present h d) = record { reads = e_present h d.reads; few = d.few }
 
-    long : {a : List Parameters} {ts rest : List Token} → ParameterList x i a ts rest → highest parameter_type_levels a ≤ most_levels → highest parameter_term_levels a ≤ most_levels
+    long : {a : List Parameters} {ts rest : List Token} → ParameterList x i a ts rest → highest parameter_type_levels a ≤ most_levels
         → Perhaps (opens_at i Round) [] (ShortParameters x) a ts rest
-    long (e_missing h) p q = e_missing h
-    long (e_present h d) p q = e_present h (record { reads = d; few_types = p; few_terms = q })
+    long (e_missing h) p = e_missing h
+    long (e_present h d) p = e_present h (record { reads = d; few = p })
 
 -- ---- heads
 
@@ -144,15 +144,14 @@ head x i =
         subst (λ h. ShortHead x i h ts rest) (sym w.3.3.3.3.1)
         (record {
           reads = record { past_name = w.1; past_generics = w.3.1; past_params = w.3.3.1; past_type = w.3.3.3.1; name = w.2; generics = w.3.2; params = p.reads; gives = a.reads; pragmas = w.3.3.3.3.2 };
-          few_types = both_few p.few_types a.few_types;
-          few_terms = both_few p.few_terms a.few_terms;
+          few = both_few p.few a.few;
         })
 
     from : (h : Head) (ts rest : List Token) → ShortHead x i h ts rest → Whole x i (ShortParameterList x i) (ShortAnnotation x i) h ts rest
     from h ts rest s =
         let r = s.reads in
-        let p : ShortParameterList x i h.params r.past_generics r.past_params = record { reads = r.params; few_types = left_few (if_there type_levels h.gives) s.few_types; few_terms = left_few (if_there type_term_levels h.gives) s.few_terms } in
-        let a : ShortAnnotation x i h.gives r.past_params r.past_type = record { reads = r.gives; few_types = right_few (highest parameter_type_levels h.params) s.few_types; few_terms = right_few (highest parameter_term_levels h.params) s.few_terms } in
+        let p : ShortParameterList x i h.params r.past_generics r.past_params = record { reads = r.params; few = left_few (if_there type_levels h.gives) s.few } in
+        let a : ShortAnnotation x i h.gives r.past_params r.past_type = record { reads = r.gives; few = right_few (highest parameter_type_levels h.params) s.few } in
         (h.name, r.past_name, r.name, (h.generics, r.past_generics, r.generics, (h.params, r.past_params, p, (h.gives, r.past_type, a, (h.pragmas, refl, r.pragmas)))))
 
     reads : (h : Head) (ts rest : List Token) → IsHead x i h ts rest → Whole x i (ParameterList x i) (Annotation x i) h ts rest

@@ -4,6 +4,7 @@ pub mod Loops
 pub mod Pieces
 pub mod NameLists
 pub mod Exprs
+pub mod Lengths
 pub mod TypeLists
 pub mod TypeForms
 pub mod TypeFaults
@@ -18,7 +19,11 @@ pub mod Coming
 pub mod Repeats
 pub mod Places
 pub mod Steps
+pub mod LengthSteps
 pub mod TypeSteps
 pub mod BodySteps
 pub mod HeadSteps
 pub mod Answering
+mod Ending
+mod Deciding
+pub mod ForCallers

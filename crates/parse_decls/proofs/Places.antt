@@ -1,13 +1,12 @@
 -- What stands at a place of the tokens.
-use Rattle.std.proofs.Common.{◌≡◌, ℕ, suc, ◌+◌, ◌<◌, ◌≤◌, List, [], length, refl, sym, ap, ◌∙◌, arith, drop}
+use Rattle.std.proofs.Common.{◌≡◌, ℕ, suc, ◌+◌, ◌<◌, ◌≤◌, List, [], length, sym, ap, ◌∙◌, arith, drop}
 use Rattle.std.specs.Prelude.{Option, Some, None, IfSome}
 use Rattle.indent_scanner.specs.declared.token.Token.{Token}
 use Rattle.nim_tree.specs.declared.name.Declared.{Declared}
 use Rattle.parse_exprs.specs.declared.input.Input.{Input}
 use Rattle.parse_exprs.specs.declared.layout.Layout.{Layout}
-use Rattle.parse_exprs.specs.Look.{name_on}
 use Rattle.parse_exprs.specs.Input.{origin_of, from_at}
-use Rattle.parse_decls.specs.Look.{declared_of, is_quoted, star_at, past_star, proc_name_on}
+use Rattle.parse_decls.specs.Look.{declared_of, is_quoted, star_at, past_star}
 use Rattle.parse_decls.specs.Outcome.{got}
 use Rattle.parse_decls.specs.Run.{run_shown}
 use Rattle.parse_decls.specs.Gives.{Found}

@@ -1,5 +1,5 @@
 -- Loops that read one thing after another.
-use Rattle.std.proofs.Common.{◌≡◌, ℕ, suc, ◌+◌, ◌++◌, ◌<◌, ◌≤◌, List, [], ◌∷◌, length, Bool, true, false, refl, sym, ap, subst, ◌∙◌, arith}
+use Rattle.std.proofs.Common.{◌≡◌, ℕ, suc, ◌++◌, ◌≤◌, List, [], ◌∷◌, length, Bool, true, false, refl, sym, ap, subst, ◌∙◌, arith}
 use Rattle.std.specs.Prelude.{if◌then◌else◌, ◌||◌, map}
 use Rattle.arc_base.specs.declared.place.Stop.{Stop}
 use Rattle.indent_scanner.specs.declared.token.Token.{Token}
@@ -21,7 +21,7 @@ use Rattle.parse_decls.specs.Outcome.{Out, got, bad, then_do, unless_stuck, Sett
 use Rattle.parse_decls.specs.Run.{run_name, run_more_names, run_shown, run_more_declared, run_pragma, run_more_pragmas, run_type, run_arguments, Typed, run_part, run_parts, run_defined, run_defs, run_field, run_fields, run_declaration, run_declarations, run_param, run_more_params, run_more_members}
 use Rattle.parse_decls.specs.Gives.{Fails, Found, Leads, SoFar}
 use Rattle.parse_decls.proofs.Settling.{settles_suc, settles_then, settles_if, settles_else, settles_bad}
-use Rattle.parse_decls.proofs.Coming.{fails_by, behind_at}
+use Rattle.parse_decls.proofs.Coming.{fails_by}
 
 -- a run that reads, while the test holds, one thing at the tokens that skip gives, and adds it
 pub record Loop (S A X : Type 0) : Type 0 where

@@ -1,5 +1,5 @@
 -- What is read has at least as many tokens as nodes, and the end of the source is none of them.
-use Rattle.std.proofs.Common.{◌≡◌, ℕ, ◌≤◌, ◌<◌, ◌+◌, ◌-◌, List, [], ◌∷◌, length, drop, Bool, true, false, refl, sym, ap, subst, ◌∙◌, arith}
+use Rattle.std.proofs.Common.{◌≡◌, ℕ, ◌≤◌, ◌+◌, List, [], ◌∷◌, length, drop, Bool, true, false, refl, sym, ap, subst, ◌∙◌, arith}
 use Rattle.std.specs.Prelude.{Option, Some, None, ◌&&◌, ◌||◌, codes, if◌then◌else◌}
 use Rattle.indent_scanner.specs.declared.token.Key.TheVariants as K
 use Rattle.indent_scanner.specs.declared.token.Tok.{Tok}
@@ -22,14 +22,13 @@ use Rattle.parse_exprs.specs.declared.input.Bracket.TheVariants.{Round, Square}
 use Rattle.parse_exprs.specs.Look.{Origin, spelling, goes_on, is_name, is_punct, is_run, kind_at, name_on, closes_at, closing, colon_at, comma_at, bracket_of}
 use Rattle.parse_exprs.specs.Grammar.{IsExpr}
 use Rattle.parse_exprs.specs.Parsed.{HasNoEnd}
-use Rattle.parse_exprs.proofs.Stopping.{both_of}
-use Rattle.parse_exprs.proofs.Spans.{Free, stop, step, expr_spans, size_at, no_end_at}
+use Rattle.parse_exprs.proofs.ForCallers.{both_of, Free, stop, step, expr_spans, no_end_at}
 use Rattle.parse_decls.specs.declared.look.TypeLead.{TypeLead}
 use Rattle.parse_decls.specs.declared.look.TypeLead.TheVariants as L
 use Rattle.parse_decls.specs.declared.look.BodyLead.{BodyLead}
 use Rattle.parse_decls.specs.declared.look.BodyLead.TheVariants as B
 use Rattle.parse_decls.specs.Look.{behind, level_at, star_at, past_star, proc_name_on, is_quoted, opens_at, is_bracket, equals_at, of_at, is_of, separator_at, is_pragma_open, is_pragma_close, pragmas_at, type_lead, type_lead_of, named_lead, mode_at, mode_of, past_mode, past_if_mode, is_object, object_at, body_lead, body_lead_of}
-use Rattle.parse_decls.specs.Grammar.{Each, e_over, e_next, Listed, e_first, Perhaps, e_missing, e_present, Maybe, e_none, e_some, Closed, IsName, n_name, Names, IsDeclared, n_declared, Declareds, Generics, IsPragma, n_pragma, Pragmas, IsType, t_name, t_generic, t_array, t_ref, t_empty, t_tuple, IsTypes, t_last, t_next, IsField, t_field, IsFields, t_last_field, t_next_field, IsTyped, Annotation, Given, IsDefined, Definitions, IsDefinitionBlock, Parent, IsFieldLines, o_over, o_field, FieldBlock, IsMembers, o_line, o_block, IsBody, o_object, o_ref_object, o_enum, o_distinct, o_alias, IsDeclaration, IsDeclarations, o_declarations, o_declaration, IsParameter, IsParameters, h_none, h_some, ParameterList, IsHead}
+use Rattle.parse_decls.specs.Grammar.{Each, e_over, e_next, Listed, e_first, Perhaps, e_missing, e_present, Maybe, e_none, e_some, Closed, IsName, n_name, Names, IsDeclared, n_declared, Declareds, Generics, IsPragma, n_pragma, Pragmas, HoldsTypes, h_name, h_array, IsType, t_name, t_generic, t_array, t_ref, t_empty, t_tuple, IsTypes, t_last, t_next, IsField, t_field, IsFields, t_last_field, t_next_field, IsTyped, Annotation, Given, IsDefined, Definitions, IsDefinitionBlock, Parent, IsFieldLines, o_over, o_field, FieldBlock, IsMembers, o_line, o_block, IsBody, o_object, o_ref_object, o_enum, o_distinct, o_alias, IsDeclaration, IsDeclarations, o_declarations, o_declaration, IsParameter, IsParameters, h_none, h_some, ParameterList, IsHead}
 
 -- from ts to rest there are at least n tokens, none of which is the end
 pub record Takes (n : ℕ) (ts rest : List Token) : Type 0 where
@@ -231,11 +230,15 @@ array_opens x i tok ts _ e = cc
 array_takes : (x : Origin) (i : Layout) (tok : Token) (ts : List Token) → type_lead x i tok ts ≡ L.Array → Takes 1 ts (behind ts)
 array_takes x i tok ts q = opens_takes i Square ts (array_opens x i tok ts tok.kind q)
 
+holds_takes : {x : Origin} {i : Layout} {tok : Token} {ts : List Token} → HoldsTypes x i tok ts → Takes 2 (tok ∷ ts) (behind ts)
+holds_takes {x} {i} {tok} {ts} (h_name q o) = takes_then (lead_takes x i tok ts q (λ e. cc)) (opens_takes i Square ts o)
+holds_takes {x} {i} {tok} {ts} (h_array q t lacks) = takes_then (lead_takes x i tok ts q (λ e. cc)) (array_takes x i tok ts q)
+
 mutual
   pub type_takes : {x : Origin} {i : Layout} {a : Written} {ts rest : List Token} → IsType x i a ts rest → Takes (type_nodes a) ts rest
   type_takes {x} {i} (t_name {tok = tok} {ts = ts} q o) = lead_takes x i tok ts q (λ e. cc)
-  type_takes {x} {i} (t_generic {tok = tok} {ts = ts} {end = end} q o d t c) =
-      takes_less (takes_then (lead_takes x i tok ts q (λ e. cc)) (takes_then (opens_takes i Square ts o) (takes_then (type_takes d) (takes_then (types_takes t) (closes_takes Square end c))))) (omega arith)
+  type_takes (t_generic {end = end} q d t c) =
+      takes_less (takes_then (holds_takes q) (takes_then (type_takes d) (takes_then (types_takes t) (closes_takes Square end c)))) (omega arith)
   type_takes {x} {i} (t_array {tok = tok} {ts = ts} {mid = mid} {end = end} q d c t e) =
       takes_less (takes_then (lead_takes x i tok ts q (λ e. cc)) (takes_then (array_takes x i tok ts q) (takes_then (takes_expr d) (takes_then (comma_takes Brackets mid c) (takes_then (type_takes t) (closes_takes Square end e)))))) (omega arith)
   type_takes {x} {i} (t_ref {tok = tok} {ts = ts} q s d) = takes_less (takes_then (lead_takes x i tok ts q (λ e. cc)) (type_takes d)) (omega arith)

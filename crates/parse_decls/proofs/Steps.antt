@@ -1,6 +1,6 @@
 -- Single steps of runs.
 use Rattle.std.proofs.Common.{◌≡◌, ℕ, suc, ◌+◌, ◌-◌, ◌<◌, ◌≤◌, List, [], ◌∷◌, length, drop, refl, sym, ap, subst, ◌∙◌, arith, Bool, true, false, zero, inl, inr}
-use Rattle.std.specs.Prelude.{Option, Some, None, Result, Ok, Err, if◌then◌else◌, ◌⊎◌}
+use Rattle.std.specs.Prelude.{Option, Some, None, if◌then◌else◌, ◌⊎◌}
 use Rattle.arc_base.specs.declared.place.Place.{Place}
 use Rattle.arc_base.specs.declared.place.Code.{Code}
 use Rattle.arc_base.specs.declared.place.Code.TheVariants as C
@@ -22,7 +22,7 @@ use Rattle.parse_exprs.specs.Outcome as E
 use Rattle.parse_exprs.specs.Run.{run_expr, run_primary}
 use Rattle.parse_exprs.specs.Parsed as P
 use Rattle.parse_decls.specs.Look.{pragma_named, pragma_of, mode_at, past_if_mode, equals_at, behind}
-use Rattle.parse_decls.specs.Outcome.{Why, left_out, stuck, stuck_at, Out, got, bad, then_do, unless_stuck, Settles, of_expr, of_why}
+use Rattle.parse_decls.specs.Outcome.{Why, too_deep, left_out, stuck, stuck_at, Out, got, bad, then_do, unless_stuck, Settles, of_expr, of_why}
 use Rattle.parse_decls.specs.Run.{run_pragma, run_pragma_name, run_known, most_levels, run_given}
 use Rattle.parse_decls.specs.Gives.{Told, Fails, Found, Leads}
 use Rattle.parse_decls.proofs.Settling.{settles_got, settles_is, settles_if}
@@ -59,18 +59,19 @@ drop_beyond at [] h = none at
 drop_beyond zero (tok ∷ ts) h = (let f : ⊥ = omega (arith, h) in absurd f)
 drop_beyond (suc at) (tok ∷ ts) h = drop_beyond at ts (omega (arith, h))
 
-nothing_read : (x : Origin) (i : Layout) (k j : ℕ) → k ≡ suc (suc (suc (suc (suc (suc (suc (suc (suc (suc j))))))))) → run_expr k x i 64 [] ≡ E.bad (E.stuck [])
-nothing_read x i k j e = ap (λ n. run_expr n x i 64 []) e
+nothing_read : (x : Origin) (i : Layout) (n k j : ℕ) → k ≡ suc (suc (suc (suc (suc (suc (suc (suc (suc (suc j))))))))) → run_expr k x i n [] ≡ E.bad (E.stuck [])
+nothing_read x i zero k j e = ap (λ m. run_expr m x i 0 []) e
+nothing_read x i (suc n) k j e = ap (λ m. run_expr m x i (suc n) []) e
 
-none_settles : (x : Origin) (i : Layout) → E.Settles (λ k. run_expr k x i most_levels []) (E.bad (E.stuck []))
-none_settles x i = record { steps = 10; same = λ k le. nothing_read x i k (k - 10) (omega (arith, le)) }
+none_settles : (x : Origin) (i : Layout) (n : ℕ) → E.Settles (λ k. run_expr k x i n []) (E.bad (E.stuck []))
+none_settles x i n = record { steps = 10; same = λ k le. nothing_read x i n k (k - 10) (omega (arith, le)) }
 
-pub none_given : (input : Input) (i : Layout) (at : ℕ) → length input.tokens.now ≤ at → (stop : Stop) → Told (origin_of input) (stuck_at (from_at input at)) stop
-    → Fails (λ k. of_expr (from_at input at) (run_expr k (origin_of input) i most_levels (from_at input at))) (origin_of input) stop
-none_given input i at h stop t =
+pub none_given : (input : Input) (i : Layout) (whole : List Token) (n at : ℕ) → length input.tokens.now ≤ at → (stop : Stop) → Told (origin_of input) (stuck_at (from_at input at)) stop
+    → Fails (λ k. of_expr whole (run_expr k (origin_of input) i n (from_at input at))) (origin_of input) stop
+none_given input i whole n at h stop t =
     let e = drop_beyond at input.tokens.now h in
-    subst (λ ts. Fails (λ k. of_expr ts (run_expr k (origin_of input) i most_levels ts)) (origin_of input) stop) (sym e)
-    (told_fails (origin_of input) (of_settles [] (none_settles (origin_of input) i)) stop (subst (λ ts. Told (origin_of input) (stuck_at ts) stop) e t))
+    subst (λ ts. Fails (λ k. of_expr whole (run_expr k (origin_of input) i n ts)) (origin_of input) stop) (sym e)
+    (told_fails (origin_of input) (of_settles whole (none_settles (origin_of input) i n)) stop (subst (λ ts. Told (origin_of input) (stuck_at ts) stop) e t))
 
 nothing_called : (x : Origin) (n k j : ℕ) → k ≡ suc (suc j) → run_primary k x (Lines n) true 64 [] ≡ E.bad (E.stuck [])
 nothing_called x n k j e = ap (λ m. run_primary m x (Lines n) true 64 []) e
@@ -102,6 +103,24 @@ value_fails run x ts _ at h = absurd h
 pub value_stops : (run : List Token → ℕ → E.Out Term) (x : Origin) (ts : List Token) (stop : Stop) → OnRefusal stop (P.RunsInto run x ts) → Fails (λ k. of_expr ts (run ts k)) x stop
 value_stops run x ts (Refused code at) h = value_fails run x ts code at h
 value_stops run x ts Memory h = h
+
+-- of a level too many in a part the whole is told
+pub deep_fails : (x : Origin) (whole ts : List Token) (stop : Stop) (code : Code) (at : Place) → stop ≡ Refused code at → code ≡ C.NestTooDeep → (out : Stop) → Told x (too_deep whole) out
+    → (run : List Token → ℕ → E.Out Term) → OnRefusal stop (P.RunsInto run x ts) → Fails (λ k. of_expr whole (run ts k)) x out
+deep_fails x whole ts stop code at e d out t run h =
+    let r : P.RunsDeep (run ts) x ts at = subst (λ c. P.RunsInto run x ts c at) d (subst (λ s. OnRefusal s (P.RunsInto run x ts)) e h) in
+    told_fails x (of_settles whole r.runs) out t
+
+other_fails_by : (run : List Token → ℕ → E.Out Term) (x : Origin) (whole ts : List Token) (code : Code) (at : Place) → (code ≡ C.NestTooDeep → ⊥) → P.RunsInto run x ts code at
+    → Fails (λ k. of_expr whole (run ts k)) x (Refused code at)
+other_fails_by run x whole ts C.Syntax at n h = record { why = stuck h.rest; runs = settles_why (sym (stuck_why whole h.rest false h.used)) (of_settles whole h.runs); tells = (refl, h.next) }
+other_fails_by run x whole ts C.LeftOut at n h = record { why = left_out h.rest; runs = settles_why (sym (stuck_why whole h.rest true h.left_out)) (of_settles whole h.runs); tells = (refl, h.first) }
+other_fails_by run x whole ts C.NestTooDeep at n h = absurd (n refl)
+other_fails_by run x whole ts _ at n h = absurd h
+
+pub other_fails : (x : Origin) (whole ts : List Token) (stop : Stop) (code : Code) (at : Place) → stop ≡ Refused code at → (code ≡ C.NestTooDeep → ⊥)
+    → (run : List Token → ℕ → E.Out Term) → OnRefusal stop (P.RunsInto run x ts) → Fails (λ k. of_expr whole (run ts k)) x (Refused code at)
+other_fails x whole ts stop code at e n run h = other_fails_by run x whole ts code at n (subst (λ s. OnRefusal s (P.RunsInto run x ts)) e h)
 
 -- ---- places
 

@@ -2,11 +2,11 @@
 use Rattle.std.proofs.Common.{◌≡◌, ℕ, ◌≤◌, List, [], ◌∷◌, refl, ap, ◌∙◌, arith}
 use Rattle.std.specs.Prelude.{max}
 use Rattle.indent_scanner.specs.declared.token.Token.{Token}
-use Rattle.nim_tree.specs.Types.{Written, Arguments, no_arguments, argument, Fields, no_fields, fields, and_argument, and_field, type_levels, most_type_levels, field_levels, type_term_levels, argument_term_levels, field_term_levels}
+use Rattle.nim_tree.specs.Types.{Written, Arguments, no_arguments, argument, Fields, no_fields, fields, and_argument, and_field, type_levels, most_type_levels, field_levels}
 use Rattle.parse_exprs.specs.declared.layout.Layout.TheVariants.{Brackets}
 use Rattle.parse_exprs.specs.Look.{Origin, comma_at}
 use Rattle.parse_decls.specs.Look.{behind}
-use Rattle.parse_decls.specs.Run.{most_levels, Typed}
+use Rattle.parse_decls.specs.Run.{Typed}
 use Rattle.parse_decls.specs.Grammar.{Each, e_over, e_next, IsType, IsTypes, t_last, t_next, IsField, IsFields, t_last_field, t_next_field}
 use Rattle.parse_decls.specs.Faults.{Short}
 use Rattle.parse_decls.proofs.Loops.{gathered}
@@ -42,17 +42,17 @@ pub types_each : {x : Origin} {all : Arguments} {ts rest : List Token} → IsTyp
 types_each (t_last n) = ([], refl, e_over n)
 types_each (t_next {a = a} g d t) = let r = types_each t in (a ∷ r.0, ap (argument a) r.1, e_next g d r.2)
 
-pub types_short : {x : Origin} {n : ℕ} {all : List Written} {ts rest : List Token} → Each (comma_at Brackets) behind (Short n type_levels type_term_levels (IsType x Brackets)) all ts rest
-    → Short n most_type_levels argument_term_levels (IsTypes x) (arguments_from all) ts rest
-types_short (e_over n) = record { reads = t_last n; few_types = omega arith; few_terms = omega arith }
-types_short (e_next g d t) = let r = types_short t in record { reads = t_next g d.reads r.reads; few_types = both_few d.few_types r.few_types; few_terms = both_few d.few_terms r.few_terms }
+pub types_short : {x : Origin} {n : ℕ} {all : List Written} {ts rest : List Token} → Each (comma_at Brackets) behind (Short n type_levels (IsType x Brackets)) all ts rest
+    → Short n most_type_levels (IsTypes x) (arguments_from all) ts rest
+types_short (e_over n) = record { reads = t_last n; few = omega arith }
+types_short (e_next g d t) = let r = types_short t in record { reads = t_next g d.reads r.reads; few = both_few d.few r.few }
 
-pub short_types : {x : Origin} {n : ℕ} {all : Arguments} {ts rest : List Token} → IsTypes x all ts rest → most_type_levels all ≤ n → argument_term_levels all ≤ most_levels
-    → (items : List Written) × (all ≡ arguments_from items) × Each (comma_at Brackets) behind (Short n type_levels type_term_levels (IsType x Brackets)) items ts rest
-short_types (t_last n) h g = ([], refl, e_over n)
-short_types (t_next {a = a} {all = all} c d t) h g =
-    let r = short_types t (right_few (type_levels a) h) (right_few (type_term_levels a) g) in
-    (a ∷ r.0, ap (argument a) r.1, e_next c (record { reads = d; few_types = left_few (most_type_levels all) h; few_terms = left_few (argument_term_levels all) g }) r.2)
+pub short_types : {x : Origin} {n : ℕ} {all : Arguments} {ts rest : List Token} → IsTypes x all ts rest → most_type_levels all ≤ n
+    → (items : List Written) × (all ≡ arguments_from items) × Each (comma_at Brackets) behind (Short n type_levels (IsType x Brackets)) items ts rest
+short_types (t_last n) h = ([], refl, e_over n)
+short_types (t_next {a = a} {all = all} c d t) h =
+    let r = short_types t (right_few (type_levels a) h) in
+    (a ∷ r.0, ap (argument a) r.1, e_next c (record { reads = d; few = left_few (most_type_levels all) h }) r.2)
 
 -- ---- fields
 
@@ -79,7 +79,7 @@ abbrev pub Part : Origin → Typed → List Token → List Token → Type 0
 Part x one ts rest = IsField x one.names one.of ts rest
 
 abbrev pub ShortPart : Origin → ℕ → Typed → List Token → List Token → Type 0
-ShortPart x n one ts rest = Short n type_levels type_term_levels (IsField x one.names) one.of ts rest
+ShortPart x n one ts rest = Short n type_levels (IsField x one.names) one.of ts rest
 
 pub fields_each : {x : Origin} {all : Fields} {ts rest : List Token} → IsFields x all ts rest
     → (items : List Typed) × (all ≡ fields_from items) × Each (comma_at Brackets) behind (Part x) items ts rest
@@ -88,14 +88,14 @@ fields_each (t_next_field {names = names} {a = a} g d t) =
     let one : Typed = record { names = names; of = a } in let r = fields_each t in (one ∷ r.0, ap (fields names a) r.1, e_next g d r.2)
 
 pub fields_short : {x : Origin} {n : ℕ} {all : List Typed} {ts rest : List Token} → Each (comma_at Brackets) behind (ShortPart x n) all ts rest
-    → Short n field_levels field_term_levels (IsFields x) (fields_from all) ts rest
-fields_short (e_over n) = record { reads = t_last_field n; few_types = omega arith; few_terms = omega arith }
-fields_short (e_next g d t) = let r = fields_short t in record { reads = t_next_field g d.reads r.reads; few_types = both_few d.few_types r.few_types; few_terms = both_few d.few_terms r.few_terms }
+    → Short n field_levels (IsFields x) (fields_from all) ts rest
+fields_short (e_over n) = record { reads = t_last_field n; few = omega arith }
+fields_short (e_next g d t) = let r = fields_short t in record { reads = t_next_field g d.reads r.reads; few = both_few d.few r.few }
 
-pub short_fields : {x : Origin} {n : ℕ} {all : Fields} {ts rest : List Token} → IsFields x all ts rest → field_levels all ≤ n → field_term_levels all ≤ most_levels
+pub short_fields : {x : Origin} {n : ℕ} {all : Fields} {ts rest : List Token} → IsFields x all ts rest → field_levels all ≤ n
     → (items : List Typed) × (all ≡ fields_from items) × Each (comma_at Brackets) behind (ShortPart x n) items ts rest
-short_fields (t_last_field n) h g = ([], refl, e_over n)
-short_fields (t_next_field {names = names} {a = a} {all = all} c d t) h g =
+short_fields (t_last_field n) h = ([], refl, e_over n)
+short_fields (t_next_field {names = names} {a = a} {all = all} c d t) h =
     let one : Typed = record { names = names; of = a } in
-    let r = short_fields t (right_few (type_levels a) h) (right_few (type_term_levels a) g) in
-    (one ∷ r.0, ap (fields names a) r.1, e_next c (record { reads = d; few_types = left_few (field_levels all) h; few_terms = left_few (field_term_levels all) g }) r.2)
+    let r = short_fields t (right_few (type_levels a) h) in
+    (one ∷ r.0, ap (fields names a) r.1, e_next c (record { reads = d; few = left_few (field_levels all) h }) r.2)

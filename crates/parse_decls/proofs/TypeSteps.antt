@@ -1,6 +1,6 @@
 -- The steps of reading a written type.
-use Rattle.std.proofs.Common.{◌≡◌, ℕ, suc, ◌+◌, ◌-◌, ◌<◌, ◌≤◌, List, [], ◌∷◌, length, refl, sym, ap, subst, ◌∙◌, arith, Bool, true, false}
-use Rattle.std.specs.Prelude.{if◌then◌else◌, Result, Ok, Err}
+use Rattle.std.proofs.Common.{◌≡◌, ℕ, suc, ◌+◌, ◌<◌, List, [], ◌∷◌, length, drop, refl, sym, ap, subst, ◌∙◌, arith, true, false}
+use Rattle.std.specs.Prelude.{if◌then◌else◌, Option, Some, None, Result}
 use Rattle.arc_base.specs.declared.place.Place.{Place}
 use Rattle.arc_base.specs.declared.place.Stop.{Stop}
 use Rattle.indent_scanner.specs.declared.token.Token.{Token}
@@ -12,18 +12,17 @@ use Rattle.parse_exprs.specs.declared.input.Input.{Input}
 use Rattle.parse_exprs.specs.declared.input.Bracket.TheVariants.{Square}
 use Rattle.parse_exprs.specs.declared.layout.Layout.{Layout}
 use Rattle.parse_exprs.specs.declared.layout.Layout.TheVariants.{Brackets}
-use Rattle.parse_exprs.specs.Look.{Origin, spelling, place_at, closes_at, stays, colon_at, comma_at}
+use Rattle.parse_exprs.specs.Look.{Origin, spelling, place_at, closes_at, stays, colon_at}
 use Rattle.parse_exprs.specs.Input.{origin_of, from_at}
-use Rattle.parse_exprs.specs.Run.{run_expr}
 use Rattle.parse_decls.specs.declared.look.TypeLead.{TypeLead}
 use Rattle.parse_decls.specs.declared.look.TypeLead.TheVariants as L
 use Rattle.parse_decls.specs.declared.reading.Reading.{Reading}
 use Rattle.parse_decls.specs.Look.{behind, type_at, type_lead, opens_at}
-use Rattle.parse_decls.specs.Outcome.{too_deep, stuck_at, Out, got, bad, then_do, unless_stuck, Settles, of_expr}
-use Rattle.parse_decls.specs.Run.{most_levels, run_declareds, run_type, run_sort, run_arguments, Typed, run_part, run_parts, run_written}
+use Rattle.parse_decls.specs.Outcome.{too_deep, stuck_at, Out, got, then_do, unless_stuck, Settles}
+use Rattle.parse_decls.specs.Run.{run_declareds, run_length, run_type, run_sort, run_inside, run_arguments, Typed, run_part, run_parts, run_written}
 use Rattle.parse_decls.specs.Gives.{Told, Fails, Found, Comes, Leads}
-use Rattle.parse_decls.proofs.Settling.{settles_suc, settles_got, settles_is, settles_if, settles_else, settles_stuck}
-use Rattle.parse_decls.proofs.Coming.{told_fails, fails_then, fails_leads, comes_leads, leads_on, leads_then, leads_past, settles_at, behind_at}
+use Rattle.parse_decls.proofs.Settling.{settles_suc, settles_got, settles_if, settles_else, settles_stuck}
+use Rattle.parse_decls.proofs.Coming.{told_fails, fails_leads, comes_leads, leads_on, leads_then, leads_past, settles_at, behind_at}
 
 -- ---- no level is left, or nothing
 
@@ -54,29 +53,36 @@ type_other input i whole at tok left n e s d stop t =
     fails_leads _ _ (origin_of input) (type_leads (origin_of input) i whole (from_at input at) (from_at input (at + 1)) tok L.Other left n e s d) stop
     (told_fails (origin_of input) (settles_suc settles_got (λ k. refl)) stop (subst (λ all. Told (origin_of input) (stuck_at all) stop) s t))
 
+two_behind : (at : ℕ) (ts : List Token) → behind (drop (at + 1) ts) ≡ drop (at + 2) ts
+two_behind at ts = behind_at (at + 1) ts ∙ ap (λ k. drop k ts) (omega arith)
+
 -- ---- a name
 
--- what reading goes on as behind the bracket
 abbrev pub named_end : Input → Token → Arguments → List Token → Out Written
 named_end input tok all end = unless_stuck (closes_at Square end) end (got (named (place_at (origin_of input) tok) (spelling (origin_of input) tok) all) (behind end))
 
-abbrev pub named_run : Input → List Token → ℕ → Token → List Token → ℕ → Out Written
-named_run input whole n tok ts k =
+-- the types in a bracket
+abbrev pub inside_run : Input → List Token → ℕ → Token → List Token → ℕ → Out Written
+inside_run input whole n tok ts k =
     then_do (run_type k (origin_of input) Brackets whole n ts) (λ a mid.
     then_do (run_arguments k (origin_of input) whole n (argument a no_arguments) mid) (λ all end. named_end input tok all end))
+
+pub inside_leads : (input : Input) (whole : List Token) (n : ℕ) (tok : Token) (ts : List Token) → Leads (inside_run input whole n tok ts) (λ k. run_inside k None (origin_of input) whole n tok ts)
+inside_leads input whole n tok ts o h = settles_suc h (λ k. refl)
 
 pub bare_found : (input : Input) (i : Layout) (whole : List Token) (n : ℕ) (tok : Token) (at : ℕ) → opens_at i Square (from_at input (at + 1)) ≡ false → at < length input.tokens.now
     → Found (λ k. run_sort k L.Name (origin_of input) i whole n tok (from_at input (at + 1))) input (suc at) (named (place_at (origin_of input) tok) (spelling (origin_of input) tok) no_arguments) (at + 1)
 bare_found input i whole n tok at e w = record {
-  runs = settles_suc (settles_else (named_run input whole n tok (behind (from_at input (at + 1)))) e settles_got) (λ k. refl);
+  runs = settles_suc (settles_else (λ k. run_inside k None (origin_of input) whole n tok (behind (from_at input (at + 1)))) e settles_got) (λ k. refl);
   goes = omega arith;
   within = omega (arith, w);
 }
 
 pub named_leads : (input : Input) (i : Layout) (whole : List Token) (n : ℕ) (tok : Token) (at : ℕ) → opens_at i Square (from_at input (at + 1)) ≡ true
-    → Leads (named_run input whole n tok (from_at input (at + 1 + 1))) (λ k. run_sort k L.Name (origin_of input) i whole n tok (from_at input (at + 1)))
+    → Leads (λ k. run_inside k None (origin_of input) whole n tok (from_at input (at + 1 + 1))) (λ k. run_sort k L.Name (origin_of input) i whole n tok (from_at input (at + 1)))
 named_leads input i whole n tok at e o h = settles_suc
-    (settles_if (λ k. got (named (place_at (origin_of input) tok) (spelling (origin_of input) tok) no_arguments) (from_at input (at + 1))) e (settles_at (named_run input whole n tok) (behind_at (at + 1) input.tokens.now) h))
+    (settles_if (λ k. got (named (place_at (origin_of input) tok) (spelling (origin_of input) tok) no_arguments) (from_at input (at + 1))) e
+    (settles_at (λ ts k. run_inside k None (origin_of input) whole n tok ts) (behind_at (at + 1) input.tokens.now) h))
     (λ k. refl)
 
 -- ---- an array
@@ -87,13 +93,23 @@ array_end input tok length a end = unless_stuck (closes_at Square end) end (got 
 abbrev pub element_run : Input → List Token → ℕ → Token → Term → List Token → ℕ → Out Written
 element_run input whole n tok length ts k = then_do (run_type k (origin_of input) Brackets whole n ts) (λ a end. array_end input tok length a end)
 
+pub element_leads : (input : Input) (whole : List Token) (n : ℕ) (tok : Token) (length : Term) (ts : List Token) → Leads (element_run input whole n tok length ts) (λ k. run_inside k (Some length) (origin_of input) whole n tok ts)
+element_leads input whole n tok length ts o h = settles_suc h (λ k. refl)
+
 abbrev pub array_run : Input → List Token → ℕ → Token → List Token → ℕ → Out Written
-array_run input whole n tok ts k =
-    then_do (of_expr ts (run_expr k (origin_of input) Brackets most_levels ts)) (λ length mid. unless_stuck (comma_at Brackets mid) mid (element_run input whole n tok length (behind mid) k))
+array_run input whole n tok ts k = then_do (run_length k (origin_of input) whole n ts) (λ length mid. run_inside k length (origin_of input) whole n tok mid)
 
 pub array_leads : (input : Input) (i : Layout) (whole : List Token) (n : ℕ) (tok : Token) (at : ℕ)
-    → Leads (array_run input whole n tok (from_at input (at + 1 + 1))) (λ k. run_sort k L.Array (origin_of input) i whole n tok (from_at input (at + 1)))
-array_leads input i whole n tok at o h = settles_suc (settles_at (array_run input whole n tok) (behind_at (at + 1) input.tokens.now) h) (λ k. refl)
+    → Leads (array_run input whole n tok (from_at input (at + 2))) (λ k. run_sort k L.Array (origin_of input) i whole n tok (from_at input (at + 1)))
+array_leads input i whole n tok at o h = settles_suc (settles_at (array_run input whole n tok) (two_behind at input.tokens.now) h) (λ k. refl)
+
+-- a length was read, or none, and what goes on from there
+pub array_on : (input : Input) (i : Layout) (whole : List Token) (n : ℕ) (tok : Token) (at next : ℕ) (read wanted : Option Term) → read ≡ wanted
+    → Found (λ k. run_length k (origin_of input) whole n (from_at input (at + 2))) input (at + 2) read next
+    → Leads (λ k. run_inside k wanted (origin_of input) whole n tok (from_at input next)) (λ k. run_sort k L.Array (origin_of input) i whole n tok (from_at input (at + 1)))
+array_on input i whole n tok at next read wanted e f =
+    let runs : Settles (λ k. run_length k (origin_of input) whole n (from_at input (at + 2))) (got wanted (from_at input next)) = subst (λ o. Settles (λ k. run_length k (origin_of input) whole n (from_at input (at + 2))) (got o (from_at input next))) e f.runs in
+    leads_on (leads_then (λ k length mid. run_inside k length (origin_of input) whole n tok mid) runs) (array_leads input i whole n tok at)
 
 -- ---- a reference
 

@@ -4,15 +4,15 @@
 -- level too many, which names the first token of the whole of it; or another token has to stand there, and where the language
 -- leaves out what stands there, a keyword or a pragma, that is said. What was read before it is as the grammar says, and its
 -- types and expressions have no level too many (`Short`).
-use Rattle.std.specs.Prelude.{◌≡◌, ℕ, zero, suc, ◌≤◌, Bool, true, false, List, [], ◌∷◌, Option, Some, None}
+use Rattle.std.specs.Prelude.{◌≡◌, ℕ, zero, suc, ◌≤◌, ◌<◌, Bool, true, false, List, [], ◌∷◌, Option, Some, None}
 use Rattle.indent_scanner.specs.declared.token.Token.{Token}
 use Rattle.nim_tree.specs.declared.name.Name.{Name}
 use Rattle.nim_tree.specs.declared.name.Declared.{Declared}
 use Rattle.nim_tree.specs.declared.name.Pragma.{Pragma}
 use Rattle.nim_tree.specs.Lists.{highest, if_there}
 use Rattle.nim_tree.specs.Terms.{Term, levels}
-use Rattle.nim_tree.specs.Types.{Written, Arguments, Fields, Declaration, type_levels, most_type_levels, field_levels, type_term_levels, argument_term_levels, field_term_levels, declaration_levels, declaration_term_levels}
-use Rattle.nim_tree.specs.Statements.{Definition, Parameters, Head, definition_type_levels, definition_term_levels, parameter_type_levels, parameter_term_levels, head_type_levels, head_term_levels}
+use Rattle.nim_tree.specs.Types.{Written, Arguments, Fields, Declaration, type_levels, most_type_levels, field_levels, declaration_levels}
+use Rattle.nim_tree.specs.Statements.{Definition, Parameters, Head, definition_levels, parameter_type_levels, head_type_levels}
 use Rattle.parse_exprs.specs.declared.layout.Layout.{Layout}
 use Rattle.parse_exprs.specs.declared.layout.Layout.TheVariants.{Brackets, Lines}
 use Rattle.parse_exprs.specs.declared.input.Bracket.TheVariants.{Round, Square}
@@ -24,13 +24,12 @@ use Rattle.parse_decls.specs.declared.look.BodyLead.TheVariants as B
 use Rattle.parse_decls.specs.Look.{behind, deeper_at, stands_at, level_at, proc_name_on, opens_at, equals_at, of_at, separator_at, is_pragma_close, pragmas_at, pragma_named, type_lead, type_at, past_mode, body_lead, more_members_at, past_comma}
 use Rattle.parse_decls.specs.Outcome.{Why, too_deep, left_out, stuck_at}
 use Rattle.parse_decls.specs.Run.{most_levels}
-use Rattle.parse_decls.specs.Grammar.{Listed, Names, Declareds, IsName, IsDeclared, Generics, IsPragma, Pragmas, IsType, IsTypes, IsField, IsFields, IsTyped, Annotation, IsDefined, IsDefinitionBlock, Parent, IsDeclaration, IsDeclarations, IsParameter, ParameterList, IsHead}
+use Rattle.parse_decls.specs.Grammar.{Listed, Names, Declareds, IsName, IsDeclared, Generics, IsPragma, Pragmas, HoldsTypes, IsType, IsTypes, IsField, IsFields, IsTyped, Annotation, IsDefined, IsDefinitionBlock, Parent, IsDeclaration, IsDeclarations, IsParameter, ParameterList, IsHead}
 
--- this is read, with at most n levels of types and the most levels of expressions
-pub record Short {A : Type 0} (n : ℕ) (types terms : A → ℕ) (Reads : A → List Token → List Token → Type 0) (a : A) (ts rest : List Token) : Type 0 where
+-- this is read, and has at most n levels
+pub record Short {A : Type 0} (n : ℕ) (levels : A → ℕ) (Reads : A → List Token → List Token → Type 0) (a : A) (ts rest : List Token) : Type 0 where
   pub reads : Reads a ts rest
-  pub few_types : types a ≤ n
-  pub few_terms : terms a ≤ most_levels
+  pub few : levels a ≤ n
 
 -- ---- repetitions and optional parts
 
@@ -78,42 +77,56 @@ FaultsPragmas x i = FaultsPresent (pragmas_at i) (FaultsClosed (kind_at is_pragm
 
 -- ---- expressions
 
--- of an expression that begins at these tokens
+-- of an expression in what begins at these tokens
 abbrev pub of_fault : List Token → F.Fault → Why
-of_fault ts F.too_deep = too_deep ts
-of_fault ts (F.stuck_at rest) = stuck_at rest
+of_fault whole F.too_deep = too_deep whole
+of_fault whole (F.stuck_at rest) = stuck_at rest
 
-pub record FaultsTerm (x : Origin) (i : Layout) (why : Why) (ts : List Token) : Type 0 where
+-- an expression of at most n levels, in what begins at whole
+pub record FaultsWithin (x : Origin) (i : Layout) (whole : List Token) (n : ℕ) (why : Why) (ts : List Token) : Type 0 where
   pub fault : F.Fault
-  pub is : F.FaultsExpr x fault i most_levels ts
-  pub at : why ≡ of_fault ts fault
+  pub is : F.FaultsExpr x fault i n ts
+  pub at : why ≡ of_fault whole fault
 
-pub record ShortTerm (x : Origin) (i : Layout) (t : Term) (ts rest : List Token) : Type 0 where
-  pub reads : IsExpr x i t ts rest
-  pub few : levels t ≤ most_levels
+abbrev pub ShortExpr : Origin → Layout → ℕ → Term → List Token → List Token → Type 0
+ShortExpr x i n = Short n levels (IsExpr x i)
+
+-- a whole expression
+abbrev pub FaultsTerm : Origin → Layout → Why → List Token → Type 0
+FaultsTerm x i why ts = FaultsWithin x i ts most_levels why ts
+
+abbrev pub ShortTerm : Origin → Layout → Term → List Token → List Token → Type 0
+ShortTerm x i = ShortExpr x i most_levels
 
 -- ---- written types
+
+-- behind the bracket of an array, in what begins at whole, where n levels are left
+pub data FaultsLength (x : Origin) (why : Why) (whole : List Token) (n : ℕ) (ts : List Token) : Type 0 where
+  -- a length and a comma have to stand there, since no type begins
+  f_no_length : type_at ts ≡ false → FaultsWithin x Brackets whole n why ts → FaultsLength x why whole n ts
+  f_no_comma : {a : Term} {mid : List Token} → type_at ts ≡ false → ShortExpr x Brackets n a ts mid → comma_at Brackets mid ≡ false → why ≡ stuck_at mid → FaultsLength x why whole n ts
+  -- a length opens a level too many
+  f_opened : type_at ts ≡ true → F.FaultsExpr x F.too_deep Brackets most_levels ts → why ≡ too_deep whole → FaultsLength x why whole n ts
+  f_high : {a : Term} {mid : List Token} → type_at ts ≡ true → ShortTerm x Brackets a ts mid → comma_at Brackets mid ≡ true → n < levels a → why ≡ too_deep whole → FaultsLength x why whole n ts
 
 -- FaultsType x why i whole n ts: a part of the type that begins at whole, where n more levels are left
 mutual
   pub data FaultsType (x : Origin) (why : Why) : Layout → List Token → ℕ → List Token → Type 0 where
     f_no_level : {i : Layout} {whole ts : List Token} → type_at ts ≡ true → why ≡ too_deep whole → FaultsType x why i whole zero ts
     f_no_type : {i : Layout} {whole : List Token} {n : ℕ} {ts : List Token} → type_at ts ≡ false → why ≡ stuck_at ts → FaultsType x why i whole n ts
-    f_argument : {i : Layout} {whole : List Token} {n : ℕ} {tok : Token} {ts : List Token} → type_lead x i tok ts ≡ L.Name → opens_at i Square ts ≡ true
+    f_argument : {i : Layout} {whole : List Token} {n : ℕ} {tok : Token} {ts : List Token} → HoldsTypes x i tok ts
         → FaultsType x why Brackets whole n (behind ts) → FaultsType x why i whole (suc n) (tok ∷ ts)
-    f_arguments : {i : Layout} {whole : List Token} {n : ℕ} {a : Written} {tok : Token} {ts mid : List Token} → type_lead x i tok ts ≡ L.Name → opens_at i Square ts ≡ true
-        → Short n type_levels type_term_levels (IsType x Brackets) a (behind ts) mid → FaultsTypes x why whole n mid → FaultsType x why i whole (suc n) (tok ∷ ts)
-    f_generic : {i : Layout} {whole : List Token} {n : ℕ} {a : Written} {all : Arguments} {tok : Token} {ts mid end : List Token} → type_lead x i tok ts ≡ L.Name → opens_at i Square ts ≡ true
-        → Short n type_levels type_term_levels (IsType x Brackets) a (behind ts) mid → Short n most_type_levels argument_term_levels (IsTypes x) all mid end
+    f_arguments : {i : Layout} {whole : List Token} {n : ℕ} {a : Written} {tok : Token} {ts mid : List Token} → HoldsTypes x i tok ts
+        → Short n type_levels (IsType x Brackets) a (behind ts) mid → FaultsTypes x why whole n mid → FaultsType x why i whole (suc n) (tok ∷ ts)
+    f_generic : {i : Layout} {whole : List Token} {n : ℕ} {a : Written} {all : Arguments} {tok : Token} {ts mid end : List Token} → HoldsTypes x i tok ts
+        → Short n type_levels (IsType x Brackets) a (behind ts) mid → Short n most_type_levels (IsTypes x) all mid end
         → closes_at Square end ≡ false → why ≡ stuck_at end → FaultsType x why i whole (suc n) (tok ∷ ts)
     f_length : {i : Layout} {whole : List Token} {n : ℕ} {tok : Token} {ts : List Token} → type_lead x i tok ts ≡ L.Array
-        → FaultsTerm x Brackets why (behind ts) → FaultsType x why i whole (suc n) (tok ∷ ts)
-    f_no_comma : {i : Layout} {whole : List Token} {n : ℕ} {length : Term} {tok : Token} {ts mid : List Token} → type_lead x i tok ts ≡ L.Array
-        → ShortTerm x Brackets length (behind ts) mid → comma_at Brackets mid ≡ false → why ≡ stuck_at mid → FaultsType x why i whole (suc n) (tok ∷ ts)
+        → FaultsLength x why whole n (behind ts) → FaultsType x why i whole (suc n) (tok ∷ ts)
     f_element : {i : Layout} {whole : List Token} {n : ℕ} {length : Term} {tok : Token} {ts mid : List Token} → type_lead x i tok ts ≡ L.Array
-        → ShortTerm x Brackets length (behind ts) mid → comma_at Brackets mid ≡ true → FaultsType x why Brackets whole n (behind mid) → FaultsType x why i whole (suc n) (tok ∷ ts)
+        → ShortExpr x Brackets n length (behind ts) mid → comma_at Brackets mid ≡ true → FaultsType x why Brackets whole n (behind mid) → FaultsType x why i whole (suc n) (tok ∷ ts)
     f_array : {i : Layout} {whole : List Token} {n : ℕ} {length : Term} {a : Written} {tok : Token} {ts mid end : List Token} → type_lead x i tok ts ≡ L.Array
-        → ShortTerm x Brackets length (behind ts) mid → comma_at Brackets mid ≡ true → Short n type_levels type_term_levels (IsType x Brackets) a (behind mid) end
+        → ShortExpr x Brackets n length (behind ts) mid → comma_at Brackets mid ≡ true → Short n type_levels (IsType x Brackets) a (behind mid) end
         → closes_at Square end ≡ false → why ≡ stuck_at end → FaultsType x why i whole (suc n) (tok ∷ ts)
     f_target_line : {i : Layout} {whole : List Token} {n : ℕ} {tok : Token} {ts : List Token} → type_lead x i tok ts ≡ L.Ref → stays i ts ≡ false → why ≡ stuck_at ts
         → FaultsType x why i whole (suc n) (tok ∷ ts)
@@ -124,17 +137,17 @@ mutual
     f_field : {i : Layout} {whole : List Token} {n : ℕ} {tok : Token} {ts : List Token} → type_lead x i tok ts ≡ L.Tuple → opens_at i Square ts ≡ true
         → closes_at Square (behind ts) ≡ false → FaultsField x why whole n (behind ts) → FaultsType x why i whole (suc n) (tok ∷ ts)
     f_fields : {i : Layout} {whole : List Token} {n : ℕ} {names : List Declared} {a : Written} {tok : Token} {ts mid : List Token} → type_lead x i tok ts ≡ L.Tuple → opens_at i Square ts ≡ true
-        → closes_at Square (behind ts) ≡ false → Short n type_levels type_term_levels (IsField x names) a (behind ts) mid → FaultsFields x why whole n mid
+        → closes_at Square (behind ts) ≡ false → Short n type_levels (IsField x names) a (behind ts) mid → FaultsFields x why whole n mid
         → FaultsType x why i whole (suc n) (tok ∷ ts)
     f_tuple : {i : Layout} {whole : List Token} {n : ℕ} {names : List Declared} {a : Written} {all : Fields} {tok : Token} {ts mid end : List Token} → type_lead x i tok ts ≡ L.Tuple
-        → opens_at i Square ts ≡ true → closes_at Square (behind ts) ≡ false → Short n type_levels type_term_levels (IsField x names) a (behind ts) mid
-        → Short n field_levels field_term_levels (IsFields x) all mid end → closes_at Square end ≡ false → why ≡ stuck_at end → FaultsType x why i whole (suc n) (tok ∷ ts)
+        → opens_at i Square ts ≡ true → closes_at Square (behind ts) ≡ false → Short n type_levels (IsField x names) a (behind ts) mid
+        → Short n field_levels (IsFields x) all mid end → closes_at Square end ≡ false → why ≡ stuck_at end → FaultsType x why i whole (suc n) (tok ∷ ts)
 
   -- behind a type in brackets
   pub data FaultsTypes (x : Origin) (why : Why) : List Token → ℕ → List Token → Type 0 where
     f_next_type : {whole : List Token} {n : ℕ} {ts : List Token} → comma_at Brackets ts ≡ true → FaultsType x why Brackets whole n (behind ts) → FaultsTypes x why whole n ts
     f_later_type : {whole : List Token} {n : ℕ} {a : Written} {ts mid : List Token} → comma_at Brackets ts ≡ true
-        → Short n type_levels type_term_levels (IsType x Brackets) a (behind ts) mid → FaultsTypes x why whole n mid → FaultsTypes x why whole n ts
+        → Short n type_levels (IsType x Brackets) a (behind ts) mid → FaultsTypes x why whole n mid → FaultsTypes x why whole n ts
 
   -- a field of a tuple
   pub data FaultsField (x : Origin) (why : Why) : List Token → ℕ → List Token → Type 0 where
@@ -148,7 +161,7 @@ mutual
   pub data FaultsFields (x : Origin) (why : Why) : List Token → ℕ → List Token → Type 0 where
     f_next_field : {whole : List Token} {n : ℕ} {ts : List Token} → comma_at Brackets ts ≡ true → FaultsField x why whole n (behind ts) → FaultsFields x why whole n ts
     f_later_field : {whole : List Token} {n : ℕ} {names : List Declared} {a : Written} {ts mid : List Token} → comma_at Brackets ts ≡ true
-        → Short n type_levels type_term_levels (IsField x names) a (behind ts) mid → FaultsFields x why whole n mid → FaultsFields x why whole n ts
+        → Short n type_levels (IsField x names) a (behind ts) mid → FaultsFields x why whole n mid → FaultsFields x why whole n ts
 
 -- a whole type
 abbrev pub FaultsWritten : Origin → Layout → Why → List Token → Type 0
@@ -171,7 +184,7 @@ pub data FaultsValue (x : Origin) (i : Layout) (why : Why) : List Token → Type
   f_value : {ts : List Token} → stays i (behind ts) ≡ true → FaultsTerm x i why (behind ts) → FaultsValue x i why ts
 
 abbrev pub ShortAnnotation : Origin → Layout → Option Written → List Token → List Token → Type 0
-ShortAnnotation x i = Short most_levels (if_there type_levels) (if_there type_term_levels) (Annotation x i)
+ShortAnnotation x i = Short most_levels (if_there type_levels) (Annotation x i)
 
 -- its first name goes on in the layout first
 pub data FaultsDefined (x : Origin) (first i : Layout) (why : Why) : List Token → Type 0 where
@@ -186,7 +199,7 @@ abbrev pub FaultsDefinition : Origin → Layout → Why → List Token → Type 
 FaultsDefinition x i = FaultsDefined x i i
 
 abbrev pub ShortDefined : Origin → (first : Layout) → Layout → Definition → List Token → List Token → Type 0
-ShortDefined x first i = Short most_levels definition_type_levels definition_term_levels (IsDefined x first i)
+ShortDefined x first i = Short most_levels definition_levels (IsDefined x first i)
 
 abbrev pub ShortDefinition : Origin → Layout → Definition → List Token → List Token → Type 0
 ShortDefinition x i = ShortDefined x i i
@@ -207,7 +220,7 @@ pub data FaultsFieldLines (x : Origin) (n : ℕ) (why : Why) : List Token → Ty
   f_line_names : {ts : List Token} → stands_at n ts ≡ true → FaultsDeclareds x Brackets (Lines n) why ts → FaultsFieldLines x n why ts
   f_line_type : {names : List Declared} {ts mid : List Token} → stands_at n ts ≡ true → Declareds x Brackets (Lines n) names ts mid → FaultsTyped x (Lines n) why mid → FaultsFieldLines x n why ts
   f_later_line : {names : List Declared} {a : Written} {ts mid end : List Token} → stands_at n ts ≡ true → Declareds x Brackets (Lines n) names ts mid
-      → Short most_levels type_levels type_term_levels (IsTyped x (Lines n)) a mid end → FaultsFieldLines x n why end → FaultsFieldLines x n why ts
+      → Short most_levels type_levels (IsTyped x (Lines n)) a mid end → FaultsFieldLines x n why end → FaultsFieldLines x n why ts
 
 abbrev pub FaultsFieldBlock : Origin → ℕ → Why → List Token → Type 0
 FaultsFieldBlock x n = FaultsPresent (deeper_at n) (λ why ts. FaultsFieldLines x (level_at ts) why ts)
@@ -243,7 +256,7 @@ pub data FaultsDeclaration (x : Origin) (first : Layout) (n : ℕ) (why : Why) :
       → equals_at (Lines n) b ≡ true → stays (Lines n) (behind b) ≡ true → FaultsBody x n why (behind b) → FaultsDeclaration x first n why ts
 
 abbrev pub ShortDeclaration : Origin → (first : Layout) → ℕ → Declaration → List Token → List Token → Type 0
-ShortDeclaration x first n = Short most_levels declaration_levels declaration_term_levels (IsDeclaration x first n)
+ShortDeclaration x first n = Short most_levels declaration_levels (IsDeclaration x first n)
 
 -- behind `type`
 pub data FaultsDeclarations (x : Origin) (n : ℕ) (why : Why) : List Token → Type 0 where
@@ -260,7 +273,7 @@ pub data FaultsParameter (x : Origin) (why : Why) : List Token → Type 0 where
       → FaultsWritten x Brackets why (past_mode x (behind mid)) → FaultsParameter x why ts
 
 abbrev pub ShortParameter : Origin → Parameters → List Token → List Token → Type 0
-ShortParameter x = Short most_levels parameter_type_levels parameter_term_levels (IsParameter x)
+ShortParameter x = Short most_levels parameter_type_levels (IsParameter x)
 
 -- what stands behind `(`
 pub record FaultsParameters (x : Origin) (why : Why) (ts : List Token) : Type 0 where
@@ -272,7 +285,7 @@ abbrev pub FaultsParameterList : Origin → Layout → Why → List Token → Ty
 FaultsParameterList x i = FaultsPresent (opens_at i Round) (FaultsParameters x)
 
 abbrev pub ShortParameterList : Origin → Layout → List Parameters → List Token → List Token → Type 0
-ShortParameterList x i = Short most_levels (highest parameter_type_levels) (highest parameter_term_levels) (ParameterList x i)
+ShortParameterList x i = Short most_levels (highest parameter_type_levels) (ParameterList x i)
 
 pub data FaultsHead (x : Origin) (i : Layout) (why : Why) : List Token → Type 0 where
   f_head_name : {ts : List Token} → FaultsName (proc_name_on i) why ts → FaultsHead x i why ts
@@ -287,10 +300,10 @@ pub data FaultsHead (x : Origin) (i : Layout) (why : Why) : List Token → Type 
 -- ---- what is read whole, with few levels
 
 abbrev pub ShortDefinitionBlock : Origin → ℕ → List Definition → List Token → List Token → Type 0
-ShortDefinitionBlock x n = Short most_levels (highest definition_type_levels) (highest definition_term_levels) (IsDefinitionBlock x n)
+ShortDefinitionBlock x n = Short most_levels (highest definition_levels) (IsDefinitionBlock x n)
 
 abbrev pub ShortDeclarations : Origin → ℕ → List Declaration → List Token → List Token → Type 0
-ShortDeclarations x n = Short most_levels (highest declaration_levels) (highest declaration_term_levels) (IsDeclarations x n)
+ShortDeclarations x n = Short most_levels (highest declaration_levels) (IsDeclarations x n)
 
 abbrev pub ShortHead : Origin → Layout → Head → List Token → List Token → Type 0
-ShortHead x i = Short most_levels head_type_levels head_term_levels (IsHead x i)
+ShortHead x i = Short most_levels head_type_levels (IsHead x i)

@@ -15,13 +15,13 @@
 -- `ref` or `distinct` begins on the same line. A block begins on the next line behind more spaces than n, and each of its
 -- lines stands behind the same number; so the first name there may begin a line. What can go on goes on: where a repetition or an optional part ends, the token that
 -- would begin more of it doesn't stand.
-use Rattle.std.specs.Prelude.{◌≡◌, ℕ, Bool, true, false, List, [], ◌∷◌, Option, Some, None}
+use Rattle.std.specs.Prelude.{◌≡◌, ◌≤◌, ℕ, Bool, true, false, List, [], ◌∷◌, Option, Some, None}
 use Rattle.indent_scanner.specs.declared.token.Token.{Token}
 use Rattle.nim_tree.specs.declared.name.Name.{Name}
 use Rattle.nim_tree.specs.declared.name.Declared.{Declared}
 use Rattle.nim_tree.specs.declared.name.Pragma.{Pragma}
 use Rattle.nim_tree.specs.declared.name.PragmaKind.{PragmaKind}
-use Rattle.nim_tree.specs.Terms.{Term}
+use Rattle.nim_tree.specs.Terms.{Term, levels}
 use Rattle.nim_tree.specs.Types.{Written, named, array, ref_to, tuple_of, Arguments, no_arguments, argument, Fields, no_fields, fields, Body, object, enum, distinct, alias, Declaration}
 use Rattle.nim_tree.specs.Statements.{Definition, Parameters, Head}
 use Rattle.parse_exprs.specs.declared.layout.Layout.{Layout}
@@ -29,9 +29,11 @@ use Rattle.parse_exprs.specs.declared.layout.Layout.TheVariants.{Brackets, Lines
 use Rattle.parse_exprs.specs.declared.input.Bracket.TheVariants.{Round, Square}
 use Rattle.parse_exprs.specs.Look.{Origin, spelling, place_at, closes_at, name_on, stays, colon_at, comma_at, kind_at}
 use Rattle.parse_exprs.specs.Grammar.{IsExpr}
+use Rattle.parse_exprs.specs.Faults.{FaultsExpr, stuck_at}
 use Rattle.parse_decls.specs.declared.look.TypeLead.TheVariants as L
 use Rattle.parse_decls.specs.declared.look.BodyLead.TheVariants as B
-use Rattle.parse_decls.specs.Look.{behind, deeper_at, stands_at, level_at, name_of, declared_of, star_at, past_star, proc_name_on, is_quoted, opens_at, equals_at, of_at, separator_at, is_pragma_close, pragmas_at, pragma_named, pragma_of, type_lead, mode_at, past_mode, body_lead, more_members_at, past_comma}
+use Rattle.parse_decls.specs.Look.{behind, deeper_at, stands_at, level_at, name_of, declared_of, star_at, past_star, proc_name_on, is_quoted, opens_at, equals_at, of_at, separator_at, is_pragma_close, pragmas_at, pragma_named, pragma_of, type_lead, type_at, mode_at, past_mode, body_lead, more_members_at, past_comma}
+use Rattle.parse_decls.specs.Run.{most_levels}
 
 -- ---- repetitions and optional parts
 
@@ -90,12 +92,25 @@ abbrev pub Pragmas : Origin → Layout → List Pragma → List Token → List T
 Pragmas x i = Perhaps (pragmas_at i) [] (Closed (kind_at is_pragma_close) (Listed (IsPragma x) (comma_at Brackets) behind (IsPragma x)))
 
 -- ---- written types
+--
+-- `array[` is the form with a length where an expression and a comma stand behind the bracket, whatever its levels; else it is
+-- a name with types in brackets, as `array[int]`. Where no type begins behind the bracket, it can only be the form with a length.
+
+-- no expression with a comma behind it begins here: the text can't go on as one, or no comma follows
+pub data NoLength (x : Origin) (ts : List Token) : Type 0 where
+  n_stops : {rest : List Token} → FaultsExpr x (stuck_at rest) Brackets most_levels ts → NoLength x ts
+  n_more : {a : Term} {mid : List Token} → IsExpr x Brackets a ts mid → levels a ≤ most_levels → comma_at Brackets mid ≡ false → NoLength x ts
+
+-- a name and a bracket with types in it, before these tokens behind the name
+pub data HoldsTypes (x : Origin) (i : Layout) (tok : Token) (ts : List Token) : Type 0 where
+  h_name : type_lead x i tok ts ≡ L.Name → opens_at i Square ts ≡ true → HoldsTypes x i tok ts
+  h_array : type_lead x i tok ts ≡ L.Array → type_at (behind ts) ≡ true → NoLength x (behind ts) → HoldsTypes x i tok ts
 
 mutual
   pub data IsType (x : Origin) : Layout → Written → List Token → List Token → Type 0 where
     t_name : {i : Layout} {tok : Token} {ts : List Token} → type_lead x i tok ts ≡ L.Name → opens_at i Square ts ≡ false
         → IsType x i (named (place_at x tok) (spelling x tok) no_arguments) (tok ∷ ts) ts
-    t_generic : {i : Layout} {a : Written} {all : Arguments} {tok : Token} {ts mid end : List Token} → type_lead x i tok ts ≡ L.Name → opens_at i Square ts ≡ true
+    t_generic : {i : Layout} {a : Written} {all : Arguments} {tok : Token} {ts mid end : List Token} → HoldsTypes x i tok ts
         → IsType x Brackets a (behind ts) mid → IsTypes x all mid end → closes_at Square end ≡ true
         → IsType x i (named (place_at x tok) (spelling x tok) (argument a all)) (tok ∷ ts) (behind end)
     t_array : {i : Layout} {length : Term} {a : Written} {tok : Token} {ts mid end : List Token} → type_lead x i tok ts ≡ L.Array

@@ -5,3 +5,4 @@ pub mod Grammar
 pub mod Faults
 pub mod Claims
 pub mod Gives
+pub mod Ends

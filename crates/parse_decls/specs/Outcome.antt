@@ -33,7 +33,7 @@ abbrev pub unless_stuck : {Y : Type 0} → Bool → List Token → Out Y → Out
 unless_stuck true ts go = go
 unless_stuck false ts go = bad (stuck_at ts)
 
--- of an expression that begins at these tokens
+-- of an expression in what begins at these tokens
 abbrev pub of_why : List Token → E.Why → Why
 of_why whole E.deep = too_deep whole
 of_why whole (E.stuck rest) = stuck_at rest

@@ -1,20 +1,21 @@
 -- Reading as a computation by steps: the same as Grammar.antt and Faults.antt say, in the order of the tokens.
 --
 -- Each function takes the steps that are left. n is the number of spaces that the declaration stands behind.
-use Rattle.std.specs.Prelude.{ℕ, zero, suc, Bool, true, false, if◌then◌else◌, List, [], ◌∷◌, ◌++◌, Option, Some, None}
+use Rattle.std.specs.Prelude.{ℕ, zero, suc, Bool, true, false, nat_lt, if◌then◌else◌, List, [], ◌∷◌, ◌++◌, Option, Some, None}
 use Rattle.arc_base.specs.declared.place.Place.{Place}
 use Rattle.indent_scanner.specs.declared.token.Token.{Token}
 use Rattle.nim_tree.specs.declared.name.Name.{Name}
 use Rattle.nim_tree.specs.declared.name.Declared.{Declared}
 use Rattle.nim_tree.specs.declared.name.Pragma.{Pragma}
 use Rattle.nim_tree.specs.declared.name.PragmaKind.{PragmaKind}
-use Rattle.nim_tree.specs.Terms.{Term}
+use Rattle.nim_tree.specs.Terms.{Term, levels}
 use Rattle.nim_tree.specs.Types.{Written, named, array, ref_to, tuple_of, Arguments, no_arguments, argument, and_argument, Fields, no_fields, fields, and_field, Body, object, enum, distinct, alias, Declaration}
 use Rattle.nim_tree.specs.Statements.{Definition, Parameters, Head}
 use Rattle.parse_exprs.specs.declared.layout.Layout.{Layout}
 use Rattle.parse_exprs.specs.declared.layout.Layout.TheVariants.{Brackets, Lines}
 use Rattle.parse_exprs.specs.declared.input.Bracket.TheVariants.{Round, Square}
 use Rattle.parse_exprs.specs.Look.{Origin, spelling, place_at, closes_at, name_on, stays, colon_at, comma_at, kind_at}
+use Rattle.parse_exprs.specs.Outcome as E
 use Rattle.parse_exprs.specs.Run.{run_expr}
 use Rattle.parse_decls.specs.declared.look.TypeLead.{TypeLead}
 use Rattle.parse_decls.specs.declared.look.TypeLead.TheVariants as L
@@ -92,6 +93,21 @@ pub record Typed : Type 0 where
   pub names : List Declared
   pub of : Written
 
+-- a length with a comma behind it, as reading the expression that may stand there tells
+abbrev pub length_of : List Token → ℕ → List Token → E.Out Term → Out (Option Term)
+length_of whole n ts (E.got a mid) = if comma_at Brackets mid then (if nat_lt n (levels a) then bad (too_deep whole) else got (Some a) (behind mid)) else got None ts
+length_of whole n ts (E.bad E.deep) = bad (too_deep whole)
+length_of whole n ts (E.bad (E.stuck rest)) = got None ts
+length_of whole n ts (E.bad E.tired) = bad tired
+
+-- the same where no type begins there
+abbrev pub run_due_length : ℕ → Origin → List Token → ℕ → List Token → Out (Option Term)
+run_due_length k x whole n ts = then_do (of_expr whole (run_expr k x Brackets n ts)) (λ a mid. unless_stuck (comma_at Brackets mid) mid (got (Some a) (behind mid)))
+
+-- the length of an array and its comma, behind the bracket; none where types stand there
+abbrev pub run_length : ℕ → Origin → List Token → ℕ → List Token → Out (Option Term)
+run_length k x whole n ts = if type_at ts then length_of whole n ts (run_expr k x Brackets most_levels ts) else run_due_length k x whole n ts
+
 abbrev mutual
   -- a type that is a part of the one that begins at whole, where n more levels are left
   pub run_type : ℕ → Origin → Layout → List Token → ℕ → List Token → Out Written
@@ -103,17 +119,8 @@ abbrev mutual
   pub run_sort : ℕ → TypeLead → Origin → Layout → List Token → ℕ → Token → List Token → Out Written
   run_sort zero lead x i whole n tok ts = bad tired
   run_sort (suc k) L.Other x i whole n tok ts = bad (stuck_at (tok ∷ ts))
-  run_sort (suc k) L.Name x i whole n tok ts =
-      if opens_at i Square ts then
-      then_do (run_type k x Brackets whole n (behind ts)) (λ a mid.
-      then_do (run_arguments k x whole n (argument a no_arguments) mid) (λ all end.
-      unless_stuck (closes_at Square end) end (got (named (place_at x tok) (spelling x tok) all) (behind end))))
-      else got (named (place_at x tok) (spelling x tok) no_arguments) ts
-  run_sort (suc k) L.Array x i whole n tok ts =
-      then_do (of_expr (behind ts) (run_expr k x Brackets most_levels (behind ts))) (λ length mid.
-      unless_stuck (comma_at Brackets mid) mid (
-      then_do (run_type k x Brackets whole n (behind mid)) (λ a end.
-      unless_stuck (closes_at Square end) end (got (array (place_at x tok) length a) (behind end)))))
+  run_sort (suc k) L.Name x i whole n tok ts = if opens_at i Square ts then run_inside k None x whole n tok (behind ts) else got (named (place_at x tok) (spelling x tok) no_arguments) ts
+  run_sort (suc k) L.Array x i whole n tok ts = then_do (run_length k x whole n (behind ts)) (λ length mid. run_inside k length x whole n tok mid)
   run_sort (suc k) L.Ref x i whole n tok ts = unless_stuck (stays i ts) ts (then_do (run_type k x i whole n ts) (λ a rest. got (ref_to (place_at x tok) a) rest))
   run_sort (suc k) L.Tuple x i whole n tok ts =
       unless_stuck (opens_at i Square ts) ts (
@@ -121,6 +128,17 @@ abbrev mutual
       then_do (run_part k x whole n (behind ts)) (λ one mid.
       then_do (run_parts k x whole n (fields one.names one.of no_fields) mid) (λ all end.
       unless_stuck (closes_at Square end) end (got (tuple_of (place_at x tok) all) (behind end)))))
+
+  -- what stands in the bracket behind a name: types, or an element behind a length
+  pub run_inside : ℕ → Option Term → Origin → List Token → ℕ → Token → List Token → Out Written
+  run_inside zero length x whole n tok ts = bad tired
+  run_inside (suc k) None x whole n tok ts =
+      then_do (run_type k x Brackets whole n ts) (λ a mid.
+      then_do (run_arguments k x whole n (argument a no_arguments) mid) (λ all end.
+      unless_stuck (closes_at Square end) end (got (named (place_at x tok) (spelling x tok) all) (behind end))))
+  run_inside (suc k) (Some length) x whole n tok ts =
+      then_do (run_type k x Brackets whole n ts) (λ a end.
+      unless_stuck (closes_at Square end) end (got (array (place_at x tok) length a) (behind end)))
 
   pub run_arguments : ℕ → Origin → List Token → ℕ → Arguments → List Token → Out Arguments
   run_arguments zero x whole n some ts = bad tired

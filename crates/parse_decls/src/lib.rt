@@ -1,6 +1,7 @@
 //! The parser of declarations: names, written types, definitions, and heads of procedures.
 #![tactic(auto)]
 
+mod array_form;
 mod body;
 mod declare;
 mod define;
@@ -14,6 +15,7 @@ mod pragmas;
 mod reading;
 #[cfg(test)]
 mod tests;
+mod total;
 mod values;
 mod written;
 
@@ -24,4 +26,5 @@ pub use look::{deeper_at, is_end, level_at, spaces_at, stands_at};
 pub use name::read_name;
 pub use parse::{definition, definition_block, names, procedure_head, type_declarations};
 pub use reading::{Reading, and_one, left_out, stuck, too_deep};
+pub use total::{declaration_or_fault, declarations_end};
 pub use values::{read_callee, read_value};

@@ -1,23 +1,25 @@
 // Written types.
 //
 // `whole` is the first token of the whole type, and `left` the number of levels that a part of it may have.
-ghost use Rattle.std.specs.Prelude.{◌≡◌, ◌≤◌, ◌<◌, ◌+◌, ◌^◌, suc, length, if◌then◌else◌, option_map};
+ghost use Rattle.std.specs.Prelude.{◌≡◌, ◌≤◌, ◌<◌, ◌+◌, ◌^◌, suc, length, if◌then◌else◌, Some, None, option_map};
+ghost use Rattle.nim_tree.specs.Terms.{term_of};
 ghost use Rattle.nim_tree.specs.Types.{written_of, arguments_of, fields_of, argument, no_arguments, fields, no_fields};
 ghost use Rattle.parse_exprs.specs.Input.{origin_of, from_at};
 ghost use Rattle.parse_decls.specs.declared.look.TypeLead.TheVariants as L;
 ghost use Rattle.parse_decls.specs.Look.{type_at};
 ghost use Rattle.parse_decls.specs.Outcome.{too_deep, stuck_at};
-ghost use Rattle.parse_decls.specs.Run.{run_type, run_sort, run_arguments, run_part, run_parts, run_written, run_typed, run_annotation};
+ghost use Rattle.parse_decls.specs.Run.{run_type, run_sort, run_inside, run_arguments, run_part, run_parts, run_written, run_typed, run_annotation};
 ghost use Rattle.parse_decls.specs.Gives.{Comes, Told, typed_of};
 
+use crate::array_form::read_length;
 use crate::look::{TypeLead, opens_at, type_at, type_lead};
 use crate::make::{make_array, make_named, make_ref, make_tuple};
 use crate::name::{bytes_of, read_declareds};
 use crate::reading::{Reading, and_one, stuck, too_deep};
-use crate::values::{MOST_LEVELS, read_value};
+use crate::values::MOST_LEVELS;
 use arc_base::Stop;
 use indent_scanner::Token;
-use nim_tree::{Field, TypeTree};
+use nim_tree::{Expr, Field, TypeTree};
 use parse_exprs::{Bracket, Input, Layout};
 use std::alloc::Global;
 
@@ -77,14 +79,32 @@ fn read_named(
     ensures { Comes written_of (λ k. run_sort k L.Name (origin_of input.now) layout (from_at input.now whole) left token (from_at input.now (at + 1))) input.now (suc at) result }
 {
     let behind = at + 1;
-    let text = bytes_of(alloc, input.spelling(token))?;
-    if !opens_at(input, behind, layout, Bracket::Square) {
-        return Ok(Reading {
-            value: make_named(input.place_at(token), text, Vec::new(alloc)),
-            next: behind,
-        });
+    if opens_at(input, behind, layout, Bracket::Square) {
+        return read_inside(alloc, input, behind + 1, token, whole, left);
     }
-    let first = read_type(alloc, input, behind + 1, Layout::Brackets, whole, left)?;
+    let text = bytes_of(alloc, input.spelling(token))?;
+    Ok(Reading {
+        value: make_named(input.place_at(token), text, Vec::new(alloc)),
+        next: behind,
+    })
+}
+
+// The types in the bracket behind a name.
+#[cycle(types)]
+fn read_inside(
+    alloc: Global,
+    input: &Input,
+    at: usize,
+    token: Token,
+    whole: usize,
+    left: u32,
+) -> Result<Reading<TypeTree>, Stop>
+    requires order { whole ≤ at }
+    requires few { length input.now.tokens.now < 2 ^ 32 }
+    ensures { Comes written_of (λ k. run_inside k None (origin_of input.now) (from_at input.now whole) left token (from_at input.now at)) input.now (suc at) result }
+{
+    let text = bytes_of(alloc, input.spelling(token))?;
+    let first = read_type(alloc, input, at, Layout::Brackets, whole, left)?;
     let arguments = read_arguments(alloc, input, first, whole, left)?;
     if !input.closes_at(Bracket::Square, arguments.next) {
         return Err(stuck(input, arguments.next));
@@ -122,7 +142,7 @@ fn read_arguments(
     })
 }
 
-// An array, whose bracket stands behind the name.
+// `array` and its bracket.
 #[cycle(types)]
 fn read_array(
     alloc: Global,
@@ -138,17 +158,36 @@ fn read_array(
     requires few { length input.now.tokens.now < 2 ^ 32 }
     ensures { Comes written_of (λ k. run_sort k L.Array (origin_of input.now) layout (from_at input.now whole) left token (from_at input.now (at + 1))) input.now (suc at) result }
 {
-    let open = at + 1;
-    let length = read_value(alloc, input, open + 1, Layout::Brackets)?;
-    if !input.comma_at(length.next, Layout::Brackets) {
-        return Err(stuck(input, length.next));
+    let inside = at + 2;
+    let length = read_length(alloc, input, inside, whole, left)?;
+    let next = length.next;
+    match length.value {
+        Some(count) => read_element(alloc, input, next, token, count, whole, left),
+        None => read_inside(alloc, input, next, token, whole, left),
     }
-    let element = read_type(alloc, input, length.next + 1, Layout::Brackets, whole, left)?;
+}
+
+// The element of an array, behind its length.
+#[cycle(types)]
+fn read_element(
+    alloc: Global,
+    input: &Input,
+    at: usize,
+    token: Token,
+    count: Expr,
+    whole: usize,
+    left: u32,
+) -> Result<Reading<TypeTree>, Stop>
+    requires order { whole ≤ at }
+    requires few { length input.now.tokens.now < 2 ^ 32 }
+    ensures { Comes written_of (λ k. run_inside k (Some (term_of count)) (origin_of input.now) (from_at input.now whole) left token (from_at input.now at)) input.now (suc at) result }
+{
+    let element = read_type(alloc, input, at, Layout::Brackets, whole, left)?;
     if !input.closes_at(Bracket::Square, element.next) {
         return Err(stuck(input, element.next));
     }
     Ok(Reading {
-        value: make_array(alloc, input.place_at(token), length.value, element.value)?,
+        value: make_array(alloc, input.place_at(token), count, element.value)?,
         next: element.next + 1,
     })
 }

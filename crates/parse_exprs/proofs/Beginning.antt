@@ -1,6 +1,6 @@
 -- What begins an expression, and how many levels its parts have.
 use Rattle.std.proofs.Common.{◌≡◌, ℕ, suc, ◌<◌, ◌≤◌, List, [], ◌∷◌, Bool, true, refl, ap, arith}
-use Rattle.std.specs.Prelude.{Some, None, max, bytes_eq, codes}
+use Rattle.std.specs.Prelude.{Some, None, max, ◌&&◌, bytes_eq, codes}
 use Rattle.std.proofs.lemmas.Slice.Eq.{bytes_eq-Decides}
 use Rattle.arc_base.specs.declared.place.Place.{Place}
 use Rattle.indent_scanner.specs.declared.token.Key.TheVariants as K
@@ -14,9 +14,9 @@ use Rattle.parse_exprs.specs.declared.layout.Layout.TheVariants.{Brackets}
 use Rattle.parse_exprs.specs.declared.input.Bracket.{Bracket}
 use Rattle.parse_exprs.specs.declared.input.Bracket.TheVariants.{Square}
 use Rattle.parse_exprs.specs.declared.input.Lead.TheVariants as L
-use Rattle.parse_exprs.specs.Look.{Origin, spelling, place_at, op_levels, single_of, single, sign_named, sign_of, is_at_sign, bracket_of, bracket_at, square_at, is_square, lead_of, lead_at, first_of_at}
-use Rattle.parse_exprs.specs.Grammar.{Spells, p_unary, p_binary, SpellsMore, p_none, p_more, SpellsUnary, p_sign, p_plain, SpellsPrimary, p_primary, SpellsSuffixes, p_done, p_suffix, SpellsSuffix, p_field, p_applied, SpellsAtom, p_token, p_group, p_sequence, SpellsEnclosed, p_empty, p_parts, SpellsMoreParts, p_over, p_part, SpellsValue, p_value, SpellsElifs, p_no_elif, p_elif, SpellsElse, p_else, SpellsBranches, p_branches, SpellsLabels, p_last_label, p_label, SpellsOfs, p_last_of, p_next_of, SpellsOtherwise, p_no_else, p_with_else, Stops}
-use Rattle.parse_exprs.proofs.Stopping.{none_some, none_of, operator_stops, fewer, comma_stops, label_comma_stops, colon_stops, elif_stops, else_stops, of_stops}
+use Rattle.parse_exprs.specs.Look.{Origin, spelling, place_at, op_levels, single_of, single, sign_named, sign_of, is_at_sign, bracket_of, bracket_at, square_at, is_square, lead_of, lead_at, first_of_at, branch_at, is_else, else_on, branch_goes_on, colon_at}
+use Rattle.parse_exprs.specs.Grammar.{Spells, p_unary, p_binary, SpellsMore, p_none, p_more, SpellsUnary, p_sign, p_plain, SpellsPrimary, p_primary, SpellsSuffixes, p_done, p_suffix, SpellsSuffix, p_field, p_applied, SpellsAtom, p_token, p_group, p_sequence, SpellsEnclosed, p_empty, p_parts, SpellsMoreParts, p_over, p_part, SpellsValue, p_value, p_own_line, SpellsElifs, p_no_elif, p_elif, SpellsElse, p_else, SpellsBranches, p_branches, SpellsLabels, p_last_label, p_label, SpellsOfs, p_last_of, p_next_of, SpellsOtherwise, p_no_else, p_with_else, Stops}
+use Rattle.parse_exprs.proofs.Stopping.{none_some, none_of, both, operator_stops, fewer, comma_stops, label_comma_stops, colon_stops, elif_stops, else_stops, of_stops}
 use Rattle.parse_exprs.proofs.Levels.{most_and, levels_and, applied_levels}
 
 -- ---- no token is two things
@@ -111,7 +111,7 @@ atom_lead {x = x} (p_sequence {tok = tok} h on d) = at_lead tok.kind (spelling x
 
 unary_lead : {x : Origin} {i : Layout} {t : Term} {ts rest : List Token} → SpellsUnary x i t ts rest → lead_at ts ≡ L.Operand
 unary_lead {x = x} (p_sign {op = op} {tok = tok} h on d) = sign_lead op tok.kind (spelling x tok) h
-unary_lead (p_plain (p_primary d c)) = atom_lead d
+unary_lead (p_plain (p_primary d c) h) = atom_lead d
 
 pub spells_lead : {x : Origin} {i : Layout} {l : ℕ} {t : Term} {ts rest : List Token} → Spells x i l t ts rest → lead_at ts ≡ L.Operand
 spells_lead (p_unary d) = unary_lead d
@@ -129,6 +129,15 @@ parts_stop {x = x} {ts = ts} (p_part h d c) s = comma_stops x Brackets op_levels
 
 pub value_stops : {x : Origin} {i : Layout} {v : Term} {ts rest : List Token} → SpellsValue x i v ts rest → Stops x i op_levels ts
 value_stops {x = x} {i = i} {ts = ts} (p_value h on d) = colon_stops x i i op_levels ts h
+value_stops {x = x} {i = i} {ts = ts} (p_own_line h on d c) = colon_stops x i i op_levels ts h
+
+value_colon : {x : Origin} {i : Layout} {v : Term} {ts rest : List Token} → SpellsValue x i v ts rest → colon_at i ts ≡ true
+value_colon (p_value h on d) = h
+value_colon (p_own_line h on d c) = h
+
+-- an `else` before a value has its colon
+pub else_of : {x : Origin} {i : Layout} {v : Term} {ts rest : List Token} (tok : Token) → branch_at i is_else (tok ∷ ts) ≡ true → SpellsValue x i v ts rest → else_on i (tok ∷ ts) ≡ true
+else_of {i = i} {ts = ts} tok h d = both (branch_goes_on i tok.indent && is_else tok.kind) (colon_at i ts) h (value_colon d)
 
 pub else_word : {x : Origin} {i : Layout} {v : Term} {ts rest : List Token} → SpellsElse x i v ts rest → Stops x i op_levels ts
 else_word {x = x} {i = i} {ts = ts} (p_else h d) = else_stops x i i op_levels ts h

@@ -5,9 +5,9 @@ use Rattle.arc_base.specs.declared.place.Place.{Place}
 use Rattle.indent_scanner.specs.declared.token.Token.{Token}
 use Rattle.nim_tree.specs.Terms.{Term, if_term, case_term, case_else, range, Parts, no_parts, part, and_part, Choices, no_choices, choice, and_choice, place_of}
 use Rattle.parse_exprs.specs.declared.layout.Layout.{Layout}
-use Rattle.parse_exprs.specs.Look.{Origin, place_at, stays, branch_at, is_elif, is_else, is_of, first_of_at, branch_layout, colon_at, comma_at, past_colon, dots_at}
+use Rattle.parse_exprs.specs.Look.{Origin, place_at, stays, branch_at, is_elif, is_else, is_of, first_of_at, branch_layout, colon_at, comma_at, past_colon, dots_at, past_start, else_on, deeper_line_at, line_layout, closed_at}
 use Rattle.parse_exprs.specs.Outcome.{deep, stuck, Out, got, bad, then_do, unless_stuck, Settles}
-use Rattle.parse_exprs.specs.Run.{behind, Tail, run_expr, run_if, run_tail, run_value, run_elifs, run_else, run_case, run_branches, run_of, run_labels, run_label, run_ofs, run_otherwise}
+use Rattle.parse_exprs.specs.Run.{behind, Tail, run_expr, run_if, run_tail, run_value, run_own_line, run_elifs, run_else, run_case, run_branches, run_of, run_labels, run_label, run_ofs, run_otherwise}
 use Rattle.parse_exprs.specs.Gives.{Leads}
 use Rattle.parse_exprs.proofs.Settling.{settles_suc, settles_got, settles_then, settles_bad, settles_unless, settles_stuck, settles_if, settles_else}
 use Rattle.parse_exprs.proofs.Coming.{Passes}
@@ -16,17 +16,39 @@ module _ (x : Origin) (i : Layout) where
   -- ---- a colon and a value
   module _ (n : ℕ) (ts : List Token) where
     abbrev value_go : ℕ → Out Term
-    value_go k = unless_stuck (stays i (behind ts)) (behind ts) (run_expr k x i n (behind ts))
+    value_go k = if stays i (behind ts) then run_expr k x i n (behind ts) else run_own_line k x i n (behind ts)
 
     pub value_no_colon : colon_at i ts ≡ false → Settles (λ k. run_value k x i n ts) (bad (stuck ts))
     value_no_colon e = settles_suc (settles_stuck value_go ts e) (λ k. refl)
 
     module _ (e : colon_at i ts ≡ true) where
-      pub value_no_stay : stays i (behind ts) ≡ false → Settles (λ k. run_value k x i n ts) (bad (stuck (behind ts)))
-      value_no_stay s = settles_suc (settles_unless ts e (settles_stuck (λ k. run_expr k x i n (behind ts)) (behind ts) s)) (λ k. refl)
-
       pub value_on : stays i (behind ts) ≡ true → Leads (λ k. run_expr k x i n (behind ts)) (λ k. run_value k x i n ts)
-      value_on s = λ o h. settles_suc (settles_unless ts e (settles_unless (behind ts) s h)) (λ k. refl)
+      value_on s = λ o h. settles_suc (settles_unless ts e (settles_if (λ k. run_own_line k x i n (behind ts)) s h)) (λ k. refl)
+
+      pub value_below : stays i (behind ts) ≡ false → Leads (λ k. run_own_line k x i n (behind ts)) (λ k. run_value k x i n ts)
+      value_below s = λ o h. settles_suc (settles_unless ts e (settles_else (λ k. run_expr k x i n (behind ts)) s h)) (λ k. refl)
+
+  -- ---- a value on lines of its own
+  module _ (n : ℕ) (ts : List Token) where
+    abbrev own_last : Layout → Term → List Token → Out Term
+    own_last j v rest = unless_stuck (closed_at j rest) rest (got v rest)
+
+    pub own_not_deeper : deeper_line_at i ts ≡ false → Settles (λ k. run_own_line k x i n ts) (bad (stuck ts))
+    own_not_deeper e = settles_suc (settles_stuck (λ k. then_do (run_expr k x (line_layout i ts) n ts) (own_last (line_layout i ts))) ts e) (λ k. refl)
+
+    module _ (e : deeper_line_at i ts ≡ true) (j : Layout) (own : line_layout i ts ≡ j) where
+      own_step : (k : ℕ) → run_own_line (suc k) x i n ts ≡ unless_stuck (deeper_line_at i ts) ts (then_do (run_expr k x j n ts) (own_last j))
+      own_step k = ap (λ w. unless_stuck (deeper_line_at i ts) ts (then_do (run_expr k x w n ts) (own_last w))) own
+
+      pub own_bad : Passes (λ k. run_expr k x j n ts) (λ k. run_own_line k x i n ts)
+      own_bad why h = settles_suc (settles_unless ts e (settles_bad (λ k. own_last j) h)) own_step
+
+      module _ (v : Term) (rest : List Token) (h : Settles (λ k. run_expr k x j n ts) (got v rest)) where
+        pub own_open : closed_at j rest ≡ false → Settles (λ k. run_own_line k x i n ts) (bad (stuck rest))
+        own_open c = settles_suc (settles_unless ts e (settles_then (λ k. own_last j) h (settles_stuck (λ k. got v rest) rest c))) own_step
+
+        pub own_got : closed_at j rest ≡ true → Settles (λ k. run_own_line k x i n ts) (got v rest)
+        own_got c = settles_suc (settles_unless ts e (settles_then (λ k. own_last j) h (settles_unless rest c settles_got))) own_step
 
   -- ---- a condition and a value
   module _ (n : ℕ) (ts : List Token) where
@@ -37,18 +59,21 @@ module _ (x : Origin) (i : Layout) where
     tail_next k c mid = then_do (run_value k x i n mid) (tail_last c)
 
     pub tail_no_stay : stays i ts ≡ false → Settles (λ k. run_tail k x i n ts) (bad (stuck ts))
-    tail_no_stay s = settles_suc (settles_stuck (λ k. then_do (run_expr k x i n ts) (tail_next k)) ts s) (λ k. refl)
+    tail_no_stay s = settles_suc (settles_stuck (λ k. then_do (run_expr k x (past_start i) n ts) (tail_next k)) ts s) (λ k. refl)
 
-    module _ (s : stays i ts ≡ true) where
-      pub tail_bad : Passes (λ k. run_expr k x i n ts) (λ k. run_tail k x i n ts)
-      tail_bad why h = settles_suc (settles_unless ts s (settles_bad tail_next h)) (λ k. refl)
+    module _ (s : stays i ts ≡ true) (j : Layout) (past : past_start i ≡ j) where
+      tail_step : (k : ℕ) → run_tail (suc k) x i n ts ≡ unless_stuck (stays i ts) ts (then_do (run_expr k x j n ts) (tail_next k))
+      tail_step k = ap (λ w. unless_stuck (stays i ts) ts (then_do (run_expr k x w n ts) (tail_next k))) past
 
-      module _ (c : Term) (mid : List Token) (g : Settles (λ k. run_expr k x i n ts) (got c mid)) where
+      pub tail_bad : Passes (λ k. run_expr k x j n ts) (λ k. run_tail k x i n ts)
+      tail_bad why h = settles_suc (settles_unless ts s (settles_bad tail_next h)) tail_step
+
+      module _ (c : Term) (mid : List Token) (g : Settles (λ k. run_expr k x j n ts) (got c mid)) where
         pub tail_value_bad : Passes (λ k. run_value k x i n mid) (λ k. run_tail k x i n ts)
-        tail_value_bad why h = settles_suc (settles_unless ts s (settles_then tail_next g (settles_bad (λ k. tail_last c) h))) (λ k. refl)
+        tail_value_bad why h = settles_suc (settles_unless ts s (settles_then tail_next g (settles_bad (λ k. tail_last c) h))) tail_step
 
         pub tail_got : (v : Term) (rest : List Token) → Settles (λ k. run_value k x i n mid) (got v rest) → Settles (λ k. run_tail k x i n ts) (got (record { tests = part c no_parts; value = v }) rest)
-        tail_got v rest h = settles_suc (settles_unless ts s (settles_then tail_next g (settles_then (λ k. tail_last c) h settles_got))) (λ k. refl)
+        tail_got v rest h = settles_suc (settles_unless ts s (settles_then tail_next g (settles_then (λ k. tail_last c) h settles_got))) tail_step
 
   -- ---- `elif`
   pub elifs_end : (n : ℕ) (some : Choices) (ts : List Token) → branch_at i is_elif ts ≡ false → Settles (λ k. run_elifs k x i n some ts) (got some ts)
@@ -71,8 +96,8 @@ module _ (x : Origin) (i : Layout) where
     pub else_stuck : branch_at i is_else ts ≡ false → Settles (λ k. run_else k x i n ts) (bad (stuck ts))
     else_stuck e = settles_suc (settles_stuck (λ k. run_value k x i n (behind ts)) ts e) (λ k. refl)
 
-    pub else_on : branch_at i is_else ts ≡ true → Leads (λ k. run_value k x i n (behind ts)) (λ k. run_else k x i n ts)
-    else_on e = λ o h. settles_suc (settles_unless ts e h) (λ k. refl)
+    pub else_goes : branch_at i is_else ts ≡ true → Leads (λ k. run_value k x i n (behind ts)) (λ k. run_else k x i n ts)
+    else_goes e = λ o h. settles_suc (settles_unless ts e h) (λ k. refl)
 
   -- ---- `if`
   pub if_deep : (m : ℕ) (ts : List Token) → m ≡ 0 → Settles (λ k. run_if k x i m ts) (bad deep)
@@ -162,26 +187,29 @@ module _ (x : Origin) (i : Layout) where
     abbrev of_value : ℕ → Parts → List Token → Out Tail
     of_value k labels end = then_do (run_value k x i n end) (of_last labels)
 
-    abbrev of_next : ℕ → Term → List Token → Out Tail
-    of_next k a mid = then_do (run_labels k x i n (part a no_parts) mid) (of_value k)
+    abbrev of_next : Layout → ℕ → Term → List Token → Out Tail
+    of_next j k a mid = then_do (run_labels k x j n (part a no_parts) mid) (of_value k)
 
     pub of_no_stay : stays i ts ≡ false → Settles (λ k. run_of k x i n ts) (bad (stuck ts))
-    of_no_stay s = settles_suc (settles_stuck (λ k. then_do (run_label k x i n ts) (of_next k)) ts s) (λ k. refl)
+    of_no_stay s = settles_suc (settles_stuck (λ k. then_do (run_label k x (past_start i) n ts) (of_next (past_start i) k)) ts s) (λ k. refl)
 
-    module _ (s : stays i ts ≡ true) where
-      pub of_bad : Passes (λ k. run_label k x i n ts) (λ k. run_of k x i n ts)
-      of_bad why h = settles_suc (settles_unless ts s (settles_bad of_next h)) (λ k. refl)
+    module _ (s : stays i ts ≡ true) (j : Layout) (past : past_start i ≡ j) where
+      of_step : (k : ℕ) → run_of (suc k) x i n ts ≡ unless_stuck (stays i ts) ts (then_do (run_label k x j n ts) (of_next j k))
+      of_step k = ap (λ w. unless_stuck (stays i ts) ts (then_do (run_label k x w n ts) (of_next w k))) past
 
-      module _ (a : Term) (mid : List Token) (g : Settles (λ k. run_label k x i n ts) (got a mid)) where
-        pub of_labels_bad : Passes (λ k. run_labels k x i n (part a no_parts) mid) (λ k. run_of k x i n ts)
-        of_labels_bad why h = settles_suc (settles_unless ts s (settles_then of_next g (settles_bad of_value h))) (λ k. refl)
+      pub of_bad : Passes (λ k. run_label k x j n ts) (λ k. run_of k x i n ts)
+      of_bad why h = settles_suc (settles_unless ts s (settles_bad (of_next j) h)) of_step
 
-        module _ (labels : Parts) (end : List Token) (b : Settles (λ k. run_labels k x i n (part a no_parts) mid) (got labels end)) where
+      module _ (a : Term) (mid : List Token) (g : Settles (λ k. run_label k x j n ts) (got a mid)) where
+        pub of_labels_bad : Passes (λ k. run_labels k x j n (part a no_parts) mid) (λ k. run_of k x i n ts)
+        of_labels_bad why h = settles_suc (settles_unless ts s (settles_then (of_next j) g (settles_bad of_value h))) of_step
+
+        module _ (labels : Parts) (end : List Token) (b : Settles (λ k. run_labels k x j n (part a no_parts) mid) (got labels end)) where
           pub of_value_bad : Passes (λ k. run_value k x i n end) (λ k. run_of k x i n ts)
-          of_value_bad why h = settles_suc (settles_unless ts s (settles_then of_next g (settles_then of_value b (settles_bad (λ k. of_last labels) h)))) (λ k. refl)
+          of_value_bad why h = settles_suc (settles_unless ts s (settles_then (of_next j) g (settles_then of_value b (settles_bad (λ k. of_last labels) h)))) of_step
 
           pub of_got : (v : Term) (rest : List Token) → Settles (λ k. run_value k x i n end) (got v rest) → Settles (λ k. run_of k x i n ts) (got (record { tests = labels; value = v }) rest)
-          of_got v rest h = settles_suc (settles_unless ts s (settles_then of_next g (settles_then of_value b (settles_then (λ k. of_last labels) h settles_got)))) (λ k. refl)
+          of_got v rest h = settles_suc (settles_unless ts s (settles_then (of_next j) g (settles_then of_value b (settles_then (λ k. of_last labels) h settles_got)))) of_step
 
   pub ofs_end : (n : ℕ) (some : Choices) (ts : List Token) → branch_at i is_of ts ≡ false → Settles (λ k. run_ofs k x i n some ts) (got some ts)
   ofs_end n some [] e = settles_suc settles_got (λ k. refl)
@@ -203,10 +231,10 @@ module _ (x : Origin) (i : Layout) where
     abbrev otherwise_last : Term → List Token → Out Term
     otherwise_last e rest = got (case_else at s bs e) rest
 
-    pub otherwise_none : branch_at i is_else ts ≡ false → Settles (λ k. run_otherwise k x i n at s bs ts) (got (case_term at s bs) ts)
+    pub otherwise_none : else_on i ts ≡ false → Settles (λ k. run_otherwise k x i n at s bs ts) (got (case_term at s bs) ts)
     otherwise_none e = settles_suc (settles_else (λ k. then_do (run_value k x i n (behind ts)) otherwise_last) e settles_got) (λ k. refl)
 
-    module _ (e : branch_at i is_else ts ≡ true) where
+    module _ (e : else_on i ts ≡ true) where
       pub otherwise_bad : Passes (λ k. run_value k x i n (behind ts)) (λ k. run_otherwise k x i n at s bs ts)
       otherwise_bad why h = settles_suc (settles_if (λ k. got (case_term at s bs) ts) e (settles_bad (λ k. otherwise_last) h)) (λ k. refl)
 
@@ -253,15 +281,15 @@ module _ (x : Origin) (i : Layout) where
     abbrev case_next : ℕ → Term → List Token → Out Term
     case_next k s mid = run_branches k x i n (place_at x tok) s (past_colon i mid)
 
-    case_step : (k : ℕ) → run_case (suc k) x i m all ≡ unless_stuck (stays i ts) ts (then_do (run_expr k x i n ts) (case_next k))
-    case_step k = ap₂ (λ j us. run_case (suc k) x i j us) (sym same) is
-
     pub case_no_stay : stays i ts ≡ false → Settles (λ k. run_case k x i m all) (bad (stuck ts))
-    case_no_stay s = settles_suc (settles_stuck (λ k. then_do (run_expr k x i n ts) (case_next k)) ts s) case_step
+    case_no_stay s = settles_suc (settles_stuck (λ k. then_do (run_expr k x (past_start i) n ts) (case_next k)) ts s) (λ k. ap₂ (λ j us. run_case (suc k) x i j us) (sym same) is)
 
-    module _ (s : stays i ts ≡ true) where
-      pub case_bad : Passes (λ k. run_expr k x i n ts) (λ k. run_case k x i m all)
+    module _ (s : stays i ts ≡ true) (j : Layout) (past : past_start i ≡ j) where
+      case_step : (k : ℕ) → run_case (suc k) x i m all ≡ unless_stuck (stays i ts) ts (then_do (run_expr k x j n ts) (case_next k))
+      case_step k = ap₂ (λ w us. run_case (suc k) x i w us) (sym same) is ∙ ap (λ w. unless_stuck (stays i ts) ts (then_do (run_expr k x w n ts) (case_next k))) past
+
+      pub case_bad : Passes (λ k. run_expr k x j n ts) (λ k. run_case k x i m all)
       case_bad why h = settles_suc (settles_unless ts s (settles_bad case_next h)) case_step
 
-      pub case_on : (a : Term) (mid : List Token) → Settles (λ k. run_expr k x i n ts) (got a mid) → Leads (λ k. run_branches k x i n (place_at x tok) a (past_colon i mid)) (λ k. run_case k x i m all)
+      pub case_on : (a : Term) (mid : List Token) → Settles (λ k. run_expr k x j n ts) (got a mid) → Leads (λ k. run_branches k x i n (place_at x tok) a (past_colon i mid)) (λ k. run_case k x i m all)
       case_on a mid g = λ o h. settles_suc (settles_unless ts s (settles_then case_next g h)) case_step

@@ -13,14 +13,14 @@ use Rattle.parse_exprs.specs.declared.layout.Layout.TheVariants.{Brackets}
 use Rattle.parse_exprs.specs.declared.input.Bracket.{Bracket}
 use Rattle.parse_exprs.specs.declared.input.Lead.{Lead}
 use Rattle.parse_exprs.specs.declared.input.Lead.TheVariants as L
-use Rattle.parse_exprs.specs.Look.{Origin, spelling, place_at, goes_on, op_at, op_levels, single, grouped, applied, sign_of, is_punct, bracket_at, name_on, suffix_at, lead_at, branch_at, is_elif, is_of, is_name}
-use Rattle.parse_exprs.specs.Outcome.{Out, got, bad, deep, then_do, Settles}
-use Rattle.parse_exprs.specs.Run.{made, run_field, run_expr, run_lead, run_level, run_chain, run_more, run_unary, run_signed, run_primary, run_suffixes, run_applied, run_atom, run_group, run_enclosed, run_list, run_parts, run_part, run_tail, run_value, run_elifs, run_else, run_branches, run_of, run_labels, run_label, run_ofs, run_otherwise}
-use Rattle.parse_exprs.specs.Grammar.{SpellsExpr, p_operators, p_if, p_case, Spells, p_unary, p_binary, SpellsMore, p_none, p_more, SpellsUnary, p_sign, p_plain, SpellsPrimary, p_primary, SpellsSuffixes, p_done, p_suffix, SpellsSuffix, p_field, p_applied, SpellsAtom, p_token, p_group, p_sequence, SpellsEnclosed, p_empty, p_parts, SpellsParts, p_first, SpellsMoreParts, p_over, p_part, SpellsPart, p_unnamed, p_named, SpellsTail, p_tail, SpellsValue, p_value, SpellsElifs, p_no_elif, p_elif, SpellsElse, p_else, SpellsBranches, p_branches, SpellsOf, p_of, SpellsLabels, p_last_label, p_label, SpellsLabel, p_one, p_range, SpellsOfs, p_last_of, p_next_of, SpellsOtherwise, p_no_else, p_with_else, Stops}
+use Rattle.parse_exprs.specs.Look.{Origin, spelling, place_at, goes_on, op_at, op_levels, single, grouped, applied, sign_of, is_punct, bracket_at, name_on, suffix_at, lead_at, branch_at, is_elif, is_of, is_name, at_start, past_start, no_command_on, colon_at, deeper_line_at, line_layout, closed_at}
+use Rattle.parse_exprs.specs.Outcome.{Out, got, bad, deep, then_do, unless_stuck, Settles}
+use Rattle.parse_exprs.specs.Run.{made, run_field, run_expr, run_lead, run_level, run_chain, run_more, run_unary, run_signed, run_primary, run_suffixes, run_applied, run_atom, run_group, run_enclosed, run_list, run_parts, run_part, run_tail, run_value, run_own_line, run_elifs, run_else, run_branches, run_of, run_labels, run_label, run_ofs, run_otherwise}
+use Rattle.parse_exprs.specs.Grammar.{SpellsExpr, p_operators, p_if, p_case, Spells, p_unary, p_binary, SpellsMore, p_none, p_more, SpellsUnary, p_sign, p_plain, SpellsPrimary, p_primary, SpellsSuffixes, p_done, p_suffix, SpellsSuffix, p_field, p_applied, SpellsAtom, p_token, p_group, p_sequence, SpellsEnclosed, p_empty, p_parts, SpellsParts, p_first, SpellsMoreParts, p_over, p_part, SpellsPart, p_unnamed, p_named, SpellsTail, p_tail, SpellsValue, p_value, p_own_line, SpellsElifs, p_no_elif, p_elif, SpellsElse, p_else, SpellsBranches, p_branches, SpellsOf, p_of, SpellsLabels, p_last_label, p_label, SpellsLabel, p_one, p_range, SpellsOfs, p_last_of, p_next_of, SpellsOtherwise, p_no_else, p_with_else, Stops}
 use Rattle.parse_exprs.proofs.Settling.{settles_suc, settles_got, settles_is, settles_then, settles_unless, settles_if, settles_else}
-use Rattle.parse_exprs.proofs.Stopping.{subject_stops, closing_stops, dots_stops, stops_branch}
+use Rattle.parse_exprs.proofs.Stopping.{subject_stops, closing_stops, dots_stops, stops_branch, start_stops, stops_start, stops_line, suffix_start, suffix_stays, deeper_stays}
 use Rattle.parse_exprs.proofs.Levels.{some_level, most_and, levels_and, grouped_levels, applied_levels}
-use Rattle.parse_exprs.proofs.Beginning.{group_alone, at_alone, at_bracket, point_bracket, enclosed_bracket, square_of, IsUnsigned, primary_unsigned, spells_lead, more_stops, parts_stop, value_stops, else_word, elifs_stop, ofs_stop, otherwise_stops, labels_stop, branches_word, more_grows, suffix_grows, suffixes_grow, parts_grow, labels_grow, elifs_grow, ofs_grow, otherwise_levels, branches_levels}
+use Rattle.parse_exprs.proofs.Beginning.{group_alone, at_alone, at_bracket, point_bracket, enclosed_bracket, square_of, IsUnsigned, primary_unsigned, spells_lead, more_stops, parts_stop, value_stops, else_word, elifs_stop, ofs_stop, otherwise_stops, labels_stop, branches_word, more_grows, suffix_grows, suffixes_grow, parts_grow, labels_grow, elifs_grow, ofs_grow, otherwise_levels, branches_levels, else_of}
 
 -- ---- where the first test has that outcome
 
@@ -35,7 +35,12 @@ pub by_sign : {o : Out Term} (x : Origin) (i : Layout) (n : ℕ) (tok : Token) (
     → Settles (λ k. run_unary k x i (suc n) (tok ∷ ts)) o
 by_sign x i n tok ts op is h = settles_suc h (λ k. ap (λ w. run_signed k w x i n tok ts) is)
 
-pub by_primary : {o : Out Term} (x : Origin) (i : Layout) (n : ℕ) (ts : List Token) → IsUnsigned x ts → Settles (λ k. run_primary k x i false (suc n) ts) o → Settles (λ k. run_unary k x i (suc n) ts) o
+-- what was read begins no command
+abbrev pub unsigned_last : Origin → Layout → Term → List Token → Out Term
+unsigned_last x i a rest = unless_stuck (no_command_on x i rest) rest (got a rest)
+
+pub by_primary : {o : Out Term} (x : Origin) (i : Layout) (n : ℕ) (ts : List Token) → IsUnsigned x ts
+    → Settles (λ k. then_do (run_primary k x i (at_start i) (suc n) ts) (unsigned_last x i)) o → Settles (λ k. run_unary k x i (suc n) ts) o
 by_primary x i n [] unsigned h = absurd unsigned
 by_primary x i n (tok ∷ ts) unsigned h = by_sign x i n tok ts None unsigned (settles_suc h (λ k. refl))
 
@@ -81,15 +86,16 @@ mutual
   complete_expr {x = x} {i = i} {ts = tok ∷ ts} (p_case {mid = mid} is on d b) s (suc n) few =
       let g = branches_levels b in
       by_lead x i (suc n) (tok ∷ ts) L.Case is (settles_suc (settles_suc (settles_unless ts on
-      (settles_then _ (complete_expr d (subject_stops x i i op_levels mid (branches_word b)) n (omega (arith, g, few)))
+      (settles_then _ (complete_expr d (subject_stops x i (past_start i) op_levels mid (branches_word b)) n (omega (arith, g, few)))
       (complete_branches b s n few))) (λ k. refl)) (λ k. refl))
 
   -- ---- operators
 
   pub complete_level : {x : Origin} {i : Layout} {l : ℕ} {t : Term} {ts rest : List Token} → Spells x i l t ts rest → Stops x i l rest → (n : ℕ) → levels t ≤ n → Settles (λ k. run_level k x i l n ts) (got t rest)
   complete_level (p_unary d) s n few = settles_suc (complete_unary d s.suffix n few) (λ k. refl)
-  complete_level (p_binary d c) s n few =
-      let g = more_grows c in settles_suc (settles_then _ (complete_level d (more_stops c s) n (omega (arith, g, few))) (complete_chain c s n few)) (λ k. refl)
+  complete_level {x = x} {i = i} {l = suc l} {rest = rest} (p_binary {mid = mid} d c) s n few =
+      let g = more_grows c in let t = stops_start x i (suc l) rest s in
+      settles_suc (settles_then _ (complete_level d (start_stops x i l mid (more_stops c t)) n (omega (arith, g, few))) (complete_chain c t n few)) (λ k. refl)
 
   complete_chain : {x : Origin} {i : Layout} {l : ℕ} {a t : Term} {ts rest : List Token} → SpellsMore x i l a t ts rest → Stops x i (suc l) rest → (n : ℕ) → levels t ≤ n
       → Settles (λ k. run_chain k x i l n a ts) (got t rest)
@@ -102,10 +108,12 @@ mutual
 
   complete_unary : {x : Origin} {i : Layout} {t : Term} {ts rest : List Token} → SpellsUnary x i t ts rest → suffix_at i false rest ≡ false → (n : ℕ) → levels t ≤ n → Settles (λ k. run_unary k x i n ts) (got t rest)
   complete_unary {t = t} (p_sign h on d) s zero few = none_left t few
-  complete_unary {x = x} {i = i} (p_sign {op = op} {tok = tok} {ts = ts} h on d) s (suc n) few =
-      by_sign x i n tok ts (Some op) h (settles_suc (settles_unless ts on (settles_then _ (complete_unary d s n (omega (arith, few))) settles_got)) (λ k. refl))
-  complete_unary {t = t} (p_plain d) s zero few = none_left t few
-  complete_unary {x = x} {i = i} {ts = ts} (p_plain d) s (suc n) few = by_primary x i n ts (primary_unsigned d) (complete_primary d s n few)
+  complete_unary {x = x} {i = i} (p_sign {op = op} {tok = tok} {ts = ts} {rest = rest} h on d) s (suc n) few =
+      by_sign x i n tok ts (Some op) h
+      (settles_suc (settles_unless ts on (settles_then _ (complete_unary d (suffix_start i rest s) n (omega (arith, few))) settles_got)) (λ k. refl))
+  complete_unary {t = t} (p_plain d h) s zero few = none_left t few
+  complete_unary {x = x} {i = i} {ts = ts} {rest = rest} (p_plain d h) s (suc n) few =
+      by_primary x i n ts (primary_unsigned d) (settles_then _ (complete_primary d (suffix_stays i (at_start i) rest s) n few) (settles_unless rest h settles_got))
 
   -- ---- what stands behind an atom
 
@@ -172,11 +180,14 @@ mutual
 
   pub complete_tail : {x : Origin} {i : Layout} {tests : Parts} {v : Term} {ts rest : List Token} → SpellsTail x i tests v ts rest → Stops x i op_levels rest → (n : ℕ) → max (most_levels tests) (levels v) ≤ n
       → Settles (λ k. run_tail k x i n ts) (got (record { tests = tests; value = v }) rest)
-  complete_tail {ts = ts} (p_tail on d c) s n few =
-      settles_suc (settles_unless ts on (settles_then _ (complete_expr d (value_stops c) n (omega (arith, few))) (settles_then _ (complete_value c s n (omega (arith, few))) settles_got))) (λ k. refl)
+  complete_tail {x = x} {i = i} {ts = ts} (p_tail {mid = mid} on d c) s n few =
+      settles_suc (settles_unless ts on (settles_then _ (complete_expr d (stops_start x i op_levels mid (value_stops c)) n (omega (arith, few))) (settles_then _ (complete_value c s n (omega (arith, few))) settles_got))) (λ k. refl)
 
   pub complete_value : {x : Origin} {i : Layout} {v : Term} {ts rest : List Token} → SpellsValue x i v ts rest → Stops x i op_levels rest → (n : ℕ) → levels v ≤ n → Settles (λ k. run_value k x i n ts) (got v rest)
-  complete_value (p_value {tok = tok} {ts = ts} h on d) s n few = settles_suc (settles_unless (tok ∷ ts) h (settles_unless ts on (complete_expr d s n few))) (λ k. refl)
+  complete_value (p_value {tok = tok} {ts = ts} h on d) s n few = settles_suc (settles_unless (tok ∷ ts) h (settles_if _ on (complete_expr d s n few))) (λ k. refl)
+  complete_value {x = x} {i = i} (p_own_line {tok = tok} {ts = ts} {rest = rest} h on d c) s n few =
+      settles_suc (settles_unless (tok ∷ ts) h (settles_else _ (deeper_stays i ts on)
+      (settles_suc (settles_unless ts on (settles_then _ (complete_expr d (stops_line x i ts op_levels rest s) n few) (settles_unless rest c settles_got))) (λ k. refl)))) (λ k. refl)
 
   pub complete_elifs : {x : Origin} {i : Layout} {some all : Choices} {ts rest : List Token} → SpellsElifs x i some all ts rest → Stops x i op_levels rest → (n : ℕ) → levels_in all ≤ n
       → Settles (λ k. run_elifs k x i n some ts) (got all rest)
@@ -200,10 +211,10 @@ mutual
 
   pub complete_of : {x : Origin} {i : Layout} {tests : Parts} {v : Term} {ts rest : List Token} → SpellsOf x i tests v ts rest → Stops x i op_levels rest → (n : ℕ) → max (most_levels tests) (levels v) ≤ n
       → Settles (λ k. run_of k x i n ts) (got (record { tests = tests; value = v }) rest)
-  complete_of {ts = ts} (p_of on d c v) s n few =
-      let g = labels_grow c in
-      settles_suc (settles_unless ts on (settles_then _ (complete_label d (labels_stop c (value_stops v)) n (omega (arith, g, few)))
-      (settles_then _ (complete_labels c (value_stops v) n (omega (arith, few))) (settles_then _ (complete_value v s n (omega (arith, few))) settles_got)))) (λ k. refl)
+  complete_of {x = x} {i = i} {ts = ts} (p_of {end = end} on d c v) s n few =
+      let g = labels_grow c in let t = stops_start x i op_levels end (value_stops v) in
+      settles_suc (settles_unless ts on (settles_then _ (complete_label d (labels_stop c t) n (omega (arith, g, few)))
+      (settles_then _ (complete_labels c t n (omega (arith, few))) (settles_then _ (complete_value v s n (omega (arith, few))) settles_got)))) (λ k. refl)
 
   pub complete_labels : {x : Origin} {i : Layout} {some all : Parts} {ts rest : List Token} → SpellsLabels x i some all ts rest → Stops x i op_levels rest → (n : ℕ) → most_levels all ≤ n
       → Settles (λ k. run_labels k x i n some ts) (got all rest)
@@ -228,4 +239,4 @@ mutual
   complete_otherwise : {x : Origin} {i : Layout} {at : Place} {s t : Term} {all : Choices} {ts rest : List Token} → SpellsOtherwise x i at s all t ts rest → Stops x i op_levels rest → (n : ℕ) → levels t ≤ suc n
       → Settles (λ k. run_otherwise k x i n at s all ts) (got t rest)
   complete_otherwise (p_no_else h) stops n few = settles_suc (settles_else _ h settles_got) (λ k. refl)
-  complete_otherwise (p_with_else h d) stops n few = settles_suc (settles_if _ h (settles_then _ (complete_value d stops n (omega (arith, few))) settles_got)) (λ k. refl)
+  complete_otherwise (p_with_else {tok = tok} h d) stops n few = settles_suc (settles_if _ (else_of tok h d) (settles_then _ (complete_value d stops n (omega (arith, few))) settles_got)) (λ k. refl)

@@ -11,11 +11,12 @@ use Rattle.parse_exprs.specs.declared.input.Bracket.TheVariants.{Round}
 use Rattle.parse_exprs.specs.declared.input.Lead.TheVariants as L
 use Rattle.parse_exprs.specs.Look.{Origin, place_at, grouped, bracket_at, closes_at, names_in}
 use Rattle.parse_exprs.specs.Outcome.{Out, got, bad, deep, stuck, unless_stuck, Settles}
-use Rattle.parse_exprs.specs.Run.{behind, run_field, run_expr, run_level, run_chain, run_unary, run_primary, run_suffixes, run_applied, run_atom, run_enclosed, run_list, run_parts, run_part, run_if, run_tail, run_value, run_elifs, run_else, run_case, run_branches, run_of, run_labels, run_label, run_ofs, made}
-use Rattle.parse_exprs.specs.Faults.{Fault, too_deep, stuck_at, FaultsExpr, f_operators, f_no_if, f_if, f_no_case, f_case, Faults, f_tight, f_operand, f_more, FaultsMore, f_operator, f_next, f_beyond, FaultsUnary, f_no_level, f_no_operand, f_nothing, f_sign_line, f_sign, f_plain, FaultsPrimary, f_atom, f_behind, FaultsSuffixes, f_full, f_suffix, f_further, FaultsSuffix, f_field, f_applied, FaultsAtom, f_no_atom, f_other, f_no_square, f_not_square, f_sequence, f_empty, f_group, FaultsEnclosed, f_list, f_no_end, FaultsListed, f_part, f_parts, FaultsParts, f_next_part, f_later_part, FaultsPart, f_unnamed, f_no_name, f_name_alone, f_named, FaultsIf, f_tail, f_elifs, f_else, FaultsTail, f_tail_line, f_condition, f_tail_value, FaultsValue, f_no_colon, f_value_line, f_value, FaultsElifs, f_elif, f_next_elif, FaultsElse, f_no_else, f_else_value, FaultsCase, f_case_line, f_subject, f_branches, FaultsBranches, f_no_of, f_first_of, f_ofs, f_otherwise, FaultsOf, f_of_line, f_label, f_labels, f_of_value, FaultsLabels, f_next_label, f_later_label, FaultsLabel, f_one, f_range_line, f_range, FaultsOfs, f_of, f_next_of}
+use Rattle.parse_exprs.specs.Run.{behind, run_field, run_expr, run_level, run_chain, run_unary, run_primary, run_suffixes, run_applied, run_atom, run_enclosed, run_list, run_parts, run_part, run_if, run_tail, run_value, run_own_line, run_elifs, run_else, run_case, run_branches, run_of, run_labels, run_label, run_ofs, made}
+use Rattle.parse_exprs.specs.Faults.{Fault, too_deep, stuck_at, FaultsExpr, f_operators, f_no_if, f_if, f_no_case, f_case, Faults, f_tight, f_operand, f_more, FaultsMore, f_operator, f_next, f_beyond, FaultsUnary, f_no_level, f_no_operand, f_nothing, f_sign_line, f_sign, f_plain, f_command, FaultsPrimary, f_atom, f_behind, FaultsSuffixes, f_full, f_suffix, f_further, FaultsSuffix, f_field, f_applied, FaultsAtom, f_no_atom, f_other, f_no_square, f_not_square, f_sequence, f_empty, f_group, FaultsEnclosed, f_list, f_no_end, FaultsListed, f_part, f_parts, FaultsParts, f_next_part, f_later_part, FaultsPart, f_unnamed, f_no_name, f_name_alone, f_named, FaultsIf, f_tail, f_elifs, f_else, FaultsTail, f_tail_line, f_condition, f_tail_value, FaultsValue, f_no_colon, f_value_line, f_value, f_own_line, f_not_closed, FaultsElifs, f_elif, f_next_elif, FaultsElse, f_no_else, f_else_value, FaultsCase, f_case_line, f_subject, f_branches, FaultsBranches, f_no_of, f_first_of, f_ofs, f_otherwise, FaultsOf, f_of_line, f_label, f_labels, f_of_value, FaultsLabels, f_next_label, f_later_label, FaultsLabel, f_one, f_range_line, f_range, FaultsOfs, f_of, f_next_of}
 use Rattle.parse_exprs.proofs.Settling.{settles_suc, settles_got, settles_is, settles_then, settles_bad, settles_unless, settles_stuck, settles_if, settles_else}
 use Rattle.parse_exprs.proofs.Beginning.{group_alone, at_alone, at_bracket}
-use Rattle.parse_exprs.proofs.Complete.{by_lead, by_op, by_sign, by_bracket, by_atom, complete_expr, complete_level, complete_atom, complete_suffix, complete_part, complete_parts, complete_tail, complete_elifs, complete_of, complete_ofs, complete_label, complete_labels}
+use Rattle.parse_exprs.proofs.Stopping.{deeper_stays}
+use Rattle.parse_exprs.proofs.Complete.{by_lead, by_op, by_sign, by_bracket, by_atom, complete_expr, complete_level, complete_primary, complete_atom, complete_suffix, complete_part, complete_parts, complete_tail, complete_elifs, complete_of, complete_ofs, complete_label, complete_labels}
 use Rattle.parse_exprs.proofs.FaultsSound.{why_of}
 
 deep_here : {X : Type 0} {f : ℕ → Out X} {why : Fault} → why ≡ too_deep → Settles f (bad deep) → Settles f (bad (why_of why))
@@ -65,7 +66,9 @@ mutual
   fails_unary (f_nothing w) = stuck_here w (settles_suc settles_got (λ k. refl))
   fails_unary {x = x} {i = i} (f_sign_line {n = n} {op = op} {tok = tok} {ts = ts} h on w) = by_sign x i n tok ts (Some op) h (settles_suc (test_here _ ts on w) (λ k. refl))
   fails_unary {x = x} {i = i} (f_sign {n = n} {op = op} {tok = tok} {ts = ts} h on d) = by_sign x i n tok ts (Some op) h (settles_suc (settles_unless ts on (settles_bad _ (fails_unary d))) (λ k. refl))
-  fails_unary {x = x} {i = i} (f_plain {n = n} {tok = tok} {ts = ts} h d) = by_sign x i n tok ts None h (settles_suc (fails_primary d) (λ k. refl))
+  fails_unary {x = x} {i = i} (f_plain {n = n} {tok = tok} {ts = ts} h d) = by_sign x i n tok ts None h (settles_suc (settles_bad _ (fails_primary d)) (λ k. refl))
+  fails_unary {x = x} {i = i} (f_command {n = n} {tok = tok} {ts = ts} {mid = mid} h d few s apart w) =
+      by_sign x i n tok ts None h (settles_suc (settles_then _ (complete_primary d s n few) (test_here _ mid apart w)) (λ k. refl))
 
   -- ---- what stands behind an atom
 
@@ -138,8 +141,14 @@ mutual
 
   fails_value : {x : Origin} {why : Fault} {i : Layout} {n : ℕ} {ts : List Token} → FaultsValue x why i n ts → Settles (λ k. run_value k x i n ts) (bad (why_of why))
   fails_value {ts = ts} (f_no_colon h w) = settles_suc (test_here _ ts h w) (λ k. refl)
-  fails_value (f_value_line {tok = tok} {ts = ts} h on w) = settles_suc (settles_unless (tok ∷ ts) h (test_here _ ts on w)) (λ k. refl)
-  fails_value (f_value {tok = tok} {ts = ts} h on d) = settles_suc (settles_unless (tok ∷ ts) h (settles_unless ts on (fails_expr d))) (λ k. refl)
+  fails_value (f_value_line {tok = tok} {ts = ts} h on level w) =
+      settles_suc (settles_unless (tok ∷ ts) h (settles_else _ on (settles_suc (test_here _ ts level w) (λ k. refl)))) (λ k. refl)
+  fails_value (f_value {tok = tok} {ts = ts} h on d) = settles_suc (settles_unless (tok ∷ ts) h (settles_if _ on (fails_expr d))) (λ k. refl)
+  fails_value {i = i} (f_own_line {tok = tok} {ts = ts} h on d) =
+      settles_suc (settles_unless (tok ∷ ts) h (settles_else _ (deeper_stays i ts on) (settles_suc (settles_unless ts on (settles_bad _ (fails_expr d))) (λ k. refl)))) (λ k. refl)
+  fails_value {i = i} {n = n} (f_not_closed {tok = tok} {ts = ts} {rest = rest} h on d c w) =
+      settles_suc (settles_unless (tok ∷ ts) h (settles_else _ (deeper_stays i ts on)
+      (settles_suc (settles_unless ts on (settles_then _ (complete_expr d.spells d.stops n d.few) (test_here _ rest c w))) (λ k. refl)))) (λ k. refl)
 
   fails_elifs : {x : Origin} {why : Fault} {i : Layout} {n : ℕ} {ts : List Token} (some : Choices) → FaultsElifs x why i n ts → Settles (λ k. run_elifs k x i n some ts) (bad (why_of why))
   fails_elifs some (f_elif h d) = settles_suc (settles_if _ h (settles_bad _ (fails_tail d))) (λ k. refl)

@@ -14,14 +14,14 @@ use Rattle.parse_exprs.specs.declared.input.Bracket.{Bracket}
 use Rattle.parse_exprs.specs.declared.input.Bracket.TheVariants.{Round, Square}
 use Rattle.parse_exprs.specs.declared.input.Lead.{Lead}
 use Rattle.parse_exprs.specs.declared.input.Lead.TheVariants as L
-use Rattle.parse_exprs.specs.Look.{Origin, spelling, place_at, op_at, op_levels, single, grouped, object, as_name, applied, sign_of, is_at_sign, is_name, is_punct, kind_at, name_on, named_part_at, bracket_at, square_at, closes_at, names_in, names_behind, suffix_at, stays, operand_at, lead_at, branch_at, is_elif, is_else, is_of, first_of_at, branch_layout, colon_at, comma_at, past_colon, dots_at}
+use Rattle.parse_exprs.specs.Look.{Origin, spelling, place_at, op_at, op_levels, single, grouped, object, as_name, applied, sign_of, is_at_sign, is_name, is_punct, kind_at, name_on, named_part_at, bracket_at, square_at, closes_at, names_in, names_behind, suffix_at, stays, operand_at, lead_at, branch_at, is_elif, is_else, is_of, first_of_at, branch_layout, colon_at, comma_at, past_colon, dots_at, at_start, past_start, no_command_on, else_on, deeper_line_at, line_layout, closed_at}
 use Rattle.parse_exprs.specs.Outcome.{Why, deep, stuck, tired, Out, got, bad, then_do, unless_stuck}
-use Rattle.parse_exprs.specs.Run.{behind, made, run_field, run_expr, run_lead, run_level, run_chain, run_more, run_unary, run_signed, run_primary, run_suffixes, run_suffix, run_applied, run_atom, run_group, run_enclosed, run_list, run_parts, run_part, run_if, run_tail, run_value, run_elifs, run_else, run_case, run_branches, run_of, run_labels, run_label, run_ofs, run_otherwise}
+use Rattle.parse_exprs.specs.Run.{behind, made, run_field, run_expr, run_lead, run_level, run_chain, run_more, run_unary, run_signed, run_primary, run_suffixes, run_suffix, run_applied, run_atom, run_group, run_enclosed, run_list, run_parts, run_part, run_if, run_tail, run_value, run_own_line, run_elifs, run_else, run_case, run_branches, run_of, run_labels, run_label, run_ofs, run_otherwise}
 use Rattle.parse_exprs.specs.Grammar.{SpellsExpr, SpellsOf, SpellsOfs, SpellsEnclosed, p_empty, p_parts, SpellsParts, p_first, SpellsMoreParts, p_over, p_part}
-use Rattle.parse_exprs.specs.Faults.{Done, Fault, too_deep, stuck_at, FaultsExpr, f_operators, f_no_if, f_if, f_no_case, f_case, Faults, f_tight, f_operand, f_more, FaultsMore, f_operator, f_next, f_beyond, FaultsUnary, f_no_level, f_no_operand, f_nothing, f_sign_line, f_sign, f_plain, FaultsPrimary, f_atom, f_behind, FaultsSuffixes, f_full, f_suffix, f_further, f_field, f_applied, FaultsAtom, f_no_atom, f_other, f_no_square, f_not_square, f_sequence, f_empty, f_group, FaultsEnclosed, f_list, f_no_end, FaultsListed, f_part, f_parts, FaultsParts, f_next_part, f_later_part, FaultsPart, f_unnamed, f_no_name, f_name_alone, f_named, f_tail, f_elifs, f_else, FaultsTail, f_tail_line, f_condition, f_tail_value, FaultsValue, f_no_colon, f_value_line, f_value, FaultsElifs, f_elif, f_next_elif, FaultsElse, f_no_else, f_else_value, f_case_line, f_subject, f_branches, FaultsBranches, f_no_of, f_first_of, f_ofs, f_otherwise, FaultsOf, f_of_line, f_label, f_labels, f_of_value, FaultsLabels, f_next_label, f_later_label, FaultsLabel, f_one, f_range_line, f_range, FaultsOfs, f_of, f_next_of}
+use Rattle.parse_exprs.specs.Faults.{Done, Fault, too_deep, stuck_at, FaultsExpr, f_operators, f_no_if, f_if, f_no_case, f_case, Faults, f_tight, f_operand, f_more, FaultsMore, f_operator, f_next, f_beyond, FaultsUnary, f_no_level, f_no_operand, f_nothing, f_sign_line, f_sign, f_plain, f_command, FaultsPrimary, f_atom, f_behind, FaultsSuffixes, f_full, f_suffix, f_further, f_field, f_applied, FaultsAtom, f_no_atom, f_other, f_no_square, f_not_square, f_sequence, f_empty, f_group, FaultsEnclosed, f_list, f_no_end, FaultsListed, f_part, f_parts, FaultsParts, f_next_part, f_later_part, FaultsPart, f_unnamed, f_no_name, f_name_alone, f_named, f_tail, f_elifs, f_else, FaultsTail, f_tail_line, f_condition, f_tail_value, FaultsValue, f_no_colon, f_value_line, f_value, f_own_line, f_not_closed, FaultsElifs, f_elif, f_next_elif, FaultsElse, f_no_else, f_else_value, f_case_line, f_subject, f_branches, FaultsBranches, f_no_of, f_first_of, f_ofs, f_otherwise, FaultsOf, f_of_line, f_label, f_labels, f_of_value, FaultsLabels, f_next_label, f_later_label, FaultsLabel, f_one, f_range_line, f_range, FaultsOfs, f_of, f_next_of}
 use Rattle.parse_exprs.proofs.Settling.{then_bad, unless_bad, got_bad, if_split}
 use Rattle.parse_exprs.proofs.Stopping.{both_of, punct_is, false_true}
-use Rattle.parse_exprs.proofs.Sound.{sound_expr, sound_level, sound_atom, sound_applied, sound_enclosed, sound_list, sound_part, sound_tail, sound_elifs, sound_of, sound_ofs, sound_label, sound_labels}
+use Rattle.parse_exprs.proofs.Sound.{sound_expr, sound_level, sound_primary, sound_atom, sound_applied, sound_enclosed, sound_list, sound_part, sound_tail, sound_elifs, sound_of, sound_ofs, sound_label, sound_labels}
 
 -- the reason, as a computation says it
 abbrev pub why_of : Fault → Why
@@ -153,9 +153,9 @@ mutual
   faults_level why zero x i l n ts e = not_tired why e
   faults_level why (suc k) x i zero n ts e = f_tight (faults_unary why k x i n ts e)
   faults_level why (suc k) x i (suc l) n ts e =
-      elim (then_bad (run_level k x i l n ts) (λ a mid. run_chain k x i l n a mid) e) as (λ w. Faults x why i (suc l) n ts) [
+      elim (then_bad (run_level k x i l n ts) (λ a mid. run_chain k x (past_start i) l n a mid) e) as (λ w. Faults x why i (suc l) n ts) [
         | inl h ↦ f_operand (faults_level why k x i l n ts h)
-        | inr f ↦ f_more (sound_level k x i l n ts f.first) (faults_chain why k x i l n f.value f.mid f.next)
+        | inr f ↦ f_more (sound_level k x i l n ts f.first) (faults_chain why k x (past_start i) l n f.value f.mid f.next)
       ]
 
   faults_chain : (why : Fault) (k : ℕ) (x : Origin) (i : Layout) (l n : ℕ) (a : Term) (ts : List Token) → run_chain k x i l n a ts ≡ bad (why_of why) → FaultsMore x why i l n a ts
@@ -186,11 +186,18 @@ mutual
   faults_signed : (why : Fault) (k : ℕ) (op : Option UnaryOp) (x : Origin) (i : Layout) (n : ℕ) (tok : Token) (ts : List Token) → sign_of tok.kind (spelling x tok) ≡ op
       → run_signed k op x i n tok ts ≡ bad (why_of why) → FaultsUnary x why i (suc n) (tok ∷ ts)
   faults_signed why zero op x i n tok ts is e = not_tired why e
-  faults_signed why (suc k) None x i n tok ts is e = f_plain is (faults_primary why k x i false n (tok ∷ ts) e)
+  faults_signed why (suc k) None x i n tok ts is e =
+      elim (then_bad (run_primary k x i (at_start i) (suc n) (tok ∷ ts)) _ e) as (λ w. FaultsUnary x why i (suc n) (tok ∷ ts)) [
+        | inl h ↦ f_plain is (faults_primary why k x i (at_start i) n (tok ∷ ts) h)
+        | inr f ↦ elim (unless_bad (no_command_on x i f.mid) f.mid _ f.next) as (λ w. FaultsUnary x why i (suc n) (tok ∷ ts)) [
+          | inl s ↦ (let d = sound_primary k x i (at_start i) n (tok ∷ ts) f.first in f_command is d.spells d.few d.stops s.not (stuck_is why s.at))
+          | inr g ↦ got_bad g.same
+        ]
+      ]
   faults_signed why (suc k) (Some op) x i n tok ts is e =
       elim (unless_bad (stays i ts) ts _ e) as (λ w. FaultsUnary x why i (suc n) (tok ∷ ts)) [
         | inl s ↦ f_sign_line is s.not (stuck_is why s.at)
-        | inr g ↦ elim (then_bad (run_unary k x i n ts) _ g.same) as (λ w. FaultsUnary x why i (suc n) (tok ∷ ts)) [ inl h ↦ f_sign is g.is (faults_unary why k x i n ts h) | inr f ↦ got_bad f.next ]
+        | inr g ↦ elim (then_bad (run_unary k x (past_start i) n ts) _ g.same) as (λ w. FaultsUnary x why i (suc n) (tok ∷ ts)) [ inl h ↦ f_sign is g.is (faults_unary why k x (past_start i) n ts h) | inr f ↦ got_bad f.next ]
       ]
 
   -- ---- what stands behind an atom
@@ -353,10 +360,10 @@ mutual
   faults_tail why (suc k) x i n ts e =
       elim (unless_bad (stays i ts) ts _ e) as (λ w. FaultsTail x why i n ts) [
         | inl s ↦ f_tail_line s.not (stuck_is why s.at)
-        | inr on ↦ elim (then_bad (run_expr k x i n ts) _ on.same) as (λ w. FaultsTail x why i n ts) [
-          | inl h ↦ f_condition on.is (faults_expr why k x i n ts h)
+        | inr on ↦ elim (then_bad (run_expr k x (past_start i) n ts) _ on.same) as (λ w. FaultsTail x why i n ts) [
+          | inl h ↦ f_condition on.is (faults_expr why k x (past_start i) n ts h)
           | inr f ↦ elim (then_bad (run_value k x i n f.mid) _ f.next) as (λ w. FaultsTail x why i n ts) [
-            | inl h ↦ f_tail_value on.is (sound_expr k x i n ts f.first) (faults_value why k x i n f.mid h)
+            | inl h ↦ f_tail_value on.is (sound_expr k x (past_start i) n ts f.first) (faults_value why k x i n f.mid h)
             | inr g ↦ got_bad g.next
           ]
         ]
@@ -368,9 +375,24 @@ mutual
   faults_value why (suc k) x i n (tok ∷ ts) e =
       elim (unless_bad (colon_at i (tok ∷ ts)) (tok ∷ ts) _ e) as (λ w. FaultsValue x why i n (tok ∷ ts)) [
         | inl s ↦ f_no_colon s.not (stuck_is why s.at)
-        | inr g ↦ elim (unless_bad (stays i ts) ts _ g.same) as (λ w. FaultsValue x why i n (tok ∷ ts)) [
-          | inl s ↦ f_value_line g.is s.not (stuck_is why s.at)
-          | inr on ↦ f_value g.is on.is (faults_expr why k x i n ts on.same)
+        | inr g ↦ elim (if_split (stays i ts) _ _ g.same) as (λ w. FaultsValue x why i n (tok ∷ ts)) [
+          | inl on ↦ f_value g.is on.is (faults_expr why k x i n ts on.same)
+          | inr off ↦ faults_own_line why k x i n tok ts g.is off.is off.same
+        ]
+      ]
+
+  faults_own_line : (why : Fault) (k : ℕ) (x : Origin) (i : Layout) (n : ℕ) (tok : Token) (ts : List Token) → colon_at i (tok ∷ ts) ≡ true → stays i ts ≡ false
+      → run_own_line k x i n ts ≡ bad (why_of why) → FaultsValue x why i n (tok ∷ ts)
+  faults_own_line why zero x i n tok ts c off e = not_tired why e
+  faults_own_line why (suc k) x i n tok ts c off e =
+      elim (unless_bad (deeper_line_at i ts) ts _ e) as (λ w. FaultsValue x why i n (tok ∷ ts)) [
+        | inl s ↦ f_value_line c off s.not (stuck_is why s.at)
+        | inr g ↦ elim (then_bad (run_expr k x (line_layout i ts) n ts) _ g.same) as (λ w. FaultsValue x why i n (tok ∷ ts)) [
+          | inl h ↦ f_own_line c g.is (faults_expr why k x (line_layout i ts) n ts h)
+          | inr f ↦ elim (unless_bad (closed_at (line_layout i ts) f.mid) f.mid _ f.next) as (λ w. FaultsValue x why i n (tok ∷ ts)) [
+            | inl s ↦ f_not_closed c g.is (sound_expr k x (line_layout i ts) n ts f.first) s.not (stuck_is why s.at)
+            | inr h ↦ got_bad h.same
+          ]
         ]
       ]
 
@@ -402,9 +424,9 @@ mutual
   faults_case why (suc k) x i (suc n) (tok ∷ ts) is e =
       elim (unless_bad (stays i ts) ts _ e) as (λ w. FaultsExpr x why i (suc n) (tok ∷ ts)) [
         | inl s ↦ f_case is (f_case_line s.not (stuck_is why s.at))
-        | inr on ↦ elim (then_bad (run_expr k x i n ts) _ on.same) as (λ w. FaultsExpr x why i (suc n) (tok ∷ ts)) [
-          | inl h ↦ f_case is (f_subject on.is (faults_expr why k x i n ts h))
-          | inr f ↦ f_case is (f_branches on.is (sound_expr k x i n ts f.first) (faults_branches why k x i n (place_at x tok) f.value (past_colon i f.mid) f.next))
+        | inr on ↦ elim (then_bad (run_expr k x (past_start i) n ts) _ on.same) as (λ w. FaultsExpr x why i (suc n) (tok ∷ ts)) [
+          | inl h ↦ f_case is (f_subject on.is (faults_expr why k x (past_start i) n ts h))
+          | inr f ↦ f_case is (f_branches on.is (sound_expr k x (past_start i) n ts f.first) (faults_branches why k x i n (place_at x tok) f.value (past_colon i f.mid) f.next))
         ]
       ]
 
@@ -433,14 +455,14 @@ mutual
   faults_of why (suc k) x i n ts e =
       elim (unless_bad (stays i ts) ts _ e) as (λ w. FaultsOf x why i n ts) [
         | inl s ↦ f_of_line s.not (stuck_is why s.at)
-        | inr on ↦ elim (then_bad (run_label k x i n ts) _ on.same) as (λ w. FaultsOf x why i n ts) [
-          | inl h ↦ f_label on.is (faults_label why k x i n ts h)
+        | inr on ↦ elim (then_bad (run_label k x (past_start i) n ts) _ on.same) as (λ w. FaultsOf x why i n ts) [
+          | inl h ↦ f_label on.is (faults_label why k x (past_start i) n ts h)
           | inr f ↦ (
-              let d = sound_label k x i n ts f.first in
-              elim (then_bad (run_labels k x i n (part f.value no_parts) f.mid) _ f.next) as (λ w. FaultsOf x why i n ts) [
-                | inl h ↦ f_labels on.is d (faults_labels why k x i n (part f.value no_parts) f.mid h)
+              let d = sound_label k x (past_start i) n ts f.first in
+              elim (then_bad (run_labels k x (past_start i) n (part f.value no_parts) f.mid) _ f.next) as (λ w. FaultsOf x why i n ts) [
+                | inl h ↦ f_labels on.is d (faults_labels why k x (past_start i) n (part f.value no_parts) f.mid h)
                 | inr g ↦ elim (then_bad (run_value k x i n g.mid) _ g.next) as (λ w. FaultsOf x why i n ts) [
-                  | inl h ↦ f_of_value on.is d (sound_labels k x i n (part f.value no_parts) f.mid (let p = d.few in omega (arith, p)) d.stops g.first) (faults_value why k x i n g.mid h)
+                  | inl h ↦ f_of_value on.is d (sound_labels k x (past_start i) n (part f.value no_parts) f.mid (let p = d.few in omega (arith, p)) d.stops g.first) (faults_value why k x i n g.mid h)
                   | inr h ↦ got_bad h.next
                 ]
               ])
@@ -486,7 +508,7 @@ mutual
   faults_otherwise why zero x i n at s tok ts tests v all mid end on d c e = not_tired why e
   faults_otherwise why (suc k) x i n at s tok ts tests v all mid [] on d c e = got_bad e
   faults_otherwise why (suc k) x i n at s tok ts tests v all mid (other ∷ end) on d c e =
-      elim (if_split (branch_at (branch_layout i tok.indent) is_else (other ∷ end)) _ _ e) as (λ w. FaultsBranches x why i n (tok ∷ ts)) [
+      elim (if_split (else_on (branch_layout i tok.indent) (other ∷ end)) _ _ e) as (λ w. FaultsBranches x why i n (tok ∷ ts)) [
         | inl h ↦ elim (then_bad (run_value k x (branch_layout i tok.indent) n end) _ h.same) as (λ w. FaultsBranches x why i n (tok ∷ ts)) [
           | inl g ↦ f_otherwise on d c h.is (faults_value why k x (branch_layout i tok.indent) n end g)
           | inr f ↦ got_bad f.next

@@ -12,7 +12,7 @@ use Rattle.parse_exprs.specs.declared.input.Bracket.{Bracket}
 use Rattle.parse_exprs.specs.declared.input.Bracket.TheVariants.{Square}
 use Rattle.parse_exprs.specs.declared.input.Lead.{Lead}
 use Rattle.parse_exprs.specs.declared.input.Lead.TheVariants as L
-use Rattle.parse_exprs.specs.Look.{Origin, spelling, place_at, op_at, op_levels, single, grouped, applied, sign_of, is_at_sign, is_punct, is_name, bracket_at, kind_at, closes_at, names_in, names_behind, name_on, suffix_at, stays, square_at, operand_at, lead_at}
+use Rattle.parse_exprs.specs.Look.{Origin, spelling, place_at, op_at, op_levels, single, grouped, applied, sign_of, is_at_sign, is_punct, is_name, bracket_at, kind_at, closes_at, names_in, names_behind, name_on, suffix_at, stays, square_at, operand_at, lead_at, at_start, past_start, no_command_on}
 use Rattle.parse_exprs.specs.Outcome.{deep, stuck, Out, got, bad, then_do, unless_stuck, Settles}
 use Rattle.parse_exprs.specs.Run.{behind, made, run_expr, run_lead, run_level, run_chain, run_more, run_unary, run_signed, run_primary, run_suffixes, run_suffix, run_applied, run_field, run_atom, run_group, run_enclosed, run_list, run_parts, run_part, run_if, run_case}
 use Rattle.parse_exprs.specs.Gives.{Leads}
@@ -37,12 +37,15 @@ module _ (x : Origin) (i : Layout) where
   pub level_unary : (m n : ℕ) (ts : List Token) → m ≡ 0 → Leads (λ k. run_unary k x i n ts) (λ k. run_level k x i m n ts)
   level_unary m n ts e = λ o h. settles_suc h (λ k. ap (λ j. run_level (suc k) x i j n ts) e)
 
-  module _ (l m n : ℕ) (same : suc l ≡ m) (ts : List Token) where
-    pub level_bad : Passes (λ k. run_level k x i l n ts) (λ k. run_level k x i m n ts)
-    level_bad why h = settles_suc (settles_bad (λ k a mid. run_chain k x i l n a mid) h) (λ k. ap (λ j. run_level (suc k) x i j n ts) (sym same))
+  module _ (l m n : ℕ) (same : suc l ≡ m) (j : Layout) (past : past_start i ≡ j) (ts : List Token) where
+    level_step : (k : ℕ) → run_level (suc k) x i m n ts ≡ then_do (run_level k x i l n ts) (λ a mid. run_chain k x j l n a mid)
+    level_step k = ap (λ w. run_level (suc k) x i w n ts) (sym same) ∙ ap (λ w. then_do (run_level k x i l n ts) (λ a mid. run_chain k x w l n a mid)) past
 
-    pub level_on : (a : Term) (mid : List Token) → Settles (λ k. run_level k x i l n ts) (got a mid) → Leads (λ k. run_chain k x i l n a mid) (λ k. run_level k x i m n ts)
-    level_on a mid h = λ o g. settles_suc (settles_then (λ k b us. run_chain k x i l n b us) h g) (λ k. ap (λ j. run_level (suc k) x i j n ts) (sym same))
+    pub level_bad : Passes (λ k. run_level k x i l n ts) (λ k. run_level k x i m n ts)
+    level_bad why h = settles_suc (settles_bad (λ k a mid. run_chain k x j l n a mid) h) level_step
+
+    pub level_on : (a : Term) (mid : List Token) → Settles (λ k. run_level k x i l n ts) (got a mid) → Leads (λ k. run_chain k x j l n a mid) (λ k. run_level k x i m n ts)
+    level_on a mid h = λ o g. settles_suc (settles_then (λ k b us. run_chain k x j l n b us) h g) level_step
 
   chain_leads : (op : Option BinaryOp) (l n : ℕ) (a : Term) (ts : List Token) → op_at x i l ts ≡ op → Leads (λ k. run_more k op x i l n a ts) (λ k. run_chain k x i l n a ts)
   chain_leads op l n a ts e = λ o h. settles_suc h (λ k. ap (λ p. run_more k p x i l n a ts) e)
@@ -90,18 +93,39 @@ module _ (x : Origin) (i : Layout) where
     pub unary_signed : (op : Option UnaryOp) → sign_of tok.kind (spelling x tok) ≡ op → Leads (λ k. run_signed k op x i n tok ts) (λ k. run_unary k x i m all)
     unary_signed op e = λ o h. settles_suc h (λ k. ap₂ (λ j us. run_unary (suc k) x i j us) (sym same) is ∙ ap (λ p. run_signed k p x i n tok ts) e)
 
-    pub signed_none : Leads (λ k. run_primary k x i false m all) (λ k. run_signed k None x i n tok ts)
-    signed_none = λ o h. settles_suc h (λ k. ap₂ (λ j us. run_primary k x i false j us) same (sym is))
+    abbrev unsigned_last : Term → List Token → Out Term
+    unsigned_last a rest = unless_stuck (no_command_on x i rest) rest (got a rest)
+
+    module _ (c : Bool) (start : at_start i ≡ c) where
+      unsigned_step : (k : ℕ) → run_signed (suc k) None x i n tok ts ≡ then_do (run_primary k x i c m all) unsigned_last
+      unsigned_step k = ap₂ (λ j us. then_do (run_primary k x i (at_start i) j us) unsigned_last) same (sym is) ∙ ap (λ w. then_do (run_primary k x i w m all) unsigned_last) start
+
+      pub unsigned_bad : Passes (λ k. run_primary k x i c m all) (λ k. run_signed k None x i n tok ts)
+      unsigned_bad why h = settles_suc (settles_bad (λ k. unsigned_last) h) unsigned_step
+
+      module _ (a : Term) (rest : List Token) (h : Settles (λ k. run_primary k x i c m all) (got a rest)) where
+        pub unsigned_command : no_command_on x i rest ≡ false → Settles (λ k. run_signed k None x i n tok ts) (bad (stuck rest))
+        unsigned_command e = settles_suc (settles_then (λ k. unsigned_last) h (settles_stuck (λ k. got a rest) rest e)) unsigned_step
+
+        pub unsigned_got : no_command_on x i rest ≡ true → Settles (λ k. run_signed k None x i n tok ts) (got a rest)
+        unsigned_got e = settles_suc (settles_then (λ k. unsigned_last) h (settles_unless rest e settles_got)) unsigned_step
 
   module _ (n : ℕ) (op : UnaryOp) (tok : Token) (ts : List Token) where
+    abbrev signed_last : Term → List Token → Out Term
+    signed_last a rest = got (unary (place_at x tok) op a) rest
+
     pub signed_stuck : stays i ts ≡ false → Settles (λ k. run_signed k (Some op) x i n tok ts) (bad (stuck ts))
-    signed_stuck e = settles_suc (settles_stuck (λ k. then_do (run_unary k x i n ts) (λ a rest. got (unary (place_at x tok) op a) rest)) ts e) (λ k. refl)
+    signed_stuck e = settles_suc (settles_stuck (λ k. then_do (run_unary k x (past_start i) n ts) signed_last) ts e) (λ k. refl)
 
-    pub signed_bad : stays i ts ≡ true → Passes (λ k. run_unary k x i n ts) (λ k. run_signed k (Some op) x i n tok ts)
-    signed_bad e why h = settles_suc (settles_unless ts e (settles_bad (λ k a rest. got (unary (place_at x tok) op a) rest) h)) (λ k. refl)
+    module _ (j : Layout) (past : past_start i ≡ j) (e : stays i ts ≡ true) where
+      signed_step : (k : ℕ) → run_signed (suc k) (Some op) x i n tok ts ≡ unless_stuck (stays i ts) ts (then_do (run_unary k x j n ts) signed_last)
+      signed_step k = ap (λ w. unless_stuck (stays i ts) ts (then_do (run_unary k x w n ts) signed_last)) past
 
-    pub signed_got : stays i ts ≡ true → (a : Term) (rest : List Token) → Settles (λ k. run_unary k x i n ts) (got a rest) → Settles (λ k. run_signed k (Some op) x i n tok ts) (got (unary (place_at x tok) op a) rest)
-    signed_got e a rest h = settles_suc (settles_unless ts e (settles_then (λ k b us. got (unary (place_at x tok) op b) us) h settles_got)) (λ k. refl)
+      pub signed_bad : Passes (λ k. run_unary k x j n ts) (λ k. run_signed k (Some op) x i n tok ts)
+      signed_bad why h = settles_suc (settles_unless ts e (settles_bad (λ k. signed_last) h)) signed_step
+
+      pub signed_got : (a : Term) (rest : List Token) → Settles (λ k. run_unary k x j n ts) (got a rest) → Settles (λ k. run_signed k (Some op) x i n tok ts) (got (unary (place_at x tok) op a) rest)
+      signed_got a rest h = settles_suc (settles_unless ts e (settles_then (λ k. signed_last) h settles_got)) signed_step
 
   -- ---- what stands behind an atom
   module _ (c : Bool) (n : ℕ) (ts : List Token) where

@@ -15,13 +15,13 @@ use Rattle.parse_exprs.specs.declared.input.Bracket.{Bracket}
 use Rattle.parse_exprs.specs.declared.input.Bracket.TheVariants.{Square}
 use Rattle.parse_exprs.specs.declared.input.Lead.{Lead}
 use Rattle.parse_exprs.specs.declared.input.Lead.TheVariants as L
-use Rattle.parse_exprs.specs.Look.{Origin, spelling, place_at, goes_on, op_at, op_levels, single, grouped, applied, sign_of, is_at_sign, is_punct, bracket_of, bracket_at, kind_at, closes_at, names_in, names_behind, name_on, is_suffix, is_apart, suffix_at, stays, square_at, is_square, lead_at, branch_at, is_elif, is_else, is_of, first_of_at, branch_layout, colon_at, comma_at, past_colon, dots_at, is_name}
+use Rattle.parse_exprs.specs.Look.{Origin, spelling, place_at, goes_on, op_at, op_levels, single, grouped, applied, sign_of, is_at_sign, is_punct, bracket_of, bracket_at, kind_at, closes_at, names_in, names_behind, name_on, is_suffix, is_apart, suffix_at, stays, square_at, is_square, lead_at, branch_at, is_elif, is_else, is_of, first_of_at, branch_layout, colon_at, comma_at, past_colon, dots_at, is_name, at_start, past_start, no_command_on, else_on, deeper_line_at, line_layout, closed_at}
 use Rattle.parse_exprs.specs.Outcome.{Out, got, bad, deep}
-use Rattle.parse_exprs.specs.Run.{Tail, behind, made, run_field, run_expr, run_lead, run_level, run_chain, run_more, run_unary, run_signed, run_primary, run_suffixes, run_suffix, run_applied, run_atom, run_group, run_enclosed, run_list, run_parts, run_part, run_if, run_tail, run_value, run_elifs, run_else, run_case, run_branches, run_of, run_labels, run_label, run_ofs, run_otherwise}
-use Rattle.parse_exprs.specs.Grammar.{SpellsExpr, p_operators, p_if, p_case, Spells, p_unary, p_binary, SpellsMore, p_none, p_more, SpellsUnary, p_sign, p_plain, SpellsPrimary, p_primary, SpellsSuffixes, p_done, p_suffix, SpellsSuffix, p_field, p_applied, SpellsAtom, p_token, p_group, p_sequence, SpellsEnclosed, p_empty, p_parts, SpellsParts, p_first, SpellsMoreParts, p_over, p_part, SpellsPart, p_unnamed, p_named, SpellsTail, p_tail, SpellsValue, p_value, SpellsElifs, p_no_elif, p_elif, SpellsElse, p_else, SpellsBranches, p_branches, SpellsOf, p_of, SpellsLabels, p_last_label, p_label, SpellsLabel, p_one, p_range, SpellsOfs, p_last_of, p_next_of, SpellsOtherwise, p_no_else, p_with_else, Stops}
+use Rattle.parse_exprs.specs.Run.{Tail, behind, made, run_field, run_expr, run_lead, run_level, run_chain, run_more, run_unary, run_signed, run_primary, run_suffixes, run_suffix, run_applied, run_atom, run_group, run_enclosed, run_list, run_parts, run_part, run_if, run_tail, run_value, run_own_line, run_elifs, run_else, run_case, run_branches, run_of, run_labels, run_label, run_ofs, run_otherwise}
+use Rattle.parse_exprs.specs.Grammar.{SpellsExpr, p_operators, p_if, p_case, Spells, p_unary, p_binary, SpellsMore, p_none, p_more, SpellsUnary, p_sign, p_plain, SpellsPrimary, p_primary, SpellsSuffixes, p_done, p_suffix, SpellsSuffix, p_field, p_applied, SpellsAtom, p_token, p_group, p_sequence, SpellsEnclosed, p_empty, p_parts, SpellsParts, p_first, SpellsMoreParts, p_over, p_part, SpellsPart, p_unnamed, p_named, SpellsTail, p_tail, SpellsValue, p_value, p_own_line, SpellsElifs, p_no_elif, p_elif, SpellsElse, p_else, SpellsBranches, p_branches, SpellsOf, p_of, SpellsLabels, p_last_label, p_label, SpellsLabel, p_one, p_range, SpellsOfs, p_last_of, p_next_of, SpellsOtherwise, p_no_else, p_with_else, Stops}
 use Rattle.parse_exprs.specs.Faults.{Done}
 use Rattle.parse_exprs.proofs.Settling.{then_got, unless_got, got_one, if_split}
-use Rattle.parse_exprs.proofs.Stopping.{both_of, punct_is, one_more, suffix_stops, branch_stops}
+use Rattle.parse_exprs.proofs.Stopping.{both_of, punct_is, one_more, suffix_stops, branch_stops, start_stops, stops_start, line_stops, command_stops, else_with_colon}
 use Rattle.parse_exprs.proofs.Levels.{most_and, levels_and, single_level, grouped_levels, applied_levels}
 
 -- of at most n levels
@@ -105,6 +105,12 @@ ranged : (x : Origin) (i : Layout) (n : ℕ) (a b : Term) (ts mid rest : List To
 ranged x i n a b ts [] rest d h on c = cc
 ranged x i n a b ts (tok ∷ mid) rest d h on c = record { spells = p_range d.spells h on c.spells; few = (let p = d.few in let q = c.few in omega (arith, p, q)); stops = c.stops }
 
+-- a value on lines of its own
+pub record OwnLine (x : Origin) (i : Layout) (n : ℕ) (v : Term) (ts rest : List Token) : Type 0 where
+  pub deeper : deeper_line_at i ts ≡ true
+  pub value : Done x (line_layout i ts) op_levels n (levels v) (SpellsExpr x (line_layout i ts) v ts rest) rest
+  pub closed : closed_at (line_layout i ts) rest ≡ true
+
 mutual
   pub sound_expr : {t : Term} {rest : List Token} (k : ℕ) (x : Origin) (i : Layout) (n : ℕ) (ts : List Token) → run_expr k x i n ts ≡ got t rest
       → Done x i op_levels n (levels t) (SpellsExpr x i t ts rest) rest
@@ -124,11 +130,11 @@ mutual
       → Done x i l n (levels t) (Spells x i l t ts rest) rest
   sound_level zero x i l n ts e = cc
   sound_level (suc k) x i zero n ts e = let h = sound_unary k x i n ts e in record { spells = p_unary h.spells; few = h.few; stops = h.stops }
-  sound_level (suc k) x i (suc l) n ts e =
-      let f = then_got (run_level k x i l n ts) (λ a mid. run_chain k x i l n a mid) e in
+  sound_level {rest = rest} (suc k) x i (suc l) n ts e =
+      let f = then_got (run_level k x i l n ts) (λ a mid. run_chain k x (past_start i) l n a mid) e in
       let d = sound_level k x i l n ts f.first in
-      let c = sound_chain k x i l n f.value f.mid d.few d.stops f.next in
-      record { spells = p_binary d.spells c.spells; few = c.few; stops = c.stops }
+      let c = sound_chain k x (past_start i) l n f.value f.mid d.few (stops_start x i l f.mid d.stops) f.next in
+      record { spells = p_binary d.spells c.spells; few = c.few; stops = start_stops x i (suc l) rest c.stops }
 
   sound_chain : {t : Term} {rest : List Token} (k : ℕ) (x : Origin) (i : Layout) (l n : ℕ) (a : Term) (ts : List Token) → levels a ≤ n → Stops x i l ts → run_chain k x i l n a ts ≡ got t rest
       → Done x i (suc l) n (levels t) (SpellsMore x i l a t ts rest) rest
@@ -159,14 +165,18 @@ mutual
   sound_signed : {t : Term} {rest : List Token} (k : ℕ) (op : Option UnaryOp) (x : Origin) (i : Layout) (n : ℕ) (tok : Token) (ts : List Token) → sign_of tok.kind (spelling x tok) ≡ op
       → run_signed k op x i n tok ts ≡ got t rest → Done x i 0 (suc n) (levels t) (SpellsUnary x i t (tok ∷ ts) rest) rest
   sound_signed zero op x i n tok ts is e = cc
-  sound_signed {rest = rest} (suc k) None x i n tok ts is e =
-      let h = sound_primary k x i false n (tok ∷ ts) e in record { spells = p_plain h.spells; few = h.few; stops = suffix_stops x i rest h.stops }
+  sound_signed (suc k) None x i n tok ts is e =
+      let f = then_got _ _ e in
+      let h = sound_primary k x i (at_start i) n (tok ∷ ts) f.first in
+      let g = unless_got (no_command_on x i f.mid) f.mid _ f.next in
+      same_got (λ t rest. Done x i 0 (suc n) (levels t) (SpellsUnary x i t (tok ∷ ts) rest) rest) g.1
+      (record { spells = p_plain h.spells g.0; few = h.few; stops = suffix_stops x i f.mid (command_stops x i f.mid h.stops g.0) })
   sound_signed (suc k) (Some op) x i n tok ts is e =
       let g = unless_got (stays i ts) ts _ e in
       let f = then_got _ _ g.1 in
-      let h = sound_unary k x i n ts f.first in
+      let h = sound_unary k x (past_start i) n ts f.first in
       same_got (λ t rest. Done x i 0 (suc n) (levels t) (SpellsUnary x i t (tok ∷ ts) rest) rest) f.next
-      (record { spells = p_sign is g.0 h.spells; few = (let p = h.few in omega (arith, p)); stops = h.stops })
+      (record { spells = p_sign is g.0 h.spells; few = (let p = h.few in omega (arith, p)); stops = start_stops x i 0 f.mid h.stops })
 
   -- ---- what stands behind an atom
 
@@ -315,7 +325,7 @@ mutual
   sound_tail (suc k) x i n ts e =
       let on = unless_got (stays i ts) ts _ e in
       let f = then_got _ _ on.1 in
-      let d = sound_expr k x i n ts f.first in
+      let d = sound_expr k x (past_start i) n ts f.first in
       let g = then_got _ _ f.next in
       let c = sound_value k x i n f.mid g.first in
       same_got (λ one rest. Done x i op_levels n (max (most_levels one.tests) (levels one.value)) (SpellsTail x i one.tests one.value ts rest) rest) g.next
@@ -325,11 +335,23 @@ mutual
       → Done x i op_levels n (levels t) (SpellsValue x i t ts rest) rest
   sound_value zero x i n ts e = cc
   sound_value (suc k) x i n [] e = cc
-  sound_value (suc k) x i n (tok ∷ ts) e =
+  sound_value {t} {rest} (suc k) x i n (tok ∷ ts) e =
       let g = unless_got (colon_at i (tok ∷ ts)) (tok ∷ ts) _ e in
-      let h = unless_got (stays i ts) ts _ g.1 in
-      let d = sound_expr k x i n ts h.1 in
-      record { spells = p_value g.0 h.0 d.spells; few = d.few; stops = d.stops }
+      elim (if_split (stays i ts) _ _ g.1) as (λ w. Done x i op_levels n (levels t) (SpellsValue x i t (tok ∷ ts) rest) rest) [
+        | inl h ↦ (let d = sound_expr k x i n ts h.same in record { spells = p_value g.0 h.is d.spells; few = d.few; stops = d.stops })
+        | inr h ↦ (
+            let o = sound_own_line k x i n ts h.same in
+            record { spells = p_own_line g.0 o.deeper o.value.spells o.closed; few = o.value.few; stops = line_stops x i ts op_levels rest o.value.stops })
+      ]
+
+  pub sound_own_line : {t : Term} {rest : List Token} (k : ℕ) (x : Origin) (i : Layout) (n : ℕ) (ts : List Token) → run_own_line k x i n ts ≡ got t rest → OwnLine x i n t ts rest
+  sound_own_line zero x i n ts e = cc
+  sound_own_line (suc k) x i n ts e =
+      let g = unless_got (deeper_line_at i ts) ts _ e in
+      let f = then_got _ _ g.1 in
+      let d = sound_expr k x (line_layout i ts) n ts f.first in
+      let h = unless_got (closed_at (line_layout i ts) f.mid) f.mid _ f.next in
+      same_got (λ t rest. OwnLine x i n t ts rest) h.1 (record { deeper = g.0; value = d; closed = h.0 })
 
   pub sound_elifs : {all : Choices} {rest : List Token} (k : ℕ) (x : Origin) (i : Layout) (n : ℕ) (some : Choices) (ts : List Token) → levels_in some ≤ n → Stops x i op_levels ts
       → run_elifs k x i n some ts ≡ got all rest → Done x i op_levels n (levels_in all) (SpellsElifs x i some all ts rest) rest
@@ -364,7 +386,7 @@ mutual
   sound_case (suc k) x i (suc n) (tok ∷ ts) is e =
       let on = unless_got (stays i ts) ts _ e in
       let f = then_got _ _ on.1 in
-      let d = sound_expr k x i n ts f.first in
+      let d = sound_expr k x (past_start i) n ts f.first in
       let b = sound_branches k x i n (place_at x tok) f.value (past_colon i f.mid) d.few f.next in
       record { spells = p_case is on.0 d.spells b.spells; few = b.few; stops = b.stops }
 
@@ -388,9 +410,9 @@ mutual
   sound_of (suc k) x i n ts e =
       let on = unless_got (stays i ts) ts _ e in
       let f = then_got _ _ on.1 in
-      let d = sound_label k x i n ts f.first in
+      let d = sound_label k x (past_start i) n ts f.first in
       let g = then_got _ _ f.next in
-      let c = sound_labels k x i n (part f.value no_parts) f.mid (let p = d.few in omega (arith, p)) d.stops g.first in
+      let c = sound_labels k x (past_start i) n (part f.value no_parts) f.mid (let p = d.few in omega (arith, p)) d.stops g.first in
       let h = then_got _ _ g.next in
       let v = sound_value k x i n g.mid h.first in
       same_got (λ one rest. Done x i op_levels n (max (most_levels one.tests) (levels one.value)) (SpellsOf x i one.tests one.value ts rest) rest) h.next
@@ -448,11 +470,11 @@ mutual
   sound_otherwise (suc k) x i n at s all [] few fewer stops e =
       same_got (λ t rest. Done x i op_levels (suc n) (levels t) (SpellsOtherwise x i at s all t [] rest) rest) e (record { spells = p_no_else refl; few = omega (arith, few, fewer); stops = stops })
   sound_otherwise {t} {rest} (suc k) x i n at s all (tok ∷ ts) few fewer stops e =
-      elim (if_split (branch_at i is_else (tok ∷ ts)) _ _ e) as (λ w. Done x i op_levels (suc n) (levels t) (SpellsOtherwise x i at s all t (tok ∷ ts) rest) rest) [
+      elim (if_split (else_on i (tok ∷ ts)) _ _ e) as (λ w. Done x i op_levels (suc n) (levels t) (SpellsOtherwise x i at s all t (tok ∷ ts) rest) rest) [
         | inl h ↦ (
             let f = then_got _ _ h.same in
             let d = sound_value k x i n ts f.first in
             same_got (λ t rest. Done x i op_levels (suc n) (levels t) (SpellsOtherwise x i at s all t (tok ∷ ts) rest) rest) f.next
-            (record { spells = p_with_else h.is d.spells; few = (let p = d.few in omega (arith, p, few, fewer)); stops = d.stops }))
+            (record { spells = p_with_else (else_with_colon i (tok ∷ ts) h.is) d.spells; few = (let p = d.few in omega (arith, p, few, fewer)); stops = d.stops }))
         | inr h ↦ same_got (λ t rest. Done x i op_levels (suc n) (levels t) (SpellsOtherwise x i at s all t (tok ∷ ts) rest) rest) h.same (record { spells = p_no_else h.is; few = omega (arith, few, fewer); stops = stops })
       ]

@@ -15,7 +15,7 @@ use Rattle.parse_exprs.specs.declared.input.Bracket.{Bracket}
 use Rattle.parse_exprs.specs.declared.input.Bracket.TheVariants.{Round, Square}
 use Rattle.parse_exprs.specs.declared.input.Lead.TheVariants as L
 use Rattle.parse_exprs.specs.Look.{Origin, spelling, goes_on, branch_goes_on, first_goes_on, op_of, of_level, op_at, place_at, single_of, single, grouped, applied, sign_of, is_punct, is_run, is_at_sign, bracket_of, closing, lead_of, is_elif, is_else, is_of, colon_at, past_colon}
-use Rattle.parse_exprs.specs.Grammar.{SpellsExpr, p_operators, p_if, p_case, Spells, p_unary, p_binary, SpellsMore, p_none, p_more, SpellsUnary, p_sign, p_plain, SpellsPrimary, p_primary, SpellsSuffixes, p_done, p_suffix, SpellsSuffix, p_field, p_applied, SpellsAtom, p_token, p_group, p_sequence, SpellsEnclosed, p_empty, p_parts, SpellsParts, p_first, SpellsMoreParts, p_over, p_part, SpellsPart, p_unnamed, p_named, SpellsTail, p_tail, SpellsValue, p_value, SpellsElifs, p_no_elif, p_elif, SpellsElse, p_else, SpellsBranches, p_branches, SpellsOf, p_of, SpellsLabels, p_last_label, p_label, SpellsLabel, p_one, p_range, SpellsOfs, p_last_of, p_next_of, SpellsOtherwise, p_no_else, p_with_else}
+use Rattle.parse_exprs.specs.Grammar.{SpellsExpr, p_operators, p_if, p_case, Spells, p_unary, p_binary, SpellsMore, p_none, p_more, SpellsUnary, p_sign, p_plain, SpellsPrimary, p_primary, SpellsSuffixes, p_done, p_suffix, SpellsSuffix, p_field, p_applied, SpellsAtom, p_token, p_group, p_sequence, SpellsEnclosed, p_empty, p_parts, SpellsParts, p_first, SpellsMoreParts, p_over, p_part, SpellsPart, p_unnamed, p_named, SpellsTail, p_tail, SpellsValue, p_value, p_own_line, SpellsElifs, p_no_elif, p_elif, SpellsElse, p_else, SpellsBranches, p_branches, SpellsOf, p_of, SpellsLabels, p_last_label, p_label, SpellsLabel, p_one, p_range, SpellsOfs, p_last_of, p_next_of, SpellsOtherwise, p_no_else, p_with_else}
 use Rattle.parse_exprs.specs.Parsed.{HasNoEnd}
 use Rattle.parse_exprs.proofs.Stopping.{none_some, false_true, both_of}
 
@@ -145,7 +145,7 @@ mutual
 
   unary_spans : {x : Origin} {i : Layout} {t : Term} {ts rest : List Token} → SpellsUnary x i t ts rest → Spans 0 (nodes t) ts rest
   unary_spans {x = x} (p_sign {op = op} {tok = tok} h on d) = token_spans (sign_no_end op tok.kind (spelling x tok) h) (unary_spans d)
-  unary_spans (p_plain d) = primary_spans d
+  unary_spans (p_plain d h) = primary_spans d
 
   pub primary_spans : {x : Origin} {i : Layout} {c : Bool} {t : Term} {ts rest : List Token} → SpellsPrimary x i c t ts rest → Spans 0 (nodes t) ts rest
   primary_spans (p_primary d c) = within (then_spans (atom_spans d) (suffixes_spans c)) (omega arith)
@@ -187,6 +187,7 @@ mutual
 
   value_spans : {x : Origin} {i : Layout} {v : Term} {ts rest : List Token} → SpellsValue x i v ts rest → Spans 0 (suc (nodes v)) ts rest
   value_spans {i = i} (p_value {tok = tok} h on d) = token_spans (behind_no_end (is_punct 58) (goes_on i tok.indent) tok.kind refl h) (expr_spans d)
+  value_spans {i = i} (p_own_line {tok = tok} h on d c) = token_spans (behind_no_end (is_punct 58) (goes_on i tok.indent) tok.kind refl h) (expr_spans d)
 
   elifs_spans : {x : Origin} {i : Layout} {some all : Choices} {ts rest : List Token} → SpellsElifs x i some all ts rest → Spans (nodes_of some) (nodes_of all) ts rest
   elifs_spans (p_no_elif h) = no_spans

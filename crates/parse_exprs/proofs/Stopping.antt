@@ -1,6 +1,6 @@
 -- What stands at a place, and what ends an expression.
 use Rattle.std.proofs.Common.{◌≡◌, ℕ, suc, ◌<◌, List, [], ◌∷◌, Bool, true, false, refl, sym, ap, ◌∙◌, inl, inr, arith}
-use Rattle.std.specs.Prelude.{Option, Some, None, ◌⊎◌, ◌==◌, ◌&&◌, not, if◌then◌else◌, codes}
+use Rattle.std.specs.Prelude.{Option, Some, None, ◌⊎◌, ◌==◌, ◌&&◌, ◌||◌, not, if◌then◌else◌, codes}
 use Rattle.std.proofs.lemmas.Bool.{eqb-true, ne_eqb}
 use Rattle.std.proofs.lemmas.Slice.Eq.{bytes_eq-Decides}
 use Rattle.indent_scanner.specs.declared.token.Key.TheVariants as K
@@ -9,10 +9,10 @@ use Rattle.indent_scanner.specs.declared.token.Tok.TheVariants as T
 use Rattle.indent_scanner.specs.declared.token.Token.{Token}
 use Rattle.nim_tree.specs.declared.expr.BinaryOp.{BinaryOp}
 use Rattle.parse_exprs.specs.declared.layout.Layout.{Layout}
-use Rattle.parse_exprs.specs.declared.layout.Layout.TheVariants.{Brackets, Lines}
+use Rattle.parse_exprs.specs.declared.layout.Layout.TheVariants.{Brackets, Lines, Start}
 use Rattle.parse_exprs.specs.declared.input.Bracket.{Bracket}
 use Rattle.parse_exprs.specs.declared.input.Bracket.TheVariants.{Round, Square}
-use Rattle.parse_exprs.specs.Look.{Origin, spelling, goes_on, branch_goes_on, first_goes_on, branch_layout, op_of, op_named, level_of, of_level, op_at, is_punct, is_run, closing, closes_at, kind_at, is_suffix, is_apart, suffix_at, branch_at, is_elif, is_else, is_of, first_of_at, colon_at, comma_at, past_colon, dots_at}
+use Rattle.parse_exprs.specs.Look.{Origin, spelling, goes_on, branch_goes_on, first_goes_on, branch_layout, op_of, op_named, level_of, of_level, op_at, is_punct, is_run, closing, closes_at, kind_at, is_suffix, is_apart, suffix_at, branch_at, is_elif, is_else, is_of, first_of_at, colon_at, comma_at, past_colon, dots_at, begins_branches, lead_of, begins, begins_operand, operand_on, at_start, past_start, no_command_on, else_on, is_deeper, deeper_line_at, line_layout, stays}
 use Rattle.parse_exprs.specs.Grammar.{Stops}
 
 pub none_some : {A C : Type 0} {x : A} (o : Option A) → o ≡ None → o ≡ Some x → C
@@ -180,24 +180,116 @@ dots_stops x i j l [] e = cc
 dots_stops x i j l (tok ∷ ts) e =
     let h = dots_op tok.kind (spelling x tok) (both_of (goes_on i tok.indent) (is_run (codes "..") tok.kind (spelling x tok)) e).1 in quiet_stops x j l tok ts h.0 h.1
 
--- ---- the level that the first `of` sets
+-- ---- layouts in which the same tokens go on
 
-same_goes : (i : Layout) (indent other : Option ℕ) → goes_on (branch_layout i indent) other ≡ goes_on i other
-same_goes i None other = refl
-same_goes Brackets (Some m) other = refl
-same_goes (Lines n) (Some m) None = refl
-same_goes (Lines n) (Some m) (Some k) = refl
+abbrev Alike : Layout → Layout → Type 0
+Alike i j = (indent : Option ℕ) → goes_on i indent ≡ goes_on j indent
 
-same_op : (x : Origin) (i : Layout) (indent : Option ℕ) (l : ℕ) (ts : List Token) → op_at x (branch_layout i indent) l ts ≡ op_at x i l ts
-same_op x i indent l [] = refl
-same_op x i indent l (tok ∷ ts) = ap (λ b. if b then of_level l (op_of tok.kind (spelling x tok)) else None) (same_goes i indent tok.indent)
+alike_suffix : (i j : Layout) (c : Bool) (ts : List Token) → Alike i j → suffix_at j c ts ≡ suffix_at i c ts
+alike_suffix i j c [] e = refl
+alike_suffix i j c (tok ∷ ts) e = ap (λ b. b && (is_suffix tok.kind && not (is_apart c tok))) (sym (e tok.indent))
 
-same_suffix : (i : Layout) (indent : Option ℕ) (c : Bool) (ts : List Token) → suffix_at (branch_layout i indent) c ts ≡ suffix_at i c ts
-same_suffix i indent c [] = refl
-same_suffix i indent c (tok ∷ ts) = ap (λ b. b && (is_suffix tok.kind && not (is_apart c tok))) (same_goes i indent tok.indent)
+alike_op : (x : Origin) (i j : Layout) (l : ℕ) (ts : List Token) → Alike i j → op_at x j l ts ≡ op_at x i l ts
+alike_op x i j l [] e = refl
+alike_op x i j l (tok ∷ ts) e = ap (λ b. if b then of_level l (op_of tok.kind (spelling x tok)) else None) (sym (e tok.indent))
+
+alike_stops : (x : Origin) (i j : Layout) (l : ℕ) (ts : List Token) → Alike i j → Stops x i l ts → Stops x j l ts
+alike_stops x i j l ts e s = record { ops = λ k lt. alike_op x i j k ts e ∙ s.ops k lt; suffix = alike_suffix i j false ts e ∙ s.suffix }
+
+-- the level that the first `of` sets
+same_branch : (i : Layout) (indent other : Option ℕ) → goes_on (branch_layout i indent) other ≡ goes_on i other
+same_branch i None other = refl
+same_branch Brackets (Some m) other = refl
+same_branch (Lines n) (Some m) None = refl
+same_branch (Lines n) (Some m) (Some k) = refl
+same_branch (Start n) (Some m) None = refl
+same_branch (Start n) (Some m) (Some k) = refl
 
 pub branch_stops : (x : Origin) (i : Layout) (indent : Option ℕ) (l : ℕ) (ts : List Token) → Stops x (branch_layout i indent) l ts → Stops x i l ts
-branch_stops x i indent l ts s = record { ops = λ k lt. sym (same_op x i indent k ts) ∙ s.ops k lt; suffix = sym (same_suffix i indent false ts) ∙ s.suffix }
+branch_stops x i indent l ts s = alike_stops x (branch_layout i indent) i l ts (same_branch i indent) s
 
 pub stops_branch : (x : Origin) (i : Layout) (indent : Option ℕ) (l : ℕ) (ts : List Token) → Stops x i l ts → Stops x (branch_layout i indent) l ts
-stops_branch x i indent l ts s = record { ops = λ k lt. same_op x i indent k ts ∙ s.ops k lt; suffix = same_suffix i indent false ts ∙ s.suffix }
+stops_branch x i indent l ts s = alike_stops x i (branch_layout i indent) l ts (λ o. sym (same_branch i indent o)) s
+
+-- that of a value on lines of its own
+same_line : (i : Layout) (line : List Token) → Alike (line_layout i line) i
+same_line i [] = λ o. refl
+same_line i (tok ∷ ts) = same_branch i tok.indent
+
+pub line_stops : (x : Origin) (i : Layout) (line : List Token) (l : ℕ) (ts : List Token) → Stops x (line_layout i line) l ts → Stops x i l ts
+line_stops x i line l ts s = alike_stops x (line_layout i line) i l ts (same_line i line) s
+
+pub stops_line : (x : Origin) (i : Layout) (line : List Token) (l : ℕ) (ts : List Token) → Stops x i l ts → Stops x (line_layout i line) l ts
+stops_line x i line l ts s = alike_stops x i (line_layout i line) l ts (λ o. sym (same_line i line o)) s
+
+deeper_goes : (i : Layout) (indent : Option ℕ) → is_deeper i indent ≡ true → goes_on i indent ≡ false
+deeper_goes i None e = cc
+deeper_goes Brackets (Some m) e = cc
+deeper_goes (Lines n) (Some m) e = refl
+deeper_goes (Start n) (Some m) e = refl
+
+-- what begins a deeper line doesn't go on
+pub deeper_stays : (i : Layout) (ts : List Token) → deeper_line_at i ts ≡ true → stays i ts ≡ false
+deeper_stays i [] e = cc
+deeper_stays i (tok ∷ ts) e = deeper_goes i tok.indent e
+
+-- behind the start of a statement
+same_start : (i : Layout) → Alike (past_start i) i
+same_start Brackets o = refl
+same_start (Lines n) o = refl
+same_start (Start n) None = refl
+same_start (Start n) (Some m) = refl
+
+pub start_stops : (x : Origin) (i : Layout) (l : ℕ) (ts : List Token) → Stops x (past_start i) l ts → Stops x i l ts
+start_stops x i l ts s = alike_stops x (past_start i) i l ts (same_start i) s
+
+pub stops_start : (x : Origin) (i : Layout) (l : ℕ) (ts : List Token) → Stops x i l ts → Stops x (past_start i) l ts
+stops_start x i l ts s = alike_stops x i (past_start i) l ts (λ o. sym (same_start i o)) s
+
+pub suffix_start : (i : Layout) (ts : List Token) → suffix_at i false ts ≡ false → suffix_at (past_start i) false ts ≡ false
+suffix_start i ts e = alike_suffix i (past_start i) false ts (λ o. sym (same_start i o)) ∙ e
+
+-- ---- where a command may begin
+
+-- a bracket is an operand
+open_operand : (x : Origin) (tok : Token) → is_punct 40 tok.kind ≡ true → begins_operand x tok tok.kind ≡ true
+open_operand x tok e =
+    let is = punct_is 40 tok.kind e in
+    ap (begins_operand x tok) is ∙ ap (λ k. begins_branches (lead_of k) || begins k (spelling x tok)) is
+
+no_more : (goes suffix space round operand : Bool) → (round ≡ true → operand ≡ true) → (goes && (suffix && not (true && (space && round)))) ≡ false → (goes && operand) ≡ false
+    → (goes && (suffix && not (false && (space && round)))) ≡ false
+no_more false suffix space round operand f e h = refl
+no_more true suffix true false operand f e h = e
+no_more true suffix false false operand f e h = e
+no_more true suffix space true operand f e h = let g = f refl in cc
+
+not_true : (b : Bool) → not b ≡ true → b ≡ false
+not_true true e = cc
+not_true false e = refl
+
+-- where neither a bracket or point nor an operand goes on, nothing that stands behind an atom does
+pub command_stops : (x : Origin) (i : Layout) (ts : List Token) → suffix_at i (at_start i) ts ≡ false → no_command_on x i ts ≡ true → suffix_at i false ts ≡ false
+command_stops x Brackets ts e h = e
+command_stops x (Lines n) ts e h = e
+command_stops x (Start n) [] e h = refl
+command_stops x (Start n) (tok ∷ ts) e h =
+    no_more (goes_on (Start n) tok.indent) (is_suffix tok.kind) tok.space_before (is_punct 40 tok.kind) (begins_operand x tok tok.kind) (open_operand x tok) e
+    (not_true (operand_on x (Start n) (tok ∷ ts)) h)
+
+fewer_suffix : (goes suffix apart : Bool) → (goes && (suffix && not (false && apart))) ≡ false → (goes && (suffix && not (true && apart))) ≡ false
+fewer_suffix false suffix apart e = refl
+fewer_suffix true false apart e = refl
+fewer_suffix true true apart e = cc
+
+-- fewer go on where a command may begin
+pub suffix_stays : (i : Layout) (c : Bool) (ts : List Token) → suffix_at i false ts ≡ false → suffix_at i c ts ≡ false
+suffix_stays i false ts e = e
+suffix_stays i true [] e = refl
+suffix_stays i true (tok ∷ ts) e = fewer_suffix (goes_on i tok.indent) (is_suffix tok.kind) (tok.space_before && is_punct 40 tok.kind) e
+
+-- ---- an `else` with its colon
+
+pub else_with_colon : (i : Layout) (ts : List Token) → else_on i ts ≡ true → branch_at i is_else ts ≡ true
+else_with_colon i [] e = cc
+else_with_colon i (tok ∷ ts) e = (both_of (branch_goes_on i tok.indent && is_else tok.kind) (colon_at i ts) e).0

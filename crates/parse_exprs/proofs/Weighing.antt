@@ -15,7 +15,7 @@ use Rattle.parse_exprs.specs.declared.layout.Layout.{Layout}
 use Rattle.parse_exprs.specs.declared.input.Bracket.{Bracket}
 use Rattle.parse_exprs.specs.declared.input.Bracket.TheVariants.{Round, Square}
 use Rattle.parse_exprs.specs.Look.{Origin, spelling, goes_on, branch_goes_on, first_goes_on, place_at, single_of, single, grouped, applied, is_punct, is_run, is_at_sign, closing, is_elif, is_else, is_of, colon_at, past_colon}
-use Rattle.parse_exprs.specs.Grammar.{SpellsExpr, p_operators, p_if, p_case, Spells, p_unary, p_binary, SpellsMore, p_none, p_more, SpellsUnary, p_sign, p_plain, SpellsPrimary, p_primary, SpellsSuffixes, p_done, p_suffix, SpellsSuffix, p_field, p_applied, SpellsAtom, p_token, p_group, p_sequence, SpellsEnclosed, p_empty, p_parts, SpellsParts, p_first, SpellsMoreParts, p_over, p_part, SpellsPart, p_unnamed, p_named, SpellsTail, p_tail, SpellsValue, p_value, SpellsElifs, p_no_elif, p_elif, SpellsElse, p_else, SpellsBranches, p_branches, SpellsOf, p_of, SpellsLabels, p_last_label, p_label, SpellsLabel, p_one, p_range, SpellsOfs, p_last_of, p_next_of, SpellsOtherwise, p_no_else, p_with_else}
+use Rattle.parse_exprs.specs.Grammar.{SpellsExpr, p_operators, p_if, p_case, Spells, p_unary, p_binary, SpellsMore, p_none, p_more, SpellsUnary, p_sign, p_plain, SpellsPrimary, p_primary, SpellsSuffixes, p_done, p_suffix, SpellsSuffix, p_field, p_applied, SpellsAtom, p_token, p_group, p_sequence, SpellsEnclosed, p_empty, p_parts, SpellsParts, p_first, SpellsMoreParts, p_over, p_part, SpellsPart, p_unnamed, p_named, SpellsTail, p_tail, SpellsValue, p_value, p_own_line, SpellsElifs, p_no_elif, p_elif, SpellsElse, p_else, SpellsBranches, p_branches, SpellsOf, p_of, SpellsLabels, p_last_label, p_label, SpellsLabel, p_one, p_range, SpellsOfs, p_last_of, p_next_of, SpellsOtherwise, p_no_else, p_with_else}
 use Rattle.parse_exprs.specs.Counts.{unit, count}
 use Rattle.parse_exprs.specs.Grammar.{IsExpr, IsCallee}
 use Rattle.parse_exprs.proofs.Spans.{op_no_end, sign_no_end, name_no_end, bracket_no_end, test_no_end, behind_no_end, lead_no_end, punct_no_end, unsome}
@@ -115,7 +115,7 @@ mutual
 
   unary_weighs : {x : Origin} {i : Layout} {t : Term} {ts rest : List Token} → SpellsUnary x i t ts rest → Weighs 0 (weight t) ts rest
   unary_weighs {x = x} (p_sign {op = op} {tok = tok} h on d) = token_weighs (sign_no_end op tok.kind (spelling x tok) h) (unary_weighs d)
-  unary_weighs (p_plain d) = primary_weighs d
+  unary_weighs (p_plain d h) = primary_weighs d
 
   pub primary_weighs : {x : Origin} {i : Layout} {c : Bool} {t : Term} {ts rest : List Token} → SpellsPrimary x i c t ts rest → Weighs 0 (weight t) ts rest
   primary_weighs (p_primary d c) = within (then_weighs (atom_weighs d) (suffixes_weighs c)) (omega arith)
@@ -157,6 +157,7 @@ mutual
 
   value_weighs : {x : Origin} {i : Layout} {v : Term} {ts rest : List Token} → SpellsValue x i v ts rest → Weighs 0 (suc (weight v)) ts rest
   value_weighs {i = i} (p_value {tok = tok} h on d) = token_weighs (behind_no_end (is_punct 58) (goes_on i tok.indent) tok.kind refl h) (expr_weighs d)
+  value_weighs {i = i} (p_own_line {tok = tok} h on d c) = token_weighs (behind_no_end (is_punct 58) (goes_on i tok.indent) tok.kind refl h) (expr_weighs d)
 
   elifs_weighs : {x : Origin} {i : Layout} {some all : Choices} {ts rest : List Token} → SpellsElifs x i some all ts rest → Weighs (weight_of some) (weight_of all) ts rest
   elifs_weighs (p_no_elif h) = no_weighs

@@ -16,9 +16,9 @@ use Rattle.parse_exprs.specs.declared.input.Bracket.{Bracket}
 use Rattle.parse_exprs.specs.declared.input.Bracket.TheVariants.{Square}
 use Rattle.parse_exprs.specs.declared.input.Lead.{Lead}
 use Rattle.parse_exprs.specs.declared.input.Lead.TheVariants as L
-use Rattle.parse_exprs.specs.Look.{Origin, spelling, place_at, op_at, op_levels, single_of, single, sign_of, is_at_sign, is_name, is_punct, kind_at, bracket_of, bracket_named, bracket_at, square_at, closes_at, names_in, names_behind, suffix_at, stays, begins_atom, begins, operand_at, lead_at, branch_at, is_elif, is_else, is_of, first_of_at, branch_layout, colon_at, comma_at, past_colon, dots_at}
+use Rattle.parse_exprs.specs.Look.{Origin, spelling, place_at, op_at, op_levels, single_of, single, sign_of, is_at_sign, is_name, is_punct, kind_at, bracket_of, bracket_named, bracket_at, square_at, closes_at, names_in, names_behind, suffix_at, stays, begins_atom, begins, operand_at, lead_at, branch_at, is_elif, is_else, is_of, first_of_at, branch_layout, colon_at, comma_at, past_colon, dots_at, at_start, past_start, no_command_on, else_on, deeper_line_at, line_layout, closed_at}
 use Rattle.parse_exprs.specs.Outcome.{deep, stuck, tired, Out, got, bad, then_do, unless_stuck}
-use Rattle.parse_exprs.specs.Run.{behind, run_expr, run_lead, run_level, run_chain, run_more, run_unary, run_signed, run_primary, run_suffixes, run_suffix, run_applied, run_atom, run_group, run_enclosed, run_list, run_parts, run_part, run_if, run_tail, run_value, run_elifs, run_else, run_case, run_branches, run_of, run_labels, run_label, run_ofs, run_otherwise}
+use Rattle.parse_exprs.specs.Run.{behind, run_expr, run_lead, run_level, run_chain, run_more, run_unary, run_signed, run_primary, run_suffixes, run_suffix, run_applied, run_atom, run_group, run_enclosed, run_list, run_parts, run_part, run_if, run_tail, run_value, run_own_line, run_elifs, run_else, run_case, run_branches, run_of, run_labels, run_label, run_ofs, run_otherwise}
 
 -- what it comes to with more levels
 pub data Kept {X : Type 0} (o p : Out X) : Type 0 where
@@ -49,6 +49,10 @@ kept_if false q h = alike refl
 kept_else : {X : Type 0} {o p : Out X} (b : Bool) (q : Out X) → Kept o p → Kept (if b then q else o) (if b then q else p)
 kept_else true q h = alike refl
 kept_else false q h = h
+
+kept_both : {X : Type 0} {o p q r : Out X} (b : Bool) → Kept o p → Kept q r → Kept (if b then o else q) (if b then p else r)
+kept_both true h g = h
+kept_both false h g = g
 
 kept_free : {X : Type 0} {o p : Out X} (b c : Bool) → (b ≡ false → c ≡ false) → Kept o p → Kept (if b then bad deep else o) (if c then bad deep else p)
 kept_free true c f h = opened refl
@@ -102,19 +106,19 @@ kept_group (suc k) (Some t) b x i n tok ts e h at = cc
 kept_group (suc k) None (Some b) x i n tok ts e h at = cc
 kept_group (suc k) None None x i n tok ts e h at = alike (stuck_test (is_at_sign tok.kind (spelling x tok)) (tok ∷ ts) _ at)
 
-kept_atom_none : (k : ℕ) (x : Origin) (i : Layout) (n : ℕ) (tok : Token) (ts : List Token) → begins tok.kind (spelling x tok) ≡ false → Kept (bad (stuck (tok ∷ ts))) (run_primary k x i false (suc n) (tok ∷ ts))
-kept_atom_none zero x i n tok ts e = early refl
-kept_atom_none (suc zero) x i n tok ts e = early refl
-kept_atom_none (suc (suc k)) x i n tok ts e =
+kept_atom_none : (k : ℕ) (x : Origin) (i : Layout) (c : Bool) (n : ℕ) (tok : Token) (ts : List Token) → begins tok.kind (spelling x tok) ≡ false → Kept (bad (stuck (tok ∷ ts))) (run_primary k x i c (suc n) (tok ∷ ts))
+kept_atom_none zero x i c n tok ts e = early refl
+kept_atom_none (suc zero) x i c n tok ts e = early refl
+kept_atom_none (suc (suc k)) x i c n tok ts e =
     let h = no_atom tok.kind (spelling x tok) e in
-    kept_last {o = bad (stuck (tok ∷ ts))} (λ a mid. run_suffixes (suc k) x i false (suc n) a mid)
+    kept_last {o = bad (stuck (tok ∷ ts))} (λ a mid. run_suffixes (suc k) x i c (suc n) a mid)
     (kept_group k (single x tok) (bracket_at (tok ∷ ts)) x i n tok ts (no_single (place_at x tok) (spelling x tok) tok.kind h.0) (no_bracket tok.kind h.0) h.1)
 
 kept_signed_none : (k : ℕ) (o : Option UnaryOp) (x : Origin) (i : Layout) (n : ℕ) (tok : Token) (ts : List Token) → o ≡ None → begins tok.kind (spelling x tok) ≡ false
     → Kept (bad (stuck (tok ∷ ts))) (run_signed k o x i n tok ts)
 kept_signed_none zero o x i n tok ts e h = early refl
 kept_signed_none (suc k) (Some op) x i n tok ts e h = cc
-kept_signed_none (suc k) None x i n tok ts e h = kept_atom_none k x i n tok ts h
+kept_signed_none (suc k) None x i n tok ts e h = kept_last {o = bad (stuck (tok ∷ ts))} _ (kept_atom_none k x i (at_start i) n tok ts h)
 
 kept_none : (k : ℕ) (x : Origin) (i : Layout) (m : ℕ) (ts : List Token) → operand_at x ts ≡ false → Kept (bad (stuck ts)) (run_unary k x i m ts)
 kept_none zero x i m ts e = early refl
@@ -146,7 +150,7 @@ mutual
   kept_level : (k : ℕ) (x : Origin) (i : Layout) (l n m : ℕ) (ts : List Token) → n ≤ m → Kept (run_level k x i l n ts) (run_level k x i l m ts)
   kept_level zero x i l n m ts le = early refl
   kept_level (suc k) x i zero n m ts le = kept_unary k x i n m ts le
-  kept_level (suc k) x i (suc l) n m ts le = kept_then _ _ (kept_level k x i l n m ts le) (λ a mid. kept_chain k x i l n m a mid le)
+  kept_level (suc k) x i (suc l) n m ts le = kept_then _ _ (kept_level k x i l n m ts le) (λ a mid. kept_chain k x (past_start i) l n m a mid le)
 
   kept_chain : (k : ℕ) (x : Origin) (i : Layout) (l n m : ℕ) (a : Term) (ts : List Token) → n ≤ m → Kept (run_chain k x i l n a ts) (run_chain k x i l m a ts)
   kept_chain zero x i l n m a ts le = early refl
@@ -169,8 +173,8 @@ mutual
 
   kept_signed : (k : ℕ) (op : Option UnaryOp) (x : Origin) (i : Layout) (n m : ℕ) (tok : Token) (ts : List Token) → n ≤ m → Kept (run_signed k op x i n tok ts) (run_signed k op x i m tok ts)
   kept_signed zero op x i n m tok ts le = early refl
-  kept_signed (suc k) None x i n m tok ts le = kept_primary k x i false (suc n) (suc m) (tok ∷ ts) (omega (arith, le))
-  kept_signed (suc k) (Some op) x i n m tok ts le = kept_unless (stays i ts) ts (kept_last _ (kept_unary k x i n m ts le))
+  kept_signed (suc k) None x i n m tok ts le = kept_last _ (kept_primary k x i (at_start i) (suc n) (suc m) (tok ∷ ts) (omega (arith, le)))
+  kept_signed (suc k) (Some op) x i n m tok ts le = kept_unless (stays i ts) ts (kept_last _ (kept_unary k x (past_start i) n m ts le))
 
   pub kept_primary : (k : ℕ) (x : Origin) (i : Layout) (c : Bool) (n m : ℕ) (ts : List Token) → n ≤ m → Kept (run_primary k x i c n ts) (run_primary k x i c m ts)
   kept_primary zero x i c n m ts le = early refl
@@ -239,11 +243,15 @@ mutual
 
   kept_tail : (k : ℕ) (x : Origin) (i : Layout) (n m : ℕ) (ts : List Token) → n ≤ m → Kept (run_tail k x i n ts) (run_tail k x i m ts)
   kept_tail zero x i n m ts le = early refl
-  kept_tail (suc k) x i n m ts le = kept_unless (stays i ts) ts (kept_then _ _ (kept_expr k x i n m ts le) (λ c mid. kept_last _ (kept_value k x i n m mid le)))
+  kept_tail (suc k) x i n m ts le = kept_unless (stays i ts) ts (kept_then _ _ (kept_expr k x (past_start i) n m ts le) (λ c mid. kept_last _ (kept_value k x i n m mid le)))
 
   kept_value : (k : ℕ) (x : Origin) (i : Layout) (n m : ℕ) (ts : List Token) → n ≤ m → Kept (run_value k x i n ts) (run_value k x i m ts)
   kept_value zero x i n m ts le = early refl
-  kept_value (suc k) x i n m ts le = kept_unless (colon_at i ts) ts (kept_unless (stays i (behind ts)) (behind ts) (kept_expr k x i n m (behind ts) le))
+  kept_value (suc k) x i n m ts le = kept_unless (colon_at i ts) ts (kept_both (stays i (behind ts)) (kept_expr k x i n m (behind ts) le) (kept_own_line k x i n m (behind ts) le))
+
+  kept_own_line : (k : ℕ) (x : Origin) (i : Layout) (n m : ℕ) (ts : List Token) → n ≤ m → Kept (run_own_line k x i n ts) (run_own_line k x i m ts)
+  kept_own_line zero x i n m ts le = early refl
+  kept_own_line (suc k) x i n m ts le = kept_unless (deeper_line_at i ts) ts (kept_last _ (kept_expr k x (line_layout i ts) n m ts le))
 
   kept_elifs : (k : ℕ) (x : Origin) (i : Layout) (n m : ℕ) (some : Choices) (ts : List Token) → n ≤ m → Kept (run_elifs k x i n some ts) (run_elifs k x i m some ts)
   kept_elifs zero x i n m some ts le = early refl
@@ -261,7 +269,7 @@ mutual
   kept_case (suc k) x i (suc n) zero ts le = no_less n le
   kept_case (suc k) x i (suc n) (suc m) [] le = alike refl
   kept_case (suc k) x i (suc n) (suc m) (tok ∷ ts) le =
-      kept_unless (stays i ts) ts (kept_then _ _ (kept_expr k x i n m ts (less n m le)) (λ s mid. kept_branches k x i n m (place_at x tok) s (past_colon i mid) (less n m le)))
+      kept_unless (stays i ts) ts (kept_then _ _ (kept_expr k x (past_start i) n m ts (less n m le)) (λ s mid. kept_branches k x i n m (place_at x tok) s (past_colon i mid) (less n m le)))
 
   kept_branches : (k : ℕ) (x : Origin) (i : Layout) (n m : ℕ) (at : Place) (s : Term) (ts : List Token) → n ≤ m → Kept (run_branches k x i n at s ts) (run_branches k x i m at s ts)
   kept_branches zero x i n m at s ts le = early refl
@@ -276,8 +284,8 @@ mutual
   kept_of zero x i n m ts le = early refl
   kept_of (suc k) x i n m ts le =
       kept_unless (stays i ts) ts (
-      kept_then _ _ (kept_label k x i n m ts le) (λ a mid.
-      kept_then _ _ (kept_labels k x i n m (part a no_parts) mid le) (λ labels end.
+      kept_then _ _ (kept_label k x (past_start i) n m ts le) (λ a mid.
+      kept_then _ _ (kept_labels k x (past_start i) n m (part a no_parts) mid le) (λ labels end.
       kept_last _ (kept_value k x i n m end le))))
 
   kept_labels : (k : ℕ) (x : Origin) (i : Layout) (n m : ℕ) (some : Parts) (ts : List Token) → n ≤ m → Kept (run_labels k x i n some ts) (run_labels k x i m some ts)
@@ -299,4 +307,4 @@ mutual
 
   kept_otherwise : (k : ℕ) (x : Origin) (i : Layout) (n m : ℕ) (at : Place) (s : Term) (all : Choices) (ts : List Token) → n ≤ m → Kept (run_otherwise k x i n at s all ts) (run_otherwise k x i m at s all ts)
   kept_otherwise zero x i n m at s all ts le = early refl
-  kept_otherwise (suc k) x i n m at s all ts le = kept_if (branch_at i is_else ts) _ (kept_last _ (kept_value k x i n m (behind ts) le))
+  kept_otherwise (suc k) x i n m at s all ts le = kept_if (else_on i ts) _ (kept_last _ (kept_value k x i n m (behind ts) le))

@@ -14,8 +14,8 @@ use Rattle.parse_exprs.specs.declared.layout.Layout.TheVariants.{Brackets}
 use Rattle.parse_exprs.specs.declared.input.Bracket.{Bracket}
 use Rattle.parse_exprs.specs.declared.input.Bracket.TheVariants.{Round, Square}
 use Rattle.parse_exprs.specs.declared.input.Lead.TheVariants as L
-use Rattle.parse_exprs.specs.Look.{Origin, spelling, op_at, op_levels, single, sign_of, is_at_sign, is_name, is_punct, kind_at, place_at, name_on, bracket_at, square_at, closes_at, names_in, names_behind, suffix_at, stays, operand_at, lead_at, branch_at, is_elif, is_else, is_of, first_of_at, branch_layout, colon_at, comma_at, past_colon, dots_at}
-use Rattle.parse_exprs.specs.Grammar.{SpellsExpr, Spells, SpellsAtom, SpellsSuffix, SpellsParts, SpellsPart, SpellsTail, SpellsElifs, SpellsOf, SpellsOfs, SpellsLabel, SpellsLabels, Stops}
+use Rattle.parse_exprs.specs.Look.{Origin, spelling, op_at, op_levels, single, sign_of, is_at_sign, is_name, is_punct, kind_at, place_at, name_on, bracket_at, square_at, closes_at, names_in, names_behind, suffix_at, stays, operand_at, lead_at, branch_at, is_elif, is_else, is_of, first_of_at, branch_layout, colon_at, comma_at, past_colon, dots_at, at_start, past_start, no_command_on, else_on, deeper_line_at, line_layout, closed_at}
+use Rattle.parse_exprs.specs.Grammar.{SpellsExpr, Spells, SpellsPrimary, SpellsAtom, SpellsSuffix, SpellsParts, SpellsPart, SpellsTail, SpellsElifs, SpellsOf, SpellsOfs, SpellsLabel, SpellsLabels, Stops}
 
 pub data Fault : Type 0 where
   -- a level too many is opened
@@ -46,7 +46,7 @@ mutual
     f_tight : {i : Layout} {n : ℕ} {ts : List Token} → FaultsUnary x why i n ts → Faults x why i zero n ts
     f_operand : {i : Layout} {l n : ℕ} {ts : List Token} → Faults x why i l n ts → Faults x why i (suc l) n ts
     f_more : {i : Layout} {l n : ℕ} {a : Term} {ts mid : List Token} → Done x i l n (levels a) (Spells x i l a ts mid) mid
-        → FaultsMore x why i l n a mid → Faults x why i (suc l) n ts
+        → FaultsMore x why (past_start i) l n a mid → Faults x why i (suc l) n ts
 
   -- what follows a
   pub data FaultsMore (x : Origin) (why : Fault) : Layout → ℕ → ℕ → Term → List Token → Type 0 where
@@ -65,9 +65,13 @@ mutual
     f_sign_line : {i : Layout} {n : ℕ} {op : UnaryOp} {tok : Token} {ts : List Token} → sign_of tok.kind (spelling x tok) ≡ Some op
         → stays i ts ≡ false → why ≡ stuck_at ts → FaultsUnary x why i (suc n) (tok ∷ ts)
     f_sign : {i : Layout} {n : ℕ} {op : UnaryOp} {tok : Token} {ts : List Token} → sign_of tok.kind (spelling x tok) ≡ Some op
-        → stays i ts ≡ true → FaultsUnary x why i n ts → FaultsUnary x why i (suc n) (tok ∷ ts)
+        → stays i ts ≡ true → FaultsUnary x why (past_start i) n ts → FaultsUnary x why i (suc n) (tok ∷ ts)
     f_plain : {i : Layout} {n : ℕ} {tok : Token} {ts : List Token} → sign_of tok.kind (spelling x tok) ≡ None
-        → FaultsPrimary x why i false n (tok ∷ ts) → FaultsUnary x why i (suc n) (tok ∷ ts)
+        → FaultsPrimary x why i (at_start i) n (tok ∷ ts) → FaultsUnary x why i (suc n) (tok ∷ ts)
+    -- a command begins
+    f_command : {i : Layout} {n : ℕ} {a : Term} {tok : Token} {ts mid : List Token} → sign_of tok.kind (spelling x tok) ≡ None
+        → SpellsPrimary x i (at_start i) a (tok ∷ ts) mid → levels a ≤ suc n → suffix_at i (at_start i) mid ≡ false → no_command_on x i mid ≡ false
+        → why ≡ stuck_at mid → FaultsUnary x why i (suc n) (tok ∷ ts)
 
   -- where one level more than n is left
   pub data FaultsPrimary (x : Origin) (why : Fault) : Layout → Bool → ℕ → List Token → Type 0 where
@@ -152,17 +156,24 @@ mutual
   -- a condition, a colon and a value
   pub data FaultsTail (x : Origin) (why : Fault) : Layout → ℕ → List Token → Type 0 where
     f_tail_line : {i : Layout} {n : ℕ} {ts : List Token} → stays i ts ≡ false → why ≡ stuck_at ts → FaultsTail x why i n ts
-    f_condition : {i : Layout} {n : ℕ} {ts : List Token} → stays i ts ≡ true → FaultsExpr x why i n ts → FaultsTail x why i n ts
-    f_tail_value : {i : Layout} {n : ℕ} {c : Term} {ts mid : List Token} → stays i ts ≡ true → Done x i op_levels n (levels c) (SpellsExpr x i c ts mid) mid
+    f_condition : {i : Layout} {n : ℕ} {ts : List Token} → stays i ts ≡ true → FaultsExpr x why (past_start i) n ts → FaultsTail x why i n ts
+    f_tail_value : {i : Layout} {n : ℕ} {c : Term} {ts mid : List Token} → stays i ts ≡ true
+        → Done x (past_start i) op_levels n (levels c) (SpellsExpr x (past_start i) c ts mid) mid
         → FaultsValue x why i n mid → FaultsTail x why i n ts
 
   -- a colon and a value
   pub data FaultsValue (x : Origin) (why : Fault) : Layout → ℕ → List Token → Type 0 where
     f_no_colon : {i : Layout} {n : ℕ} {ts : List Token} → colon_at i ts ≡ false → why ≡ stuck_at ts → FaultsValue x why i n ts
-    f_value_line : {i : Layout} {n : ℕ} {tok : Token} {ts : List Token} → colon_at i (tok ∷ ts) ≡ true → stays i ts ≡ false → why ≡ stuck_at ts
-        → FaultsValue x why i n (tok ∷ ts)
+    f_value_line : {i : Layout} {n : ℕ} {tok : Token} {ts : List Token} → colon_at i (tok ∷ ts) ≡ true → stays i ts ≡ false
+        → deeper_line_at i ts ≡ false → why ≡ stuck_at ts → FaultsValue x why i n (tok ∷ ts)
     f_value : {i : Layout} {n : ℕ} {tok : Token} {ts : List Token} → colon_at i (tok ∷ ts) ≡ true → stays i ts ≡ true → FaultsExpr x why i n ts
         → FaultsValue x why i n (tok ∷ ts)
+    f_own_line : {i : Layout} {n : ℕ} {tok : Token} {ts : List Token} → colon_at i (tok ∷ ts) ≡ true → deeper_line_at i ts ≡ true
+        → FaultsExpr x why (line_layout i ts) n ts → FaultsValue x why i n (tok ∷ ts)
+    -- something else stands on the lines of the value
+    f_not_closed : {i : Layout} {n : ℕ} {v : Term} {tok : Token} {ts rest : List Token} → colon_at i (tok ∷ ts) ≡ true → deeper_line_at i ts ≡ true
+        → Done x (line_layout i ts) op_levels n (levels v) (SpellsExpr x (line_layout i ts) v ts rest) rest
+        → closed_at (line_layout i ts) rest ≡ false → why ≡ stuck_at rest → FaultsValue x why i n (tok ∷ ts)
 
   -- behind a branch of `if`
   pub data FaultsElifs (x : Origin) (why : Fault) : Layout → ℕ → List Token → Type 0 where
@@ -178,8 +189,9 @@ mutual
   -- behind the token `case`
   pub data FaultsCase (x : Origin) (why : Fault) : Layout → ℕ → List Token → Type 0 where
     f_case_line : {i : Layout} {n : ℕ} {ts : List Token} → stays i ts ≡ false → why ≡ stuck_at ts → FaultsCase x why i n ts
-    f_subject : {i : Layout} {n : ℕ} {ts : List Token} → stays i ts ≡ true → FaultsExpr x why i n ts → FaultsCase x why i n ts
-    f_branches : {i : Layout} {n : ℕ} {s : Term} {ts mid : List Token} → stays i ts ≡ true → Done x i op_levels n (levels s) (SpellsExpr x i s ts mid) mid
+    f_subject : {i : Layout} {n : ℕ} {ts : List Token} → stays i ts ≡ true → FaultsExpr x why (past_start i) n ts → FaultsCase x why i n ts
+    f_branches : {i : Layout} {n : ℕ} {s : Term} {ts mid : List Token} → stays i ts ≡ true
+        → Done x (past_start i) op_levels n (levels s) (SpellsExpr x (past_start i) s ts mid) mid
         → FaultsBranches x why i n (past_colon i mid) → FaultsCase x why i n ts
 
   pub data FaultsBranches (x : Origin) (why : Fault) : Layout → ℕ → List Token → Type 0 where
@@ -193,18 +205,20 @@ mutual
         → Done x (branch_layout i tok.indent) op_levels n (max (most_levels tests) (levels v)) (SpellsOf x (branch_layout i tok.indent) tests v ts mid) mid
         → Done x (branch_layout i tok.indent) op_levels n (levels_in all)
         (SpellsOfs x (branch_layout i tok.indent) (choice (place_at x tok) tests v no_choices) all mid (other ∷ end)) (other ∷ end)
-        → branch_at (branch_layout i tok.indent) is_else (other ∷ end) ≡ true → FaultsValue x why (branch_layout i tok.indent) n end
+        → else_on (branch_layout i tok.indent) (other ∷ end) ≡ true → FaultsValue x why (branch_layout i tok.indent) n end
         → FaultsBranches x why i n (tok ∷ ts)
 
   -- behind `of`
   pub data FaultsOf (x : Origin) (why : Fault) : Layout → ℕ → List Token → Type 0 where
     f_of_line : {i : Layout} {n : ℕ} {ts : List Token} → stays i ts ≡ false → why ≡ stuck_at ts → FaultsOf x why i n ts
-    f_label : {i : Layout} {n : ℕ} {ts : List Token} → stays i ts ≡ true → FaultsLabel x why i n ts → FaultsOf x why i n ts
-    f_labels : {i : Layout} {n : ℕ} {a : Term} {ts mid : List Token} → stays i ts ≡ true → Done x i op_levels n (levels a) (SpellsLabel x i a ts mid) mid
-        → FaultsLabels x why i n mid → FaultsOf x why i n ts
+    f_label : {i : Layout} {n : ℕ} {ts : List Token} → stays i ts ≡ true → FaultsLabel x why (past_start i) n ts → FaultsOf x why i n ts
+    f_labels : {i : Layout} {n : ℕ} {a : Term} {ts mid : List Token} → stays i ts ≡ true
+        → Done x (past_start i) op_levels n (levels a) (SpellsLabel x (past_start i) a ts mid) mid
+        → FaultsLabels x why (past_start i) n mid → FaultsOf x why i n ts
     f_of_value : {i : Layout} {n : ℕ} {a : Term} {tests : Parts} {ts mid end : List Token} → stays i ts ≡ true
-        → Done x i op_levels n (levels a) (SpellsLabel x i a ts mid) mid
-        → Done x i op_levels n (most_levels tests) (SpellsLabels x i (part a no_parts) tests mid end) end → FaultsValue x why i n end → FaultsOf x why i n ts
+        → Done x (past_start i) op_levels n (levels a) (SpellsLabel x (past_start i) a ts mid) mid
+        → Done x (past_start i) op_levels n (most_levels tests) (SpellsLabels x (past_start i) (part a no_parts) tests mid end) end
+        → FaultsValue x why i n end → FaultsOf x why i n ts
 
   -- behind a label
   pub data FaultsLabels (x : Origin) (why : Fault) : Layout → ℕ → List Token → Type 0 where

@@ -1,11 +1,12 @@
 -- The grammar of expressions as it stands: any front of the tokens that it spells.
 --
---     expr    = 'if' tail { 'elif' tail } 'else' ':' expr
---             | 'case' expr [ ':' ] of { of } [ 'else' ':' expr ]
+--     expr    = 'if' tail { 'elif' tail } 'else' value
+--             | 'case' expr [ ':' ] of { of } [ 'else' value ]
 --             | xor { ('or' | 'xor') xor }, and so on, from loose to tight:
 --               'or' 'xor'; 'and'; '==' '<=' '<' '>=' '>' '!='; '&'; '+' '-'; '*' 'div' 'mod' 'shl' 'shr'
---     tail    = expr ':' expr
---     of      = 'of' label { ',' label } ':' expr
+--     tail    = expr value
+--     value   = ':' ( expr | IND expr DED )
+--     of      = 'of' label { ',' label } value
 --     label   = expr [ '..' expr ]
 --     unary   = ('-' | '+' | 'not' | '$') unary | primary
 --     primary = atom { '.' name | '(' parts ')' | '[' exprs ']' }
@@ -15,11 +16,17 @@
 --
 -- Parentheses hold one expression or are a tuple; behind an expression they are a call, and an object where a name
 -- stands before them and their parts have names. An `elif`, `of` or `else` belongs to the nearest `if` or `case` before it
--- that can have it.
+-- that can have it; a `case` can have an `else` only with its colon.
 --
 -- Outside brackets an expression goes on over the end of a line only behind a comma or an operator between operands; but
 -- `elif` and `else` may begin a line at the level of the statement, and so may `of`, or deeper, where it sets the level of
--- those that follow.
+-- those that follow. The value of a branch begins on the line of its colon, or on the next (IND), behind more spaces than the
+-- level of its branch; its line then sets the level of what stands in it, and behind it the tokens end, or a line begins behind
+-- fewer spaces (DED).
+--
+-- An `if` or `case` that begins a statement is read as one at its start. A value in it begins like a line: where an operand of a
+-- command goes on behind what may be called, a command begins there, and no expression. Conditions and labels, and what stands
+-- behind an operator, don't begin like a line, so there spaces don't matter.
 --
 -- Where a repetition, or an optional part, that begins with a token of its own (a comma between parts or labels, `..`,
 -- `elif`, `of`, `else`) ends, that token doesn't stand: what can go on goes on. Operators and what stands behind an atom
@@ -36,25 +43,25 @@ use Rattle.parse_exprs.specs.declared.layout.Layout.TheVariants.{Brackets}
 use Rattle.parse_exprs.specs.declared.input.Bracket.{Bracket}
 use Rattle.parse_exprs.specs.declared.input.Bracket.TheVariants.{Square}
 use Rattle.parse_exprs.specs.declared.input.Lead.TheVariants as L
-use Rattle.parse_exprs.specs.Look.{Origin, spelling, place_at, goes_on, op_at, op_levels, single, grouped, applied, sign_of, is_at_sign, is_punct, kind_at, bracket_at, closes_at, names_in, names_behind, suffix_at, stays, lead_at, branch_at, is_elif, is_else, is_of, first_of_at, branch_layout, colon_at, comma_at, past_colon, dots_at}
+use Rattle.parse_exprs.specs.Look.{Origin, spelling, place_at, goes_on, op_at, op_levels, single, grouped, applied, sign_of, is_at_sign, is_punct, kind_at, bracket_at, closes_at, names_in, names_behind, suffix_at, stays, lead_at, branch_at, is_elif, is_else, is_of, first_of_at, branch_layout, colon_at, comma_at, past_colon, dots_at, at_start, past_start, no_command_on, else_on, deeper_line_at, line_layout, closed_at}
 
 mutual
   -- SpellsExpr x i t ts rest: the tokens ts of x begin with those of t, and rest is what follows. i says whether it
-  -- stands inside brackets, or at which level its statement stands.
+  -- stands inside brackets, or at which level its statement stands, and whether it begins like a line.
   pub data SpellsExpr (x : Origin) : Layout → Term → List Token → List Token → Type 0 where
     p_operators : {i : Layout} {t : Term} {ts rest : List Token} → Spells x i op_levels t ts rest → SpellsExpr x i t ts rest
     p_if : {i : Layout} {tests : Parts} {v e : Term} {all : Choices} {tok : Token} {ts mid end rest : List Token} → lead_at (tok ∷ ts) ≡ L.If
         → SpellsTail x i tests v ts mid → SpellsElifs x i (choice (place_at x tok) tests v no_choices) all mid end → SpellsElse x i e end rest
         → SpellsExpr x i (if_term (place_at x tok) all e) (tok ∷ ts) rest
     p_case : {i : Layout} {s t : Term} {tok : Token} {ts mid rest : List Token} → lead_at (tok ∷ ts) ≡ L.Case → stays i ts ≡ true
-        → SpellsExpr x i s ts mid → SpellsBranches x i (place_at x tok) s t (past_colon i mid) rest → SpellsExpr x i t (tok ∷ ts) rest
+        → SpellsExpr x (past_start i) s ts mid → SpellsBranches x i (place_at x tok) s t (past_colon i mid) rest → SpellsExpr x i t (tok ∷ ts) rest
 
   -- ---- operators
 
   -- Spells x i l t ts rest: the same of a t whose loosest operators are those below the level l
   pub data Spells (x : Origin) : Layout → ℕ → Term → List Token → List Token → Type 0 where
     p_unary : {i : Layout} {t : Term} {ts rest : List Token} → SpellsUnary x i t ts rest → Spells x i zero t ts rest
-    p_binary : {i : Layout} {l : ℕ} {a t : Term} {ts mid rest : List Token} → Spells x i l a ts mid → SpellsMore x i l a t mid rest → Spells x i (suc l) t ts rest
+    p_binary : {i : Layout} {l : ℕ} {a t : Term} {ts mid rest : List Token} → Spells x i l a ts mid → SpellsMore x (past_start i) l a t mid rest → Spells x i (suc l) t ts rest
 
   -- what follows a: { operator operand }
   pub data SpellsMore (x : Origin) : Layout → ℕ → Term → Term → List Token → List Token → Type 0 where
@@ -62,11 +69,11 @@ mutual
     p_more : {i : Layout} {l : ℕ} {a b t : Term} {op : BinaryOp} {tok : Token} {ts mid rest : List Token} → op_at x i l (tok ∷ ts) ≡ Some op
         → Spells x i l b ts mid → SpellsMore x i l (binary (place_of a) op a b) t mid rest → SpellsMore x i l a t (tok ∷ ts) rest
 
-  -- the operand of an operator before it begins on the operator's line
+  -- the operand of an operator before it begins on the operator's line; what begins like a line begins no command
   pub data SpellsUnary (x : Origin) : Layout → Term → List Token → List Token → Type 0 where
     p_sign : {i : Layout} {a : Term} {op : UnaryOp} {tok : Token} {ts rest : List Token} → sign_of tok.kind (spelling x tok) ≡ Some op
-        → stays i ts ≡ true → SpellsUnary x i a ts rest → SpellsUnary x i (unary (place_at x tok) op a) (tok ∷ ts) rest
-    p_plain : {i : Layout} {a : Term} {ts rest : List Token} → SpellsPrimary x i false a ts rest → SpellsUnary x i a ts rest
+        → stays i ts ≡ true → SpellsUnary x (past_start i) a ts rest → SpellsUnary x i (unary (place_at x tok) op a) (tok ∷ ts) rest
+    p_plain : {i : Layout} {a : Term} {ts rest : List Token} → SpellsPrimary x i (at_start i) a ts rest → no_command_on x i rest ≡ true → SpellsUnary x i a ts rest
 
   -- the Bool says whether a command may begin behind it
   pub data SpellsPrimary (x : Origin) : Layout → Bool → Term → List Token → List Token → Type 0 where
@@ -118,13 +125,15 @@ mutual
 
   -- a condition, a colon and a value
   pub data SpellsTail (x : Origin) : Layout → Parts → Term → List Token → List Token → Type 0 where
-    p_tail : {i : Layout} {c v : Term} {ts mid rest : List Token} → stays i ts ≡ true → SpellsExpr x i c ts mid
+    p_tail : {i : Layout} {c v : Term} {ts mid rest : List Token} → stays i ts ≡ true → SpellsExpr x (past_start i) c ts mid
         → SpellsValue x i v mid rest → SpellsTail x i (part c no_parts) v ts rest
 
-  -- a colon, and a value on its line
+  -- a colon, and a value on its line, or on deeper lines of its own
   pub data SpellsValue (x : Origin) : Layout → Term → List Token → List Token → Type 0 where
     p_value : {i : Layout} {v : Term} {tok : Token} {ts rest : List Token} → colon_at i (tok ∷ ts) ≡ true → stays i ts ≡ true
         → SpellsExpr x i v ts rest → SpellsValue x i v (tok ∷ ts) rest
+    p_own_line : {i : Layout} {v : Term} {tok : Token} {ts rest : List Token} → colon_at i (tok ∷ ts) ≡ true → deeper_line_at i ts ≡ true
+        → SpellsExpr x (line_layout i ts) v ts rest → closed_at (line_layout i ts) rest ≡ true → SpellsValue x i v (tok ∷ ts) rest
 
   -- what follows some branches of `if`: { 'elif' tail }
   pub data SpellsElifs (x : Origin) : Layout → Choices → Choices → List Token → List Token → Type 0 where
@@ -146,8 +155,8 @@ mutual
 
   -- what stands behind `of`: labels, a colon and a value
   pub data SpellsOf (x : Origin) : Layout → Parts → Term → List Token → List Token → Type 0 where
-    p_of : {i : Layout} {a v : Term} {tests : Parts} {ts mid end rest : List Token} → stays i ts ≡ true → SpellsLabel x i a ts mid
-        → SpellsLabels x i (part a no_parts) tests mid end → SpellsValue x i v end rest → SpellsOf x i tests v ts rest
+    p_of : {i : Layout} {a v : Term} {tests : Parts} {ts mid end rest : List Token} → stays i ts ≡ true → SpellsLabel x (past_start i) a ts mid
+        → SpellsLabels x (past_start i) (part a no_parts) tests mid end → SpellsValue x i v end rest → SpellsOf x i tests v ts rest
 
   -- what follows some labels: { ',' label }
   pub data SpellsLabels (x : Origin) : Layout → Parts → Parts → List Token → List Token → Type 0 where
@@ -168,7 +177,7 @@ mutual
 
   -- the `case` with these branches, without `else` or with
   pub data SpellsOtherwise (x : Origin) : Layout → Place → Term → Choices → Term → List Token → List Token → Type 0 where
-    p_no_else : {i : Layout} {at : Place} {s : Term} {all : Choices} {rest : List Token} → branch_at i is_else rest ≡ false
+    p_no_else : {i : Layout} {at : Place} {s : Term} {all : Choices} {rest : List Token} → else_on i rest ≡ false
         → SpellsOtherwise x i at s all (case_term at s all) rest rest
     p_with_else : {i : Layout} {at : Place} {s v : Term} {all : Choices} {tok : Token} {ts rest : List Token} → branch_at i is_else (tok ∷ ts) ≡ true
         → SpellsValue x i v ts rest → SpellsOtherwise x i at s all (case_else at s all v) (tok ∷ ts) rest

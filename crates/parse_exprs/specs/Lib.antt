@@ -7,3 +7,4 @@ pub mod Grammar
 pub mod Faults
 pub mod Parsed
 pub mod Counts
+pub mod Ends

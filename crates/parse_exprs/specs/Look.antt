@@ -13,7 +13,7 @@ use Rattle.nim_tree.specs.declared.expr.BinaryOp.TheVariants as B
 use Rattle.parse_exprs.specs.declared.input.Bracket.{Bracket}
 use Rattle.parse_exprs.specs.declared.input.Bracket.TheVariants.{Round, Square}
 use Rattle.parse_exprs.specs.declared.layout.Layout.{Layout}
-use Rattle.parse_exprs.specs.declared.layout.Layout.TheVariants.{Brackets, Lines}
+use Rattle.parse_exprs.specs.declared.layout.Layout.TheVariants.{Brackets, Lines, Start}
 use Rattle.parse_exprs.specs.declared.input.Lead.{Lead}
 use Rattle.parse_exprs.specs.declared.input.Lead.TheVariants as L
 use Rattle.indent_scanner.specs.Words.{is_left_out as is_left_out_key}
@@ -43,24 +43,54 @@ abbrev pub goes_on : Layout → Option ℕ → Bool
 goes_on layout None = true
 goes_on Brackets (Some spaces) = true
 goes_on (Lines n) (Some spaces) = false
+goes_on (Start n) (Some spaces) = false
 
 -- a word of a further branch goes on, and may begin a line at the level of its statement
 abbrev pub branch_goes_on : Layout → Option ℕ → Bool
 branch_goes_on layout None = true
 branch_goes_on Brackets (Some spaces) = true
 branch_goes_on (Lines n) (Some spaces) = spaces == n
+branch_goes_on (Start n) (Some spaces) = spaces == n
 
 -- the first `of` goes on, and may begin a line at the level of its statement or deeper
 abbrev pub first_goes_on : Layout → Option ℕ → Bool
 first_goes_on layout None = true
 first_goes_on Brackets (Some spaces) = true
 first_goes_on (Lines n) (Some spaces) = not (nat_lt spaces n)
+first_goes_on (Start n) (Some spaces) = not (nat_lt spaces n)
 
 -- the level that the first `of` sets for those that follow
 abbrev pub branch_layout : Layout → Option ℕ → Layout
 branch_layout layout None = layout
 branch_layout Brackets (Some spaces) = Brackets
 branch_layout (Lines n) (Some spaces) = Lines spaces
+branch_layout (Start n) (Some spaces) = Start spaces
+
+-- whether a line behind so many spaces stands deeper
+abbrev pub is_deeper : Layout → Option ℕ → Bool
+is_deeper layout None = false
+is_deeper Brackets (Some spaces) = false
+is_deeper (Lines n) (Some spaces) = nat_lt n spaces
+is_deeper (Start n) (Some spaces) = nat_lt n spaces
+
+-- or less deep
+abbrev pub is_shallower : Layout → Option ℕ → Bool
+is_shallower layout None = false
+is_shallower Brackets (Some spaces) = false
+is_shallower (Lines n) (Some spaces) = nat_lt spaces n
+is_shallower (Start n) (Some spaces) = nat_lt spaces n
+
+-- whether the start of a statement stands there, where a command may begin
+abbrev pub at_start : Layout → Bool
+at_start Brackets = false
+at_start (Lines n) = false
+at_start (Start n) = true
+
+-- behind the start
+abbrev pub past_start : Layout → Layout
+past_start Brackets = Brackets
+past_start (Lines n) = Lines n
+past_start (Start n) = Lines n
 
 -- ---- operators
 
@@ -300,7 +330,7 @@ abbrev pub operand_at : Origin → List Token → Bool
 operand_at x [] = false
 operand_at x (tok ∷ rest) = begins tok.kind (spelling x tok)
 
--- ---- branches
+-- ---- what an expression begins with
 
 -- what an expression begins with
 abbrev pub lead_of : Tok → Lead
@@ -322,6 +352,28 @@ abbrev pub expr_at : Origin → List Token → Bool
 expr_at x [] = false
 expr_at x (tok ∷ rest) = begins_branches (lead_of tok.kind) || begins tok.kind (spelling x tok)
 
+-- ---- commands
+
+-- an operator of the language, `@` among them
+abbrev pub is_operator : List ℕ → Bool
+is_operator bytes = is_some (op_named bytes) || (is_some (sign_named bytes) || is_at_sign T.Op bytes)
+
+-- What begins an operand of a command: an operator only with a space before it and none behind it.
+abbrev pub begins_operand : Origin → Token → Tok → Bool
+begins_operand x tok T.Op = is_operator (spelling x tok) && (tok.space_before && not tok.space_after)
+begins_operand x tok kind = expr_at x (tok ∷ [])
+
+-- whether an operand of a command goes on here
+abbrev pub operand_on : Origin → Layout → List Token → Bool
+operand_on x layout [] = false
+operand_on x layout (tok ∷ rest) = goes_on layout tok.indent && begins_operand x tok tok.kind
+
+-- Whether what ends here begins no command: at the start of a statement no operand goes on behind it.
+abbrev pub no_command_on : Origin → Layout → List Token → Bool
+no_command_on x layout ts = not (at_start layout && operand_on x layout ts)
+
+-- ---- branches
+
 abbrev pub is_elif : Tok → Bool
 is_elif (T.Key K.Elif) = true
 is_elif _ = false
@@ -339,15 +391,20 @@ abbrev pub branch_at : Layout → (Tok → Bool) → List Token → Bool
 branch_at layout is [] = false
 branch_at layout is (tok ∷ rest) = branch_goes_on layout tok.indent && is tok.kind
 
--- whether the first `of` goes on here
-abbrev pub first_of_at : Layout → List Token → Bool
-first_of_at layout [] = false
-first_of_at layout (tok ∷ rest) = first_goes_on layout tok.indent && is_of tok.kind
-
 -- whether a colon goes on here
 abbrev pub colon_at : Layout → List Token → Bool
 colon_at layout [] = false
 colon_at layout (tok ∷ rest) = goes_on layout tok.indent && is_punct 58 tok.kind
+
+-- whether an `else` with its colon goes on here
+abbrev pub else_on : Layout → List Token → Bool
+else_on layout [] = false
+else_on layout (tok ∷ rest) = (branch_goes_on layout tok.indent && is_else tok.kind) && colon_at layout rest
+
+-- whether the first `of` goes on here
+abbrev pub first_of_at : Layout → List Token → Bool
+first_of_at layout [] = false
+first_of_at layout (tok ∷ rest) = first_goes_on layout tok.indent && is_of tok.kind
 
 -- whether a comma goes on here
 abbrev pub comma_at : Layout → List Token → Bool
@@ -365,6 +422,25 @@ dots_at x layout [] = false
 dots_at x layout (tok ∷ rest) = goes_on layout tok.indent && is_run (codes "..") tok.kind (spelling x tok)
 
 -- ---- lines
+
+abbrev pub is_end : Tok → Bool
+is_end T.End = true
+is_end _ = false
+
+-- whether a deeper line begins here
+abbrev pub deeper_line_at : Layout → List Token → Bool
+deeper_line_at layout [] = false
+deeper_line_at layout (tok ∷ rest) = is_deeper layout tok.indent
+
+-- the layout of what stands on the line that begins here
+abbrev pub line_layout : Layout → List Token → Layout
+line_layout layout [] = layout
+line_layout layout (tok ∷ rest) = branch_layout layout tok.indent
+
+-- whether the lines of that level end here: the tokens end, or a line that is less deep begins
+abbrev pub closed_at : Layout → List Token → Bool
+closed_at layout [] = true
+closed_at layout (tok ∷ rest) = is_end tok.kind || is_shallower layout tok.indent
 
 abbrev pub spaces_or : ℕ → Option ℕ → ℕ
 spaces_or n None = n

@@ -13,7 +13,7 @@ use Rattle.parse_exprs.specs.declared.input.Bracket.{Bracket}
 use Rattle.parse_exprs.specs.declared.input.Bracket.TheVariants.{Square}
 use Rattle.parse_exprs.specs.declared.input.Lead.{Lead}
 use Rattle.parse_exprs.specs.declared.input.Lead.TheVariants as L
-use Rattle.parse_exprs.specs.Look.{Origin, spelling, place_at, op_at, op_levels, single, grouped, applied, sign_of, is_at_sign, is_punct, bracket_at, kind_at, closes_at, names_in, names_behind, name_on, suffix_at, stays, square_at, operand_at, lead_at, branch_at, is_elif, is_else, is_of, first_of_at, branch_layout, colon_at, comma_at, past_colon, dots_at, is_name}
+use Rattle.parse_exprs.specs.Look.{Origin, spelling, place_at, op_at, op_levels, single, grouped, applied, sign_of, is_at_sign, is_punct, bracket_at, kind_at, closes_at, names_in, names_behind, name_on, suffix_at, stays, square_at, operand_at, lead_at, branch_at, is_elif, is_else, is_of, first_of_at, branch_layout, colon_at, comma_at, past_colon, dots_at, is_name, at_start, past_start, no_command_on, else_on, deeper_line_at, line_layout, closed_at}
 use Rattle.parse_exprs.specs.Outcome.{deep, stuck, tired, Out, got, bad, then_do, unless_stuck}
 
 -- a condition or labels, and the value behind them
@@ -53,7 +53,7 @@ abbrev mutual
   pub run_level : ℕ → Origin → Layout → ℕ → ℕ → List Token → Out Term
   run_level zero x i l n ts = bad tired
   run_level (suc k) x i zero n ts = run_unary k x i n ts
-  run_level (suc k) x i (suc l) n ts = then_do (run_level k x i l n ts) (λ a mid. run_chain k x i l n a mid)
+  run_level (suc k) x i (suc l) n ts = then_do (run_level k x i l n ts) (λ a mid. run_chain k x (past_start i) l n a mid)
 
   -- what follows a
   pub run_chain : ℕ → Origin → Layout → ℕ → ℕ → Term → List Token → Out Term
@@ -76,8 +76,8 @@ abbrev mutual
 
   pub run_signed : ℕ → Option UnaryOp → Origin → Layout → ℕ → Token → List Token → Out Term
   run_signed zero op x i n tok ts = bad tired
-  run_signed (suc k) None x i n tok ts = run_primary k x i false (suc n) (tok ∷ ts)
-  run_signed (suc k) (Some op) x i n tok ts = unless_stuck (stays i ts) ts (then_do (run_unary k x i n ts) (λ a rest. got (unary (place_at x tok) op a) rest))
+  run_signed (suc k) None x i n tok ts = then_do (run_primary k x i (at_start i) (suc n) (tok ∷ ts)) (λ a rest. unless_stuck (no_command_on x i rest) rest (got a rest))
+  run_signed (suc k) (Some op) x i n tok ts = unless_stuck (stays i ts) ts (then_do (run_unary k x (past_start i) n ts) (λ a rest. got (unary (place_at x tok) op a) rest))
 
   -- ---- what stands behind an atom; c says whether a command may begin
 
@@ -163,7 +163,7 @@ abbrev mutual
   run_tail zero x i n ts = bad tired
   run_tail (suc k) x i n ts =
       unless_stuck (stays i ts) ts (
-      then_do (run_expr k x i n ts) (λ c mid.
+      then_do (run_expr k x (past_start i) n ts) (λ c mid.
       then_do (run_value k x i n mid) (λ v rest.
       got (record { tests = part c no_parts; value = v }) rest)))
 
@@ -172,8 +172,15 @@ abbrev mutual
   run_value zero x i n ts = bad tired
   run_value (suc k) x i n ts =
       unless_stuck (colon_at i ts) ts (
-      unless_stuck (stays i (behind ts)) (behind ts) (
-      run_expr k x i n (behind ts)))
+      if stays i (behind ts) then run_expr k x i n (behind ts) else run_own_line k x i n (behind ts))
+
+  -- a value on lines of its own
+  pub run_own_line : ℕ → Origin → Layout → ℕ → List Token → Out Term
+  run_own_line zero x i n ts = bad tired
+  run_own_line (suc k) x i n ts =
+      unless_stuck (deeper_line_at i ts) ts (
+      then_do (run_expr k x (line_layout i ts) n ts) (λ v rest.
+      unless_stuck (closed_at (line_layout i ts) rest) rest (got v rest)))
 
   pub run_elifs : ℕ → Origin → Layout → ℕ → Choices → List Token → Out Choices
   run_elifs zero x i n some ts = bad tired
@@ -194,7 +201,7 @@ abbrev mutual
   run_case (suc k) x i (suc n) [] = bad (stuck [])
   run_case (suc k) x i (suc n) (tok ∷ ts) =
       unless_stuck (stays i ts) ts (
-      then_do (run_expr k x i n ts) (λ s mid. run_branches k x i n (place_at x tok) s (past_colon i mid)))
+      then_do (run_expr k x (past_start i) n ts) (λ s mid. run_branches k x i n (place_at x tok) s (past_colon i mid)))
 
   pub run_branches : ℕ → Origin → Layout → ℕ → Place → Term → List Token → Out Term
   run_branches zero x i n at s ts = bad tired
@@ -210,8 +217,8 @@ abbrev mutual
   run_of zero x i n ts = bad tired
   run_of (suc k) x i n ts =
       unless_stuck (stays i ts) ts (
-      then_do (run_label k x i n ts) (λ a mid.
-      then_do (run_labels k x i n (part a no_parts) mid) (λ labels end.
+      then_do (run_label k x (past_start i) n ts) (λ a mid.
+      then_do (run_labels k x (past_start i) n (part a no_parts) mid) (λ labels end.
       then_do (run_value k x i n end) (λ v rest.
       got (record { tests = labels; value = v }) rest))))
 
@@ -237,4 +244,4 @@ abbrev mutual
   pub run_otherwise : ℕ → Origin → Layout → ℕ → Place → Term → Choices → List Token → Out Term
   run_otherwise zero x i n at s all ts = bad tired
   run_otherwise (suc k) x i n at s all ts =
-      if branch_at i is_else ts then then_do (run_value k x i n (behind ts)) (λ e rest. got (case_else at s all e) rest) else got (case_term at s all) ts
+      if else_on i ts then then_do (run_value k x i n (behind ts)) (λ e rest. got (case_else at s all e) rest) else got (case_term at s all) ts

@@ -1,17 +1,17 @@
 // What stands at a place of the tokens.
 ghost use Rattle.std.specs.Prelude.{◌≡◌, ◌<◌, ◌≤◌, suc, ◌∷◌, [], length, IfSome, IfNone, is_some, max};
 ghost use Rattle.nim_tree.specs.Terms.{term_of};
-ghost use Rattle.parse_exprs.specs.Look.{op_at, next_at, expr_at, is_punct, is_at_sign, sign_of, bracket_at, square_at, closes_at, named_part_at, names_in, names_behind, name_on, suffix_at, stays, kind_at, operand_at, spelling, place_at, lead_at, branch_at, is_elif, is_else, is_of, first_of_at, colon_at, comma_at, past_colon, dots_at, left_out_at, is_name, is_left_out, as_name, line_spaces};
+ghost use Rattle.parse_exprs.specs.Look.{op_at, next_at, expr_at, is_punct, is_at_sign, sign_of, bracket_at, square_at, closes_at, named_part_at, names_in, names_behind, name_on, suffix_at, stays, kind_at, operand_at, spelling, place_at, lead_at, branch_at, is_elif, is_else, is_of, first_of_at, colon_at, comma_at, past_colon, dots_at, left_out_at, is_name, is_left_out, as_name, line_spaces, operand_on, no_command_on, else_on, deeper_line_at, line_layout, closed_at};
 ghost use Rattle.parse_exprs.specs.Input.{origin_of, from_at};
 
 use crate::kinds::{
-    begins, bracket_of, branch_goes_on, closing, first_goes_on, goes_on, is_apart, is_at_sign,
-    is_dots, is_elif, is_else, is_left_out, is_name, is_of, is_punct, is_suffix, lead_of, of_level,
-    op_of, sign_of,
+    at_start, begins, bracket_of, branch_goes_on, branch_layout, closing, first_goes_on, goes_on,
+    is_apart, is_at_sign, is_deeper, is_dots, is_elif, is_else, is_end, is_left_out, is_name,
+    is_of, is_operator, is_punct, is_shallower, is_suffix, lead_of, of_level, op_of, sign_of,
 };
 use crate::layout::Layout;
 use arc_base::Place;
-use indent_scanner::Token;
+use indent_scanner::{Tok, Token};
 use nim_tree::{BinaryOp, Expr, UnaryOp};
 
 /// What an expression begins with.
@@ -301,6 +301,71 @@ impl Input<'_> {
         match self.head(at) {
             Some(token) => branch_goes_on(layout, token.indent) && is_else(token.kind),
             None => false,
+        }
+    }
+
+    /// Whether an `else` with its colon goes on there.
+    pub(crate) fn else_on(&self, at: usize, layout: Layout) -> bool
+        ensures { result ≡ else_on layout (from_at self.now at) }
+    {
+        match self.head(at) {
+            Some(token) => (branch_goes_on(layout, token.indent) && is_else(token.kind))
+                && self.colon_at(at + 1, layout),
+            None => false,
+        }
+    }
+
+    /// Whether an operand of a command goes on there.
+    pub fn operand_on(&self, at: usize, layout: Layout) -> bool
+        ensures { result ≡ operand_on (origin_of self.now) layout (from_at self.now at) }
+    {
+        let Some(token) = self.head(at) else {
+            return false;
+        };
+        if !goes_on(layout, token.indent) {
+            return false;
+        }
+        match token.kind {
+            Tok::Op => is_operator(self.spelling(token))
+                && (token.space_before && !token.space_after),
+            _ => self.expr_at(at),
+        }
+    }
+
+    /// Whether what ends there begins no command.
+    pub(crate) fn no_command_on(&self, at: usize, layout: Layout) -> bool
+        ensures { result ≡ no_command_on (origin_of self.now) layout (from_at self.now at) }
+    {
+        !(at_start(layout) && self.operand_on(at, layout))
+    }
+
+    /// Whether a deeper line begins there.
+    pub(crate) fn deeper_line_at(&self, at: usize, layout: Layout) -> bool
+        ensures { result ≡ deeper_line_at layout (from_at self.now at) }
+    {
+        match self.head(at) {
+            Some(token) => is_deeper(layout, token.indent),
+            None => false,
+        }
+    }
+
+    /// The layout of what stands on the line that begins there.
+    pub(crate) fn line_layout(&self, at: usize, layout: Layout) -> Layout
+        ensures { result ≡ line_layout layout (from_at self.now at) }
+    {
+        match self.head(at) {
+            Some(token) => branch_layout(layout, token.indent),
+            None => layout,
+        }
+    }
+
+    /// Whether the lines of that level end there.
+    pub(crate) fn closed_at(&self, at: usize, layout: Layout) -> bool
+        ensures { result ≡ closed_at layout (from_at self.now at) }
+    {
+        match self.head(at) {
+            Some(token) => is_end(token.kind) || is_shallower(layout, token.indent),
+            None => true,
         }
     }
 

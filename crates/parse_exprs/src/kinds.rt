@@ -1,6 +1,6 @@
 // What tokens are.
 ghost use Rattle.std.specs.Prelude.{◌≡◌, codes};
-ghost use Rattle.parse_exprs.specs.Look.{goes_on, branch_goes_on, first_goes_on, branch_layout, op_named, op_of_key, op_of, level_of, of_level, sign_named, sign_of_key, sign_of, is_punct, is_name, is_run, is_at_sign, bracket_named, bracket_of, closing, is_suffix, is_apart, begins_atom, begins, lead_of, is_elif, is_else, is_of, is_left_out};
+ghost use Rattle.parse_exprs.specs.Look.{goes_on, branch_goes_on, first_goes_on, branch_layout, is_deeper, is_shallower, at_start, past_start, is_end, is_operator, op_named, op_of_key, op_of, level_of, of_level, sign_named, sign_of_key, sign_of, is_punct, is_name, is_run, is_at_sign, bracket_named, bracket_of, closing, is_suffix, is_apart, begins_atom, begins, lead_of, is_elif, is_else, is_of, is_left_out};
 
 use crate::input::{Bracket, Lead};
 use crate::layout::Layout;
@@ -13,7 +13,7 @@ pub fn goes_on(layout: Layout, indent: Option<u32>) -> bool
 {
     match (layout, indent) {
         (_, None) | (Layout::Brackets, _) => true,
-        (Layout::Lines(_), Some(_)) => false,
+        (Layout::Lines(_) | Layout::Start(_), Some(_)) => false,
     }
 }
 
@@ -23,7 +23,7 @@ pub fn branch_goes_on(layout: Layout, indent: Option<u32>) -> bool
 {
     match (layout, indent) {
         (_, None) | (Layout::Brackets, _) => true,
-        (Layout::Lines(level), Some(spaces)) => spaces == level,
+        (Layout::Lines(level) | Layout::Start(level), Some(spaces)) => spaces == level,
     }
 }
 
@@ -33,7 +33,7 @@ pub(crate) fn first_goes_on(layout: Layout, indent: Option<u32>) -> bool
 {
     match (layout, indent) {
         (_, None) | (Layout::Brackets, _) => true,
-        (Layout::Lines(level), Some(spaces)) => spaces >= level,
+        (Layout::Lines(level) | Layout::Start(level), Some(spaces)) => spaces >= level,
     }
 }
 
@@ -43,8 +43,67 @@ pub(crate) fn branch_layout(layout: Layout, indent: Option<u32>) -> Layout
 {
     match (layout, indent) {
         (Layout::Lines(_), Some(spaces)) => Layout::Lines(spaces),
+        (Layout::Start(_), Some(spaces)) => Layout::Start(spaces),
         _ => layout,
     }
+}
+
+/// Whether a line behind so many spaces stands deeper.
+pub(crate) fn is_deeper(layout: Layout, indent: Option<u32>) -> bool
+    ensures { result ≡ is_deeper layout indent }
+{
+    match (layout, indent) {
+        (_, None) | (Layout::Brackets, _) => false,
+        (Layout::Lines(level) | Layout::Start(level), Some(spaces)) => level < spaces,
+    }
+}
+
+/// Whether a line behind so many spaces stands less deep.
+pub(crate) fn is_shallower(layout: Layout, indent: Option<u32>) -> bool
+    ensures { result ≡ is_shallower layout indent }
+{
+    match (layout, indent) {
+        (_, None) | (Layout::Brackets, _) => false,
+        (Layout::Lines(level) | Layout::Start(level), Some(spaces)) => spaces < level,
+    }
+}
+
+/// Whether the start of a statement stands there, where a command may begin.
+pub(crate) fn at_start(layout: Layout) -> bool
+    ensures { result ≡ at_start layout }
+{
+    match layout {
+        Layout::Start(_) => true,
+        Layout::Brackets | Layout::Lines(_) => false,
+    }
+}
+
+/// The layout behind the start of a statement.
+pub(crate) fn past_start(layout: Layout) -> Layout
+    ensures { result ≡ past_start layout }
+{
+    match layout {
+        Layout::Start(spaces) => Layout::Lines(spaces),
+        Layout::Brackets | Layout::Lines(_) => layout,
+    }
+}
+
+/// Whether it is the end of the source.
+pub(crate) fn is_end(kind: Tok) -> bool
+    ensures { result ≡ is_end kind }
+{
+    match kind {
+        Tok::End => true,
+        _ => false,
+    }
+}
+
+/// Whether these bytes are an operator of the language, `@` among them.
+pub(crate) fn is_operator(spelling: &[u8]) -> bool
+    ensures { result ≡ is_operator spelling.now }
+{
+    op_named(spelling).is_some()
+        || (sign_named(spelling).is_some() || is_at_sign(Tok::Op, spelling))
 }
 
 /// The operator between two operands that these bytes are.

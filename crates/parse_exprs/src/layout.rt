@@ -7,4 +7,7 @@ pub enum Layout {
     Brackets,
     /// Outside they do. The statement stands behind so many spaces.
     Lines(u32),
+    /// The same at the start of a statement: what begins as a command there is no expression, and neither is it in the branches
+    /// of an `if` or `case` that begins there.
+    Start(u32),
 }

@@ -11,6 +11,7 @@ mod parse;
 mod read;
 #[cfg(test)]
 mod tests;
+mod total;
 
 pub use input::{Bracket, Input, Lead};
 pub use kinds::{
@@ -22,3 +23,4 @@ pub use parse::{
     Parsed, callee, callees_run, deep_exprs, expr, expr_within, exprs_run, exprs_weigh, one_callee,
     one_expr,
 };
+pub use total::{expr_or_fault, exprs_end};

@@ -1,15 +1,15 @@
 -- A tree that is read has no more than 64 levels of blocks, of each expression and of each written type.
-use Rattle.std.proofs.Common.{◌≡◌, ℕ, suc, pred, ◌≤◌, List, ◌∷◌, Bool, true, false, refl, ap, ◌∙◌, arith}
+use Rattle.std.proofs.Common.{◌≡◌, ℕ, suc, pred, ◌≤◌, List, [], ◌∷◌, Bool, true, false, refl, ap, ◌∙◌, arith}
 use Rattle.std.specs.Prelude.{Option, Some, None, not, nat_lt, ◌==◌, ◌&&◌, if◌then◌else◌}
 use Rattle.std.proofs.lemmas.Bool.{ltb-false, eq-eqb}
 use Rattle.arc_base.specs.declared.place.Place.{Place}
 use Rattle.indent_scanner.specs.declared.token.Token.{Token}
-use Rattle.nim_tree.specs.Lists.{if_there}
+use Rattle.nim_tree.specs.Lists.{highest, if_there}
 use Rattle.nim_tree.specs.Terms.{Term, Parts, no_parts, part, and_part, most_levels, levels, place_of}
-use Rattle.nim_tree.specs.Statements.{Course, course_term_levels, Statement, evaluates, branches, selects, Statements, empty, then as next, and_statement, Branches, no_branches, branch, and_branch, Handlers, no_handlers, handler, block_levels_of, block_levels, levels_if_block, branch_block_levels, handler_block_levels, term_levels_of, term_levels, branch_term_levels, handler_term_levels, type_levels_of, type_levels, branch_type_levels, handler_type_levels}
+use Rattle.nim_tree.specs.Statements.{Definition, definition_levels, definition_term_levels, definition_type_levels, Course, course_term_levels, Statement, evaluates, branches, selects, Statements, empty, then as next, and_statement, Branches, no_branches, branch, and_branch, Handlers, no_handlers, handler, block_levels_of, block_levels, levels_if_block, branch_block_levels, handler_block_levels, term_levels_of, term_levels, branch_term_levels, handler_term_levels, type_levels_of, type_levels, branch_type_levels, handler_type_levels}
 use Rattle.parse_exprs.specs.Look.{Origin, place_at, branch_at, first_of_at, first_goes_on, branch_goes_on, is_of}
 use Rattle.parse_exprs.specs.declared.layout.Layout.TheVariants.{Lines}
-use Rattle.parse_exprs.proofs.Stopping.{both_of, false_true}
+use Rattle.parse_exprs.proofs.ForCallers.{both_of, false_true}
 use Rattle.parse_decls.specs.Grammar.{e_none, e_some}
 use Rattle.parse_stmts.specs.Run.{Caught, and_caught, branch_level}
 use Rattle.parse_stmts.specs.Grammar.{Optional, MoreOperands, o_over, o_next, IsPlain, p_command, p_value, p_assign, IsSimple, i_discard, i_return, i_raise, i_break, i_continue, i_import, i_define, i_plain, IsLine, l_last, l_more, IsLabel, a_one, a_range, MoreLabels, a_over, a_next, IsCourse, f_each, f_up_to, f_below, AreStatements, s_over, s_next, IsStatement, s_line, s_alone, s_choice, s_compound, IsCompound, c_if, c_case, c_while, c_for, c_try, c_defer, c_proc, c_forward, c_type, c_section, IsBody, b_body, IsBlock, b_line, b_deeper, IsBranch, r_branch, MoreElifs, r_over, r_elif, IsElse, r_no_else, r_else, AreBranches, r_branches, IsOf, r_of, MoreOfs, r_last, r_next, IsHandler, h_bare, h_typed, MoreHandlers, h_over, h_last, h_next, IsFinally, h_no_finally, h_finally, IsModule}
@@ -97,6 +97,14 @@ plain_low (p_command {b = b} e c o d m) =
 plain_low (p_value c d e) = record { of_blocks = omega arith; of_terms = d.few; of_types = omega arith }
 plain_low (p_assign c d e h) = (let a = d.few in let b = h.value.few in record { of_blocks = omega arith; of_terms = omega (arith, a, b); of_types = omega arith })
 
+values_low : (all : List Definition) → highest definition_levels all ≤ 64 → highest definition_term_levels all ≤ 64
+values_low [] h = omega arith
+values_low (d ∷ all) h = let r = values_low all (omega (arith, h)) in omega (arith, h, r)
+
+annotations_low : (all : List Definition) → highest definition_levels all ≤ 64 → highest definition_type_levels all ≤ 64
+annotations_low [] h = omega arith
+annotations_low (d ∷ all) h = let r = annotations_low all (omega (arith, h)) in omega (arith, h, r)
+
 simple_low : {x : Origin} {n : ℕ} {s : Statement} {ts rest : List Token} → IsSimple x n s ts rest → LowOne 0 s
 simple_low (i_discard e d) = record { of_blocks = omega arith; of_terms = optional_low d; of_types = omega arith }
 simple_low (i_return e d) = record { of_blocks = omega arith; of_terms = optional_low d; of_types = omega arith }
@@ -104,7 +112,7 @@ simple_low (i_raise e d) = record { of_blocks = omega arith; of_terms = optional
 simple_low (i_break e) = record { of_blocks = omega arith; of_terms = omega arith; of_types = omega arith }
 simple_low (i_continue e) = record { of_blocks = omega arith; of_terms = omega arith; of_types = omega arith }
 simple_low (i_import e d m) = record { of_blocks = omega arith; of_terms = omega arith; of_types = omega arith }
-simple_low (i_define e b d) = (let p = d.few_terms in let q = d.few_types in record { of_blocks = omega arith; of_terms = omega (arith, p); of_types = omega (arith, q) })
+simple_low (i_define e b d) = (let p = d.few in record { of_blocks = omega arith; of_terms = omega (arith, p); of_types = omega (arith, p) })
 simple_low (i_plain e d) = plain_low d
 
 line_low : {x : Origin} {n left : ℕ} {some all : Statements} {ts rest : List Token} → LowAll left some → IsLine x n some all ts rest → LowAll left all
@@ -179,12 +187,12 @@ mutual
       record { of_blocks = omega (arith, a, i, r); of_terms = omega (arith, c, j, s); of_types = omega (arith, d, q, t) }
   compound_low (c_defer e d) = let k = body_low d in record { of_blocks = k.of_blocks; of_terms = k.of_terms; of_types = k.of_types }
   compound_low {left = left} (c_proc {body = body} e h g b) =
-      let k = block_low b in let a = k.of_terms in let c = k.of_types in let p = h.few_terms in let q = h.few_types in
-      record { of_blocks = block_if_there left body k.of_blocks; of_terms = omega (arith, a, p); of_types = omega (arith, c, q) }
+      let k = block_low b in let c = k.of_types in let p = h.few in
+      record { of_blocks = block_if_there left body k.of_blocks; of_terms = k.of_terms; of_types = omega (arith, c, p) }
   compound_low (c_forward e h g) =
-      let p = h.few_terms in let q = h.few_types in record { of_blocks = omega arith; of_terms = omega (arith, p); of_types = omega (arith, q) }
-  compound_low (c_type e d) = record { of_blocks = omega arith; of_terms = d.few_terms; of_types = d.few_types }
-  compound_low (c_section e d) = record { of_blocks = omega arith; of_terms = d.few_terms; of_types = d.few_types }
+      let p = h.few in record { of_blocks = omega arith; of_terms = omega arith; of_types = omega (arith, p) }
+  compound_low (c_type e d) = record { of_blocks = omega arith; of_terms = omega arith; of_types = d.few }
+  compound_low (c_section {all = all} e d) = record { of_blocks = omega arith; of_terms = values_low all d.few; of_types = annotations_low all d.few }
 
   body_low : {x : Origin} {n left : ℕ} {body : Statements} {ts rest : List Token} → IsBody x n left body ts rest → LowBlock left body
   body_low (b_body e d) = block_low d

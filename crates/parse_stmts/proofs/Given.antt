@@ -7,10 +7,7 @@ use Rattle.parse_exprs.specs.Look.{Origin}
 use Rattle.parse_exprs.specs.Faults as F
 use Rattle.parse_exprs.specs.Outcome as E
 use Rattle.parse_exprs.specs.Run.{run_primary}
-use Rattle.parse_exprs.proofs.Sound.{sound_primary}
-use Rattle.parse_exprs.proofs.Complete.{complete_primary}
-use Rattle.parse_exprs.proofs.FaultsSound.{faults_primary}
-use Rattle.parse_exprs.proofs.FaultsComplete.{fails_primary}
+use Rattle.parse_exprs.proofs.ForCallers.{sound_primary, complete_primary, faults_primary, fails_primary}
 use Rattle.parse_decls.specs.Outcome.{bad, of_expr, Settles}
 use Rattle.parse_decls.specs.Run.{most_levels}
 use Rattle.parse_decls.specs.Faults.{of_fault}

@@ -9,7 +9,7 @@ use Rattle.nim_tree.specs.Terms.{Term, Parts, no_parts, part, and_part}
 use Rattle.nim_tree.specs.Statements.{Statements, and_statement}
 use Rattle.parse_exprs.specs.declared.layout.Layout.{Layout}
 use Rattle.parse_exprs.specs.declared.layout.Layout.TheVariants.{Brackets, Lines}
-use Rattle.parse_exprs.specs.Look.{Origin, place_at, comma_at, lead_at, name_on}
+use Rattle.parse_exprs.specs.Look.{Origin, place_at, comma_at, lead_at, name_on, operand_on}
 use Rattle.parse_exprs.specs.Run.{run_primary}
 use Rattle.parse_decls.specs.Look.{behind}
 use Rattle.parse_decls.specs.Outcome.{of_expr}
@@ -18,7 +18,7 @@ use Rattle.parse_decls.specs.Grammar.{e_none, e_some, IsName, Names}
 use Rattle.parse_decls.specs.Faults.{FaultsEach, f_here, f_later, f_first, f_next, FaultsName, FaultsNames, ShortDefinition, FaultsDefinition, FaultsDefinitionBlock, FaultsDeclarations, FaultsHead}
 use Rattle.parse_stmts.specs.declared.look.Simple.{Simple}
 use Rattle.parse_stmts.specs.declared.look.Simple.TheVariants as S
-use Rattle.parse_stmts.specs.Look.{simple_of, atom_at, operand_on, assign_on}
+use Rattle.parse_stmts.specs.Look.{simple_of, atom_at, assign_on}
 use Rattle.parse_stmts.specs.Run.{run_value, run_here, run_optional, run_module_name, run_more_modules, run_operands, run_command, assigned_by, run_assigned, run_expression, run_plain, run_bound, run_simple_by, run_simple, run_line, run_label, run_labels, run_course, run_binding}
 use Rattle.parse_stmts.specs.Grammar.{IsValue, IsHere, Optional, IsCalled, NoCommand, n_other, n_alone, AreDefinitions, AreTypes, IsProcedure, IsModuleName, MoreModules, m_over, m_next, MoreOperands, o_over, o_next, IsPlain, p_command, p_value, p_assign, Binds, b_let, b_var, b_const, IsSimple, i_discard, i_return, i_raise, i_break, i_continue, i_import, i_define, i_plain, IsLine, l_last, l_more, IsLabel, a_one, a_range, MoreLabels, a_over, a_next, IsCourse, f_each, f_up_to, f_below, Alias}
 use Rattle.parse_stmts.specs.Faults as F
@@ -81,7 +81,7 @@ means_expression : (law : Laws) (k : ℕ) (x : Origin) (n : ℕ) (ts : List Toke
     → Means (λ s rest. IsPlain x n s ts rest) (λ why. FaultsPlain x n why ts) (run_expression k x n ts)
 means_expression law k x n ts c = means_then (means_value law k x n ts) (λ a mid d. means_assigned law k _ x n a ts mid c d refl) (λ why w. F.f_expression c w)
 
-means_command : (law : Laws) (k : ℕ) (x : Origin) (n : ℕ) (a : Term) (ts mid : List Token) → atom_at x ts ≡ true → IsCalled x n a ts mid → operand_on x n mid ≡ true
+means_command : (law : Laws) (k : ℕ) (x : Origin) (n : ℕ) (a : Term) (ts mid : List Token) → atom_at x ts ≡ true → IsCalled x n a ts mid → operand_on x (Lines n) mid ≡ true
     → Means (λ s rest. IsPlain x n s ts rest) (λ why. FaultsPlain x n why ts) (run_command k x n a mid)
 means_command law k x n a ts mid e c o =
     means_then (means_value law k x n mid)

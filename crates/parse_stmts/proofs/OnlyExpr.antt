@@ -4,17 +4,15 @@ use Rattle.std.specs.Prelude.{Option, Some, None, not, nat_lt, if◌then◌else�
 use Rattle.std.proofs.lemmas.Bool.{ltb-true, ltb-false, le-ltb, lt-ltb}
 use Rattle.indent_scanner.specs.declared.token.Token.{Token}
 use Rattle.nim_tree.specs.Terms.{Term, levels}
-use Rattle.parse_exprs.specs.declared.layout.Layout.TheVariants.{Lines}
+use Rattle.parse_exprs.specs.declared.layout.Layout.TheVariants.{Start}
 use Rattle.parse_exprs.specs.Look.{Origin}
 use Rattle.parse_exprs.specs.Faults as F
 use Rattle.parse_exprs.specs.Outcome as E
 use Rattle.parse_exprs.specs.Run.{run_expr}
-use Rattle.parse_exprs.proofs.Sound.{sound_expr}
-use Rattle.parse_exprs.proofs.Complete.{complete_expr}
-use Rattle.parse_exprs.proofs.FaultsSound.{faults_expr}
-use Rattle.parse_exprs.proofs.FaultsComplete.{fails_expr}
+use Rattle.parse_exprs.proofs.ForCallers.{sound_expr, complete_expr, faults_expr, fails_expr}
 use Rattle.parse_decls.specs.Outcome.{Why, too_deep, Out, got, bad, Settles}
 use Rattle.parse_decls.specs.Run.{most_levels}
+use Rattle.parse_stmts.specs.declared.alone.TheConstants.{MOST_ALONE}
 use Rattle.parse_stmts.specs.Look.{line_over}
 use Rattle.parse_stmts.specs.Alone.{BeginsWith, IsAlone, NotAlone, n_stops, n_more}
 use Rattle.parse_stmts.specs.Run.{alone_in, run_alone}
@@ -40,15 +38,15 @@ begun_means x n ts a rest d =
     (λ l. m_got (d_alone (record { begins = d; over = e }) (ltb-false 64 (levels a) l))))
     (λ e. m_got (d_none (n_more d e)))
 
-alone_means : (k : ℕ) (x : Origin) (n : ℕ) (ts : List Token) (o : E.Out Term) → run_expr k x (Lines n) 65 ts ≡ o
+alone_means : (k : ℕ) (x : Origin) (n : ℕ) (ts : List Token) (o : E.Out Term) → run_expr k x (Start n) MOST_ALONE ts ≡ o
     → Means (λ found rest. Finds x n ts found rest) (λ why. FaultsAlone x n why ts) (alone_in n ts o)
-alone_means k x n ts (E.got a rest) e = (let d = sound_expr k x (Lines n) 65 ts e in begun_means x n ts a rest (record { reads = record { spells = d.spells; stops = d.stops }; few = d.few }))
-alone_means k x n ts (E.bad E.deep) e = m_got (d_none (n_stops (faults_expr F.too_deep k x (Lines n) 65 ts e)))
-alone_means k x n ts (E.bad (E.stuck rest)) e = m_got (d_none (n_stops (faults_expr (F.stuck_at rest) k x (Lines n) 65 ts e)))
+alone_means k x n ts (E.got a rest) e = (let d = sound_expr k x (Start n) MOST_ALONE ts e in begun_means x n ts a rest (record { reads = record { spells = d.spells; stops = d.stops }; few = d.few }))
+alone_means k x n ts (E.bad E.deep) e = m_got (d_none (n_stops (faults_expr F.too_deep k x (Start n) MOST_ALONE ts e)))
+alone_means k x n ts (E.bad (E.stuck rest)) e = m_got (d_none (n_stops (faults_expr (F.stuck_at rest) k x (Start n) MOST_ALONE ts e)))
 alone_means k x n ts (E.bad E.tired) e = m_tired
 
 pub means_alone : (k : ℕ) (x : Origin) (n : ℕ) (ts : List Token) → Means (λ found rest. Finds x n ts found rest) (λ why. FaultsAlone x n why ts) (run_alone k x n ts)
-means_alone k x n ts = alone_means k x n ts (run_expr k x (Lines n) 65 ts) refl
+means_alone k x n ts = alone_means k x n ts (run_expr k x (Start n) MOST_ALONE ts) refl
 
 -- ---- that it comes about
 
@@ -59,7 +57,7 @@ settles_same : {X : Type 0} {f : ℕ → Out X} {o p : Out X} → o ≡ p → Se
 settles_same e h = record { steps = h.steps; same = λ k le. h.same k le ∙ e }
 
 begun_settles : {x : Origin} {n : ℕ} {a : Term} {ts rest : List Token} → BeginsWith x n a ts rest → Settles (λ k. run_alone k x n ts) (alone_in n ts (E.got a rest))
-begun_settles {n = n} {ts = ts} d = settles_alone n ts (complete_expr d.reads.spells d.reads.stops 65 d.few)
+begun_settles {n = n} {ts = ts} d = settles_alone n ts (complete_expr d.reads.spells d.reads.stops MOST_ALONE d.few)
 
 choice_true : {X : Type 0} (b : Bool) (p q : X) → b ≡ true → (if b then p else q) ≡ p
 choice_true true p q e = refl
@@ -84,7 +82,7 @@ alone_read {n = n} {a = a} {ts = ts} {rest = rest} d few = settles_same (alone_g
 pub alone_faults : {x : Origin} {n : ℕ} {a : Term} {ts rest : List Token} → IsAlone x n a ts rest → 64 < levels a → Settles (λ k. run_alone k x n ts) (bad (too_deep ts))
 alone_faults {n = n} {a = a} {ts = ts} {rest = rest} d many = settles_same (alone_deep n ts a rest d.over (lt-ltb 64 (levels a) many)) (begun_settles d.begins)
 
-stops_none : (x : Origin) (n : ℕ) (ts : List Token) (why : F.Fault) → F.FaultsExpr x why (Lines n) 65 ts → Settles (λ k. run_alone k x n ts) (got None ts)
+stops_none : (x : Origin) (n : ℕ) (ts : List Token) (why : F.Fault) → F.FaultsExpr x why (Start n) MOST_ALONE ts → Settles (λ k. run_alone k x n ts) (got None ts)
 stops_none x n ts F.too_deep w = settles_alone n ts (fails_expr w)
 stops_none x n ts (F.stuck_at rest) w = settles_alone n ts (fails_expr w)
 

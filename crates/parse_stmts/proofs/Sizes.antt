@@ -13,7 +13,7 @@ use Rattle.nim_tree.specs.Terms.{Term, Parts, no_parts, part, nodes, nodes_in, p
 use Rattle.nim_tree.specs.Statements.{Course, course_nodes, Statement, evaluates, Statements, empty, then as next, and_statement, Branches, no_branches, branch, and_branch, Handlers, no_handlers, handler, nodes_of, all_nodes, branch_nodes, handler_nodes}
 use Rattle.nim_tree.specs.Weights.{weight, weight_in, course_weight, statement_weight, weights, branch_weights, handler_weights}
 use Rattle.parse_exprs.specs.Look.{Origin, place_at, lead_at, is_punct, is_elif, is_else, is_of}
-use Rattle.parse_exprs.proofs.Weighing.{count_bytes}
+use Rattle.parse_exprs.proofs.ForCallers.{count_bytes}
 use Rattle.parse_decls.specs.Grammar.{e_none, e_some}
 use Rattle.parse_decls.proofs.Spans.{names_takes, declarations_takes, head_takes}
 use Rattle.parse_stmts.specs.declared.look.Lead.{Lead}

@@ -15,10 +15,8 @@ use Rattle.parse_exprs.specs.declared.layout.Layout.{Layout}
 use Rattle.parse_exprs.specs.declared.layout.Layout.TheVariants.{Brackets, Lines}
 use Rattle.parse_exprs.specs.Look.{Origin, spelling, goes_on, branch_goes_on, is_punct, is_name, is_run, name_on, colon_at, comma_at, past_colon, dots_at, branch_at}
 use Rattle.parse_exprs.specs.Grammar.{SpellsExpr}
-use Rattle.parse_exprs.proofs.Spans.{Free, stop, step, expr_spans, primary_spans}
+use Rattle.parse_exprs.proofs.ForCallers.{Free, stop, step, expr_spans, primary_spans, expr_weighs, primary_weighs, both_of, false_true}
 use Rattle.parse_exprs.specs.Counts.{unit, count}
-use Rattle.parse_exprs.proofs.Weighing.{expr_weighs, primary_weighs}
-use Rattle.parse_exprs.proofs.Stopping.{both_of, false_true}
 use Rattle.parse_decls.specs.Look.{behind, equals_at, stands_at, level_at}
 use Rattle.parse_decls.specs.Grammar.{Each, e_over, e_next, e_first, e_none, e_some, IsName, n_name, Declareds, IsDefined, IsDefinitionBlock, Given}
 use Rattle.parse_decls.proofs.Spans.{Takes, takes_then, declareds_takes, all_pragmas_takes, annotation_takes, definition_takes}

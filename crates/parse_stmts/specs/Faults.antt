@@ -14,7 +14,7 @@ use Rattle.nim_tree.specs.Terms.{Term, Parts, no_parts, part, levels}
 use Rattle.nim_tree.specs.Statements.{Head, Course, Statement, Statements, empty, Branches, no_branches, Handlers, no_handlers}
 use Rattle.parse_exprs.specs.declared.layout.Layout.{Layout}
 use Rattle.parse_exprs.specs.declared.layout.Layout.TheVariants.{Brackets, Lines}
-use Rattle.parse_exprs.specs.Look.{Origin, place_at, stays, colon_at, comma_at, past_colon, dots_at, expr_at, lead_at, name_on, branch_at, is_elif, is_else, is_of, first_of_at, is_punct}
+use Rattle.parse_exprs.specs.Look.{Origin, place_at, stays, colon_at, comma_at, past_colon, dots_at, expr_at, lead_at, name_on, branch_at, is_elif, is_else, is_of, first_of_at, is_punct, operand_on}
 use Rattle.parse_exprs.specs.Faults as F
 use Rattle.parse_decls.specs.Look.{behind, deeper_at, stands_at, level_at, equals_at}
 use Rattle.parse_decls.specs.Outcome.{Why, too_deep, left_out, stuck_at}
@@ -23,7 +23,7 @@ use Rattle.parse_decls.specs.Faults.{FaultsEach, FaultsListed, FaultsPresent, Fa
 use Rattle.parse_stmts.specs.declared.look.Lead.TheVariants as L
 use Rattle.parse_stmts.specs.declared.look.Simple.{Simple}
 use Rattle.parse_stmts.specs.declared.look.Simple.TheVariants as S
-use Rattle.parse_stmts.specs.Look.{end_at, on_line_at, ends_at, opens_block, chooses, lead, simple_of, atom_at, operand_on, assign_on, is_in, is_as, is_except, is_finally, word_on, below_at, path_at, assigned_by, branch_level}
+use Rattle.parse_stmts.specs.Look.{end_at, on_line_at, ends_at, opens_block, chooses, lead, simple_of, atom_at, assign_on, is_in, is_as, is_except, is_finally, word_on, below_at, path_at, assigned_by, branch_level}
 use Rattle.parse_stmts.specs.Alone.{IsAlone, NotAlone}
 use Rattle.parse_stmts.specs.Handling.{are_some, Caught, have_some, hold_some}
 use Rattle.parse_stmts.specs.Grammar.{IsValue, IsHere, IsCalled, NoCommand, IsModuleName, Binds, IsSimple, IsLabel, MoreLabels, IsCourse, Alias, IsProcedure, AreStatements, IsStatement, IsBody, IsBranch, MoreElifs, IsElse, IsOf, MoreOfs, IsHandler, MoreHandlers, IsFinally}
@@ -63,8 +63,8 @@ FaultsOperands x n = FaultsEach (comma_at (Lines n)) behind (IsValue x n) (Fault
 
 pub data FaultsPlain (x : Origin) (n : ℕ) (why : Why) : List Token → Type 0 where
   f_callee : {ts : List Token} → atom_at x ts ≡ true → FaultsCalled x n why ts → FaultsPlain x n why ts
-  f_operand : {a : Term} {ts mid : List Token} → atom_at x ts ≡ true → IsCalled x n a ts mid → operand_on x n mid ≡ true → FaultsValue x n why mid → FaultsPlain x n why ts
-  f_operands : {a b : Term} {ts mid end : List Token} → atom_at x ts ≡ true → IsCalled x n a ts mid → operand_on x n mid ≡ true → IsValue x n b mid end
+  f_operand : {a : Term} {ts mid : List Token} → atom_at x ts ≡ true → IsCalled x n a ts mid → operand_on x (Lines n) mid ≡ true → FaultsValue x n why mid → FaultsPlain x n why ts
+  f_operands : {a b : Term} {ts mid end : List Token} → atom_at x ts ≡ true → IsCalled x n a ts mid → operand_on x (Lines n) mid ≡ true → IsValue x n b mid end
       → FaultsOperands x n why end → FaultsPlain x n why ts
   f_expression : {ts : List Token} → NoCommand x n ts → FaultsValue x n why ts → FaultsPlain x n why ts
   f_assigned : {op : AssignOp} {a : Term} {ts mid : List Token} → NoCommand x n ts → IsValue x n a ts mid → assigned_by (lead_at ts) (assign_on x n mid) ≡ Some op

@@ -27,8 +27,8 @@
 -- What can go on goes on: where a repetition or an optional part ends, the token that would begin more of it doesn't stand.
 -- A relation with two trees of one sort has first what stands before these tokens, and then that and what they are.
 --
--- An `if` or `case` at the start of a statement is an expression where it can be read as one that is alone on its line, and has
--- blocks else.
+-- An `if` or `case` that begins a line as a statement is an expression where it can be read as one that is alone on its line, and
+-- has blocks else.
 --
 -- Each expression and each written type has at most 64 levels. `left` is the number of levels of blocks that are left, of which
 -- each block takes one.
@@ -41,11 +41,11 @@ use Rattle.nim_tree.specs.declared.stmt.Binding.{Binding}
 use Rattle.nim_tree.specs.declared.stmt.Binding.TheVariants as B
 use Rattle.nim_tree.specs.Lists.{highest}
 use Rattle.nim_tree.specs.Terms.{Term, range, Parts, no_parts, part, and_part, place_of, levels}
-use Rattle.nim_tree.specs.Types.{Declaration, declaration_levels, declaration_term_levels}
-use Rattle.nim_tree.specs.Statements.{Definition, definition_term_levels, definition_type_levels, Head, head_term_levels, head_type_levels, Course, each, up_to, below, Statement, discards, returns, raises, breaks, continues, imports, evaluates, assigns, commands, defines, types, repeats, counts, tries, defers, proclaims, branches, selects, Statements, empty, and_statement, Branches, no_branches, and_branch, Handlers, no_handlers}
+use Rattle.nim_tree.specs.Types.{Declaration, declaration_levels}
+use Rattle.nim_tree.specs.Statements.{Definition, definition_levels, Head, head_type_levels, Course, each, up_to, below, Statement, discards, returns, raises, breaks, continues, imports, evaluates, assigns, commands, defines, types, repeats, counts, tries, defers, proclaims, branches, selects, Statements, empty, and_statement, Branches, no_branches, and_branch, Handlers, no_handlers}
 use Rattle.parse_exprs.specs.declared.layout.Layout.{Layout}
 use Rattle.parse_exprs.specs.declared.layout.Layout.TheVariants.{Brackets, Lines}
-use Rattle.parse_exprs.specs.Look.{Origin, place_at, stays, colon_at, comma_at, past_colon, dots_at, expr_at, lead_at, branch_at, is_elif, is_else, is_of, first_of_at, is_punct}
+use Rattle.parse_exprs.specs.Look.{Origin, place_at, stays, colon_at, comma_at, past_colon, dots_at, expr_at, lead_at, branch_at, is_elif, is_else, is_of, first_of_at, is_punct, operand_on}
 use Rattle.parse_exprs.specs.Grammar.{IsCallee}
 use Rattle.parse_decls.specs.Look.{behind, deeper_at, stands_at, level_at, equals_at}
 use Rattle.parse_decls.specs.Grammar.{Maybe, IsName, Names, IsDefinitionBlock, IsDeclarations, IsHead}
@@ -53,7 +53,7 @@ use Rattle.parse_decls.specs.Faults.{Short, ShortTerm, ShortDefinition}
 use Rattle.parse_stmts.specs.declared.look.Lead.TheVariants as L
 use Rattle.parse_stmts.specs.declared.look.Simple.{Simple}
 use Rattle.parse_stmts.specs.declared.look.Simple.TheVariants as S
-use Rattle.parse_stmts.specs.Look.{end_at, on_line_at, ends_at, chooses, lead, simple_of, atom_at, operand_on, assign_on, is_in, is_as, is_except, is_finally, word_on, below_at, path_at, assigned_by, branch_level, binding_of}
+use Rattle.parse_stmts.specs.Look.{end_at, on_line_at, ends_at, chooses, lead, simple_of, atom_at, assign_on, is_in, is_as, is_except, is_finally, word_on, below_at, path_at, assigned_by, branch_level, binding_of}
 use Rattle.parse_stmts.specs.Alone.{IsAlone, NotAlone}
 use Rattle.parse_stmts.specs.Handling.{are_some, Caught, and_caught, have_some, hold_some}
 
@@ -80,17 +80,17 @@ pub record IsCalled (x : Origin) (n : ℕ) (a : Term) (ts rest : List Token) : T
 -- nothing that may be called stands here, or no operand stands behind it
 pub data NoCommand (x : Origin) (n : ℕ) : List Token → Type 0 where
   n_other : {ts : List Token} → atom_at x ts ≡ false → NoCommand x n ts
-  n_alone : {a : Term} {ts mid : List Token} → IsCalled x n a ts mid → operand_on x n mid ≡ false → NoCommand x n ts
+  n_alone : {a : Term} {ts mid : List Token} → IsCalled x n a ts mid → operand_on x (Lines n) mid ≡ false → NoCommand x n ts
 
 -- definitions, declarations of types, and what stands behind `proc`
 abbrev pub AreDefinitions : Origin → ℕ → List Definition → List Token → List Token → Type 0
-AreDefinitions x n = Short 64 (highest definition_type_levels) (highest definition_term_levels) (IsDefinitionBlock x n)
+AreDefinitions x n = Short 64 (highest definition_levels) (IsDefinitionBlock x n)
 
 abbrev pub AreTypes : Origin → ℕ → List Declaration → List Token → List Token → Type 0
-AreTypes x n = Short 64 (highest declaration_levels) (highest declaration_term_levels) (IsDeclarations x n)
+AreTypes x n = Short 64 (highest declaration_levels) (IsDeclarations x n)
 
 abbrev pub IsProcedure : Origin → ℕ → Head → List Token → List Token → Type 0
-IsProcedure x n = Short 64 head_type_levels head_term_levels (IsHead x (Lines n))
+IsProcedure x n = Short 64 head_type_levels (IsHead x (Lines n))
 
 -- ---- simple statements
 
@@ -113,7 +113,7 @@ pub data MoreOperands (x : Origin) (n : ℕ) : Parts → Parts → List Token �
 
 -- A statement that begins with no word of its own. Only an expression of operators is assigned to.
 pub data IsPlain (x : Origin) (n : ℕ) : Statement → List Token → List Token → Type 0 where
-  p_command : {a b : Term} {all : Parts} {ts mid end rest : List Token} → atom_at x ts ≡ true → IsCalled x n a ts mid → operand_on x n mid ≡ true → IsValue x n b mid end
+  p_command : {a b : Term} {all : Parts} {ts mid end rest : List Token} → atom_at x ts ≡ true → IsCalled x n a ts mid → operand_on x (Lines n) mid ≡ true → IsValue x n b mid end
       → MoreOperands x n (part b no_parts) all end rest → IsPlain x n (commands (place_of a) a all) ts rest
   p_value : {a : Term} {ts rest : List Token} → NoCommand x n ts → IsValue x n a ts rest → assigned_by (lead_at ts) (assign_on x n rest) ≡ None
       → IsPlain x n (evaluates (place_of a) a) ts rest

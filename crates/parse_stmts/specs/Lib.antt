@@ -7,3 +7,4 @@ pub mod Blocks
 pub mod Grammar
 pub mod Faults
 pub mod Parsed
+pub mod Total

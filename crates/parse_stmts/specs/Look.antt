@@ -12,7 +12,7 @@ use Rattle.parse_exprs.specs.declared.layout.Layout.{Layout}
 use Rattle.parse_exprs.specs.declared.layout.Layout.TheVariants.{Lines}
 use Rattle.parse_exprs.specs.declared.input.Lead.{Lead as ExprLead}
 use Rattle.parse_exprs.specs.declared.input.Lead.TheVariants as E
-use Rattle.parse_exprs.specs.Look.{Origin, spelling, goes_on, is_run, is_at_sign, is_name, is_of, is_elif, is_else, op_named, sign_named, begins_atom, expr_at}
+use Rattle.parse_exprs.specs.Look.{Origin, spelling, goes_on, is_run, is_at_sign, is_name, is_of, is_elif, is_else, begins_atom, expr_at}
 use Rattle.parse_decls.specs.Look.{is_end, spaces_at, deeper_at}
 use Rattle.parse_stmts.specs.declared.look.Lead.{Lead}
 use Rattle.parse_stmts.specs.declared.look.Lead.TheVariants as L
@@ -132,20 +132,6 @@ chooses _ = false
 abbrev pub atom_at : Origin → List Token → Bool
 atom_at x [] = false
 atom_at x (tok ∷ ts) = begins_atom tok.kind || is_at_sign tok.kind (spelling x tok)
-
--- an operator of the language, `@` among them
-abbrev pub is_operator : List ℕ → Bool
-is_operator bytes = is_some (op_named bytes) || (is_some (sign_named bytes) || is_at_sign T.Op bytes)
-
--- What begins an operand of a command: an operator only with a space before it and none behind it.
-abbrev pub begins_operand : Origin → Token → Tok → Bool
-begins_operand x tok T.Op = is_operator (spelling x tok) && (tok.space_before && not tok.space_after)
-begins_operand x tok kind = expr_at x (tok ∷ [])
-
--- whether an operand goes on here
-abbrev pub operand_on : Origin → ℕ → List Token → Bool
-operand_on x n [] = false
-operand_on x n (tok ∷ ts) = goes_on (Lines n) tok.indent && begins_operand x tok tok.kind
 
 abbrev pub assign_named : List ℕ → Option AssignOp
 assign_named bytes =

@@ -12,20 +12,21 @@ use Rattle.nim_tree.specs.declared.stmt.Binding.TheVariants as B
 use Rattle.nim_tree.specs.Terms.{Term, range, Parts, no_parts, part, and_part, place_of, levels}
 use Rattle.nim_tree.specs.Statements.{Course, each, up_to, below, Statement, discards, returns, raises, breaks, continues, imports, evaluates, assigns, commands, defines, types, repeats, counts, tries, defers, proclaims, branches, selects, Statements, empty, and_statement, Branches, no_branches, and_branch, Handlers, no_handlers}
 use Rattle.parse_exprs.specs.declared.layout.Layout.{Layout}
-use Rattle.parse_exprs.specs.declared.layout.Layout.TheVariants.{Brackets, Lines}
-use Rattle.parse_exprs.specs.Look.{Origin, place_at, stays, colon_at, comma_at, past_colon, dots_at, expr_at, lead_at, branch_at, is_elif, is_else, is_of, first_of_at, is_punct}
+use Rattle.parse_exprs.specs.declared.layout.Layout.TheVariants.{Brackets, Lines, Start}
+use Rattle.parse_exprs.specs.Look.{Origin, place_at, stays, colon_at, comma_at, past_colon, dots_at, expr_at, lead_at, branch_at, is_elif, is_else, is_of, first_of_at, is_punct, operand_on}
 use Rattle.parse_exprs.specs.Outcome as E
 use Rattle.parse_exprs.specs.Run.{run_expr, run_primary}
 use Rattle.parse_decls.specs.Look.{behind, deeper_at, stands_at, level_at, equals_at}
 use Rattle.parse_decls.specs.Outcome.{Out, got, bad, then_do, too_deep, left_out, stuck_at, tired, unless_stuck, of_expr}
 use Rattle.parse_decls.specs.Run.{most_levels, run_name, run_names, run_def, run_def_block, run_types, run_head}
+use Rattle.parse_stmts.specs.declared.alone.TheConstants.{MOST_ALONE}
 use Rattle.parse_stmts.specs.declared.look.Lead.{Lead}
 use Rattle.parse_stmts.specs.declared.look.Lead.TheVariants as L
 use Rattle.parse_stmts.specs.declared.look.Simple.{Simple}
 use Rattle.parse_stmts.specs.declared.look.Simple.TheVariants as S
 pub use Rattle.parse_stmts.specs.Look.{assigned_by, branch_level, binding_of}
 pub use Rattle.parse_stmts.specs.Handling.{Caught, and_caught, are_some, have_some, hold_some}
-use Rattle.parse_stmts.specs.Look.{end_at, on_line_at, ends_at, opens_block, line_over, chooses, lead, simple_of, atom_at, operand_on, assign_on, is_in, is_as, is_except, is_finally, word_on, below_at, path_at}
+use Rattle.parse_stmts.specs.Look.{end_at, on_line_at, ends_at, opens_block, line_over, chooses, lead, simple_of, atom_at, assign_on, is_in, is_as, is_except, is_finally, word_on, below_at, path_at}
 
 -- ---- expressions
 
@@ -71,7 +72,7 @@ run_expression k x n ts = then_do (run_value k x n ts) (λ a mid. run_assigned k
 -- a command, where an operand stands behind what may be called
 abbrev pub run_plain : ℕ → Origin → ℕ → List Token → Out Statement
 run_plain k x n ts =
-    if atom_at x ts then then_do (of_expr ts (run_primary k x (Lines n) true most_levels ts)) (λ a mid. if operand_on x n mid then run_command k x n a mid else run_expression k x n ts)
+    if atom_at x ts then then_do (of_expr ts (run_primary k x (Lines n) true most_levels ts)) (λ a mid. if operand_on x (Lines n) mid then run_command k x n a mid else run_expression k x n ts)
     else run_expression k x n ts
 
 abbrev pub run_bound : ℕ → Binding → Origin → ℕ → Place → List Token → Out Statement
@@ -129,14 +130,14 @@ run_types_of k x n ts = if colon_at (Lines n) ts then got [] ts else run_names k
 abbrev pub run_binding : Bool → Origin → ℕ → List Token → Out (Option Name)
 run_binding some x n ts = if some && word_on n is_as ts then then_do (run_name x (Lines n) (behind ts)) (λ name rest. got (Some name) rest) else got None ts
 
--- an expression that is alone on its line, where it is one of at most 65 levels, of which it may have 64
+-- an expression that is alone on its line, where it is one of at most `MOST_ALONE` levels, of which it may have 64
 abbrev pub alone_in : ℕ → List Token → E.Out Term → Out (Option Term)
 alone_in n whole (E.got a rest) = if line_over n rest then (if nat_lt most_levels (levels a) then bad (too_deep whole) else got (Some a) rest) else got None whole
 alone_in n whole (E.bad E.tired) = bad tired
 alone_in n whole (E.bad why) = got None whole
 
 abbrev pub run_alone : ℕ → Origin → ℕ → List Token → Out (Option Term)
-run_alone k x n ts = alone_in n ts (run_expr k x (Lines n) 65 ts)
+run_alone k x n ts = alone_in n ts (run_expr k x (Start n) MOST_ALONE ts)
 
 -- ---- statements
 

@@ -18,6 +18,9 @@ use std::alloc::Global;
 // The most levels of an expression.
 const MOST_LEVELS: u32 = 64;
 
+/// The most levels of an expression at the start of a statement that is looked at: it may have 64, and with more it is too deep.
+pub const MOST_ALONE: u32 = 200;
+
 // Whether it has few enough levels.
 fn fits(tree: &Expr) -> bool
     ensures { result ≡ not (nat_lt most_levels (levels (term_of tree.now))) }
@@ -55,7 +58,7 @@ fn if_alone(
 
 /// The expression that begins there and is alone on its line, in a statement behind so many spaces, if there is one.
 ///
-/// Refused with E5 at its first token where it has 65 levels.
+/// Refused with E5 at its first token where it has more than 64 levels, up to [`MOST_ALONE`].
 pub(crate) fn read_alone(
     alloc: Global,
     input: &Input,
@@ -74,8 +77,8 @@ pub(crate) fn read_alone(
         input.tokens,
         from,
         input.module,
-        Layout::Lines(spaces),
-        MOST_LEVELS + 1,
+        Layout::Start(spaces),
+        MOST_ALONE,
     );
     match read {
         Ok(parsed) => if_alone(input, at, spaces, parsed),

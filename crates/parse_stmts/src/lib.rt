@@ -13,7 +13,10 @@ mod plain;
 mod simple;
 #[cfg(test)]
 mod tests;
+mod total;
 mod tree;
 mod values;
 
+pub use alone::MOST_ALONE;
+pub use total::tree_or_fault;
 pub use tree::{one_fault, one_tree, parse};

@@ -3,9 +3,8 @@ ghost use Rattle.std.specs.Prelude.{◌≡◌, suc, ◌<◌, ◌≤◌, ◌^◌,
 ghost use Rattle.nim_tree.specs.Terms.{term_of, parts_of, part, no_parts};
 ghost use Rattle.nim_tree.specs.Statements.{statement_of};
 ghost use Rattle.parse_exprs.specs.Input.{from_at, origin_of};
-ghost use Rattle.parse_exprs.specs.Look.{expr_at};
 ghost use Rattle.parse_decls.specs.Gives.{Comes};
-ghost use Rattle.parse_stmts.specs.Look.{atom_at, is_operator, operand_on, assign_named, assign_of, assign_on};
+ghost use Rattle.parse_stmts.specs.Look.{atom_at, assign_named, assign_of, assign_on};
 ghost use Rattle.parse_stmts.specs.Run.{run_plain, run_command, run_operands, run_expression, run_assigned, assigned_by};
 
 use crate::marks::past_comma;
@@ -14,7 +13,7 @@ use arc_base::Stop;
 use indent_scanner::Tok;
 use nim_tree::{AssignOp, Expr, Stmt};
 use parse_decls::{Reading, and_one, read_callee, read_value};
-use parse_exprs::{Input, Layout, Lead, begins_atom, goes_on, op_named, sign_named};
+use parse_exprs::{Input, Layout, Lead, begins_atom, goes_on};
 use std::alloc::Global;
 
 // ---- what goes on
@@ -26,29 +25,6 @@ fn atom_at(input: &Input, at: usize) -> bool
     match input.head(at) {
         Some(token) => begins_atom(token.kind) || input.is_at_sign(token),
         None => false,
-    }
-}
-
-// Whether it is an operator of the language.
-fn is_operator(spelling: &[u8]) -> bool
-    ensures { result ≡ is_operator spelling.now }
-{
-    op_named(spelling).is_some() || (sign_named(spelling).is_some() || spelling == b"@".as_slice())
-}
-
-// Whether an operand of a command goes on there.
-fn operand_on(input: &Input, at: usize, spaces: u32) -> bool
-    ensures { result ≡ operand_on (origin_of input.now) spaces (from_at input.now at) }
-{
-    let Some(token) = input.head(at) else {
-        return false;
-    };
-    if !goes_on(Layout::Lines(spaces), token.indent) {
-        return false;
-    }
-    match token.kind {
-        Tok::Op => is_operator(input.spelling(token)) && (token.space_before && !token.space_after),
-        _ => input.expr_at(at),
     }
 }
 
@@ -116,7 +92,7 @@ pub(crate) fn read_plain(
         return read_expression(alloc, input, at, spaces);
     }
     let callee = read_callee(alloc, input, at, spaces)?;
-    if operand_on(input, callee.next, spaces) {
+    if input.operand_on(callee.next, Layout::Lines(spaces)) {
         read_command(alloc, input, callee, spaces)
     } else {
         read_expression(alloc, input, at, spaces)

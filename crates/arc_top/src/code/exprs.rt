@@ -8,6 +8,7 @@ use super::operations::{emit_negate, emit_operator};
 use super::pieces::{LEFT, RESULT, RIGHT, emit, emit_load, load_slot, save_slot};
 use arc_base::{Bytes, Memory};
 use nim_core::{Comparison, Cond, Expr, Operator};
+use rv32_isa::build::{beq, bge, blt, lw};
 use rv32_isa::{Instr, STATICS_AT};
 
 /// Where the variables stand in the data, behind the lines of the traps.
@@ -60,17 +61,7 @@ fn emit_variable(code: &mut Bytes, number: u32, slot: u32) -> Result<(), Memory>
     ensures { OnOk result (code.new ≡ code.old ++ code_bytes (load_code 5 (variable_at number) ++ Instr.Lw 5 5 0 ∷ save_slot slot 5 ∷ [])) }
 {
     emit_load(code, LEFT, variable_at(number))?;
-    emit(
-        code,
-        &[
-            Instr::Lw {
-                rd: LEFT,
-                rs1: LEFT,
-                offset: 0,
-            },
-            save_slot(slot, LEFT),
-        ],
-    )
+    emit(code, &[lw(LEFT, LEFT, 0), save_slot(slot, LEFT)])
 }
 
 /// The value of an expression in a slot.
@@ -103,21 +94,9 @@ fn skip_where(comparison: Comparison) -> Instr
     ensures { result ≡ skip_where comparison }
 {
     match comparison {
-        Comparison::Equal => Instr::Beq {
-            rs1: LEFT,
-            rs2: RIGHT,
-            offset: OVER_ONE,
-        },
-        Comparison::Less => Instr::Blt {
-            rs1: LEFT,
-            rs2: RIGHT,
-            offset: OVER_ONE,
-        },
-        Comparison::AtMost => Instr::Bge {
-            rs1: RIGHT,
-            rs2: LEFT,
-            offset: OVER_ONE,
-        },
+        Comparison::Equal => beq(LEFT, RIGHT, OVER_ONE),
+        Comparison::Less => blt(LEFT, RIGHT, OVER_ONE),
+        Comparison::AtMost => bge(RIGHT, LEFT, OVER_ONE),
     }
 }
 

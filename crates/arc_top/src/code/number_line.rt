@@ -7,7 +7,7 @@ use super::pieces::{
     SECOND_SCRATCH, SLOTS, STANDARD_OUTPUT, WRITE, ZERO, emit, set,
 };
 use arc_base::{Bytes, Memory};
-use rv32_isa::Instr;
+use rv32_isa::build::{addi, bge, bne, divu, ecall, remu, sb, sub};
 
 /// Where the line ends, in the stack.
 const LINE_END: u32 = 1040;
@@ -28,32 +28,12 @@ fn emit_front(code: &mut Bytes) -> Result<(), Memory>
     emit(
         code,
         &[
-            Instr::Addi {
-                rd: RIGHT,
-                rs1: SLOTS,
-                imm: LINE_END - 1,
-            },
+            addi(RIGHT, SLOTS, LINE_END - 1),
             set(RESULT, LINE_FEED),
-            Instr::Sb {
-                rs1: RIGHT,
-                rs2: RESULT,
-                offset: 0,
-            },
-            Instr::Addi {
-                rd: FIRST_SCRATCH,
-                rs1: LEFT,
-                imm: 0,
-            },
-            Instr::Bge {
-                rs1: LEFT,
-                rs2: ZERO,
-                offset: 8,
-            },
-            Instr::Sub {
-                rd: FIRST_SCRATCH,
-                rs1: ZERO,
-                rs2: LEFT,
-            },
+            sb(RIGHT, RESULT, 0),
+            addi(FIRST_SCRATCH, LEFT, 0),
+            bge(LEFT, ZERO, 8),
+            sub(FIRST_SCRATCH, ZERO, LEFT),
             set(SECOND_SCRATCH, 10),
         ],
     )
@@ -66,36 +46,12 @@ fn emit_digits(code: &mut Bytes) -> Result<(), Memory>
     emit(
         code,
         &[
-            Instr::Addi {
-                rd: RIGHT,
-                rs1: RIGHT,
-                imm: MINUS_ONE,
-            },
-            Instr::Remu {
-                rd: RESULT,
-                rs1: FIRST_SCRATCH,
-                rs2: SECOND_SCRATCH,
-            },
-            Instr::Divu {
-                rd: FIRST_SCRATCH,
-                rs1: FIRST_SCRATCH,
-                rs2: SECOND_SCRATCH,
-            },
-            Instr::Addi {
-                rd: RESULT,
-                rs1: RESULT,
-                imm: DIGIT_0,
-            },
-            Instr::Sb {
-                rs1: RIGHT,
-                rs2: RESULT,
-                offset: 0,
-            },
-            Instr::Bne {
-                rs1: FIRST_SCRATCH,
-                rs2: ZERO,
-                offset: BRANCHES - 20,
-            },
+            addi(RIGHT, RIGHT, MINUS_ONE),
+            remu(RESULT, FIRST_SCRATCH, SECOND_SCRATCH),
+            divu(FIRST_SCRATCH, FIRST_SCRATCH, SECOND_SCRATCH),
+            addi(RESULT, RESULT, DIGIT_0),
+            sb(RIGHT, RESULT, 0),
+            bne(FIRST_SCRATCH, ZERO, BRANCHES - 20),
         ],
     )
 }
@@ -107,22 +63,10 @@ fn emit_sign(code: &mut Bytes) -> Result<(), Memory>
     emit(
         code,
         &[
-            Instr::Bge {
-                rs1: LEFT,
-                rs2: ZERO,
-                offset: 16,
-            },
-            Instr::Addi {
-                rd: RIGHT,
-                rs1: RIGHT,
-                imm: MINUS_ONE,
-            },
+            bge(LEFT, ZERO, 16),
+            addi(RIGHT, RIGHT, MINUS_ONE),
             set(RESULT, MINUS),
-            Instr::Sb {
-                rs1: RIGHT,
-                rs2: RESULT,
-                offset: 0,
-            },
+            sb(RIGHT, RESULT, 0),
         ],
     )
 }
@@ -134,24 +78,12 @@ fn emit_write(code: &mut Bytes) -> Result<(), Memory>
     emit(
         code,
         &[
-            Instr::Addi {
-                rd: ARGUMENT_1,
-                rs1: RIGHT,
-                imm: 0,
-            },
-            Instr::Addi {
-                rd: ARGUMENT_2,
-                rs1: SLOTS,
-                imm: LINE_END,
-            },
-            Instr::Sub {
-                rd: ARGUMENT_2,
-                rs1: ARGUMENT_2,
-                rs2: RIGHT,
-            },
+            addi(ARGUMENT_1, RIGHT, 0),
+            addi(ARGUMENT_2, SLOTS, LINE_END),
+            sub(ARGUMENT_2, ARGUMENT_2, RIGHT),
             set(ARGUMENT_0, STANDARD_OUTPUT),
             set(NUMBER, WRITE),
-            Instr::Ecall,
+            ecall(),
         ],
     )
 }

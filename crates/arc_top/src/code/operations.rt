@@ -1,6 +1,7 @@
 // Operations: from the operands' registers to that of the result, or to a trap.
 ghost use Rattle.std.specs.Prelude.{◌≡◌, ◌<◌, ◌++◌, [], ◌∷◌, OnOk};
 ghost use Rattle.nim_core.specs.Traps.{Overflow};
+ghost use Rattle.rv32_isa.specs.declared.instr.Instr.TheVariants.{Lui, Jalr, Beq};
 ghost use Rattle.arc_top.specs.Code.{code_bytes, to_trap, add_code, subtract_code, multiply_code, divisor_code, divide_code, modulo_code, operator_code, negate_code};
 
 use super::pieces::{
@@ -8,7 +9,7 @@ use super::pieces::{
 };
 use arc_base::{Bytes, Memory};
 use nim_core::Operator;
-use rv32_isa::Instr;
+use rv32_isa::build::{add, beq, bne, div, jalr, lui, mul, mulh, rem, slt, slti, srai, sub};
 
 /// Where the code of the traps stands, from where the code begins.
 const OVERFLOW_CODE: u32 = 8;
@@ -26,36 +27,22 @@ const OVER_TRAP: u32 = 12;
 // Goes to the code of a trap.
 fn emit_to_trap(code: &mut Bytes, offset: u32) -> Result<(), Memory>
     requires { offset < 4096 }
-    ensures { OnOk result (code.new ≡ code.old ++ code_bytes (Instr.Lui 9 0x10 ∷ Instr.Jalr 0 9 offset ∷ [])) }
+    ensures { OnOk result (code.new ≡ code.old ++ code_bytes (Lui 9 0x10 ∷ Jalr 0 9 offset ∷ [])) }
 {
     emit(
         code,
         &[
-            Instr::Lui {
-                rd: SECOND_SCRATCH,
-                imm: UPPER_CODE,
-            },
-            Instr::Jalr {
-                rd: ZERO,
-                rs1: SECOND_SCRATCH,
-                offset,
-            },
+            lui(SECOND_SCRATCH, UPPER_CODE),
+            jalr(ZERO, SECOND_SCRATCH, offset),
         ],
     )
 }
 
 // Goes to the trap of an overflow, unless the scratch registers are equal.
 fn emit_overflow(code: &mut Bytes) -> Result<(), Memory>
-    ensures { OnOk result (code.new ≡ code.old ++ code_bytes (Instr.Beq 8 9 12 ∷ to_trap Overflow)) }
+    ensures { OnOk result (code.new ≡ code.old ++ code_bytes (Beq 8 9 12 ∷ to_trap Overflow)) }
 {
-    emit(
-        code,
-        &[Instr::Beq {
-            rs1: FIRST_SCRATCH,
-            rs2: SECOND_SCRATCH,
-            offset: OVER_TRAP,
-        }],
-    )?;
+    emit(code, &[beq(FIRST_SCRATCH, SECOND_SCRATCH, OVER_TRAP)])?;
     emit_to_trap(code, OVERFLOW_CODE)
 }
 
@@ -66,21 +53,9 @@ fn emit_add(code: &mut Bytes) -> Result<(), Memory>
     emit(
         code,
         &[
-            Instr::Add {
-                rd: RESULT,
-                rs1: LEFT,
-                rs2: RIGHT,
-            },
-            Instr::Slt {
-                rd: FIRST_SCRATCH,
-                rs1: RESULT,
-                rs2: LEFT,
-            },
-            Instr::Slti {
-                rd: SECOND_SCRATCH,
-                rs1: RIGHT,
-                imm: 0,
-            },
+            add(RESULT, LEFT, RIGHT),
+            slt(FIRST_SCRATCH, RESULT, LEFT),
+            slti(SECOND_SCRATCH, RIGHT, 0),
         ],
     )?;
     emit_overflow(code)
@@ -93,21 +68,9 @@ fn emit_subtract(code: &mut Bytes) -> Result<(), Memory>
     emit(
         code,
         &[
-            Instr::Sub {
-                rd: RESULT,
-                rs1: LEFT,
-                rs2: RIGHT,
-            },
-            Instr::Slt {
-                rd: FIRST_SCRATCH,
-                rs1: LEFT,
-                rs2: RESULT,
-            },
-            Instr::Slti {
-                rd: SECOND_SCRATCH,
-                rs1: RIGHT,
-                imm: 0,
-            },
+            sub(RESULT, LEFT, RIGHT),
+            slt(FIRST_SCRATCH, LEFT, RESULT),
+            slti(SECOND_SCRATCH, RIGHT, 0),
         ],
     )?;
     emit_overflow(code)
@@ -120,21 +83,9 @@ fn emit_multiply(code: &mut Bytes) -> Result<(), Memory>
     emit(
         code,
         &[
-            Instr::Mulh {
-                rd: FIRST_SCRATCH,
-                rs1: LEFT,
-                rs2: RIGHT,
-            },
-            Instr::Mul {
-                rd: RESULT,
-                rs1: LEFT,
-                rs2: RIGHT,
-            },
-            Instr::Srai {
-                rd: SECOND_SCRATCH,
-                rs1: RESULT,
-                amount: 31,
-            },
+            mulh(FIRST_SCRATCH, LEFT, RIGHT),
+            mul(RESULT, LEFT, RIGHT),
+            srai(SECOND_SCRATCH, RESULT, 31),
         ],
     )?;
     emit_overflow(code)
@@ -144,14 +95,7 @@ fn emit_multiply(code: &mut Bytes) -> Result<(), Memory>
 fn emit_divisor(code: &mut Bytes) -> Result<(), Memory>
     ensures { OnOk result (code.new ≡ code.old ++ code_bytes divisor_code) }
 {
-    emit(
-        code,
-        &[Instr::Bne {
-            rs1: RIGHT,
-            rs2: ZERO,
-            offset: OVER_TRAP,
-        }],
-    )?;
+    emit(code, &[bne(RIGHT, ZERO, OVER_TRAP)])?;
     emit_to_trap(code, ZERO_DIVISOR_CODE)
 }
 
@@ -163,32 +107,14 @@ fn emit_divide(code: &mut Bytes) -> Result<(), Memory>
     emit(
         code,
         &[
-            Instr::Lui {
-                rd: FIRST_SCRATCH,
-                imm: UPPER_LEAST,
-            },
-            Instr::Bne {
-                rs1: LEFT,
-                rs2: FIRST_SCRATCH,
-                offset: 20,
-            },
+            lui(FIRST_SCRATCH, UPPER_LEAST),
+            bne(LEFT, FIRST_SCRATCH, 20),
             set(FIRST_SCRATCH, MINUS_ONE),
-            Instr::Bne {
-                rs1: RIGHT,
-                rs2: FIRST_SCRATCH,
-                offset: OVER_TRAP,
-            },
+            bne(RIGHT, FIRST_SCRATCH, OVER_TRAP),
         ],
     )?;
     emit_to_trap(code, OVERFLOW_CODE)?;
-    emit(
-        code,
-        &[Instr::Div {
-            rd: RESULT,
-            rs1: LEFT,
-            rs2: RIGHT,
-        }],
-    )
+    emit(code, &[div(RESULT, LEFT, RIGHT)])
 }
 
 // The remainder.
@@ -196,14 +122,7 @@ fn emit_modulo(code: &mut Bytes) -> Result<(), Memory>
     ensures { OnOk result (code.new ≡ code.old ++ code_bytes modulo_code) }
 {
     emit_divisor(code)?;
-    emit(
-        code,
-        &[Instr::Rem {
-            rd: RESULT,
-            rs1: LEFT,
-            rs2: RIGHT,
-        }],
-    )
+    emit(code, &[rem(RESULT, LEFT, RIGHT)])
 }
 
 /// From the operands to the result, or to a trap.
@@ -226,24 +145,10 @@ pub fn emit_negate(code: &mut Bytes) -> Result<(), Memory>
     emit(
         code,
         &[
-            Instr::Lui {
-                rd: FIRST_SCRATCH,
-                imm: UPPER_LEAST,
-            },
-            Instr::Bne {
-                rs1: LEFT,
-                rs2: FIRST_SCRATCH,
-                offset: OVER_TRAP,
-            },
+            lui(FIRST_SCRATCH, UPPER_LEAST),
+            bne(LEFT, FIRST_SCRATCH, OVER_TRAP),
         ],
     )?;
     emit_to_trap(code, OVERFLOW_CODE)?;
-    emit(
-        code,
-        &[Instr::Sub {
-            rd: RESULT,
-            rs1: ZERO,
-            rs2: LEFT,
-        }],
-    )
+    emit(code, &[sub(RESULT, ZERO, LEFT)])
 }

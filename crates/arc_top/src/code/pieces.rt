@@ -1,10 +1,11 @@
 // Pieces of code that others are made of.
 ghost use Rattle.std.specs.Prelude.{◌≡◌, ◌<◌, ◌^◌, ◌%◌, ◌++◌, [], ◌∷◌, OnOk};
-ghost use Rattle.rv32_isa.proofs.Fetch.{AllInRange};
+ghost use Rattle.rv32_isa.specs.Row.{AllInRange};
 ghost use Rattle.arc_top.specs.Code.{code_bytes, load_code, load_slot, save_slot, write_code, exit_code};
 
 use crate::words::push_word;
 use arc_base::{Bytes, Memory};
+use rv32_isa::build::{addi, ecall, jal, lui, lw, sw};
 use rv32_isa::{Instr, encode};
 
 /// The register that is always 0.
@@ -71,15 +72,8 @@ pub fn emit_load(code: &mut Bytes, rd: u32, value: u32) -> Result<(), Memory>
     emit(
         code,
         &[
-            Instr::Lui {
-                rd,
-                imm: value.wrapping_add(2048) / 4096,
-            },
-            Instr::Addi {
-                rd,
-                rs1: rd,
-                imm: value % 4096,
-            },
+            lui(rd, value.wrapping_add(2048) / 4096),
+            addi(rd, rd, value % 4096),
         ],
     )
 }
@@ -88,11 +82,7 @@ pub fn emit_load(code: &mut Bytes, rd: u32, value: u32) -> Result<(), Memory>
 pub fn set(rd: u32, value: u32) -> Instr
     ensures { result ≡ Instr.Addi rd 0 value }
 {
-    Instr::Addi {
-        rd,
-        rs1: ZERO,
-        imm: value,
-    }
+    addi(rd, ZERO, value)
 }
 
 /// A register gets what stands in a slot.
@@ -100,11 +90,7 @@ pub fn load_slot(rd: u32, slot: u32) -> Instr
     requires { slot < 1024 }
     ensures { result ≡ load_slot rd slot }
 {
-    Instr::Lw {
-        rd,
-        rs1: SLOTS,
-        offset: 4 * slot,
-    }
+    lw(rd, SLOTS, 4 * slot)
 }
 
 /// A slot gets what stands in a register.
@@ -112,11 +98,7 @@ pub fn save_slot(slot: u32, rs: u32) -> Instr
     requires { slot < 1024 }
     ensures { result ≡ save_slot slot rs }
 {
-    Instr::Sw {
-        rs1: SLOTS,
-        rs2: rs,
-        offset: 4 * slot,
-    }
+    sw(SLOTS, rs, 4 * slot)
 }
 
 /// Jumps by an offset in bytes.
@@ -125,7 +107,7 @@ pub fn emit_jump(code: &mut Bytes, offset: u32) -> Result<(), Memory>
     requires even { offset % 2 ≡ 0 }
     ensures { OnOk result (code.new ≡ code.old ++ code_bytes (Instr.Jal 0 offset ∷ [])) }
 {
-    emit(code, &[Instr::Jal { rd: ZERO, offset }])
+    emit(code, &[jal(ZERO, offset)])
 }
 
 /// Writes bytes of the data to a stream.
@@ -136,12 +118,12 @@ pub fn emit_write(code: &mut Bytes, stream: u32, at: u32, len: u32) -> Result<()
     emit(code, &[set(ARGUMENT_0, stream)])?;
     emit_load(code, ARGUMENT_1, at)?;
     emit_load(code, ARGUMENT_2, len)?;
-    emit(code, &[set(NUMBER, WRITE), Instr::Ecall])
+    emit(code, &[set(NUMBER, WRITE), ecall()])
 }
 
 /// Exits with the status in the first argument's register.
 pub fn emit_exit(code: &mut Bytes) -> Result<(), Memory>
     ensures { OnOk result (code.new ≡ code.old ++ code_bytes exit_code) }
 {
-    emit(code, &[set(NUMBER, EXIT), Instr::Ecall])
+    emit(code, &[set(NUMBER, EXIT), ecall()])
 }

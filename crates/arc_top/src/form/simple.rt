@@ -3,13 +3,13 @@ ghost use Rattle.std.specs.Prelude.{◌≡◌, Ok, IfOk, IfErr, map};
 ghost use Rattle.arc_base.specs.Stops.{OnRefusal};
 ghost use Rattle.nim_tree.specs.Terms.{term_of, parts_of};
 ghost use Rattle.nim_tree.specs.Statements.{definition_of};
-ghost use Rattle.arc_top.specs.Refusal.{IsRefusal};
+ghost use Rattle.arc_base.specs.Refusal.{IsRefusal};
 ghost use Rattle.arc_top.specs.Lines.{line_of};
 ghost use Rattle.arc_top.specs.Form.{lone_name, as_definition, first_place, as_section, as_assignment, is_name, as_shown, as_echo, as_quit, as_call, as_evaluation};
 
 use crate::form::Line;
-use crate::form::sums::{left_out, own, sum_in};
-use arc_base::{Memory, Place, Stop};
+use crate::form::sums::{left_out, sum_in};
+use arc_base::{Bytes, Memory, Place, Stop};
 use indent_scanner::is_named;
 use nim_tree::{Declared, Def, Expr, Name};
 use std::alloc::Global;
@@ -27,7 +27,7 @@ fn lone_name(alloc: Global, def: &Def) -> Result<Option<Name>, Memory>
             if name.quoted || name.shown {
                 return Ok(None);
             }
-            let text = own(alloc, name.text.as_slice())?;
+            let text = Bytes::from_slice(alloc, name.text.as_slice())?;
             Ok(Some(Name { at: name.at, text }))
         }
         _ => Ok(None),
@@ -91,7 +91,7 @@ pub(crate) fn assignment_in(
     match target {
         Expr::Name { at: place, text } => {
             let value = sum_in(alloc, value)?;
-            let text = own(alloc, text.as_slice())?;
+            let text = Bytes::from_slice(alloc, text.as_slice())?;
             Ok(Line::Assign {
                 at,
                 variable: Name { at: *place, text },
@@ -120,7 +120,7 @@ fn shown_in(alloc: Global, at: Place, value: &Expr) -> Result<Line, Stop>
     match value {
         Expr::Text { text, .. } => Ok(Line::EchoText {
             at,
-            text: own(alloc, text.as_slice())?,
+            text: Bytes::from_slice(alloc, text.as_slice())?,
         }),
         _ => {
             let value = sum_in(alloc, value)?;

@@ -4,12 +4,12 @@ ghost use Rattle.arc_base.specs.Stops.{OnRefusal};
 ghost use Rattle.arc_base.specs.declared.place.Stop.TheVariants as Stop;
 ghost use Rattle.arc_base.specs.declared.place.Code.TheVariants as Code;
 ghost use Rattle.nim_tree.specs.Terms.{term_of};
-ghost use Rattle.arc_top.specs.Refusal.{IsRefusal};
+ghost use Rattle.arc_base.specs.Refusal.{IsRefusal};
 ghost use Rattle.arc_top.specs.Lines.{sum_of, test_of, opposite, operation};
 ghost use Rattle.arc_top.specs.Form.{operator_of, comparison_of, as_sum, as_test};
 
 use crate::form::{Sum, Test};
-use arc_base::{Bytes, Code, Memory, Place, Stop};
+use arc_base::{Bytes, Code, Place, Stop};
 use nim_core::{Comparison, Operator};
 use nim_tree::{BinaryOp, Expr, UnaryOp};
 use std::alloc::Global;
@@ -22,15 +22,6 @@ pub(crate) fn left_out(at: Place) -> Stop
         code: Code::LeftOut,
         at,
     }
-}
-
-// Bytes of their own.
-pub(crate) fn own(alloc: Global, bytes: &[u8]) -> Result<Bytes, Memory>
-    ensures { IfOk result (λ copied. copied ≡ bytes.now) }
-{
-    let mut copied = Bytes::new(alloc);
-    copied.append(bytes)?;
-    Ok(copied)
 }
 
 // The operation of a sign between ints.
@@ -71,7 +62,7 @@ pub(crate) fn sum_in(alloc: Global, tree: &Expr) -> Result<Sum, Stop>
         }),
         Expr::Name { at, text } => Ok(Sum::Name {
             at: *at,
-            text: own(alloc, text.as_slice())?,
+            text: Bytes::from_slice(alloc, text.as_slice())?,
         }),
         Expr::Paren { inner, .. } => sum_in(alloc, inner),
         Expr::Unary {
@@ -103,10 +94,8 @@ fn opposite(alloc: Global, at: Place, operand: Sum) -> Result<Sum, Stop>
     ensures gives { IfOk result (λ sum. sum_of sum ≡ opposite at (sum_of operand)) }
     ensures memory { IfErr result (λ stop. stop ≡ Stop.Memory) }
 {
-    match Box::new(alloc, operand) {
-        Ok(operand) => Ok(Sum::Opposite { at, operand }),
-        Err(_) => Err(Stop::Memory),
-    }
+    let operand = Box::new(alloc, operand)?;
+    Ok(Sum::Opposite { at, operand })
 }
 
 fn operation(
@@ -119,18 +108,14 @@ fn operation(
     ensures gives { IfOk result (λ sum. sum_of sum ≡ operation at operator (sum_of left) (sum_of right)) }
     ensures memory { IfErr result (λ stop. stop ≡ Stop.Memory) }
 {
-    match Box::new(alloc, left) {
-        Ok(left) => match Box::new(alloc, right) {
-            Ok(right) => Ok(Sum::Operation {
-                at,
-                operator,
-                left,
-                right,
-            }),
-            Err(_) => Err(Stop::Memory),
-        },
-        Err(_) => Err(Stop::Memory),
-    }
+    let left = Box::new(alloc, left)?;
+    let right = Box::new(alloc, right)?;
+    Ok(Sum::Operation {
+        at,
+        operator,
+        left,
+        right,
+    })
 }
 
 // The comparison that an expression is.

@@ -2,12 +2,12 @@
 ghost use Rattle.std.specs.Prelude.{◌≡◌, ◌≤◌, ◌<◌, ◌-◌, length, suc};
 ghost use Rattle.nim_tree.specs.Terms.{Term, term_of, parts_of, choices_of, levels, most_levels, levels_in};
 ghost use Rattle.parse_exprs.specs.Look.{past_colon};
-ghost use Rattle.parse_exprs.specs.Run.{run_if, run_tail, run_value, run_elifs, run_else, run_case, run_branches, run_of, run_labels, run_label, run_ofs, run_otherwise};
+ghost use Rattle.parse_exprs.specs.Run.{run_if, run_tail, run_value, run_own_line, run_elifs, run_else, run_case, run_branches, run_of, run_labels, run_label, run_ofs, run_otherwise};
 ghost use Rattle.parse_exprs.specs.Input.{origin_of, from_at};
 ghost use Rattle.parse_exprs.specs.Gives.{Comes, ComesParts, ComesTail, ComesChoices};
 
 use crate::input::Input;
-use crate::kinds::branch_layout;
+use crate::kinds::{branch_layout, past_start};
 use crate::layout::Layout;
 use crate::make::{
     Branches, Reading, Several, Stuck, Tail, and_branch, and_part, make_case, make_case_else,
@@ -62,7 +62,7 @@ fn read_tail(
     if !input.stays(at, layout) {
         return Err(Stuck::Syntax(at));
     }
-    let condition = read_expr(alloc, input, at, layout, left)?;
+    let condition = read_expr(alloc, input, at, past_start(layout), left)?;
     let tests = and_part(no_parts(alloc, at), condition)?;
     let value = read_value(alloc, input, tests.next, layout, left)?;
     Ok(with_value(tests, value))
@@ -82,10 +82,34 @@ fn read_value(
     if !input.colon_at(at, layout) {
         return Err(Stuck::Syntax(at));
     }
-    if !input.stays(at + 1, layout) {
-        return Err(Stuck::Syntax(at + 1));
+    if input.stays(at + 1, layout) {
+        read_expr(alloc, input, at + 1, layout, left)
+    } else {
+        read_own_line(alloc, input, at + 1, layout, left)
     }
-    read_expr(alloc, input, at + 1, layout, left)
+}
+
+// A value on lines of its own.
+#[cycle(exprs)]
+fn read_own_line(
+    alloc: Global,
+    input: &Input,
+    at: usize,
+    layout: Layout,
+    left: u32,
+) -> Result<Reading, Stuck>
+    ensures { Comes (λ k. run_own_line k (origin_of input.now) layout left (from_at input.now at)) input.now left (suc at) result }
+{
+    if !input.deeper_line_at(at, layout) {
+        return Err(Stuck::Syntax(at));
+    }
+    let own = input.line_layout(at, layout);
+    let value = read_expr(alloc, input, at, own, left)?;
+    if input.closed_at(value.next, own) {
+        Ok(value)
+    } else {
+        Err(Stuck::Syntax(value.next))
+    }
 }
 
 // The `elif` branches behind the first branch of `if`.
@@ -147,7 +171,7 @@ pub(crate) fn read_case(
     if !input.stays(at + 1, layout) {
         return Err(Stuck::Syntax(at + 1));
     }
-    let selector = read_expr(alloc, input, at + 1, layout, left - 1)?;
+    let selector = read_expr(alloc, input, at + 1, past_start(layout), left - 1)?;
     read_branches(alloc, input, input.place_at(token), selector, layout, left)
 }
 
@@ -191,9 +215,10 @@ fn read_of(
     if !input.stays(at, layout) {
         return Err(Stuck::Syntax(at));
     }
-    let first = read_label(alloc, input, at, layout, left)?;
+    let inner = past_start(layout);
+    let first = read_label(alloc, input, at, inner, left)?;
     let one = and_part(no_parts(alloc, at), first)?;
-    let labels = read_labels(alloc, input, one, layout, left)?;
+    let labels = read_labels(alloc, input, one, inner, left)?;
     let value = read_value(alloc, input, labels.next, layout, left)?;
     Ok(with_value(labels, value))
 }
@@ -290,7 +315,7 @@ fn read_otherwise(
     ensures { Comes (λ k. run_otherwise k (origin_of input.now) layout (left - 1) place (term_of selector.tree) (choices_of all.branches.items) (from_at input.now all.next)) input.now left all.next result }
 {
     let deeper = selector.depth.max(all.depth);
-    if !input.else_at(all.next, layout) {
+    if !input.else_on(all.next, layout) {
         let tree = make_case(alloc, place, selector.tree, all.branches)?;
         return Ok(Reading {
             tree,

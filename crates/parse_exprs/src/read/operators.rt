@@ -1,13 +1,14 @@
 // Operators, and what stands behind an atom.
-ghost use Rattle.std.specs.Prelude.{◌≡◌, ◌≤◌, ◌<◌, ◌-◌, length, suc, true, Some, None};
+ghost use Rattle.std.specs.Prelude.{◌≡◌, ◌≤◌, ◌<◌, ◌-◌, ◌∷◌, length, suc, true, Some, None};
 ghost use Rattle.nim_tree.specs.Terms.{term_of, levels};
 ghost use Rattle.parse_exprs.specs.declared.layout.Layout.{Layout};
-ghost use Rattle.parse_exprs.specs.Look.{op_at, op_levels, suffix_at, bracket_at, operand_at, sign_of, spelling};
+ghost use Rattle.parse_exprs.specs.Look.{op_at, op_levels, past_start, suffix_at, bracket_at, operand_at, sign_of, spelling};
 ghost use Rattle.parse_exprs.specs.Run.{run_expr, run_level, run_chain, run_unary, run_signed, run_primary, run_suffixes, run_applied};
 ghost use Rattle.parse_exprs.specs.Input.{origin_of, from_at};
 ghost use Rattle.parse_exprs.specs.Gives.{Comes, Goes, Fails};
 
 use crate::input::{Bracket, Input, Lead};
+use crate::kinds::{at_start, past_start};
 use crate::layout::Layout;
 use crate::make::{Reading, Stuck, make_applied, make_binary, make_field, make_unary};
 use crate::read::atoms::read_atom;
@@ -56,8 +57,9 @@ fn read_level(
     }
     let tighter = level - 1;
     let mut a = read_level(alloc, input, at, layout, tighter, left)?;
-    while let Some(op) = input.op_at(a.next, layout, tighter) {
-        a = read_more(alloc, input, a, op, layout, tighter, left)?;
+    let rest = past_start(layout);
+    while let Some(op) = input.op_at(a.next, rest, tighter) {
+        a = read_more(alloc, input, a, op, rest, tighter, left)?;
     }
     Ok(a)
 }
@@ -121,7 +123,29 @@ fn read_unary(
     };
     match input.sign_of(token) {
         Some(op) => read_signed(alloc, input, at, token, op, layout, left),
-        None => read_primary(alloc, input, at, layout, false, left),
+        None => read_unsigned(alloc, input, at, token, layout, left),
+    }
+}
+
+// An atom and what stands behind it, where it begins no command.
+#[cycle(exprs)]
+fn read_unsigned(
+    alloc: Global,
+    input: &Input,
+    at: usize,
+    token: Token,
+    layout: Layout,
+    left: u32,
+) -> Result<Reading, Stuck>
+    requires some { 0 < left }
+    requires head { from_at input.now at ≡ token ∷ from_at input.now (suc at) }
+    ensures { Comes (λ k. run_signed k None (origin_of input.now) layout (left - 1) token (from_at input.now (suc at))) input.now left (suc at) result }
+{
+    let a = read_primary(alloc, input, at, layout, at_start(layout), left)?;
+    if input.no_command_on(a.next, layout) {
+        Ok(a)
+    } else {
+        Err(Stuck::Syntax(a.next))
     }
 }
 
@@ -143,7 +167,7 @@ fn read_signed(
     if !input.stays(at + 1, layout) {
         return Err(Stuck::Syntax(at + 1));
     }
-    let a = read_unary(alloc, input, at + 1, layout, left - 1)?;
+    let a = read_unary(alloc, input, at + 1, past_start(layout), left - 1)?;
     let all = make_unary(alloc, input.place_at(token), op, a.tree)?;
     Ok(Reading {
         tree: all,

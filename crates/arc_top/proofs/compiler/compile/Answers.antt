@@ -4,6 +4,7 @@ use Rattle.nim_core.specs.Program.{program_of}
 use Rattle.nim_core.specs.Meaning.{meaning}
 use Rattle.rv32_isa.specs.Image.{image_of}
 use Rattle.rv32_isa.specs.Machine.{machine}
+use Rattle.arc_top.specs.Objects.{live_objects}
 use Rattle.arc_top.specs.Elf.{file_of}
 use Rattle.arc_top.proofs.PlainFiles.{plain_file, plan_is, image_is}
 use Rattle.arc_top.proofs.Reading.{not_refused, never}
@@ -27,7 +28,7 @@ returns-clause-compiled c =
       reads_only = c.in_ok-program.ensures.only;
       elf = c.in_ok-bytes.ensures.elf;
       elf_only = c.in_ok-bytes.ensures.only;
-      agrees = λ input. subst (λ heap. Agrees (machine (image_of c.in_ok-image.image) input) (meaning program c.new.result heap input)) (sym low.sizes.0) (low.agrees c.new.result input);
+      agrees = λ input. subst (λ heap. Agrees (machine live_objects (image_of c.in_ok-image.image) input) (meaning program c.new.result heap input)) (sym low.sizes.0) (low.agrees c.new.result input);
       plan = plan_is c.new.result made.sites made.sinks made.skips;
       heap = low.sizes.0;
       stack = low.sizes.1;

@@ -1,4 +1,4 @@
-use Rattle.nim_core.proofs.Rows.{conditional}
+use Rattle.nim_core.proofs.ForCallers.{conditional}
 use Rattle.arc_top.proofs.names.choice.Goals as goal
 
 pub returns : goal.returns

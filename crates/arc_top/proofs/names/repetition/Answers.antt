@@ -1,4 +1,4 @@
-use Rattle.nim_core.proofs.Rows.{repeated}
+use Rattle.nim_core.proofs.ForCallers.{repeated}
 use Rattle.arc_top.proofs.names.repetition.Goals as goal
 
 pub returns : goal.returns

@@ -3,7 +3,7 @@ use Rattle.arc_base.specs.Stops.{OnRefusal}
 use Rattle.indent_scanner.specs.Tokens.{Tokens, token_bytes}
 use Rattle.nim_tree.specs.Statements.{tree_of}
 use Rattle.nim_core.specs.Program.{program_of}
-use Rattle.arc_top.specs.Refusal.{IsRefusal}
+use Rattle.arc_base.specs.Refusal.{IsRefusal}
 use Rattle.arc_top.specs.Lines.{lines_of, weights}
 use Rattle.arc_top.specs.Form.{form_of}
 use Rattle.arc_top.specs.Names.{check, UseInts}

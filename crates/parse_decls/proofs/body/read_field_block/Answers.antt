@@ -1,5 +1,4 @@
-use Rattle.std.proofs.Common.{◌≡◌, suc, ◌+◌, ◌<◌, ◌≤◌, [], ◌∷◌, List, ℕ, refl, sym, ap, subst, ◌∙◌, arith}
-use Rattle.std.proofs.lemmas.Result.{err_from_is_err_and}
+use Rattle.std.proofs.Common.{sym, ap, subst, ◌∙◌, arith}
 use Rattle.parse_exprs.specs.Input.{origin_of, from_at}
 use Rattle.nim_tree.specs.Types.{fields_of, no_fields}
 use Rattle.parse_decls.specs.Run.{run_fields}

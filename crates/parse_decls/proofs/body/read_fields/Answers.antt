@@ -1,10 +1,9 @@
-use Rattle.std.proofs.Common.{◌≡◌, suc, ◌+◌, ◌<◌, ◌≤◌, [], ◌∷◌, List, ℕ, refl, sym, ap, subst, ◌∙◌, arith}
+use Rattle.std.proofs.Common.{refl, sym, ap, ◌∙◌, arith}
 use Rattle.std.proofs.lemmas.Result.{err_from_is_err_and}
-use Rattle.parse_exprs.specs.Input.{origin_of, from_at}
-use Rattle.std.specs.Prelude.{map}
-use Rattle.nim_tree.specs.Types.{fields_of, no_fields}
+use Rattle.parse_exprs.specs.Input.{origin_of}
+use Rattle.nim_tree.specs.Types.{fields_of}
 use Rattle.parse_decls.proofs.Coming.{found}
-use Rattle.parse_decls.proofs.Repeats.{fields_loop, and_next, and_part, loop_on, loop_fails, loop_ends, begins}
+use Rattle.parse_decls.proofs.Repeats.{fields_loop, and_part, loop_on, loop_fails, loop_ends, begins}
 use Rattle.parse_decls.proofs.body.read_fields.Goals as goal
 
 pub loop-alloc-init : goal.loop-alloc-init

@@ -1,5 +1,4 @@
-use Rattle.std.proofs.Common.{◌-◌, [], length}
-use Rattle.std.specs.Prelude.{map}
+use Rattle.std.proofs.Common.{◌-◌, length}
 use Rattle.nim_tree.specs.Types.{fields_of, no_fields}
 use Rattle.parse_exprs.specs.Input.{origin_of, from_at}
 use Rattle.parse_decls.specs.Run.{run_fields}

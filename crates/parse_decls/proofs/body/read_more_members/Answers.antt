@@ -1,6 +1,6 @@
-use Rattle.std.proofs.Common.{◌≡◌, suc, ◌+◌, ◌<◌, ◌≤◌, [], ◌∷◌, List, ℕ, refl, sym, ap, subst, ◌∙◌, arith}
+use Rattle.std.proofs.Common.{refl, sym, ◌∙◌, arith}
 use Rattle.std.proofs.lemmas.Result.{err_from_is_err_and}
-use Rattle.parse_exprs.specs.Input.{origin_of, from_at}
+use Rattle.parse_exprs.specs.Input.{origin_of}
 use Rattle.parse_decls.specs.Look.{more_members_at}
 use Rattle.parse_decls.proofs.Coming.{found, within_at}
 use Rattle.parse_decls.proofs.Repeats.{members_loop, loop_on, loop_fails, loop_ends, begins, only_one}

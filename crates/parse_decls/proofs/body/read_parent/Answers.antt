@@ -1,4 +1,4 @@
-use Rattle.std.proofs.Common.{suc, ◌+◌, sym, ◌∙◌, arith}
+use Rattle.std.proofs.Common.{sym, ◌∙◌, arith}
 use Rattle.std.proofs.lemmas.Result.{err_from_is_err_and}
 use Rattle.parse_exprs.specs.Input.{origin_of}
 use Rattle.parse_decls.specs.Run.{run_name}

@@ -1,6 +1,5 @@
-use Rattle.std.proofs.Common.{◌≡◌, suc, ◌+◌, ◌<◌, ◌≤◌, [], ◌∷◌, List, ℕ, refl, sym, ap, subst, ◌∙◌, arith}
+use Rattle.std.proofs.Common.{sym, ◌∙◌, arith}
 use Rattle.std.proofs.lemmas.Result.{err_from_is_err_and}
-use Rattle.parse_exprs.specs.Input.{origin_of, from_at}
 use Rattle.parse_decls.proofs.Coming.{fails_then, fails_leads, fails_stuck, leads_on, leads_then, leads_unless, leads_past, found}
 use Rattle.parse_decls.proofs.BodySteps.{declared_run}
 use Rattle.parse_decls.proofs.declare.read_declaration.Goals as goal

@@ -1,10 +1,10 @@
-use Rattle.std.proofs.Common.{◌≡◌, suc, ◌+◌, ◌<◌, ◌≤◌, [], ◌∷◌, List, ℕ, refl, sym, ap, subst, ◌∙◌, arith}
+use Rattle.std.proofs.Common.{refl, sym, ap, ◌∙◌, arith}
 use Rattle.std.proofs.lemmas.Result.{err_from_is_err_and}
-use Rattle.parse_exprs.specs.Input.{origin_of, from_at}
+use Rattle.parse_exprs.specs.Input.{origin_of}
 use Rattle.std.specs.Prelude.{map}
 use Rattle.nim_tree.specs.Types.{declaration_of}
 use Rattle.parse_decls.proofs.Coming.{found}
-use Rattle.parse_decls.proofs.Repeats.{declarations_loop, and_next, and_part, loop_on, loop_fails, loop_ends, begins}
+use Rattle.parse_decls.proofs.Repeats.{declarations_loop, and_next, loop_on, loop_fails, loop_ends, begins}
 use Rattle.parse_decls.proofs.declare.read_declarations.Goals as goal
 
 pub loop-alloc-init : goal.loop-alloc-init

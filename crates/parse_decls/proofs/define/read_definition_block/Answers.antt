@@ -1,7 +1,6 @@
-use Rattle.std.proofs.Common.{◌≡◌, suc, ◌+◌, ◌<◌, ◌≤◌, [], ◌∷◌, List, ℕ, refl, sym, ap, subst, ◌∙◌, arith}
-use Rattle.std.proofs.lemmas.Result.{err_from_is_err_and}
+use Rattle.std.proofs.Common.{[], sym, subst, ◌∙◌, arith}
 use Rattle.parse_exprs.specs.Input.{origin_of, from_at}
-use Rattle.std.specs.Prelude.{map, Vec}
+use Rattle.std.specs.Prelude.{map}
 use Rattle.nim_tree.specs.Statements.{definition_of}
 use Rattle.parse_decls.specs.Run.{run_defs}
 use Rattle.parse_decls.specs.Gives.{Comes}

@@ -1,6 +1,6 @@
-use Rattle.std.proofs.Common.{◌≡◌, suc, ◌+◌, ◌<◌, ◌≤◌, [], ◌∷◌, List, ℕ, refl, sym, ap, subst, ◌∙◌, arith}
+use Rattle.std.proofs.Common.{refl, sym, ap, ◌∙◌, arith}
 use Rattle.std.proofs.lemmas.Result.{err_from_is_err_and}
-use Rattle.parse_exprs.specs.Input.{origin_of, from_at}
+use Rattle.parse_exprs.specs.Input.{origin_of}
 use Rattle.std.specs.Prelude.{map}
 use Rattle.nim_tree.specs.Statements.{parameters_of}
 use Rattle.parse_exprs.specs.declared.input.Bracket.TheVariants.{Round}

@@ -1,6 +1,5 @@
-use Rattle.std.proofs.Common.{◌≡◌, suc, ◌+◌, ◌<◌, ◌≤◌, [], ◌∷◌, List, ℕ, refl, sym, ap, subst, ◌∙◌, arith}
+use Rattle.std.proofs.Common.{◌+◌, sym, ap, ◌∙◌, arith}
 use Rattle.std.proofs.lemmas.Result.{err_from_is_err_and}
-use Rattle.parse_exprs.specs.Input.{origin_of, from_at}
 use Rattle.nim_tree.specs.Types.{written_of}
 use Rattle.parse_decls.proofs.Coming.{fails_then, fails_leads, fails_stuck, leads_on, leads_then, leads_past, found, found_is}
 use Rattle.parse_decls.proofs.HeadSteps.{parameter, mode_run, mode_leads}

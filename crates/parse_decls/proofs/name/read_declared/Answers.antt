@@ -3,7 +3,6 @@ use Rattle.indent_scanner.specs.declared.token.Token.{Token}
 use Rattle.nim_tree.specs.declared.name.Declared.{Declared}
 use Rattle.parse_exprs.specs.Look.{name_on}
 use Rattle.parse_exprs.specs.Input.{origin_of, from_at}
-use Rattle.parse_decls.specs.Look.{proc_name_on}
 use Rattle.parse_decls.specs.Run.{run_shown}
 use Rattle.parse_decls.specs.Gives.{Comes}
 use Rattle.parse_decls.proofs.Places.{stands_within}

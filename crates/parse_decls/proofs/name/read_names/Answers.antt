@@ -1,7 +1,7 @@
-use Rattle.std.proofs.Common.{◌≡◌, suc, ◌+◌, ap, sym, ◌∙◌, refl, arith}
+use Rattle.std.proofs.Common.{sym, ◌∙◌, refl, arith}
 use Rattle.std.proofs.lemmas.Result.{err_from_is_err_and}
-use Rattle.parse_exprs.specs.Input.{origin_of, from_at}
-use Rattle.parse_decls.proofs.Coming.{fails_then, leads_then, behind_at, found}
+use Rattle.parse_exprs.specs.Input.{origin_of}
+use Rattle.parse_decls.proofs.Coming.{fails_then, behind_at, found}
 use Rattle.parse_decls.proofs.Repeats.{names_loop, loop_on, loop_fails, loop_ends}
 use Rattle.parse_decls.proofs.name.read_names.Goals as goal
 

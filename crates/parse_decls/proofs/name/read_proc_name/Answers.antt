@@ -1,7 +1,6 @@
 use Rattle.std.proofs.Common.{refl, subst, suc, List}
 use Rattle.indent_scanner.specs.declared.token.Token.{Token}
 use Rattle.nim_tree.specs.declared.name.Declared.{Declared}
-use Rattle.parse_exprs.specs.Look.{name_on}
 use Rattle.parse_exprs.specs.Input.{origin_of, from_at}
 use Rattle.parse_decls.specs.Look.{proc_name_on}
 use Rattle.parse_decls.specs.Run.{run_shown}

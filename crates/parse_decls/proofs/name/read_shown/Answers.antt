@@ -1,4 +1,4 @@
-use Rattle.std.proofs.Common.{◌∙◌, ap, sym}
+use Rattle.std.proofs.Common.{◌∙◌, ap}
 use Rattle.parse_exprs.specs.Input.{origin_of}
 use Rattle.parse_decls.specs.Look.{declared_of, is_quoted}
 use Rattle.parse_decls.proofs.Places.{shown_found}

@@ -1,4 +1,3 @@
-use Rattle.std.proofs.Common.{suc, ◌+◌, refl, sym, ◌∙◌, arith}
 use Rattle.std.proofs.lemmas.Result.{err_from_is_err_and}
 use Rattle.parse_exprs.specs.Input.{origin_of, from_at}
 use Rattle.parse_exprs.specs.Parsed.{CalleeRun}

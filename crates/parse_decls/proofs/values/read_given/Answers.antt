@@ -1,7 +1,5 @@
-use Rattle.std.proofs.Common.{suc, ◌+◌, refl, sym, ◌∙◌, arith}
+use Rattle.std.proofs.Common.{sym, ◌∙◌}
 use Rattle.std.proofs.lemmas.Result.{err_from_is_err_and}
-use Rattle.nim_tree.specs.Terms.{term_of}
-use Rattle.parse_exprs.specs.Input.{origin_of, from_at}
 use Rattle.parse_decls.proofs.Steps.{given_fails, given_stuck, given_found}
 use Rattle.parse_decls.proofs.values.read_given.Goals as goal
 

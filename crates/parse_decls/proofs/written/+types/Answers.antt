@@ -1,14 +1,15 @@
-use Rattle.std.proofs.Common.{◌≡◌, suc, ◌+◌, ◌-◌, ◌<◌, ◌≤◌, ◌∷◌, refl, sym, ap, ◌∙◌, arith, add-one}
+use Rattle.std.proofs.Common.{◌≡◌, suc, ◌+◌, ◌-◌, ◌∷◌, refl, sym, ap, ◌∙◌, arith, add-one}
+use Rattle.std.specs.Prelude.{Some, option_map}
 use Rattle.std.proofs.lemmas.Result.{err_from_is_err_and}
-use Rattle.nim_tree.specs.Types.{arguments_of, fields_of}
+use Rattle.nim_tree.specs.Terms.{term_of}
+use Rattle.nim_tree.specs.Types.{written_of, arguments_of, fields_of}
 use Rattle.parse_exprs.specs.declared.input.Bracket.TheVariants.{Square}
-use Rattle.parse_exprs.specs.declared.layout.Layout.TheVariants.{Brackets}
 use Rattle.parse_exprs.specs.Look.{closes_at}
 use Rattle.parse_exprs.specs.Input.{origin_of, from_at}
 use Rattle.parse_decls.specs.declared.look.TypeLead.TheVariants as L
-use Rattle.parse_decls.proofs.Coming.{fails_then, fails_leads, fails_stuck, leads_on, leads_then, leads_unless, leads_if, leads_else, leads_past, behind_at, within_at, found, found_is, found_behind, close_fails, close_found}
+use Rattle.parse_decls.proofs.Coming.{comes_leads, fails_then, fails_leads, fails_stuck, leads_on, leads_then, leads_unless, leads_if, leads_else, leads_past, behind_at, within_at, found, found_is, found_behind, close_fails, close_found}
 use Rattle.parse_decls.proofs.Repeats.{arguments_loop, parts_loop, and_last, and_part, loop_on, loop_fails, loop_ends, begins, only_one}
-use Rattle.parse_decls.proofs.TypeSteps.{type_none, type_empty, type_comes, type_other, bare_found, named_leads, array_leads, element_run, ref_leads, tuple_leads, tuple_closed, of_run, part_leads, named_value, array_value, ref_value, tuple_value}
+use Rattle.parse_decls.proofs.TypeSteps.{type_none, type_empty, type_comes, type_other, inside_leads, bare_found, named_leads, element_leads, array_leads, array_on, ref_leads, tuple_leads, tuple_closed, of_run, part_leads, named_value, array_value, ref_value, tuple_value}
 use Rattle.parse_decls.proofs.written.+types.Goals as goal
 
 pub read_type-returns-then-left-eq0 : goal.read_type-returns-then-left-eq0
@@ -51,34 +52,39 @@ read_type-returns-in-Other t c =
 
 -- ---- a name
 
-pub read_named-returns-then-not-opens_at : goal.read_named-returns-then-not-opens_at
-read_named-returns-then-not-opens_at t c =
-    found_is (c.make_named.ensures ∙ named_value (origin_of c.args.input.now) c.args.token c.place_at.ensures (c.in_ok-text.ensures.ok ∙ c.spelling.ensures) (ap arguments_of c.new.ensures.items))
-    (bare_found c.args.input.now c.args.layout (from_at c.args.input.now c.args.whole) c.args.left c.args.token c.args.at (sym c.opens_at.ensures ∙ c.if-not-opens_at.true) c.requires.within)
-
-pub read_named-returns-in_err-first : goal.read_named-returns-in_err-first
-read_named-returns-in_err-first t c =
-    let p = err_from_is_err_and c.from_residual-in_err-first.result c.from_residual-in_err-first.ensures.1 in
-    let l = named_leads c.args.input.now c.args.layout (from_at c.args.input.now c.args.whole) c.args.left c.args.token c.args.at (sym c.opens_at.ensures ∙ c.if-not-opens_at.false) in
-    rw (p.1, p.2) (fails_leads _ _ _ l _ (fails_then _ _ _ _ c.in_err-first.ensures))
-
-pub read_named-returns-in_err-arguments : goal.read_named-returns-in_err-arguments
-read_named-returns-in_err-arguments t c =
-    let p = err_from_is_err_and c.from_residual-in_err-arguments.result c.from_residual-in_err-arguments.ensures.1 in
-    let l = named_leads c.args.input.now c.args.layout (from_at c.args.input.now c.args.whole) c.args.left c.args.token c.args.at (sym c.opens_at.ensures ∙ c.if-not-opens_at.false) in
-    rw (p.1, p.2) (fails_leads _ _ _ (leads_on (leads_then _ c.in_ok-first.ensures.runs) l) _ (fails_then _ _ _ _ c.in_err-arguments.ensures))
-
-pub read_named-returns-then-not-closes_at : goal.read_named-returns-then-not-closes_at
-read_named-returns-then-not-closes_at t c =
-    let l = named_leads c.args.input.now c.args.layout (from_at c.args.input.now c.args.whole) c.args.left c.args.token c.args.at (sym c.opens_at.ensures ∙ c.if-not-opens_at.false) in
-    close_fails _ _ _ (leads_on (leads_then _ c.in_ok-arguments.ensures.runs) (leads_on (leads_then _ c.in_ok-first.ensures.runs) l)) (sym c.closes_at.ensures ∙ c.if-not-closes_at.true) _ c.stuck.ensures
+pub read_named-returns-then-opens_at : goal.read_named-returns-then-opens_at
+read_named-returns-then-opens_at t c =
+    let l = named_leads c.args.input.now c.args.layout (from_at c.args.input.now c.args.whole) c.args.left c.args.token c.args.at (sym c.opens_at.ensures ∙ c.if-opens_at.true) in
+    comes_leads written_of _ _ c.args.input.now _ l _ (omega arith) _ c.read_inside.ensures
 
 pub read_named-returns : goal.read_named-returns
 read_named-returns t c =
-    let l = named_leads c.args.input.now c.args.layout (from_at c.args.input.now c.args.whole) c.args.left c.args.token c.args.at (sym c.opens_at.ensures ∙ c.if-not-opens_at.false) in
+    found_is (c.make_named.ensures ∙ named_value (origin_of c.args.input.now) c.args.token c.place_at.ensures (c.in_ok-text.ensures.ok ∙ c.spelling.ensures) (ap arguments_of c.new.ensures.items))
+    (bare_found c.args.input.now c.args.layout (from_at c.args.input.now c.args.whole) c.args.left c.args.token c.args.at (sym c.opens_at.ensures ∙ c.if-opens_at.false) c.requires.within)
+
+pub read_inside-returns-in_err-first : goal.read_inside-returns-in_err-first
+read_inside-returns-in_err-first t c =
+    let p = err_from_is_err_and c.from_residual-in_err-first.result c.from_residual-in_err-first.ensures.1 in
+    let l = inside_leads c.args.input.now (from_at c.args.input.now c.args.whole) c.args.left c.args.token (from_at c.args.input.now c.args.at) in
+    rw (p.1, p.2) (fails_leads _ _ _ l _ (fails_then _ _ _ _ c.in_err-first.ensures))
+
+pub read_inside-returns-in_err-arguments : goal.read_inside-returns-in_err-arguments
+read_inside-returns-in_err-arguments t c =
+    let p = err_from_is_err_and c.from_residual-in_err-arguments.result c.from_residual-in_err-arguments.ensures.1 in
+    let l = inside_leads c.args.input.now (from_at c.args.input.now c.args.whole) c.args.left c.args.token (from_at c.args.input.now c.args.at) in
+    rw (p.1, p.2) (fails_leads _ _ _ (leads_on (leads_then _ c.in_ok-first.ensures.runs) l) _ (fails_then _ _ _ _ c.in_err-arguments.ensures))
+
+pub read_inside-returns-then-not-closes_at : goal.read_inside-returns-then-not-closes_at
+read_inside-returns-then-not-closes_at t c =
+    let l = inside_leads c.args.input.now (from_at c.args.input.now c.args.whole) c.args.left c.args.token (from_at c.args.input.now c.args.at) in
+    close_fails _ _ _ (leads_on (leads_then _ c.in_ok-arguments.ensures.runs) (leads_on (leads_then _ c.in_ok-first.ensures.runs) l)) (sym c.closes_at.ensures ∙ c.if-not-closes_at.true) _ c.stuck.ensures
+
+pub read_inside-returns : goal.read_inside-returns
+read_inside-returns t c =
+    let l = inside_leads c.args.input.now (from_at c.args.input.now c.args.whole) c.args.left c.args.token (from_at c.args.input.now c.args.at) in
     let g = c.in_ok-first.ensures.goes in
     let h = c.in_ok-arguments.ensures.goes in
-    found_is (c.make_named-2.ensures ∙ named_value (origin_of c.args.input.now) c.args.token c.place_at-2.ensures (c.in_ok-text.ensures.ok ∙ c.spelling.ensures) refl)
+    found_is (c.make_named.ensures ∙ named_value (origin_of c.args.input.now) c.args.token c.place_at.ensures (c.in_ok-text.ensures.ok ∙ c.spelling.ensures) refl)
     (close_found c.args.input.now (closes_at Square) _ _ refl (leads_on (leads_then _ c.in_ok-arguments.ensures.runs) (leads_on (leads_then _ c.in_ok-first.ensures.runs) l)) (sym c.closes_at.ensures ∙ c.if-not-closes_at.false) (omega (arith, g, h)))
 
 pub read_arguments-loop-alloc-init : goal.read_arguments-loop-alloc-init
@@ -110,32 +116,37 @@ read_array-returns-in_err-length t c =
     let l = array_leads c.args.input.now c.args.layout (from_at c.args.input.now c.args.whole) c.args.left c.args.token c.args.at in
     rw (p.1, p.2) (fails_leads _ _ _ l _ (fails_then _ _ _ _ c.in_err-length.ensures))
 
-pub read_array-returns-then-not-comma_at : goal.read_array-returns-then-not-comma_at
-read_array-returns-then-not-comma_at t c =
-    let l = array_leads c.args.input.now c.args.layout (from_at c.args.input.now c.args.whole) c.args.left c.args.token c.args.at in
-    fails_leads _ _ _ (leads_on (leads_then _ c.in_ok-length.ensures.runs) l) _ (fails_stuck _ _ _ (sym c.comma_at.ensures ∙ c.if-not-comma_at.true) _ c.stuck.ensures)
-
-pub read_array-returns-in_err-element : goal.read_array-returns-in_err-element
-read_array-returns-in_err-element t c =
-    let p = err_from_is_err_and c.from_residual-in_err-element.result c.from_residual-in_err-element.ensures.1 in
-    let l = array_leads c.args.input.now c.args.layout (from_at c.args.input.now c.args.whole) c.args.left c.args.token c.args.at in
-    let m = leads_past c.args.input.now c.in_ok-length.length.next (element_run c.args.input.now (from_at c.args.input.now c.args.whole) c.args.left c.args.token _) (sym c.comma_at.ensures ∙ c.if-not-comma_at.false) in
-    rw (p.1, p.2) (fails_leads _ _ _ (leads_on m (leads_on (leads_then _ c.in_ok-length.ensures.runs) l)) _ (fails_then _ _ _ _ c.in_err-element.ensures))
-
-pub read_array-returns-then-not-closes_at : goal.read_array-returns-then-not-closes_at
-read_array-returns-then-not-closes_at t c =
-    let l = array_leads c.args.input.now c.args.layout (from_at c.args.input.now c.args.whole) c.args.left c.args.token c.args.at in
-    let m = leads_past c.args.input.now c.in_ok-length.length.next (element_run c.args.input.now (from_at c.args.input.now c.args.whole) c.args.left c.args.token _) (sym c.comma_at.ensures ∙ c.if-not-comma_at.false) in
-    close_fails _ _ _ (leads_on (leads_then _ c.in_ok-element.ensures.runs) (leads_on m (leads_on (leads_then _ c.in_ok-length.ensures.runs) l))) (sym c.closes_at.ensures ∙ c.if-not-closes_at.true) _ c.stuck-then-not-closes_at.ensures
-
-pub read_array-returns : goal.read_array-returns
-read_array-returns t c =
-    let l = array_leads c.args.input.now c.args.layout (from_at c.args.input.now c.args.whole) c.args.left c.args.token c.args.at in
-    let m = leads_past c.args.input.now c.in_ok-length.length.next (element_run c.args.input.now (from_at c.args.input.now c.args.whole) c.args.left c.args.token _) (sym c.comma_at.ensures ∙ c.if-not-comma_at.false) in
+pub read_array-returns-in-Some : goal.read_array-returns-in-Some
+read_array-returns-in-Some t c =
     let g = c.in_ok-length.ensures.goes in
+    comes_leads written_of _ _ c.args.input.now _
+    (array_on c.args.input.now c.args.layout (from_at c.args.input.now c.args.whole) c.args.left c.args.token c.args.at c.in_ok-length.length.next _ _ (ap (option_map term_of) c.in-Some.is ∙ ap (λ t. Some (term_of t)) (sym c.in-Some.count-is)) c.in_ok-length.ensures)
+    _ (omega (arith, g)) _ c.read_element.ensures
+
+pub read_array-returns-in-None : goal.read_array-returns-in-None
+read_array-returns-in-None t c =
+    let g = c.in_ok-length.ensures.goes in
+    comes_leads written_of _ _ c.args.input.now _
+    (array_on c.args.input.now c.args.layout (from_at c.args.input.now c.args.whole) c.args.left c.args.token c.args.at c.in_ok-length.length.next _ _ (ap (option_map term_of) c.in-None.is) c.in_ok-length.ensures)
+    _ (omega (arith, g)) _ c.read_inside.ensures
+
+pub read_element-returns-in_err-element : goal.read_element-returns-in_err-element
+read_element-returns-in_err-element t c =
+    let p = err_from_is_err_and c.from_residual.result c.from_residual.ensures.1 in
+    let l = element_leads c.args.input.now (from_at c.args.input.now c.args.whole) c.args.left c.args.token _ (from_at c.args.input.now c.args.at) in
+    rw (p.1, p.2) (fails_leads _ _ _ l _ (fails_then _ _ _ _ c.in_err-element.ensures))
+
+pub read_element-returns-then-not-closes_at : goal.read_element-returns-then-not-closes_at
+read_element-returns-then-not-closes_at t c =
+    let l = element_leads c.args.input.now (from_at c.args.input.now c.args.whole) c.args.left c.args.token _ (from_at c.args.input.now c.args.at) in
+    close_fails _ _ _ (leads_on (leads_then _ c.in_ok-element.ensures.runs) l) (sym c.closes_at.ensures ∙ c.if-not-closes_at.true) _ c.stuck.ensures
+
+pub read_element-returns : goal.read_element-returns
+read_element-returns t c =
+    let l = element_leads c.args.input.now (from_at c.args.input.now c.args.whole) c.args.left c.args.token _ (from_at c.args.input.now c.args.at) in
     let h = c.in_ok-element.ensures.goes in
     found_is (c.in_ok-make_array.ensures.ok ∙ array_value (origin_of c.args.input.now) c.args.token _ _ c.place_at.ensures)
-    (close_found c.args.input.now (closes_at Square) _ _ refl (leads_on (leads_then _ c.in_ok-element.ensures.runs) (leads_on m (leads_on (leads_then _ c.in_ok-length.ensures.runs) l))) (sym c.closes_at.ensures ∙ c.if-not-closes_at.false) (omega (arith, g, h)))
+    (close_found c.args.input.now (closes_at Square) _ _ refl (leads_on (leads_then _ c.in_ok-element.ensures.runs) l) (sym c.closes_at.ensures ∙ c.if-not-closes_at.false) (omega (arith, h)))
 
 -- ---- a reference
 

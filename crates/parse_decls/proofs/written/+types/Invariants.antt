@@ -20,6 +20,12 @@ decreases-read_parts l = 8 * l.left + 2
 abbrev pub decreases-read_named : goal.decreases-read_named
 decreases-read_named l = 8 * l.left + 3
 
+abbrev pub decreases-read_inside : goal.decreases-read_inside
+decreases-read_inside l = 8 * l.left + 2
+
+abbrev pub decreases-read_element : goal.decreases-read_element
+decreases-read_element l = 8 * l.left + 2
+
 abbrev pub decreases-read_array : goal.decreases-read_array
 decreases-read_array l = 8 * l.left + 3
 

@@ -1,7 +1,6 @@
-use Rattle.std.proofs.Common.{◌≡◌, suc, ◌+◌, ◌<◌, ◌≤◌, [], ◌∷◌, List, ℕ, refl, sym, ap, subst, ◌∙◌, arith}
+use Rattle.std.proofs.Common.{sym, ◌∙◌, arith}
 use Rattle.std.proofs.lemmas.Result.{err_from_is_err_and}
-use Rattle.parse_exprs.specs.Input.{origin_of, from_at}
-use Rattle.parse_decls.proofs.Coming.{fails_then, fails_leads, leads_on, leads_then, leads_if, found, none_found}
+use Rattle.parse_decls.proofs.Coming.{fails_then, fails_leads, leads_on, leads_then, leads_if, found}
 use Rattle.parse_decls.proofs.written.read_annotation.Goals as goal
 
 pub returns-in_err-of : goal.returns-in_err-of

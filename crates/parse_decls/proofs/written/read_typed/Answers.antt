@@ -1,6 +1,4 @@
-use Rattle.std.proofs.Common.{◌≡◌, suc, ◌+◌, ◌<◌, ◌≤◌, [], ◌∷◌, List, ℕ, refl, sym, ap, subst, ◌∙◌, arith}
-use Rattle.std.proofs.lemmas.Result.{err_from_is_err_and}
-use Rattle.parse_exprs.specs.Input.{origin_of, from_at}
+use Rattle.std.proofs.Common.{suc, ◌+◌, sym, ◌∙◌, arith}
 use Rattle.nim_tree.specs.Types.{written_of}
 use Rattle.parse_decls.proofs.Coming.{fails_leads, fails_stuck, comes_leads, leads_on, leads_unless, leads_past}
 use Rattle.parse_decls.proofs.TypeSteps.{typed_run}

@@ -4,17 +4,17 @@ use Rattle.std.proofs.lemmas.Result.{err_from_is_err_and}
 use Rattle.nim_tree.specs.Terms.{term_of, parts_of, choices_of, levels, most_levels, levels_in, unary, sequence, named, if_term, part, no_parts, and_part, choice, no_choices, and_choice}
 use Rattle.parse_exprs.specs.declared.layout.Layout.TheVariants.{Brackets}
 use Rattle.parse_exprs.specs.declared.input.Bracket.TheVariants.{Square}
-use Rattle.parse_exprs.specs.Look.{place_at, single_of, grouped, names_in, names_behind, closes_at, stays, square_at, first_of_at, past_colon}
+use Rattle.parse_exprs.specs.Look.{place_at, single_of, grouped, names_in, names_behind, closes_at, stays, square_at, first_of_at, past_colon, past_start}
 use Rattle.parse_exprs.specs.Outcome.{got, bad, Settles}
-use Rattle.parse_exprs.specs.Run.{run_expr, run_level, run_chain, run_unary, run_suffixes, run_enclosed, run_list, run_parts, run_part, run_value, run_elifs, run_label, run_labels, run_ofs, run_branches}
+use Rattle.parse_exprs.specs.Run.{run_expr, run_level, run_chain, run_unary, run_suffixes, run_enclosed, run_list, run_parts, run_part, run_value, run_own_line, run_elifs, run_label, run_labels, run_ofs, run_branches}
 use Rattle.parse_exprs.specs.Input.{origin_of, from_at}
 use Rattle.parse_exprs.specs.Gives.{Fails, Comes, tree_in, tail_of}
 use Rattle.parse_exprs.proofs.Levels.{single_level, grouped_levels, applied_levels, most_and, levels_and}
 use Rattle.parse_exprs.proofs.Standing.{behind_one, behind_two, behind_next, plus_one, head_one, stands}
 use Rattle.parse_exprs.proofs.Coming.{fails_up, fails_on, stuck_here, comes_up, goes_up, found_by, onward_from, onward_on, leads_is}
 use Rattle.parse_exprs.proofs.Finding.{found_at, tail}
-use Rattle.parse_exprs.proofs.Going.{expr_if, expr_case, expr_operators, level_unary, level_bad, level_on, chain_ends, chain_deep, chain_bad, chain_on, unary_none, unary_signed, signed_none, signed_stuck, signed_bad, signed_got, primary_bad, primary_on, suffixes_end, suffixes_deep, suffixes_bad, suffixes_on, applied_bad, applied_none, applied_got, atom_none, atom_single, atom_group, group_bad, group_none, group_got, seq_no_at, seq_no_stay, seq_no_square, seq_bad, seq_got, enclosed_empty, enclosed_bad, enclosed_open, enclosed_got, list_bad, list_on, parts_end, parts_bad, parts_on, part_plain, named_none, named_no_name, named_no_colon, named_bad, named_got}
-use Rattle.parse_exprs.proofs.Branching.{value_no_colon, value_no_stay, value_on, tail_no_stay, tail_bad, tail_value_bad, tail_got, elifs_end, elifs_bad, elifs_on, else_stuck, else_on, if_deep, if_none, if_bad, if_elifs_bad, if_else_bad, if_got, label_bad, label_one, label_no_stay, label_high_bad, label_got, labels_end, labels_bad, labels_on, of_no_stay, of_bad, of_labels_bad, of_value_bad, of_got, ofs_end, ofs_bad, ofs_on, otherwise_none, otherwise_bad, otherwise_got, branches_stuck, branches_bad, branches_ofs_bad, branches_on, case_deep, case_none, case_no_stay, case_bad, case_on}
+use Rattle.parse_exprs.proofs.Going.{expr_if, expr_case, expr_operators, level_unary, level_bad, level_on, chain_ends, chain_deep, chain_bad, chain_on, unary_none, unary_signed, unsigned_bad, unsigned_command, unsigned_got, signed_stuck, signed_bad, signed_got, primary_bad, primary_on, suffixes_end, suffixes_deep, suffixes_bad, suffixes_on, applied_bad, applied_none, applied_got, atom_none, atom_single, atom_group, group_bad, group_none, group_got, seq_no_at, seq_no_stay, seq_no_square, seq_bad, seq_got, enclosed_empty, enclosed_bad, enclosed_open, enclosed_got, list_bad, list_on, parts_end, parts_bad, parts_on, part_plain, named_none, named_no_name, named_no_colon, named_bad, named_got}
+use Rattle.parse_exprs.proofs.Branching.{value_no_colon, value_on, value_below, own_not_deeper, own_bad, own_open, own_got, tail_no_stay, tail_bad, tail_value_bad, tail_got, elifs_end, elifs_bad, elifs_on, else_stuck, else_goes, if_deep, if_none, if_bad, if_elifs_bad, if_else_bad, if_got, label_bad, label_one, label_no_stay, label_high_bad, label_got, labels_end, labels_bad, labels_on, of_no_stay, of_bad, of_labels_bad, of_value_bad, of_got, ofs_end, ofs_bad, ofs_on, otherwise_none, otherwise_bad, otherwise_got, branches_stuck, branches_bad, branches_ofs_bad, branches_on, case_deep, case_none, case_no_stay, case_bad, case_on}
 use Rattle.parse_exprs.proofs.read.+exprs.Goals as goal
 
 pub operators::read_expr-returns-in-If : goal.operators::read_expr-returns-in-If
@@ -37,12 +37,12 @@ pub operators::read_level-returns-in_err-a : goal.operators::read_level-returns-
 operators::read_level-returns-in_err-a t c =
     let p = err_from_is_err_and c.from_residual.result c.from_residual.ensures.1 in
     let same : suc (c.args.level - 1) ≡ c.args.level = let g = c.if-level-eq0.false in omega (arith, g) in
-    rw (p.1, p.2) (fails_up c.args.input.now c.in_err-a.field-0.0 (level_bad (origin_of c.args.input.now) c.args.layout (c.args.level - 1) c.args.level c.args.left same (from_at c.args.input.now c.args.at)) c.in_err-a.ensures)
+    rw (p.1, p.2) (fails_up c.args.input.now c.in_err-a.field-0.0 (level_bad (origin_of c.args.input.now) c.args.layout (c.args.level - 1) c.args.level c.args.left same (past_start c.args.layout) refl (from_at c.args.input.now c.args.at)) c.in_err-a.ensures)
 
 pub operators::read_level-loop-op-init : goal.operators::read_level-loop-op-init
 operators::read_level-loop-op-init t c =
     let same : suc (c.args.level - 1) ≡ c.args.level = let g = c.if-level-eq0.false in omega (arith, g) in
-    onward_from c.args.input.now (level_on (origin_of c.args.input.now) c.args.layout (c.args.level - 1) c.args.level c.args.left same (from_at c.args.input.now c.args.at) (term_of c.in_ok-a.a.tree) (from_at c.args.input.now c.in_ok-a.a.next)) c.in_ok-a.ensures
+    onward_from c.args.input.now (level_on (origin_of c.args.input.now) c.args.layout (c.args.level - 1) c.args.level c.args.left same c.past_start-rest.result (sym c.past_start-rest.ensures) (from_at c.args.input.now c.args.at) (term_of c.in_ok-a.a.tree) (from_at c.args.input.now c.in_ok-a.a.next)) c.in_ok-a.ensures
 
 pub operators::read_level-returns-in_err-a-2 : goal.operators::read_level-returns-in_err-a-2
 operators::read_level-returns-in_err-a-2 t c =
@@ -55,7 +55,7 @@ operators::read_level-loop-op-preserved t c =
 
 pub operators::read_level-returns : goal.operators::read_level-returns
 operators::read_level-returns t c =
-    found_by c.args.input.now c.loop-op.invariant (chain_ends (origin_of c.args.input.now) c.args.layout (c.args.level - 1) c.args.left (term_of c.loop-op.a.tree) (from_at c.args.input.now c.loop-op.a.next) (sym c.op_at.ensures ∙ c.in_default.is))
+    found_by c.args.input.now c.loop-op.invariant (chain_ends (origin_of c.args.input.now) c.past_start-rest.result (c.args.level - 1) c.args.left (term_of c.loop-op.a.tree) (from_at c.args.input.now c.loop-op.a.next) (sym c.op_at.ensures ∙ c.in_default.is))
 
 pub operators::read_more-returns-then-depth-left : goal.operators::read_more-returns-then-depth-left
 operators::read_more-returns-then-depth-left t c =
@@ -100,7 +100,30 @@ operators::read_unary-returns-in-Some-sign_of t c =
 pub operators::read_unary-returns-in-None : goal.operators::read_unary-returns-in-None
 operators::read_unary-returns-in-None t c =
     let same : suc (c.args.left - 1) ≡ c.args.left = let g = c.if-left-eq0.false in omega (arith, g) in
-    comes_up c.args.input.now (λ o h. unary_signed (origin_of c.args.input.now) c.args.layout c.args.left (c.args.left - 1) same c.in-Some.token (from_at c.args.input.now (suc c.args.at)) (from_at c.args.input.now c.args.at) c.in-Some.ensures.some None (sym c.sign_of.ensures ∙ c.in-None.is) o (signed_none (origin_of c.args.input.now) c.args.layout c.args.left (c.args.left - 1) same c.in-Some.token (from_at c.args.input.now (suc c.args.at)) (from_at c.args.input.now c.args.at) c.in-Some.ensures.some o h)) (omega arith) (omega arith) c.read_primary.result c.read_primary.ensures
+    comes_up c.args.input.now (unary_signed (origin_of c.args.input.now) c.args.layout c.args.left (c.args.left - 1) same c.in-Some.token (from_at c.args.input.now (suc c.args.at)) (from_at c.args.input.now c.args.at) c.in-Some.ensures.some None (sym c.sign_of.ensures ∙ c.in-None.is)) (omega arith) (omega arith) c.read_unsigned.result c.read_unsigned.ensures
+
+pub operators::read_unsigned-returns-in_err-a : goal.operators::read_unsigned-returns-in_err-a
+operators::read_unsigned-returns-in_err-a t c =
+    let p = err_from_is_err_and c.from_residual.result c.from_residual.ensures.1 in
+    let same : suc (c.args.left - 1) ≡ c.args.left = let g = c.requires.some in omega (arith, g) in
+    rw (p.1, p.2) (fails_up c.args.input.now c.in_err-a.field-0.0 (unsigned_bad (origin_of c.args.input.now) c.args.layout c.args.left (c.args.left - 1) same c.args.token (from_at c.args.input.now (suc c.args.at)) (from_at c.args.input.now c.args.at) c.requires.head c.at_start.result (sym c.at_start.ensures)) c.in_err-a.ensures)
+
+pub operators::read_unsigned-returns-then-no_command_on : goal.operators::read_unsigned-returns-then-no_command_on
+operators::read_unsigned-returns-then-no_command_on t c =
+    let same : suc (c.args.left - 1) ≡ c.args.left = let g = c.requires.some in omega (arith, g) in
+    let a = c.in_ok-a.ensures in
+    record {
+      runs = unsigned_got (origin_of c.args.input.now) c.args.layout c.args.left (c.args.left - 1) same c.args.token (from_at c.args.input.now (suc c.args.at)) (from_at c.args.input.now c.args.at) c.requires.head c.at_start.result (sym c.at_start.ensures) (term_of c.in_ok-a.a.tree) (from_at c.args.input.now c.in_ok-a.a.next) a.runs (sym c.no_command_on.ensures ∙ c.if-no_command_on.true);
+      depth = a.depth;
+      few = a.few;
+      goes = a.goes;
+      within = a.within;
+    }
+
+pub operators::read_unsigned-returns-else-no_command_on : goal.operators::read_unsigned-returns-else-no_command_on
+operators::read_unsigned-returns-else-no_command_on t c =
+    let same : suc (c.args.left - 1) ≡ c.args.left = let g = c.requires.some in omega (arith, g) in
+    unsigned_command (origin_of c.args.input.now) c.args.layout c.args.left (c.args.left - 1) same c.args.token (from_at c.args.input.now (suc c.args.at)) (from_at c.args.input.now c.args.at) c.requires.head c.at_start.result (sym c.at_start.ensures) (term_of c.in_ok-a.a.tree) (from_at c.args.input.now c.in_ok-a.a.next) c.in_ok-a.ensures.runs (sym c.no_command_on.ensures ∙ c.if-no_command_on.false)
 
 pub operators::read_signed-returns-then-not-stays : goal.operators::read_signed-returns-then-not-stays
 operators::read_signed-returns-then-not-stays t c =
@@ -112,16 +135,16 @@ operators::read_signed-returns-in_err-a t c =
     let p = err_from_is_err_and c.from_residual.result c.from_residual.ensures.1 in
     let one = plus_one c.args.at c.args.input.now.tokens.now in
     let stay = ap (stays c.args.layout) one ∙ (sym c.stays.ensures ∙ c.if-not-stays.false) in
-    rw (p.1, p.2) (fails_up c.args.input.now c.in_err-a.field-0.0 (signed_bad (origin_of c.args.input.now) c.args.layout (c.args.left - 1) c.args.op c.args.token (from_at c.args.input.now (suc c.args.at)) stay) (subst (λ v. Fails (λ k. run_unary k (origin_of c.args.input.now) c.args.layout (c.args.left - 1) v) c.args.input.now c.in_err-a.field-0.0) (sym one) c.in_err-a.ensures))
+    rw (p.1, p.2) (fails_up c.args.input.now c.in_err-a.field-0.0 (signed_bad (origin_of c.args.input.now) c.args.layout (c.args.left - 1) c.args.op c.args.token (from_at c.args.input.now (suc c.args.at)) c.past_start.result (sym c.past_start.ensures) stay) (subst (λ v. Fails (λ k. run_unary k (origin_of c.args.input.now) c.past_start.result (c.args.left - 1) v) c.args.input.now c.in_err-a.field-0.0) (sym one) c.in_err-a.ensures))
 
 pub operators::read_signed-returns : goal.operators::read_signed-returns
 operators::read_signed-returns t c =
     let one = plus_one c.args.at c.args.input.now.tokens.now in
     let stay = ap (stays c.args.layout) one ∙ (sym c.stays.ensures ∙ c.if-not-stays.false) in
-    let runs = subst (λ v. Settles (λ k. run_unary k (origin_of c.args.input.now) c.args.layout (c.args.left - 1) v) (got (term_of c.in_ok-a.a.tree) (from_at c.args.input.now c.in_ok-a.a.next))) (sym one) c.in_ok-a.ensures.runs in
+    let runs = subst (λ v. Settles (λ k. run_unary k (origin_of c.args.input.now) c.past_start.result (c.args.left - 1) v) (got (term_of c.in_ok-a.a.tree) (from_at c.args.input.now c.in_ok-a.a.next))) (sym one) c.in_ok-a.ensures.runs in
     let made = ap (λ p. unary p c.args.op (term_of c.in_ok-a.a.tree)) (sym c.place_at.ensures) ∙ sym c.in_ok-all.ensures.ok in
     let high = ap levels c.in_ok-all.ensures.ok in
-    found_at c.args.input.now (signed_got (origin_of c.args.input.now) c.args.layout (c.args.left - 1) c.args.op c.args.token (from_at c.args.input.now (suc c.args.at)) stay (term_of c.in_ok-a.a.tree) (from_at c.args.input.now c.in_ok-a.a.next) runs) made refl
+    found_at c.args.input.now (signed_got (origin_of c.args.input.now) c.args.layout (c.args.left - 1) c.args.op c.args.token (from_at c.args.input.now (suc c.args.at)) c.past_start.result (sym c.past_start.ensures) stay (term_of c.in_ok-a.a.tree) (from_at c.args.input.now c.in_ok-a.a.next) runs) made refl
     (let d = c.in_ok-a.ensures.depth in omega (arith, d, high)) (let f = c.in_ok-a.ensures.few in let g = c.requires.some in omega (arith, f, g)) (let g = c.in_ok-a.ensures.goes in omega (arith, g)) c.in_ok-a.ensures.within
 
 pub operators::read_primary-returns-in_err-a : goal.operators::read_primary-returns-in_err-a
@@ -389,17 +412,48 @@ pub branches::read_value-returns-then-not-colon_at : goal.branches::read_value-r
 branches::read_value-returns-then-not-colon_at t c =
     value_no_colon (origin_of c.args.input.now) c.args.layout c.args.left (from_at c.args.input.now c.args.at) (sym c.colon_at.ensures ∙ c.if-not-colon_at.true)
 
-pub branches::read_value-returns-then-not-stays : goal.branches::read_value-returns-then-not-stays
-branches::read_value-returns-then-not-stays t c =
-    let back = behind_one c.args.at c.args.input.now.tokens.now in
+pub branches::read_value-returns-then-stays : goal.branches::read_value-returns-then-stays
+branches::read_value-returns-then-stays t c =
+    let one = behind_one c.args.at c.args.input.now.tokens.now in
     let colon = sym c.colon_at.ensures ∙ c.if-not-colon_at.false in
-    stuck_here c.args.input.now (c.args.at + 1) (value_no_stay (origin_of c.args.input.now) c.args.layout c.args.left (from_at c.args.input.now c.args.at) colon (ap (stays c.args.layout) back ∙ (sym c.stays.ensures ∙ c.if-not-stays.true))) back
+    let stay = ap (stays c.args.layout) one ∙ (sym c.stays.ensures ∙ c.if-stays.true) in
+    comes_up c.args.input.now (value_on (origin_of c.args.input.now) c.args.layout c.args.left (from_at c.args.input.now c.args.at) colon stay) (omega arith) (omega arith) c.read_expr.result
+    (subst (λ v. Comes (λ k. run_expr k (origin_of c.args.input.now) c.args.layout c.args.left v) c.args.input.now c.args.left (suc (c.args.at + 1)) c.read_expr.result) (sym one) c.read_expr.ensures)
 
-pub branches::read_value-returns : goal.branches::read_value-returns
-branches::read_value-returns t c =
-    let back = behind_one c.args.at c.args.input.now.tokens.now in
+pub branches::read_value-returns-else-stays : goal.branches::read_value-returns-else-stays
+branches::read_value-returns-else-stays t c =
+    let one = behind_one c.args.at c.args.input.now.tokens.now in
     let colon = sym c.colon_at.ensures ∙ c.if-not-colon_at.false in
-    comes_up c.args.input.now (value_on (origin_of c.args.input.now) c.args.layout c.args.left (from_at c.args.input.now c.args.at) colon (ap (stays c.args.layout) back ∙ (sym c.stays.ensures ∙ c.if-not-stays.false))) (omega arith) (omega arith) c.read_expr.result (subst (λ v. Comes (λ k. run_expr k (origin_of c.args.input.now) c.args.layout c.args.left v) c.args.input.now c.args.left (suc (c.args.at + 1)) c.read_expr.result) (sym back) c.read_expr.ensures)
+    let stay = ap (stays c.args.layout) one ∙ (sym c.stays.ensures ∙ c.if-stays.false) in
+    comes_up c.args.input.now (value_below (origin_of c.args.input.now) c.args.layout c.args.left (from_at c.args.input.now c.args.at) colon stay) (omega arith) (omega arith) c.read_own_line.result
+    (subst (λ v. Comes (λ k. run_own_line k (origin_of c.args.input.now) c.args.layout c.args.left v) c.args.input.now c.args.left (suc (c.args.at + 1)) c.read_own_line.result) (sym one) c.read_own_line.ensures)
+
+pub branches::read_own_line-returns-then-not-deeper_line_at : goal.branches::read_own_line-returns-then-not-deeper_line_at
+branches::read_own_line-returns-then-not-deeper_line_at t c =
+    own_not_deeper (origin_of c.args.input.now) c.args.layout c.args.left (from_at c.args.input.now c.args.at) (sym c.deeper_line_at.ensures ∙ c.if-not-deeper_line_at.true)
+
+pub branches::read_own_line-returns-in_err-value : goal.branches::read_own_line-returns-in_err-value
+branches::read_own_line-returns-in_err-value t c =
+    let p = err_from_is_err_and c.from_residual.result c.from_residual.ensures.1 in
+    let deeper = sym c.deeper_line_at.ensures ∙ c.if-not-deeper_line_at.false in
+    rw (p.1, p.2) (fails_up c.args.input.now c.in_err-value.field-0.0 (own_bad (origin_of c.args.input.now) c.args.layout c.args.left (from_at c.args.input.now c.args.at) deeper c.line_layout-own.result (sym c.line_layout-own.ensures)) c.in_err-value.ensures)
+
+pub branches::read_own_line-returns-then-closed_at : goal.branches::read_own_line-returns-then-closed_at
+branches::read_own_line-returns-then-closed_at t c =
+    let deeper = sym c.deeper_line_at.ensures ∙ c.if-not-deeper_line_at.false in
+    let v = c.in_ok-value.ensures in
+    record {
+      runs = own_got (origin_of c.args.input.now) c.args.layout c.args.left (from_at c.args.input.now c.args.at) deeper c.line_layout-own.result (sym c.line_layout-own.ensures) (term_of c.in_ok-value.value.tree) (from_at c.args.input.now c.in_ok-value.value.next) v.runs (sym c.closed_at.ensures ∙ c.if-closed_at.true);
+      depth = v.depth;
+      few = v.few;
+      goes = v.goes;
+      within = v.within;
+    }
+
+pub branches::read_own_line-returns-else-closed_at : goal.branches::read_own_line-returns-else-closed_at
+branches::read_own_line-returns-else-closed_at t c =
+    let deeper = sym c.deeper_line_at.ensures ∙ c.if-not-deeper_line_at.false in
+    own_open (origin_of c.args.input.now) c.args.layout c.args.left (from_at c.args.input.now c.args.at) deeper c.line_layout-own.result (sym c.line_layout-own.ensures) (term_of c.in_ok-value.value.tree) (from_at c.args.input.now c.in_ok-value.value.next) c.in_ok-value.ensures.runs (sym c.closed_at.ensures ∙ c.if-closed_at.false)
 
 pub branches::read_tail-returns-then-not-stays : goal.branches::read_tail-returns-then-not-stays
 branches::read_tail-returns-then-not-stays t c =
@@ -409,14 +463,14 @@ pub branches::read_tail-returns-in_err-condition : goal.branches::read_tail-retu
 branches::read_tail-returns-in_err-condition t c =
     let p = err_from_is_err_and c.from_residual.result c.from_residual.ensures.1 in
     let stay = sym c.stays.ensures ∙ c.if-not-stays.false in
-    rw (p.1, p.2) (fails_up c.args.input.now c.in_err-condition.field-0.0 (tail_bad (origin_of c.args.input.now) c.args.layout c.args.left (from_at c.args.input.now c.args.at) stay) c.in_err-condition.ensures)
+    rw (p.1, p.2) (fails_up c.args.input.now c.in_err-condition.field-0.0 (tail_bad (origin_of c.args.input.now) c.args.layout c.args.left (from_at c.args.input.now c.args.at) stay c.past_start.result (sym c.past_start.ensures)) c.in_err-condition.ensures)
 
 pub branches::read_tail-returns-in_err-value : goal.branches::read_tail-returns-in_err-value
 branches::read_tail-returns-in_err-value t c =
     let p = err_from_is_err_and c.from_residual-in_err-value.result c.from_residual-in_err-value.ensures.1 in
     let stay = sym c.stays.ensures ∙ c.if-not-stays.false in
     let next = ap (from_at c.args.input.now) c.in_ok-tests.ensures.next in
-    rw (p.1, p.2) (fails_up c.args.input.now c.in_err-value.field-0.0 (tail_value_bad (origin_of c.args.input.now) c.args.layout c.args.left (from_at c.args.input.now c.args.at) stay (term_of c.in_ok-condition.condition.tree) (from_at c.args.input.now c.in_ok-condition.condition.next) c.in_ok-condition.ensures.runs) (subst (λ v. Fails (λ k. run_value k (origin_of c.args.input.now) c.args.layout c.args.left v) c.args.input.now c.in_err-value.field-0.0) next c.in_err-value.ensures))
+    rw (p.1, p.2) (fails_up c.args.input.now c.in_err-value.field-0.0 (tail_value_bad (origin_of c.args.input.now) c.args.layout c.args.left (from_at c.args.input.now c.args.at) stay c.past_start.result (sym c.past_start.ensures) (term_of c.in_ok-condition.condition.tree) (from_at c.args.input.now c.in_ok-condition.condition.next) c.in_ok-condition.ensures.runs) (subst (λ v. Fails (λ k. run_value k (origin_of c.args.input.now) c.args.layout c.args.left v) c.args.input.now c.in_err-value.field-0.0) next c.in_err-value.ensures))
 
 pub branches::read_tail-returns : goal.branches::read_tail-returns
 branches::read_tail-returns t c =
@@ -428,7 +482,7 @@ branches::read_tail-returns t c =
     let value = ap term_of c.with_value.ensures.value in
     let made = ap₂ tail (sym tests) (sym value) in
     let high = ap₂ (λ ps v. max (most_levels ps) (levels v)) tests value in
-    found_at c.args.input.now (tail_got (origin_of c.args.input.now) c.args.layout c.args.left (from_at c.args.input.now c.args.at) stay (term_of c.in_ok-condition.condition.tree) (from_at c.args.input.now c.in_ok-condition.condition.next) c.in_ok-condition.ensures.runs (term_of c.in_ok-value.value.tree) (from_at c.args.input.now c.in_ok-value.value.next) runs) made (ap (from_at c.args.input.now) (sym c.with_value.ensures.next))
+    found_at c.args.input.now (tail_got (origin_of c.args.input.now) c.args.layout c.args.left (from_at c.args.input.now c.args.at) stay c.past_start.result (sym c.past_start.ensures) (term_of c.in_ok-condition.condition.tree) (from_at c.args.input.now c.in_ok-condition.condition.next) c.in_ok-condition.ensures.runs (term_of c.in_ok-value.value.tree) (from_at c.args.input.now c.in_ok-value.value.next) runs) made (ap (from_at c.args.input.now) (sym c.with_value.ensures.next))
     (let w = c.with_value.ensures.depth in let d = c.in_ok-tests.ensures.depth in let z = c.no_parts.ensures.depth in let a = c.in_ok-condition.ensures.depth in let b = c.in_ok-value.ensures.depth in omega (arith, w, d, z, a, b, high))
     (let w = c.with_value.ensures.depth in let d = c.in_ok-tests.ensures.depth in let z = c.no_parts.ensures.depth in let a = c.in_ok-condition.ensures.few in let b = c.in_ok-value.ensures.few in omega (arith, w, d, z, a, b))
     (let n = c.with_value.ensures.next in let m = c.in_ok-tests.ensures.next in let a = c.in_ok-condition.ensures.goes in let b = c.in_ok-value.ensures.goes in omega (arith, n, m, a, b))
@@ -490,7 +544,7 @@ branches::read_else-returns-then-not-else_at t c =
 
 pub branches::read_else-returns : goal.branches::read_else-returns
 branches::read_else-returns t c =
-    comes_up c.args.input.now (else_on (origin_of c.args.input.now) c.args.layout c.args.left (from_at c.args.input.now c.args.at) (sym c.else_at.ensures ∙ c.if-not-else_at.false)) (omega arith) (omega arith) c.read_value.result (subst (λ v. Comes (λ k. run_value k (origin_of c.args.input.now) c.args.layout c.args.left v) c.args.input.now c.args.left (suc (c.args.at + 1)) c.read_value.result) (sym (behind_one c.args.at c.args.input.now.tokens.now)) c.read_value.ensures)
+    comes_up c.args.input.now (else_goes (origin_of c.args.input.now) c.args.layout c.args.left (from_at c.args.input.now c.args.at) (sym c.else_at.ensures ∙ c.if-not-else_at.false)) (omega arith) (omega arith) c.read_value.result (subst (λ v. Comes (λ k. run_value k (origin_of c.args.input.now) c.args.layout c.args.left v) c.args.input.now c.args.left (suc (c.args.at + 1)) c.read_value.result) (sym (behind_one c.args.at c.args.input.now.tokens.now)) c.read_value.ensures)
 
 pub branches::read_if-returns-then-left-eq0 : goal.branches::read_if-returns-then-left-eq0
 branches::read_if-returns-then-left-eq0 t c =
@@ -607,7 +661,7 @@ pub branches::read_of-returns-in_err-first : goal.branches::read_of-returns-in_e
 branches::read_of-returns-in_err-first t c =
     let p = err_from_is_err_and c.from_residual.result c.from_residual.ensures.1 in
     let stay = sym c.stays.ensures ∙ c.if-not-stays.false in
-    rw (p.1, p.2) (fails_up c.args.input.now c.in_err-first.field-0.0 (of_bad (origin_of c.args.input.now) c.args.layout c.args.left (from_at c.args.input.now c.args.at) stay) c.in_err-first.ensures)
+    rw (p.1, p.2) (fails_up c.args.input.now c.in_err-first.field-0.0 (of_bad (origin_of c.args.input.now) c.args.layout c.args.left (from_at c.args.input.now c.args.at) stay c.past_start-inner.result (sym c.past_start-inner.ensures)) c.in_err-first.ensures)
 
 pub branches::read_of-returns-in_err-labels : goal.branches::read_of-returns-in_err-labels
 branches::read_of-returns-in_err-labels t c =
@@ -615,7 +669,7 @@ branches::read_of-returns-in_err-labels t c =
     let stay = sym c.stays.ensures ∙ c.if-not-stays.false in
     let is = c.in_ok-one.ensures.parts ∙ ap (λ l. and_part (parts_of l) (term_of c.in_ok-first.first.tree)) c.no_parts.ensures.parts in
     let next = ap (from_at c.args.input.now) c.in_ok-one.ensures.next in
-    rw (p.1, p.2) (fails_up c.args.input.now c.in_err-labels.field-0.0 (of_labels_bad (origin_of c.args.input.now) c.args.layout c.args.left (from_at c.args.input.now c.args.at) stay (term_of c.in_ok-first.first.tree) (from_at c.args.input.now c.in_ok-first.first.next) c.in_ok-first.ensures.runs) (subst (λ v. Fails (λ k. run_labels k (origin_of c.args.input.now) c.args.layout c.args.left (part (term_of c.in_ok-first.first.tree) no_parts) v) c.args.input.now c.in_err-labels.field-0.0) next (subst (λ u. Fails (λ k. run_labels k (origin_of c.args.input.now) c.args.layout c.args.left u (from_at c.args.input.now c.in_ok-one.one.next)) c.args.input.now c.in_err-labels.field-0.0) is c.in_err-labels.ensures)))
+    rw (p.1, p.2) (fails_up c.args.input.now c.in_err-labels.field-0.0 (of_labels_bad (origin_of c.args.input.now) c.args.layout c.args.left (from_at c.args.input.now c.args.at) stay c.past_start-inner.result (sym c.past_start-inner.ensures) (term_of c.in_ok-first.first.tree) (from_at c.args.input.now c.in_ok-first.first.next) c.in_ok-first.ensures.runs) (subst (λ v. Fails (λ k. run_labels k (origin_of c.args.input.now) c.past_start-inner.result c.args.left (part (term_of c.in_ok-first.first.tree) no_parts) v) c.args.input.now c.in_err-labels.field-0.0) next (subst (λ u. Fails (λ k. run_labels k (origin_of c.args.input.now) c.past_start-inner.result c.args.left u (from_at c.args.input.now c.in_ok-one.one.next)) c.args.input.now c.in_err-labels.field-0.0) is c.in_err-labels.ensures)))
 
 pub branches::read_of-returns-in_err-value : goal.branches::read_of-returns-in_err-value
 branches::read_of-returns-in_err-value t c =
@@ -623,19 +677,19 @@ branches::read_of-returns-in_err-value t c =
     let stay = sym c.stays.ensures ∙ c.if-not-stays.false in
     let is = c.in_ok-one.ensures.parts ∙ ap (λ l. and_part (parts_of l) (term_of c.in_ok-first.first.tree)) c.no_parts.ensures.parts in
     let next = ap (from_at c.args.input.now) c.in_ok-one.ensures.next in
-    let all = subst (λ v. Settles (λ k. run_labels k (origin_of c.args.input.now) c.args.layout c.args.left (part (term_of c.in_ok-first.first.tree) no_parts) v) (got (parts_of c.in_ok-labels.labels.parts.items) (from_at c.args.input.now c.in_ok-labels.labels.next))) next (subst (λ u. Settles (λ k. run_labels k (origin_of c.args.input.now) c.args.layout c.args.left u (from_at c.args.input.now c.in_ok-one.one.next)) (got (parts_of c.in_ok-labels.labels.parts.items) (from_at c.args.input.now c.in_ok-labels.labels.next))) is c.in_ok-labels.ensures.runs) in
-    rw (p.1, p.2) (fails_up c.args.input.now c.in_err-value.field-0.0 (of_value_bad (origin_of c.args.input.now) c.args.layout c.args.left (from_at c.args.input.now c.args.at) stay (term_of c.in_ok-first.first.tree) (from_at c.args.input.now c.in_ok-first.first.next) c.in_ok-first.ensures.runs (parts_of c.in_ok-labels.labels.parts.items) (from_at c.args.input.now c.in_ok-labels.labels.next) all) c.in_err-value.ensures)
+    let all = subst (λ v. Settles (λ k. run_labels k (origin_of c.args.input.now) c.past_start-inner.result c.args.left (part (term_of c.in_ok-first.first.tree) no_parts) v) (got (parts_of c.in_ok-labels.labels.parts.items) (from_at c.args.input.now c.in_ok-labels.labels.next))) next (subst (λ u. Settles (λ k. run_labels k (origin_of c.args.input.now) c.past_start-inner.result c.args.left u (from_at c.args.input.now c.in_ok-one.one.next)) (got (parts_of c.in_ok-labels.labels.parts.items) (from_at c.args.input.now c.in_ok-labels.labels.next))) is c.in_ok-labels.ensures.runs) in
+    rw (p.1, p.2) (fails_up c.args.input.now c.in_err-value.field-0.0 (of_value_bad (origin_of c.args.input.now) c.args.layout c.args.left (from_at c.args.input.now c.args.at) stay c.past_start-inner.result (sym c.past_start-inner.ensures) (term_of c.in_ok-first.first.tree) (from_at c.args.input.now c.in_ok-first.first.next) c.in_ok-first.ensures.runs (parts_of c.in_ok-labels.labels.parts.items) (from_at c.args.input.now c.in_ok-labels.labels.next) all) c.in_err-value.ensures)
 
 pub branches::read_of-returns : goal.branches::read_of-returns
 branches::read_of-returns t c =
     let stay = sym c.stays.ensures ∙ c.if-not-stays.false in
     let is = c.in_ok-one.ensures.parts ∙ ap (λ l. and_part (parts_of l) (term_of c.in_ok-first.first.tree)) c.no_parts.ensures.parts in
     let next = ap (from_at c.args.input.now) c.in_ok-one.ensures.next in
-    let all = subst (λ v. Settles (λ k. run_labels k (origin_of c.args.input.now) c.args.layout c.args.left (part (term_of c.in_ok-first.first.tree) no_parts) v) (got (parts_of c.in_ok-labels.labels.parts.items) (from_at c.args.input.now c.in_ok-labels.labels.next))) next (subst (λ u. Settles (λ k. run_labels k (origin_of c.args.input.now) c.args.layout c.args.left u (from_at c.args.input.now c.in_ok-one.one.next)) (got (parts_of c.in_ok-labels.labels.parts.items) (from_at c.args.input.now c.in_ok-labels.labels.next))) is c.in_ok-labels.ensures.runs) in
+    let all = subst (λ v. Settles (λ k. run_labels k (origin_of c.args.input.now) c.past_start-inner.result c.args.left (part (term_of c.in_ok-first.first.tree) no_parts) v) (got (parts_of c.in_ok-labels.labels.parts.items) (from_at c.args.input.now c.in_ok-labels.labels.next))) next (subst (λ u. Settles (λ k. run_labels k (origin_of c.args.input.now) c.past_start-inner.result c.args.left u (from_at c.args.input.now c.in_ok-one.one.next)) (got (parts_of c.in_ok-labels.labels.parts.items) (from_at c.args.input.now c.in_ok-labels.labels.next))) is c.in_ok-labels.ensures.runs) in
     let tests : parts_of c.with_value.result.tests.items ≡ (parts_of c.in_ok-labels.labels.parts.items) = ap parts_of c.with_value.ensures.tests in
     let value = ap term_of c.with_value.ensures.value in
     let high = ap₂ (λ ps v. max (most_levels ps) (levels v)) tests value in
-    found_at c.args.input.now (of_got (origin_of c.args.input.now) c.args.layout c.args.left (from_at c.args.input.now c.args.at) stay (term_of c.in_ok-first.first.tree) (from_at c.args.input.now c.in_ok-first.first.next) c.in_ok-first.ensures.runs (parts_of c.in_ok-labels.labels.parts.items) (from_at c.args.input.now c.in_ok-labels.labels.next) all (term_of c.in_ok-value.value.tree) (from_at c.args.input.now c.in_ok-value.value.next) c.in_ok-value.ensures.runs) (ap₂ tail (sym tests) (sym value)) (ap (from_at c.args.input.now) (sym c.with_value.ensures.next))
+    found_at c.args.input.now (of_got (origin_of c.args.input.now) c.args.layout c.args.left (from_at c.args.input.now c.args.at) stay c.past_start-inner.result (sym c.past_start-inner.ensures) (term_of c.in_ok-first.first.tree) (from_at c.args.input.now c.in_ok-first.first.next) c.in_ok-first.ensures.runs (parts_of c.in_ok-labels.labels.parts.items) (from_at c.args.input.now c.in_ok-labels.labels.next) all (term_of c.in_ok-value.value.tree) (from_at c.args.input.now c.in_ok-value.value.next) c.in_ok-value.ensures.runs) (ap₂ tail (sym tests) (sym value)) (ap (from_at c.args.input.now) (sym c.with_value.ensures.next))
     (let w = c.with_value.ensures.depth in let a = c.in_ok-labels.ensures.depth in let b = c.in_ok-value.ensures.depth in omega (arith, w, a, b, high))
     (let w = c.with_value.ensures.depth in let a = c.in_ok-labels.ensures.few in let b = c.in_ok-value.ensures.few in omega (arith, w, a, b))
     (let n = c.with_value.ensures.next in let m = c.in_ok-one.ensures.next in let f = c.in_ok-first.ensures.goes in let a = c.in_ok-labels.ensures.goes in let b = c.in_ok-value.ensures.goes in omega (arith, n, m, f, a, b))
@@ -662,14 +716,14 @@ branches::read_case-returns-in_err-selector t c =
     let same : suc (c.args.left - 1) ≡ c.args.left = let g = c.if-left-eq0.false in omega (arith, g) in
     let head = head_one c.args.at c.args.input.now.tokens.now c.in-Some.ensures.some in
     let stay = sym c.stays.ensures ∙ c.if-not-stays.false in
-    rw (p.1, p.2) (fails_up c.args.input.now c.in_err-selector.field-0.0 (case_bad (origin_of c.args.input.now) c.args.layout c.args.left (c.args.left - 1) same c.in-Some.token (from_at c.args.input.now (c.args.at + 1)) (from_at c.args.input.now c.args.at) head stay) c.in_err-selector.ensures)
+    rw (p.1, p.2) (fails_up c.args.input.now c.in_err-selector.field-0.0 (case_bad (origin_of c.args.input.now) c.args.layout c.args.left (c.args.left - 1) same c.in-Some.token (from_at c.args.input.now (c.args.at + 1)) (from_at c.args.input.now c.args.at) head stay c.past_start.result (sym c.past_start.ensures)) c.in_err-selector.ensures)
 
 pub branches::read_case-returns : goal.branches::read_case-returns
 branches::read_case-returns t c =
     let same : suc (c.args.left - 1) ≡ c.args.left = let g = c.if-left-eq0.false in omega (arith, g) in
     let head = head_one c.args.at c.args.input.now.tokens.now c.in-Some.ensures.some in
     let stay = sym c.stays.ensures ∙ c.if-not-stays.false in
-    comes_up c.args.input.now (case_on (origin_of c.args.input.now) c.args.layout c.args.left (c.args.left - 1) same c.in-Some.token (from_at c.args.input.now (c.args.at + 1)) (from_at c.args.input.now c.args.at) head stay (term_of c.in_ok-selector.selector.tree) (from_at c.args.input.now c.in_ok-selector.selector.next) c.in_ok-selector.ensures.runs) (omega arith) (let g = c.in_ok-selector.ensures.goes in omega (arith, g)) c.read_branches.result
+    comes_up c.args.input.now (case_on (origin_of c.args.input.now) c.args.layout c.args.left (c.args.left - 1) same c.in-Some.token (from_at c.args.input.now (c.args.at + 1)) (from_at c.args.input.now c.args.at) head stay c.past_start.result (sym c.past_start.ensures) (term_of c.in_ok-selector.selector.tree) (from_at c.args.input.now c.in_ok-selector.selector.next) c.in_ok-selector.ensures.runs) (omega arith) (let g = c.in_ok-selector.ensures.goes in omega (arith, g)) c.read_branches.result
     (subst (λ p. Comes (λ k. run_branches k (origin_of c.args.input.now) c.args.layout (c.args.left - 1) p (term_of c.in_ok-selector.selector.tree) (past_colon c.args.layout (from_at c.args.input.now c.in_ok-selector.selector.next))) c.args.input.now c.args.left (suc c.in_ok-selector.selector.next) c.read_branches.result) c.place_at.ensures c.read_branches.ensures)
 
 pub branches::read_branches-returns-in_default : goal.branches::read_branches-returns-in_default
@@ -701,24 +755,24 @@ branches::read_branches-returns t c =
     let runs = subst (λ v. Settles (λ k. run_ofs k (origin_of c.args.input.now) c.branch_layout-inner.result (c.args.left - 1) (choice (place_at (origin_of c.args.input.now) c.in-Some.token) (parts_of c.in_ok-tail.tail.tests.items) (term_of c.in_ok-tail.tail.value) no_choices) v) (got (choices_of c.in_ok-all.all.branches.items) (from_at c.args.input.now c.in_ok-all.all.next))) next (subst (λ u. Settles (λ k. run_ofs k (origin_of c.args.input.now) c.branch_layout-inner.result (c.args.left - 1) u (from_at c.args.input.now c.in_ok-first.first.next)) (got (choices_of c.in_ok-all.all.branches.items) (from_at c.args.input.now c.in_ok-all.all.next))) is c.in_ok-all.ensures.runs) in
     comes_up c.args.input.now (branches_on (origin_of c.args.input.now) c.args.layout (c.args.left - 1) c.args.place (term_of c.args.selector.tree) c.in-Some.token (from_at c.args.input.now (c.past_colon-at.result + 1)) (past_colon c.args.layout (from_at c.args.input.now c.args.selector.next)) head test c.branch_layout-inner.result (sym c.branch_layout-inner.ensures) (tail_of c.in_ok-tail.tail) (from_at c.args.input.now c.in_ok-tail.tail.next) c.in_ok-tail.ensures.runs (choices_of c.in_ok-all.all.branches.items) (from_at c.args.input.now c.in_ok-all.all.next) runs) (omega arith) (let p = c.past_colon-at.ensures.goes in let a = c.in_ok-tail.ensures.goes in let n = c.in_ok-first.ensures.next in let b = c.in_ok-all.ensures.goes in omega (arith, p, a, n, b)) c.read_otherwise.result c.read_otherwise.ensures
 
-pub branches::read_otherwise-returns-then-not-else_at : goal.branches::read_otherwise-returns-then-not-else_at
-branches::read_otherwise-returns-then-not-else_at t c =
+pub branches::read_otherwise-returns-then-not-else_on : goal.branches::read_otherwise-returns-then-not-else_on
+branches::read_otherwise-returns-then-not-else_on t c =
     let made = c.in_ok-tree.ensures.ok in
     let high = ap levels made in
-    found_at c.args.input.now (otherwise_none (origin_of c.args.input.now) c.args.layout (c.args.left - 1) c.args.place (term_of c.args.selector.tree) (choices_of c.args.all.branches.items) (from_at c.args.input.now c.args.all.next) (sym c.else_at.ensures ∙ c.if-not-else_at.true)) (sym made) refl
+    found_at c.args.input.now (otherwise_none (origin_of c.args.input.now) c.args.layout (c.args.left - 1) c.args.place (term_of c.args.selector.tree) (choices_of c.args.all.branches.items) (from_at c.args.input.now c.args.all.next) (sym c.else_on.ensures ∙ c.if-not-else_on.true)) (sym made) refl
     (let a = c.requires.selector_depth in let b = c.requires.depth in let m = c.max-deeper.ensures in omega (arith, a, b, m, high)) (let a = c.requires.selector_few in let b = c.requires.few in let m = c.max-deeper.ensures in omega (arith, a, b, m)) (omega arith) c.requires.within
 
 pub branches::read_otherwise-returns-in_err-value : goal.branches::read_otherwise-returns-in_err-value
 branches::read_otherwise-returns-in_err-value t c =
     let p = err_from_is_err_and c.from_residual-in_err-value.result c.from_residual-in_err-value.ensures.1 in
     let back = sym (behind_one c.args.all.next c.args.input.now.tokens.now) in
-    let test = sym c.else_at.ensures ∙ c.if-not-else_at.false in
+    let test = sym c.else_on.ensures ∙ c.if-not-else_on.false in
     rw (p.1, p.2) (fails_up c.args.input.now c.in_err-value.field-0.0 (otherwise_bad (origin_of c.args.input.now) c.args.layout (c.args.left - 1) c.args.place (term_of c.args.selector.tree) (choices_of c.args.all.branches.items) (from_at c.args.input.now c.args.all.next) test) (subst (λ v. Fails (λ k. run_value k (origin_of c.args.input.now) c.args.layout (c.args.left - 1) v) c.args.input.now c.in_err-value.field-0.0) back c.in_err-value.ensures))
 
 pub branches::read_otherwise-returns : goal.branches::read_otherwise-returns
 branches::read_otherwise-returns t c =
     let back = sym (behind_one c.args.all.next c.args.input.now.tokens.now) in
-    let test = sym c.else_at.ensures ∙ c.if-not-else_at.false in
+    let test = sym c.else_on.ensures ∙ c.if-not-else_on.false in
     let runs = subst (λ v. Settles (λ k. run_value k (origin_of c.args.input.now) c.args.layout (c.args.left - 1) v) (got (term_of c.in_ok-value.value.tree) (from_at c.args.input.now c.in_ok-value.value.next))) back c.in_ok-value.ensures.runs in
     let high = ap levels c.in_ok-tree-2.ensures.ok in
     found_at c.args.input.now (otherwise_got (origin_of c.args.input.now) c.args.layout (c.args.left - 1) c.args.place (term_of c.args.selector.tree) (choices_of c.args.all.branches.items) (from_at c.args.input.now c.args.all.next) test (term_of c.in_ok-value.value.tree) (from_at c.args.input.now c.in_ok-value.value.next) runs) (sym c.in_ok-tree-2.ensures.ok) refl

@@ -6,89 +6,95 @@ use Rattle.parse_exprs.specs.Gives.{Onward}
 use Rattle.parse_exprs.proofs.read.+exprs.Given as goal
 
 abbrev pub decreases-operators::read_more : goal.decreases-operators::read_more
-decreases-operators::read_more l = 16 * l.left
+decreases-operators::read_more l = 20 * l.left
 
 abbrev pub decreases-operators::read_applied : goal.decreases-operators::read_applied
-decreases-operators::read_applied l = 16 * l.left
+decreases-operators::read_applied l = 20 * l.left
 
 abbrev pub decreases-operators::read_signed : goal.decreases-operators::read_signed
-decreases-operators::read_signed l = 16 * l.left
+decreases-operators::read_signed l = 20 * l.left
 
 abbrev pub decreases-operators::read_suffix : goal.decreases-operators::read_suffix
-decreases-operators::read_suffix l = 16 * l.left + 1
+decreases-operators::read_suffix l = 20 * l.left + 1
 
 abbrev pub decreases-operators::read_primary : goal.decreases-operators::read_primary
-decreases-operators::read_primary l = 16 * l.left + 2
+decreases-operators::read_primary l = 20 * l.left + 2
+
+abbrev pub decreases-operators::read_unsigned : goal.decreases-operators::read_unsigned
+decreases-operators::read_unsigned l = 20 * l.left + 3
 
 abbrev pub decreases-operators::read_unary : goal.decreases-operators::read_unary
-decreases-operators::read_unary l = 16 * l.left + 3
+decreases-operators::read_unary l = 20 * l.left + 4
 
 abbrev pub decreases-operators::read_level : goal.decreases-operators::read_level
-decreases-operators::read_level l = 16 * l.left + (l.level + 4)
+decreases-operators::read_level l = 20 * l.left + (l.level + 5)
 
 abbrev pub decreases-operators::read_expr : goal.decreases-operators::read_expr
-decreases-operators::read_expr l = 16 * l.left + 11
+decreases-operators::read_expr l = 20 * l.left + 12
 
 abbrev pub decreases-atoms::read_group : goal.decreases-atoms::read_group
-decreases-atoms::read_group l = 16 * l.left
+decreases-atoms::read_group l = 20 * l.left
 
 abbrev pub decreases-atoms::read_sequence : goal.decreases-atoms::read_sequence
-decreases-atoms::read_sequence l = 16 * l.left
+decreases-atoms::read_sequence l = 20 * l.left
 
 abbrev pub decreases-atoms::read_atom : goal.decreases-atoms::read_atom
-decreases-atoms::read_atom l = 16 * l.left + 1
+decreases-atoms::read_atom l = 20 * l.left + 1
 
 abbrev pub decreases-parts::read_enclosed : goal.decreases-parts::read_enclosed
-decreases-parts::read_enclosed l = 16 * l.left + 15
+decreases-parts::read_enclosed l = 20 * l.left + 16
 
 abbrev pub decreases-parts::read_list : goal.decreases-parts::read_list
-decreases-parts::read_list l = 16 * l.left + 14
+decreases-parts::read_list l = 20 * l.left + 15
 
 abbrev pub decreases-parts::read_part : goal.decreases-parts::read_part
-decreases-parts::read_part l = 16 * l.left + 13
+decreases-parts::read_part l = 20 * l.left + 14
 
 abbrev pub decreases-parts::read_named : goal.decreases-parts::read_named
-decreases-parts::read_named l = 16 * l.left + 12
+decreases-parts::read_named l = 20 * l.left + 13
 
 abbrev pub decreases-branches::read_if : goal.decreases-branches::read_if
-decreases-branches::read_if l = 16 * l.left
+decreases-branches::read_if l = 20 * l.left
 
 abbrev pub decreases-branches::read_otherwise : goal.decreases-branches::read_otherwise
-decreases-branches::read_otherwise l = 16 * l.left
+decreases-branches::read_otherwise l = 20 * l.left
 
 abbrev pub decreases-branches::read_branches : goal.decreases-branches::read_branches
-decreases-branches::read_branches l = 16 * l.left + 1
+decreases-branches::read_branches l = 20 * l.left + 1
 
 abbrev pub decreases-branches::read_case : goal.decreases-branches::read_case
-decreases-branches::read_case l = 16 * l.left + 2
+decreases-branches::read_case l = 20 * l.left + 2
+
+abbrev pub decreases-branches::read_own_line : goal.decreases-branches::read_own_line
+decreases-branches::read_own_line l = 20 * l.left + 13
 
 abbrev pub decreases-branches::read_value : goal.decreases-branches::read_value
-decreases-branches::read_value l = 16 * l.left + 12
+decreases-branches::read_value l = 20 * l.left + 14
 
 abbrev pub decreases-branches::read_tail : goal.decreases-branches::read_tail
-decreases-branches::read_tail l = 16 * l.left + 13
+decreases-branches::read_tail l = 20 * l.left + 15
 
 abbrev pub decreases-branches::read_else : goal.decreases-branches::read_else
-decreases-branches::read_else l = 16 * l.left + 13
+decreases-branches::read_else l = 20 * l.left + 15
 
 abbrev pub decreases-branches::read_elifs : goal.decreases-branches::read_elifs
-decreases-branches::read_elifs l = 16 * l.left + 14
+decreases-branches::read_elifs l = 20 * l.left + 16
 
 abbrev pub decreases-branches::read_label : goal.decreases-branches::read_label
-decreases-branches::read_label l = 16 * l.left + 12
+decreases-branches::read_label l = 20 * l.left + 13
 
 abbrev pub decreases-branches::read_labels : goal.decreases-branches::read_labels
-decreases-branches::read_labels l = 16 * l.left + 13
+decreases-branches::read_labels l = 20 * l.left + 14
 
 abbrev pub decreases-branches::read_of : goal.decreases-branches::read_of
-decreases-branches::read_of l = 16 * l.left + 14
+decreases-branches::read_of l = 20 * l.left + 15
 
 abbrev pub decreases-branches::read_ofs : goal.decreases-branches::read_ofs
-decreases-branches::read_ofs l = 16 * l.left + 15
+decreases-branches::read_ofs l = 20 * l.left + 16
 
 abbrev pub invariant-operators::read_level-loop-op : goal.invariant-operators::read_level-loop-op
 invariant-operators::read_level-loop-op l =
-    Onward (λ k. run_chain k (origin_of l.input) l.layout l.tighter l.left (term_of l.a.tree) (from_at l.input l.a.next)) (λ k. run_level k (origin_of l.input) l.layout l.level l.left (from_at l.input l.at))
+    Onward (λ k. run_chain k (origin_of l.input) l.rest l.tighter l.left (term_of l.a.tree) (from_at l.input l.a.next)) (λ k. run_level k (origin_of l.input) l.fn.layout l.level l.left (from_at l.input l.at))
     l.input l.left (suc l.at) (levels (term_of l.a.tree)) l.a.next l.a.depth
 
 abbrev pub decreases-operators::read_level-loop-op : goal.decreases-operators::read_level-loop-op

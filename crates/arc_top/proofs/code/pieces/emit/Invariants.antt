@@ -1,5 +1,5 @@
 use Rattle.std.proofs.Common.{◌≡◌, ◌++◌, drop}
-use Rattle.rv32_isa.proofs.Fetch.{AllInRange}
+use Rattle.rv32_isa.specs.Row.{AllInRange}
 use Rattle.arc_top.specs.Code.{code_bytes}
 use Rattle.arc_top.proofs.code.pieces.emit.Given as goal
 

@@ -1,0 +1,2 @@
+-- The lemmas that proofs of other crates may cite.
+pub use Rattle.rv32_isa.proofs.Words.{little-word_bytes, length-word_bytes, row-word_of, word_of_fits, length-code}
