@@ -85,6 +85,15 @@ pub fn show_expr(tree: &Expr, out: &mut Printed) -> Result<(), Memory> {
             show_expr(base, out)?;
             show_parts("(at", parts, out)?;
         }
+        _ => show_operation(tree, out)?,
+    }
+    out.at(tree.place())
+}
+
+// An operation, a choice between values, or what has no parts.
+#[cycle(show_exprs)]
+fn show_operation(tree: &Expr, out: &mut Printed) -> Result<(), Memory> {
+    match tree {
         Expr::Unary { op, operand, .. } => {
             out.text(unary_text(*op))?;
             show_expr(operand, out)?;
@@ -135,7 +144,7 @@ pub fn show_expr(tree: &Expr, out: &mut Printed) -> Result<(), Memory> {
         }
         _ => show_leaf(tree, out)?,
     }
-    out.at(tree.place())
+    Ok(())
 }
 
 /// Expressions behind a word, and the end of what they are parts of.

@@ -208,6 +208,15 @@ fn show_stmt(stmt: &Stmt, out: &mut Printed) -> Result<(), Memory> {
             show_expr(condition, out)?;
             show_block(" do", body, out)?;
         }
+        _ => show_other(stmt, out)?,
+    }
+    out.at(place_of(stmt))
+}
+
+// A `for`, a statement with handlers, one that is deferred, a procedure, or a statement without a block.
+#[cycle(show_stmts)]
+fn show_other(stmt: &Stmt, out: &mut Printed) -> Result<(), Memory> {
+    match stmt {
         Stmt::For {
             variable,
             over,
@@ -218,7 +227,7 @@ fn show_stmt(stmt: &Stmt, out: &mut Printed) -> Result<(), Memory> {
             show_name(variable, out)?;
             out.text(" in ")?;
             show_over(over, out)?;
-            show_block(" do", body, out)?;
+            show_block(" do", body, out)
         }
         Stmt::Try {
             body,
@@ -229,20 +238,19 @@ fn show_stmt(stmt: &Stmt, out: &mut Printed) -> Result<(), Memory> {
             out.text("(try")?;
             show_stmts(body, out)?;
             show_handlers(handlers, out)?;
-            show_block(" finally", finally, out)?;
+            show_block(" finally", finally, out)
         }
         Stmt::Defer { body, .. } => {
             out.text("(defer")?;
-            show_block("", body, out)?;
+            show_block("", body, out)
         }
         Stmt::Proc { head, body, .. } => {
             out.text("(proc ")?;
             show_head(head, out)?;
-            show_block(" =", body, out)?;
+            show_block(" =", body, out)
         }
-        _ => show_simple(stmt, out)?,
+        _ => show_simple(stmt, out),
     }
-    out.at(place_of(stmt))
 }
 
 // A block, where there is one, behind its word; and the end of its statement.
