@@ -2,9 +2,9 @@
 --
 -- From this it agrees with what it follows, and does work in proportion: laws `simulation`, `sequencing` and `step_by_step`.
 use Rattle.std.specs.Prelude.{◌≡◌, ℕ, ◌+◌, ◌*◌, ◌<◌, ◌≤◌, ◌⊎◌, List, ◌++◌}
-use Rattle.arc_base.specs.Behaviour.{Live, Running, Ended, Behaviour}
+use Rattle.arc_base.specs.Behaviour.{Live, Running, Ended}
 use Rattle.arc_base.specs.Stepping.{Next, Goes, Ends, Faults, Errs, seen, run}
-use Rattle.arc_base.specs.BigStep.{Meter, Res, Got, Over, Going, Errs as IsWrong, Turn, Again, Leave, told, begun, whole}
+use Rattle.arc_base.specs.BigStep.{Meter, Res, Got, Over, Going, Errs as IsWrong, Turn, Again, Leave, told, begun}
 
 -- ---- runs from a state s on, beside a meter that goes from a to b
 --
@@ -70,6 +70,11 @@ pub record Triples (G A Σ S : Type 0) : Type 0 where
 
 abbrev pub Holds : {G A Σ S : Type 0} → Triples G A Σ S → A → Σ → S → Type 0
 Holds {G} R x b s = (g : G) × (R.answer g ≡ x) × (R.state g ≡ b) × (R.machine g ≡ s)
+
+-- from one of the triples on, the machine follows what is to come
+abbrev pub FollowsAt : {E G S Σ A B : Type 0} → (S → Next E S) → (c p : ℕ) → (Σ → Meter E) → (B → Σ → S → Type 0) → Triples G A Σ S → G → (A → Σ → Res Σ B) →
+    Type 0
+FollowsAt step c p meter Good R g go = Follows step c meter Good p (R.machine g) (meter (R.state g)) (go (R.answer g) (R.state g))
 
 -- ---- a machine beside another one, a step of which is some steps of this one
 

@@ -8,12 +8,12 @@ use Rattle.nim_tree.specs.declared.expr.UnaryOp.TheVariants as unary_sign
 use Rattle.nim_tree.specs.declared.stmt.AssignOp.TheVariants.{Set}
 use Rattle.nim_tree.specs.declared.stmt.Binding.TheVariants.{Var}
 use Rattle.nim_tree.specs.Terms as term
-use Rattle.nim_tree.specs.Terms.{Term, Parts, no_parts, part}
+use Rattle.nim_tree.specs.Terms.{Term, Parts, no_parts, part, Choices, no_choices, choice, place_of}
 use Rattle.nim_tree.specs.Statements as tree
 use Rattle.nim_tree.specs.Statements.{Definition, Statement, Statements, Branches}
 use Rattle.arc_base.specs.Refusal.{Refusal, and_then, IsRefusal}
-use Rattle.arc_top.specs.Lines.{echo_int, Lines}
-use Rattle.arc_top.specs.Form.{wanted, left_out, operator_of, comparison_of, as_sum, as_test, lone_name, as_definition, as_section, as_assignment, is_name, as_shown, as_echo, as_quit, as_call, as_evaluation, as_tests, no_further, as_repetition, as_line, as_choice, as_lines, form_of}
+use Rattle.arc_top.specs.Lines.{echo_int, Line, Lines}
+use Rattle.arc_top.specs.Form.{wanted, left_out, operator_of, comparison_of, as_sum, as_test, lone_name, as_definition, as_section, as_assignment, is_name, as_shown, as_echo, as_quit, as_call, as_tests, no_more, as_evaluation, as_alternatives, no_further, as_repetition, as_line, as_choice, as_lines, form_of}
 
 -- where it is refused, it is left out
 abbrev Left : {A : Type 0} → Result A Refusal → Type 0
@@ -84,16 +84,32 @@ call_left at callee parts =
     let other = if is_name (codes "quit") callee then as_quit at parts else left_out at in
     if_left (is_name (codes "echo") callee) (as_echo at parts) other (echo_left at parts) (if_left (is_name (codes "quit") callee) (as_quit at parts) (left_out at) (quit_left at parts) refl)
 
-evaluation_left : (at : Place) (value : Term) → Left (as_evaluation at value)
-evaluation_left at (term.call p callee parts) = call_left at callee parts
-evaluation_left at _ = refl
-
--- ---- statements with blocks
+-- ---- expressions that are statements
 
 tests_left : (at : Place) (tests : Parts) → Left (as_tests at tests)
 tests_left at no_parts = refl
 tests_left at (part test no_parts) = test_left test
 tests_left at (part test (part other rest)) = refl
+
+more_left : (further : Choices) → Left (no_more further)
+more_left no_choices = tt
+more_left (choice at tests value rest) = refl
+
+mutual
+  evaluation_left : (at : Place) (value : Term) → Left (as_evaluation at value)
+  evaluation_left at (term.call p callee parts) = call_left at callee parts
+  evaluation_left at (term.if_term p branches other) = alternatives_left at branches (as_evaluation (place_of other) other) (evaluation_left (place_of other) other)
+  evaluation_left at _ = refl
+
+  alternatives_left : (at : Place) (all : Choices) (otherwise : Result Line Refusal) → Left otherwise → Left (as_alternatives at all otherwise)
+  alternatives_left at no_choices otherwise h = refl
+  alternatives_left at (choice p tests value further) otherwise h =
+      then_left (as_tests at tests) _ (tests_left at tests) (λ test.
+      then_left (as_evaluation (place_of value) value) _ (evaluation_left (place_of value) value) (λ first.
+      then_left (no_more further) _ (more_left further) (λ none.
+      then_left otherwise _ h (λ second. tt))))
+
+-- ---- statements with blocks
 
 further_left : (further : Branches) → Left (no_further further)
 further_left tree.no_branches = tt

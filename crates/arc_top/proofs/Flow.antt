@@ -5,7 +5,7 @@ use Rattle.std.specs.Fmt.{signed_decimal}
 use Rattle.arc_base.specs.declared.outside.Stream.TheVariants.{Out}
 use Rattle.arc_base.specs.Event.{Event, writes}
 use Rattle.arc_base.specs.Behaviour.{no_objects}
-use Rattle.arc_base.specs.BigStep.{Meter, Res, Got, Over, Going, Errs, then_do, ticked, told, with_units, spend, Turn, Leave, turns}
+use Rattle.arc_base.specs.BigStep.{Meter, Res, Got, Over, then_do, ticked, told, with_units, spend, Turn, Leave, turns}
 use Rattle.arc_base.specs.Simulation as generic
 use Rattle.arc_base.specs.Simulation.{Comes, Turned}
 use Rattle.arc_base.proofs.ForCallers.{comes_on, line, waits_here, follows_after, follows_paid, follows_then, follows_map, follows_here, follows_turns, follows_weaker}

@@ -7,15 +7,15 @@ use Rattle.nim_tree.specs.declared.stmt.AssignOp.TheVariants.{Set}
 use Rattle.nim_tree.specs.declared.stmt.Binding.TheVariants.{Var}
 use Rattle.nim_tree.specs.Lists.{highest, if_there}
 use Rattle.nim_tree.specs.Terms as term
-use Rattle.nim_tree.specs.Terms.{Term, Parts, no_parts, part, levels, most_levels}
+use Rattle.nim_tree.specs.Terms.{Term, Parts, no_parts, part, Choices, no_choices, choice, place_of, levels, most_levels, levels_in}
 use Rattle.nim_tree.specs.Statements as tree
 use Rattle.nim_tree.specs.Statements.{Definition, Statement, Statements, Branches, definition_term_levels, term_levels_of, term_levels, branch_term_levels}
 use Rattle.nim_tree.specs.Weights as full
-use Rattle.nim_tree.specs.Weights.{weight_in, weight_maybe, definition_weights, statement_weight, branch_weights}
+use Rattle.nim_tree.specs.Weights.{weight_in, weight_of, weight_maybe, definition_weights, statement_weight, branch_weights}
 use Rattle.arc_base.specs.Refusal.{Refusal, and_then}
 use Rattle.arc_top.specs.Lines.{Sum, opposite, operation, Test, Line, declare, assign, echo_int, quit, branch, loop, Lines, sum_weight, test_weight, weight, weights}
 use Rattle.arc_top.specs.Lines as built
-use Rattle.arc_top.specs.Form.{wanted, left_out, operator_of, comparison_of, as_sum, as_test, lone_name, as_definition, as_section, as_assignment, is_name, as_shown, as_echo, as_quit, as_call, as_evaluation, as_tests, no_further, as_repetition, as_line, as_choice, as_lines, form_of}
+use Rattle.arc_top.specs.Form.{wanted, left_out, operator_of, comparison_of, as_sum, as_test, lone_name, as_definition, as_section, as_assignment, is_name, as_shown, as_echo, as_quit, as_call, as_tests, no_more, lone, as_evaluation, as_alternatives, no_further, as_repetition, as_line, as_choice, as_lines, form_of}
 use Rattle.arc_top.proofs.Steps.{not_fine, and_then_ok, ok_same, wanted_ok}
 use Rattle.arc_top.proofs.Depths.{sum_levels, test_levels, line_levels, lines_levels}
 
@@ -133,16 +133,36 @@ call_fits at callee parts s h =
     (λ named g. let f = quit_fits at parts s g in let w = name_weighs (codes "quit") callee named in (omega (arith, f.0, w), omega (arith, f.1)))
     (λ g. absurd (not_fine _ s g)))
 
-evaluation_fits : (at : Place) (value : Term) (s : Line) → as_evaluation at value ≡ Ok s → LineFits s (full.weight value) (levels value)
-evaluation_fits at (term.call p callee parts) s h = let f = call_fits at callee parts s h in (omega (arith, f.0), omega (arith, f.1))
-evaluation_fits at _ s h = absurd (not_fine _ s h)
-
--- ---- statements with blocks
+-- ---- expressions that are statements
 
 tests_fit : (at : Place) (tests : Parts) (s : Test) → as_tests at tests ≡ Ok s → TestFits s (weight_in tests) (most_levels tests)
 tests_fit at no_parts s h = absurd (not_fine _ s h)
 tests_fit at (part test no_parts) s h = let f = test_fits test s h in (omega (arith, f.0), omega (arith, f.1))
 tests_fit at (part test (part other rest)) s h = absurd (not_fine _ s h)
+
+mutual
+  evaluation_fits : (at : Place) (value : Term) (s : Line) → as_evaluation at value ≡ Ok s → LineFits s (full.weight value) (levels value)
+  evaluation_fits at (term.call p callee parts) s h = let f = call_fits at callee parts s h in (omega (arith, f.0), omega (arith, f.1))
+  evaluation_fits at (term.if_term p branches other) s h =
+      let f = alternatives_fit at branches (as_evaluation (place_of other) other) s _ _ h (λ one e. evaluation_fits (place_of other) other one e) in
+      (omega (arith, f.0), omega (arith, f.1))
+  evaluation_fits at _ s h = absurd (not_fine _ s h)
+
+  alternatives_fit : (at : Place) (all : Choices) (otherwise : Result Line Refusal) (s : Line) (w l : ℕ) → as_alternatives at all otherwise ≡ Ok s
+      → ((one : Line) → otherwise ≡ Ok one → LineFits one w l) → LineFits s (suc (weight_of all + w)) (max (levels_in all) l)
+  alternatives_fit at no_choices otherwise s w l h fits = absurd (not_fine _ s h)
+  alternatives_fit at (choice p tests value further) otherwise s w l h fits =
+      let o = and_then_ok (as_tests at tests) (λ test. and_then (as_evaluation (place_of value) value) (λ first. and_then (no_more further) (λ none. and_then otherwise (λ second. Ok (branch at test (lone first) (lone second)))))) s h in
+      let b = and_then_ok (as_evaluation (place_of value) value) (λ first. and_then (no_more further) (λ none. and_then otherwise (λ second. Ok (branch at o.0 (lone first) (lone second))))) s o.2 in
+      let n = and_then_ok (no_more further) (λ none. and_then otherwise (λ second. Ok (branch at o.0 (lone b.0) (lone second)))) s b.2 in
+      let q = and_then_ok otherwise (λ second. Ok (branch at o.0 (lone b.0) (lone second))) s n.2 in
+      let e = ok_same _ _ q.2 in
+      let f = tests_fit at tests o.0 o.1 in
+      let g = evaluation_fits (place_of value) value b.0 b.1 in
+      let k = fits q.0 q.1 in
+      (omega (arith, f.0, g.0, k.0, ap weight e), omega (arith, f.1, g.1, k.1, ap line_levels e))
+
+-- ---- statements with blocks
 
 repetition_fits : (at : Place) (condition : Term) (body : Result Lines Refusal) (s : Line) (w l : ℕ) → as_repetition at condition body ≡ Ok s
     → ((ss : Lines) → body ≡ Ok ss → LinesFit ss w l) → LineFits s (suc (full.weight condition + w)) (max (levels condition) l)

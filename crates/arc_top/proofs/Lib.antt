@@ -27,4 +27,5 @@ pub mod Emits
 pub mod Sizes
 pub mod Images
 pub mod Verdicts
+mod CommandLemmas
 pub mod PlainFiles

@@ -5,10 +5,10 @@ use Rattle.std.proofs.lemmas.Bool.{lt-ltb, le-ltb, cond-true, cond-false, cond_b
 use Rattle.arc_base.specs.declared.outside.Stream.{Stream}
 use Rattle.arc_base.specs.declared.outside.Stream.TheVariants.{Out, Err}
 use Rattle.arc_base.specs.Event.{Event, writes}
-use Rattle.arc_base.specs.Behaviour.{Live, no_objects}
-use Rattle.arc_base.specs.BigStep.{Meter, Res, told}
-use Rattle.arc_base.specs.Simulation.{Comes, Halts, Follows}
-use Rattle.arc_base.proofs.ForCallers.{comes_on, comes_halts, follows_after}
+use Rattle.arc_base.specs.Behaviour.{no_objects}
+use Rattle.arc_base.specs.BigStep.{Meter, told}
+use Rattle.arc_base.specs.Simulation.{Comes, Halts}
+use Rattle.arc_base.proofs.ForCallers.{comes_on, comes_halts}
 use Rattle.nim_core.specs.Ints.{fits}
 use Rattle.nim_core.specs.Meaning.{Values, put as put_value}
 use Rattle.nim_core.specs.Traps.{Trap, Overflow, DivisionByZero}

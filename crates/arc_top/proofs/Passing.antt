@@ -12,7 +12,7 @@ use Rattle.arc_top.specs.declared.form.lines.Line.{Line as RustLine}
 use Rattle.arc_top.specs.declared.form.lines.Line.TheVariants as rust_line
 use Rattle.arc_base.specs.Refusal.{Refusal, and_then, IsRefusal}
 use Rattle.arc_top.specs.Lines.{Test, branch, loop, then, Line, Lines, test_of, line_of, lines_of}
-use Rattle.arc_top.specs.Names.{Scope, Given, gives, check_test, check_line, check_lines, UsesInts, UseInts}
+use Rattle.arc_top.specs.Names.{Scope, Given, gives, check_test, check_line, check_lines, FitsStmt, FitsStmts}
 use Rattle.arc_top.proofs.LineRows.{conditional, repeated}
 
 -- ---- statements with blocks
@@ -112,6 +112,6 @@ next_item xs i x e h = rw add-one (drop-cons xs i x h ∙ ap (λ y. y ∷ drop (
 
 -- ---- literals
 
-pub ints_more : (done : List RustStmt) (stmt : RustStmt) → UseInts (stmts_of done) → UsesInts (stmt_of stmt) → UseInts (stmts_of (done ++ stmt ∷ []))
+pub ints_more : (done : List RustStmt) (stmt : RustStmt) → FitsStmts (stmts_of done) → FitsStmt (stmt_of stmt) → FitsStmts (stmts_of (done ++ stmt ∷ []))
 ints_more [] stmt h g = (g, tt)
 ints_more (other ∷ done) stmt h g = (h.0, ints_more done stmt h.1 g)

@@ -2,7 +2,8 @@
 use Rattle.std.proofs.Common.{◌≡◌, ℕ, suc, ◌+◌, ◌*◌, ◌%◌, ◌<◌, ◌≤◌, ℤ, Bool, true, false, List, [], ◌∷◌, ◌++◌, length, refl, sym, ap, subst, ◌∙◌, arith, take, length-append}
 use Rattle.std.specs.Prelude.{◌==◌, not}
 use Rattle.std.specs.Fmt.{signed_decimal}
-use Rattle.arc_base.specs.Event.{Event}
+use Rattle.arc_base.specs.declared.outside.Stream.TheVariants.{Out}
+use Rattle.arc_base.specs.Event.{Event, writes}
 use Rattle.arc_base.specs.Stepping.{Goes}
 use Rattle.arc_base.specs.Behaviour.{no_objects}
 use Rattle.arc_base.specs.BigStep.{Meter}

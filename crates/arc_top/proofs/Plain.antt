@@ -11,7 +11,7 @@ use Rattle.nim_core.specs.Program.{Expr, Number, Variable, Negate, Binary, Cond,
 use Rattle.arc_top.specs.Code.{IsPlainExpr, IsPlainCond, IsPlainStmt, ArePlain, expr_weight, cond_weight, stmt_weight, stmts_weight}
 use Rattle.arc_base.specs.Refusal.{and_then}
 use Rattle.arc_top.specs.Lines.{Sum, int, name, opposite, operation, Test, Line, declare, assign, echo_int, echo_text, quit, branch, loop, Lines, empty, then, sum_weight, test_weight, weight, weights}
-use Rattle.arc_top.specs.Names.{Scope, Given, gives, names_of, find, found, unless_found, declared, check_sum, check_test, check_line, check_lines, check, HasInts, TestsInts, UsesInts, UseInts}
+use Rattle.arc_top.specs.Names.{Scope, Given, gives, names_of, find, found, unless_found, declared, check_sum, check_test, check_line, check_lines, check, FitsExpr, FitsCond, FitsStmt, FitsStmts}
 use Rattle.arc_top.proofs.Steps.{and_then_ok, ok_same}
 use Rattle.arc_top.proofs.Depths.{sum_levels, test_levels, line_levels, lines_levels}
 
@@ -33,11 +33,11 @@ found_below scope text at number e = by (find scope text) refl e
 -- ---- sums
 
 module _ (scope : Scope) (count : ℕ) (few : length scope ≤ count) where
-  pub sum_plain : (t : Sum) (e : Expr) (room : ℕ) → check_sum scope t ≡ Ok e → HasInts e → sum_levels t ≤ room → IsPlainExpr count room e
+  pub sum_plain : (t : Sum) (e : Expr) (room : ℕ) → check_sum scope t ≡ Ok e → FitsExpr e → sum_levels t ≤ room → IsPlainExpr count room e
   sum_plain (int at value) e zero h i le = absurd (omega arith)
   sum_plain (int at value) e (suc room) h i le =
       let is : Number at value ≡ e = ok_same _ _ h in
-      subst (IsPlainExpr count (suc room)) is (subst HasInts (sym is) i)
+      subst (IsPlainExpr count (suc room)) is (subst FitsExpr (sym is) i)
   sum_plain (name at text) e zero h i le = absurd (omega arith)
   sum_plain (name at text) e (suc room) h i le =
       let s = and_then_ok (found (find scope text) at) (λ number. Ok (Variable at number)) e h in
@@ -48,13 +48,13 @@ module _ (scope : Scope) (count : ℕ) (few : length scope ≤ count) where
   sum_plain (opposite at a) e (suc room) h i le =
       let s = and_then_ok (check_sum scope a) (λ checked. Ok (Negate at checked)) e h in
       let is : Negate at s.0 ≡ e = ok_same _ _ s.2 in
-      subst (IsPlainExpr count (suc room)) is (sum_plain a s.0 (suc room) s.1 (subst HasInts (sym is) i) (omega arith))
+      subst (IsPlainExpr count (suc room)) is (sum_plain a s.0 (suc room) s.1 (subst FitsExpr (sym is) i) (omega arith))
   sum_plain (operation at operator a b) e zero h i le = absurd (omega arith)
   sum_plain (operation at operator a b) e (suc room) h i le =
       let s = and_then_ok (check_sum scope a) (λ left. and_then (check_sum scope b) (λ right. Ok (Binary at operator left right))) e h in
       let u = and_then_ok (check_sum scope b) (λ right. Ok (Binary at operator s.0 right)) e s.2 in
       let is : Binary at operator s.0 u.0 ≡ e = ok_same _ _ u.2 in
-      let ints = subst HasInts (sym is) i in
+      let ints = subst FitsExpr (sym is) i in
       subst (IsPlainExpr count (suc room)) is (sum_plain a s.0 (suc room) s.1 ints.0 (omega arith), sum_plain b u.0 room u.1 ints.1 (omega arith))
 
 -- the two sums of a test
@@ -65,7 +65,7 @@ test_sums scope t c h =
     let is = ok_same _ _ u.2 in
     (subst (λ (x : Cond). check_sum scope t.left ≡ Ok x.left) is s.1, subst (λ (x : Cond). check_sum scope t.right ≡ Ok x.right) is u.1)
 
-test_plain : (scope : Scope) (count : ℕ) → length scope ≤ count → (t : Test) (c : Cond) → check_test scope t ≡ Ok c → TestsInts c → test_levels t ≤ 64 → IsPlainCond count c
+test_plain : (scope : Scope) (count : ℕ) → length scope ≤ count → (t : Test) (c : Cond) → check_test scope t ≡ Ok c → FitsCond c → test_levels t ≤ 64 → IsPlainCond count c
 test_plain scope count few t c h i le =
     let s = test_sums scope t c h in
     (sum_plain scope count few t.left c.left 64 s.0 i.0 (omega arith), sum_plain scope count few t.right c.right 64 s.1 i.1 (omega arith))
@@ -158,7 +158,7 @@ mutual
 
 module _ (count : ℕ) where
   mutual
-    line_plain : (scope : Scope) (s : Line) (g : Given Stmt) → check_line scope s ≡ Ok g → UsesInts g.tree → line_levels s ≤ 64 → length g.scope ≤ count → IsPlainStmt count g.tree
+    line_plain : (scope : Scope) (s : Line) (g : Given Stmt) → check_line scope s ≡ Ok g → FitsStmt g.tree → line_levels s ≤ 64 → length g.scope ≤ count → IsPlainStmt count g.tree
     line_plain scope (declare at named value) g h i l le =
         let a = and_then_ok (unless_found (find scope named.text) named.at) (λ _. and_then (check_sum scope value) (λ checked. gives (scope ++ declared scope named ∷ []) (Declare at (length scope) checked))) g h in
         let b = and_then_ok (check_sum scope value) (λ checked. gives (scope ++ declared scope named ∷ []) (Declare at (length scope) checked)) g a.2 in
@@ -166,31 +166,31 @@ module _ (count : ℕ) where
         let size = ap (λ x. length x.scope) e in
         let inside : length scope < count = omega (arith, size, length-append scope (declared scope named ∷ []), le) in
         let fits : length scope ≤ count = omega arith in
-        subst (λ x. IsPlainStmt count x.tree) e (inside, sum_plain scope count fits value b.0 64 b.1 (subst (λ x. UsesInts x.tree) (sym e) i) (omega (arith, l)))
+        subst (λ x. IsPlainStmt count x.tree) e (inside, sum_plain scope count fits value b.0 64 b.1 (subst (λ x. FitsStmt x.tree) (sym e) i) (omega (arith, l)))
     line_plain scope (assign at named value) g h i l le =
         let a = and_then_ok (found (find scope named.text) named.at) (λ number. and_then (check_sum scope value) (λ checked. gives scope (Assign at number checked))) g h in
         let b = and_then_ok (check_sum scope value) (λ checked. gives scope (Assign at a.0 checked)) g a.2 in
         let e = given_same _ _ g b.2 in
         let fits : length scope ≤ count = omega (arith, ap (λ x. length x.scope) e, le) in
         let inside : a.0 < count = omega (arith, found_below scope named.text named.at a.0 a.1) in
-        subst (λ x. IsPlainStmt count x.tree) e (inside, sum_plain scope count fits value b.0 64 b.1 (subst (λ x. UsesInts x.tree) (sym e) i) (omega (arith, l)))
+        subst (λ x. IsPlainStmt count x.tree) e (inside, sum_plain scope count fits value b.0 64 b.1 (subst (λ x. FitsStmt x.tree) (sym e) i) (omega (arith, l)))
     line_plain scope (echo_int at value) g h i l le =
         let b = and_then_ok (check_sum scope value) (λ checked. gives scope (EchoInt at checked)) g h in
         let e = given_same _ _ g b.2 in
         let fits : length scope ≤ count = omega (arith, ap (λ x. length x.scope) e, le) in
-        subst (λ x. IsPlainStmt count x.tree) e (sum_plain scope count fits value b.0 64 b.1 (subst (λ x. UsesInts x.tree) (sym e) i) (omega (arith, l)))
+        subst (λ x. IsPlainStmt count x.tree) e (sum_plain scope count fits value b.0 64 b.1 (subst (λ x. FitsStmt x.tree) (sym e) i) (omega (arith, l)))
     line_plain scope (echo_text at text) g h i l le = subst (λ x. IsPlainStmt count x.tree) (given_same _ _ g h) tt
     line_plain scope (quit at status) g h i l le =
         let b = and_then_ok (check_sum scope status) (λ checked. gives scope (Quit at checked)) g h in
         let e = given_same _ _ g b.2 in
         let fits : length scope ≤ count = omega (arith, ap (λ x. length x.scope) e, le) in
-        subst (λ x. IsPlainStmt count x.tree) e (sum_plain scope count fits status b.0 64 b.1 (subst (λ x. UsesInts x.tree) (sym e) i) (omega (arith, l)))
+        subst (λ x. IsPlainStmt count x.tree) e (sum_plain scope count fits status b.0 64 b.1 (subst (λ x. FitsStmt x.tree) (sym e) i) (omega (arith, l)))
     line_plain scope (branch at condition first second) g h i l le =
         let a = and_then_ok (check_test scope condition) (λ c. and_then (check_lines scope first) (λ f. and_then (check_lines f.scope second) (λ s. gives s.scope (If at c f.tree s.tree)))) g h in
         let b = and_then_ok (check_lines scope first) (λ f. and_then (check_lines f.scope second) (λ s. gives s.scope (If at a.0 f.tree s.tree))) g a.2 in
         let c = and_then_ok (check_lines b.0.scope second) (λ s. gives s.scope (If at a.0 b.0.tree s.tree)) g b.2 in
         let e = given_same _ _ g c.2 in
-        let ints = subst (λ x. UsesInts x.tree) (sym e) i in
+        let ints = subst (λ x. FitsStmt x.tree) (sym e) i in
         let last : length c.0.scope ≤ count = omega (arith, ap (λ x. length x.scope) e, le) in
         let middle : length b.0.scope ≤ count = omega (arith, (lines_light b.0.scope second c.0 c.1).0, last) in
         let fits : length scope ≤ count = omega (arith, (lines_light scope first b.0 b.1).0, middle) in
@@ -200,18 +200,18 @@ module _ (count : ℕ) where
         let a = and_then_ok (check_test scope condition) (λ c. and_then (check_lines scope body) (λ b. gives b.scope (While at c b.tree))) g h in
         let b = and_then_ok (check_lines scope body) (λ b. gives b.scope (While at a.0 b.tree)) g a.2 in
         let e = given_same _ _ g b.2 in
-        let ints = subst (λ x. UsesInts x.tree) (sym e) i in
+        let ints = subst (λ x. FitsStmt x.tree) (sym e) i in
         let last : length b.0.scope ≤ count = omega (arith, ap (λ x. length x.scope) e, le) in
         let fits : length scope ≤ count = omega (arith, (lines_light scope body b.0 b.1).0, last) in
         subst (λ x. IsPlainStmt count x.tree) e (test_plain scope count fits condition a.0 a.1 ints.0 (omega (arith, l)), lines_plain scope body b.0 b.1 ints.1 (omega (arith, l)) last)
 
-    lines_plain : (scope : Scope) (ss : Lines) (g : Given Stmts) → check_lines scope ss ≡ Ok g → UseInts g.tree → lines_levels ss ≤ 64 → length g.scope ≤ count → ArePlain count g.tree
+    lines_plain : (scope : Scope) (ss : Lines) (g : Given Stmts) → check_lines scope ss ≡ Ok g → FitsStmts g.tree → lines_levels ss ≤ 64 → length g.scope ≤ count → ArePlain count g.tree
     lines_plain scope empty g h i l le = subst (λ x. ArePlain count x.tree) (given_same _ _ g h) tt
     lines_plain scope (then first rest) g h i l le =
         let a = and_then_ok (check_line scope first) (λ one. and_then (check_lines one.scope rest) (λ others. gives others.scope (Then one.tree others.tree))) g h in
         let b = and_then_ok (check_lines a.0.scope rest) (λ others. gives others.scope (Then a.0.tree others.tree)) g a.2 in
         let e = given_same _ _ g b.2 in
-        let ints = subst (λ x. UseInts x.tree) (sym e) i in
+        let ints = subst (λ x. FitsStmts x.tree) (sym e) i in
         let last : length b.0.scope ≤ count = omega (arith, ap (λ x. length x.scope) e, le) in
         let middle : length a.0.scope ≤ count = omega (arith, (lines_light a.0.scope rest b.0 b.1).0, last) in
         subst (λ x. ArePlain count x.tree) e (line_plain scope first a.0 a.1 ints.0 (omega (arith, l)) middle, lines_plain a.0.scope rest b.0 b.1 ints.1 (omega (arith, l)) last)
@@ -224,10 +224,10 @@ program_steps lines program h =
     let e = ok_same _ _ a.2 in
     (a.0, a.1, ap (λ p. p.globals) e, ap (λ p. p.start) e)
 
-pub program_plain : (lines : Lines) (program : Program) → check lines ≡ Ok program → UseInts program.start → lines_levels lines ≤ 64 → ArePlain (length program.globals) program.start
+pub program_plain : (lines : Lines) (program : Program) → check lines ≡ Ok program → FitsStmts program.start → lines_levels lines ≤ 64 → ArePlain (length program.globals) program.start
 program_plain lines program h i l =
     let s = program_steps lines program h in
-    subst (ArePlain (length program.globals)) s.3 (lines_plain (length program.globals) [] lines s.0 s.1 (subst UseInts (sym s.3) i) l (omega (arith, ap length s.2)))
+    subst (ArePlain (length program.globals)) s.3 (lines_plain (length program.globals) [] lines s.0 s.1 (subst FitsStmts (sym s.3) i) l (omega (arith, ap length s.2)))
 
 pub program_light : (lines : Lines) (program : Program) → check lines ≡ Ok program → stmts_weight program.start ≤ weights lines
 program_light lines program h =

@@ -1,5 +1,5 @@
 -- The machine at a place of the program's code, where the variables have these values.
-use Rattle.std.proofs.Common.{◌≡◌, ℕ, ◌+◌, ◌*◌, ◌%◌, ◌≤◌, ℤ, true, List, [], ◌++◌, length, take, drop, get_or}
+use Rattle.std.proofs.Common.{◌≡◌, ℕ, ◌+◌, ◌*◌, ◌%◌, ◌≤◌, ℤ, true, List, [], ◌++◌, length, take, drop}
 use Rattle.arc_base.specs.declared.outside.Stream.{Stream}
 use Rattle.arc_base.specs.declared.outside.Stream.TheVariants.{Out}
 use Rattle.arc_base.specs.Event.{Event, writes}
@@ -16,7 +16,7 @@ use Rattle.rv32_isa.specs.Hooks.{code_at}
 use Rattle.rv32_isa.specs.Image.{stack_at}
 use Rattle.rv32_isa.specs.State.{State, put_bytes}
 use Rattle.rv32_isa.specs.Machine.{Run, Lives, arrival, step}
-use Rattle.rv32_logic.specs.Registers.{IsRegs, File, file_at, reg_of, file_of_run}
+use Rattle.rv32_logic.specs.Registers.{IsRegs, File, reg_of, file_of_run}
 use Rattle.rv32_logic.specs.Placed.{Stands}
 use Rattle.arc_top.specs.Code.{word, variable_at, data_of, trap_at, trap_code}
 

@@ -13,7 +13,7 @@ use Rattle.nim_tree.specs.declared.name.Pragma.{Pragma}
 use Rattle.nim_tree.specs.declared.stmt.AssignOp.TheVariants.{Set}
 use Rattle.nim_tree.specs.declared.stmt.Binding.TheVariants.{Var}
 use Rattle.nim_tree.specs.Terms as term
-use Rattle.nim_tree.specs.Terms.{Term, Parts, no_parts, part, place_of}
+use Rattle.nim_tree.specs.Terms.{Term, Parts, no_parts, part, Choices, no_choices, choice, place_of}
 use Rattle.nim_tree.specs.Types.{Written}
 use Rattle.nim_tree.specs.Statements as tree
 use Rattle.nim_tree.specs.Statements.{Definition, Statement, Statements, Branches}
@@ -131,16 +131,40 @@ as_call at callee parts =
     if is_name (codes "quit") callee then as_quit at parts else
     left_out at
 
-abbrev pub as_evaluation : Place → Term → Result Line Refusal
-as_evaluation at (term.call p callee parts) = as_call at callee parts
-as_evaluation at other = left_out at
-
--- ---- statements with blocks
+-- ---- expressions that are statements
 
 -- the one test of a branch
 abbrev pub as_tests : Place → Parts → Result Test Refusal
 as_tests at (part test no_parts) = as_test test
 as_tests at tests = left_out at
+
+-- no further branch of an expression
+abbrev pub no_more : Choices → Result (Unit {0}) Refusal
+no_more no_choices = Ok tt
+no_more (choice at tests value rest) = left_out at
+
+-- the block of one statement
+abbrev pub lone : Line → Lines
+lone line = built.then line built.empty
+
+abbrev mutual
+  -- a call, or an `if` between such expressions, each of which is a block of its own
+  pub as_evaluation : Place → Term → Result Line Refusal
+  as_evaluation at (term.call p callee parts) = as_call at callee parts
+  as_evaluation at (term.if_term p branches other) = as_alternatives at branches (as_evaluation (place_of other) other)
+  as_evaluation at other = left_out at
+
+  -- of the branches of an `if` there may be one; otherwise is what the value of `else` is
+  pub as_alternatives : Place → Choices → (otherwise : Result Line Refusal) → Result Line Refusal
+  as_alternatives at no_choices otherwise = left_out at
+  as_alternatives at (choice p tests value further) otherwise =
+      and_then (as_tests at tests) (λ test.
+      and_then (as_evaluation (place_of value) value) (λ first.
+      and_then (no_more further) (λ none.
+      and_then otherwise (λ second.
+      Ok (branch at test (lone first) (lone second))))))
+
+-- ---- statements with blocks
 
 -- no further branch
 abbrev pub no_further : Branches → Result (Unit {0}) Refusal

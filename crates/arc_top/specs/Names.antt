@@ -95,27 +95,27 @@ abbrev mutual
 abbrev pub check : Lines → Result Program Refusal
 check lines = and_then (check_lines [] lines) (λ whole. Ok (record { globals = whole.scope; start = whole.tree }))
 
--- ---- literals are ints
+-- ---- each literal fits in an int
 
-abbrev pub HasInts : Expr → Type 0
-HasInts (Number at value) = fits value ≡ true
-HasInts (Variable at number) = Unit {0}
-HasInts (Negate at operand) = HasInts operand
-HasInts (Binary at operator left right) = HasInts left × HasInts right
+abbrev pub FitsExpr : Expr → Type 0
+FitsExpr (Number at value) = fits value ≡ true
+FitsExpr (Variable at number) = Unit {0}
+FitsExpr (Negate at operand) = FitsExpr operand
+FitsExpr (Binary at operator left right) = FitsExpr left × FitsExpr right
 
-abbrev pub TestsInts : Cond → Type 0
-TestsInts condition = HasInts condition.left × HasInts condition.right
+abbrev pub FitsCond : Cond → Type 0
+FitsCond condition = FitsExpr condition.left × FitsExpr condition.right
 
 abbrev mutual
-  pub UsesInts : Stmt → Type 0
-  UsesInts (Declare at variable value) = HasInts value
-  UsesInts (Assign at variable value) = HasInts value
-  UsesInts (EchoInt at value) = HasInts value
-  UsesInts (EchoText at text) = Unit {0}
-  UsesInts (Quit at status) = HasInts status
-  UsesInts (If at condition then_branch else_branch) = TestsInts condition × (UseInts then_branch × UseInts else_branch)
-  UsesInts (While at condition body) = TestsInts condition × UseInts body
+  pub FitsStmt : Stmt → Type 0
+  FitsStmt (Declare at variable value) = FitsExpr value
+  FitsStmt (Assign at variable value) = FitsExpr value
+  FitsStmt (EchoInt at value) = FitsExpr value
+  FitsStmt (EchoText at text) = Unit {0}
+  FitsStmt (Quit at status) = FitsExpr status
+  FitsStmt (If at condition then_branch else_branch) = FitsCond condition × (FitsStmts then_branch × FitsStmts else_branch)
+  FitsStmt (While at condition body) = FitsCond condition × FitsStmts body
 
-  pub UseInts : Stmts → Type 0
-  UseInts Empty = Unit {0}
-  UseInts (Then first rest) = UsesInts first × UseInts rest
+  pub FitsStmts : Stmts → Type 0
+  FitsStmts Empty = Unit {0}
+  FitsStmts (Then first rest) = FitsStmt first × FitsStmts rest

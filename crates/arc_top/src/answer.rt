@@ -25,9 +25,8 @@ impl FileName {
     pub fn new(alloc: Global, name: &str) -> Result<Self, Memory>
         ensures { IfOk result (λ n. n ≡ name.now) }
     {
-        let mut own = Bytes::new(alloc);
-        own.append(name.as_bytes())?;
-        Ok(FileName { name: own })
+        let name = Bytes::from_slice(alloc, name.as_bytes())?;
+        Ok(FileName { name })
     }
 
     /// The bytes of the name.
@@ -72,5 +71,16 @@ impl Answer {
             Answer::Memory => 69,
             Answer::ReadFault | Answer::StoreFault => 74,
         }
+    }
+}
+
+impl From<Memory> for Answer {
+    ghost use Rattle.std.specs.Prelude.{◌≡◌};
+    ghost use Rattle.arc_top.specs.declared.answer.Answer.TheVariants.{Memory};
+
+    ghost from_gives = { λ _ e. e ≡ Memory };
+
+    fn from(_: Memory) -> Self {
+        Answer::Memory
     }
 }

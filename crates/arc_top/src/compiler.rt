@@ -1,7 +1,7 @@
 // From the bytes of a source to the bytes of its file.
-ghost use Rattle.std.specs.Prelude.{◌≡◌, ◌<◌, ◌≤◌, length, IfOk, IfErr};
-ghost use Rattle.arc_top.specs.Source.{Refuses};
-ghost use Rattle.arc_top.specs.Top.{Compiled, IsProgram, source_most};
+ghost use Rattle.std.specs.Prelude.{◌≡◌, ◌<◌, ◌≤◌, ℕ, List, length, IfOk, IfErr};
+ghost use Rattle.arc_top.specs.Source.{alone};
+ghost use Rattle.arc_top.specs.Top.{Compiled, IsProgram, IsNoProgram, source_most};
 ghost use Rattle.arc_top.specs.Compile.{OnTooLong, OnRefused, IsOkOrMemory};
 
 use crate::code::lower;
@@ -58,16 +58,16 @@ impl From<Memory> for NotCompiled {
     }
 }
 
-/// The file of a source: for every input and every number of steps, the machine on it does what the
-/// source means.
+/// The file of a main module, whatever its name: for every input and every number of steps, the machine on
+/// it does what the source means.
 ///
 /// Refused is a source that is no program, and too long one of more than 4,096 bytes.
 pub fn compile(alloc: Global, source: &[u8]) -> Result<Bytes, NotCompiled>
-    ensures compiled { IfOk result (λ bytes. Compiled source.now bytes) }
+    ensures compiled { IfOk result (λ bytes. (name : List ℕ) → Compiled (alone name source.now) bytes) }
     ensures too_long { IfErr result (λ e. OnTooLong e (source_most < length source.now)) }
-    ensures refused { IfErr result (λ e. OnRefused e (λ code at. (length source.now ≤ source_most) × Refuses source.now code at)) }
+    ensures refused { IfErr result (λ e. OnRefused e (λ code at. (name : List ℕ) → IsNoProgram name source.now code at)) }
     ensures within { IfOk result (λ _. length source.now ≤ source_most) }
-    ensures complete { IsProgram source.now → IsOkOrMemory result }
+    ensures complete { (name : List ℕ) → IsProgram name source.now → IsOkOrMemory result }
 {
     if source.len() > SOURCE_MOST {
         return Err(NotCompiled::TooLong);

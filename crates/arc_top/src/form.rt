@@ -9,42 +9,20 @@ ghost use Rattle.nim_tree.specs.Statements.{Statements, branches_of, statement_o
 ghost use Rattle.arc_base.specs.Refusal.{IsRefusal};
 ghost use Rattle.arc_top.specs.Lines as line;
 ghost use Rattle.arc_top.specs.Lines.{test_of, line_of, lines_of};
-ghost use Rattle.arc_top.specs.Form.{as_tests, as_choice, as_repetition, as_line, as_lines, form_of};
+ghost use Rattle.arc_top.specs.Form.{as_choice, as_repetition, as_line, as_lines, form_of};
 
+mod choices;
 mod lines;
 mod simple;
 mod sums;
 
 use arc_base::{Memory, Place, Stop};
+use choices::{choice, evaluation_in, tests_in};
 pub(crate) use lines::{Line, Sum, Test};
 use nim_tree::{AssignOp, Binding, Branch, Expr, Module, Stmt};
-use simple::{assignment_in, call_in, evaluation_in, section_in};
+use simple::{assignment_in, call_in, section_in};
 use std::alloc::Global;
 use sums::{left_out, test_in};
-
-// The one test of a branch.
-fn tests_in(alloc: Global, at: Place, tests: &[Expr]) -> Result<Test, Stop>
-    ensures gives { IfOk result (λ test. as_tests at (parts_of tests.now) ≡ Ok (test_of test)) }
-    ensures refused { IfErr result (λ stop. OnRefusal stop (IsRefusal (as_tests at (parts_of tests.now)))) }
-{
-    match tests {
-        [] => Err(left_out(at)),
-        [test] => test_in(alloc, test),
-        [_, _, ..] => Err(left_out(at)),
-    }
-}
-
-// A choice between two blocks.
-fn choice(at: Place, test: Test, first: Vec<Line>, second: Vec<Line>) -> Line
-    ensures { line_of result ≡ line.branch at (test_of test) (lines_of first.items) (lines_of second.items) }
-{
-    Line::If {
-        at,
-        test,
-        first,
-        second,
-    }
-}
 
 // A block that is carried out again and again.
 fn repetition(at: Place, test: Test, body: Vec<Line>) -> Line

@@ -9,7 +9,7 @@ ghost use Rattle.nim_core.specs.Program as Node;
 ghost use Rattle.nim_core.specs.Program.{expr_of, cond_of, stmt_of, stmts_of, program_of};
 ghost use Rattle.arc_base.specs.Refusal.{IsRefusal};
 ghost use Rattle.arc_top.specs.Lines.{Lines, name, declare, assign, sum_of, test_of, line_of, lines_of, weight, weights};
-ghost use Rattle.arc_top.specs.Names.{names_of, find, found, unless_found, declared, check_sum, check_test, check_line, check_lines, check, gives, HasInts, TestsInts, UsesInts, UseInts};
+ghost use Rattle.arc_top.specs.Names.{names_of, find, found, unless_found, declared, check_sum, check_test, check_line, check_lines, check, gives, FitsExpr, FitsCond, FitsStmt, FitsStmts};
 
 use crate::form::{Line, Sum, Test};
 use arc_base::{Bytes, Code, Items, Memory, Place, Stop};
@@ -50,7 +50,7 @@ fn check_name(alloc: Global, scope: &Scope, at: Place, text: &[u8]) -> Result<Ex
     requires known { scope.now.names ≡ names_of scope.now.globals }
     requires few { length scope.now.globals < 2 ^ 32 }
     ensures gives { IfOk result (λ e. check_sum scope.now.globals (name at text.now) ≡ Ok (expr_of e)) }
-    ensures ints { IfOk result (λ e. HasInts (expr_of e)) }
+    ensures ints { IfOk result (λ e. FitsExpr (expr_of e)) }
     ensures refused { IfErr result (λ stop. OnRefusal stop (IsRefusal (check_sum scope.now.globals (name at text.now)))) }
 {
     match find(alloc, scope, text)? {
@@ -67,7 +67,7 @@ fn check_sum(alloc: Global, scope: &Scope, sum: &Sum) -> Result<Expr, Stop>
     requires known { scope.now.names ≡ names_of scope.now.globals }
     requires few { length scope.now.globals < 2 ^ 32 }
     ensures gives { IfOk result (λ e. check_sum scope.now.globals (sum_of sum.now) ≡ Ok (expr_of e)) }
-    ensures ints { IfOk result (λ e. HasInts (expr_of e)) }
+    ensures ints { IfOk result (λ e. FitsExpr (expr_of e)) }
     ensures refused { IfErr result (λ stop. OnRefusal stop (IsRefusal (check_sum scope.now.globals (sum_of sum.now)))) }
 {
     match sum {
@@ -126,7 +126,7 @@ fn check_test(alloc: Global, scope: &Scope, test: &Test) -> Result<Cond, Stop>
     requires known { scope.now.names ≡ names_of scope.now.globals }
     requires few { length scope.now.globals < 2 ^ 32 }
     ensures gives { IfOk result (λ c. check_test scope.now.globals (test_of test.now) ≡ Ok (cond_of c)) }
-    ensures ints { IfOk result (λ c. TestsInts (cond_of c)) }
+    ensures ints { IfOk result (λ c. FitsCond (cond_of c)) }
     ensures refused { IfErr result (λ stop. OnRefusal stop (IsRefusal (check_test scope.now.globals (test_of test.now)))) }
 {
     let left = check_sum(alloc, scope, &test.left)?;
@@ -184,7 +184,7 @@ fn check_declaration(
     ensures gives { IfOk result (λ s. check_line scope.old.globals (declare at name.now (sum_of value.now)) ≡ gives scope.new.globals (stmt_of s)) }
     ensures known { OnOk result (scope.new.names ≡ names_of scope.new.globals) }
     ensures count { OnOk result (length scope.new.globals ≡ length scope.old.globals + 1) }
-    ensures ints { IfOk result (λ s. UsesInts (stmt_of s)) }
+    ensures ints { IfOk result (λ s. FitsStmt (stmt_of s)) }
     ensures refused { IfErr result (λ stop. OnRefusal stop (IsRefusal (check_line scope.old.globals (declare at name.now (sum_of value.now))))) }
 {
     check_new(alloc, scope, name)?;
@@ -209,7 +209,7 @@ fn check_assignment(
     requires known { scope.now.names ≡ names_of scope.now.globals }
     requires few { length scope.now.globals < 2 ^ 32 }
     ensures gives { IfOk result (λ s. check_line scope.now.globals (assign at name.now (sum_of value.now)) ≡ gives scope.now.globals (stmt_of s)) }
-    ensures ints { IfOk result (λ s. UsesInts (stmt_of s)) }
+    ensures ints { IfOk result (λ s. FitsStmt (stmt_of s)) }
     ensures refused { IfErr result (λ stop. OnRefusal stop (IsRefusal (check_line scope.now.globals (assign at name.now (sum_of value.now))))) }
 {
     match find(alloc, scope, name.text.as_slice())? {
@@ -256,7 +256,7 @@ fn check_line(alloc: Global, scope: &mut Scope, line: &Line) -> Result<Stmt, Sto
     ensures gives { IfOk result (λ s. check_line scope.old.globals (line_of line.now) ≡ gives scope.new.globals (stmt_of s)) }
     ensures known { OnOk result (scope.new.names ≡ names_of scope.new.globals) }
     ensures count { OnOk result (length scope.new.globals ≤ length scope.old.globals + weight (line_of line.now)) }
-    ensures ints { IfOk result (λ s. UsesInts (stmt_of s)) }
+    ensures ints { IfOk result (λ s. FitsStmt (stmt_of s)) }
     ensures refused { IfErr result (λ stop. OnRefusal stop (IsRefusal (check_line scope.old.globals (line_of line.now)))) }
 {
     match line {
@@ -315,7 +315,7 @@ fn check_lines(alloc: Global, scope: &mut Scope, lines: &[Line]) -> Result<Vec<S
     ensures gives { IfOk result (λ stmts. check_lines scope.old.globals (lines_of lines.now) ≡ gives scope.new.globals (stmts_of stmts.items)) }
     ensures known { OnOk result (scope.new.names ≡ names_of scope.new.globals) }
     ensures count { OnOk result (length scope.new.globals ≤ length scope.old.globals + weights (lines_of lines.now)) }
-    ensures ints { IfOk result (λ stmts. UseInts (stmts_of stmts.items)) }
+    ensures ints { IfOk result (λ stmts. FitsStmts (stmts_of stmts.items)) }
     ensures refused { IfErr result (λ stop. OnRefusal stop (IsRefusal (check_lines scope.old.globals (lines_of lines.now)))) }
 {
     let mut stmts = Vec::new(alloc);
@@ -340,7 +340,7 @@ pub(crate) fn check(alloc: Global, lines: &[Line]) -> Result<Program, Stop>
     requires few { weights (lines_of lines.now) < 2 ^ 32 }
     ensures gives { IfOk result (λ program. check (lines_of lines.now) ≡ Ok (program_of program)) }
     ensures count { IfOk result (λ program. length program.globals ≤ weights (lines_of lines.now)) }
-    ensures ints { IfOk result (λ program. UseInts (program_of program).start) }
+    ensures ints { IfOk result (λ program. FitsStmts (program_of program).start) }
     ensures refused { IfErr result (λ stop. OnRefusal stop (IsRefusal (check (lines_of lines.now)))) }
 {
     let mut scope = Scope {

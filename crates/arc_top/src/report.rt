@@ -1,7 +1,8 @@
 // The line on standard error of an answer.
-ghost use Rattle.std.specs.Prelude.{◌≡◌, map};
+ghost use Rattle.std.specs.Prelude.{◌≡◌, map, decimal};
+ghost use Rattle.arc_base.specs.Codes.{code_text};
 ghost use Rattle.arc_base.specs.Outside.{Writes};
-ghost use Rattle.arc_top.specs.Report.{Says, joined, report_of, refusal_report};
+ghost use Rattle.arc_top.specs.Report.{Says, joined, name_of, report_of, refusal_report};
 ghost use Rattle.arc_top.specs.Answer.{OnDone};
 
 use crate::answer::Answer;
@@ -10,7 +11,8 @@ use itoa::Buffer;
 
 // Writes pieces one after another, or a front of them where a put fails.
 fn put_pieces<E: Sink>(err: &mut E, pieces: &[&[u8]]) -> Result<(), Failed>
-    ensures said { Says (E.written err.old) (E.written err.new) (E.faults err.old) (E.faults err.new) result (joined (map (λ piece. piece.now) pieces.now)) }
+    ensures said { Says (E.written err.old) (E.written err.new) (E.faults err.old) (E.faults err.new) result
+        (joined (map (λ piece. piece.now) pieces.now)) }
 {
     for piece in pieces {
         put_all(err, piece)?;
@@ -26,14 +28,28 @@ fn put_place<'a, E: Sink>(
     column: &'a [u8],
     code: &'a [u8],
 ) -> Result<(), Failed>
-    ensures said { Says (E.written err.old) (E.written err.new) (E.faults err.old) (E.faults err.new) result (refusal_report main.now line.now column.now code.now) }
+    ensures said { Says (E.written err.old) (E.written err.new) (E.faults err.old) (E.faults err.new) result
+        (refusal_report main.now line.now column.now code.now) }
 {
     put_pieces(err, &[main, b":", line, b":", column, b": ", code, b"\n"])
 }
 
+// The name of the module with that number.
+fn name_of<'a>(names: &[&'a str], number: u32) -> &'a str
+    ensures { result.now ≡ name_of (map (λ name. name.now) names.now) number }
+{
+    let number = number as usize;
+    if number < names.len() {
+        names[number]
+    } else {
+        ""
+    }
+}
+
 // Writes the line of a refusal.
 fn put_refusal<E: Sink>(err: &mut E, main: &str, code: Code, at: Place) -> Result<(), Failed>
-    ensures said { Says (E.written err.old) (E.written err.new) (E.faults err.old) (E.faults err.new) result (report_of main.now (Answer.Refused code at)) }
+    ensures said { Says (E.written err.old) (E.written err.new) (E.faults err.old) (E.faults err.new) result
+        (refusal_report main.now (decimal at.line) (decimal at.column) (code_text code)) }
 {
     let (mut line, mut column) = (Buffer::new(), Buffer::new());
     let line = line.format(at.line);
@@ -47,8 +63,9 @@ fn put_refusal<E: Sink>(err: &mut E, main: &str, code: Code, at: Place) -> Resul
     )
 }
 
-fn put_line<E: Sink>(err: &mut E, main: &str, answer: &Answer) -> Result<(), Failed>
-    ensures said { Says (E.written err.old) (E.written err.new) (E.faults err.old) (E.faults err.new) result (report_of main.now answer.now) }
+fn put_line<E: Sink>(err: &mut E, names: &[&str], answer: &Answer) -> Result<(), Failed>
+    ensures said { Says (E.written err.old) (E.written err.new) (E.faults err.old) (E.faults err.new) result
+        (report_of (map (λ name. name.now) names.now) answer.now) }
     ensures quiet { OnDone answer.now (err.new ≡ err.old) }
 {
     match answer {
@@ -59,17 +76,18 @@ fn put_line<E: Sink>(err: &mut E, main: &str, answer: &Answer) -> Result<(), Fai
         ),
         Answer::NoFile(name) => put_pieces(err, &[b"nimarc: no file ", name.as_bytes(), b"\n"]),
         Answer::TooLong(name) => put_pieces(err, &[b"nimarc: too long ", name.as_bytes(), b"\n"]),
-        Answer::Refused { code, at } => put_refusal(err, main, *code, *at),
+        Answer::Refused { code, at } => { put_refusal(err, name_of(names, at.module), *code, *at) }
         Answer::ReadFault => put_pieces(err, &[b"nimarc: read fault\n"]),
         Answer::StoreFault => put_pieces(err, &[b"nimarc: store fault\n"]),
         Answer::Memory => put_pieces(err, &[b"nimarc: out of memory\n"]),
     }
 }
 
-/// Says an answer on standard error, in one line, where the main module has that name. Done is not said.
-pub fn put_report<E: Sink>(err: &mut E, main: &str, answer: &Answer)
-    ensures said { Writes (E.written err.old) (E.written err.new) (E.faults err.old) (E.faults err.new) (report_of main.now answer.now) }
+/// Says an answer on standard error, in one line, where the modules have these names by their numbers. Done is not said.
+pub fn put_report<E: Sink>(err: &mut E, names: &[&str], answer: &Answer)
+    ensures said { Writes (E.written err.old) (E.written err.new) (E.faults err.old) (E.faults err.new)
+        (report_of (map (λ name. name.now) names.now) answer.now) }
     ensures quiet { OnDone answer.now (err.new ≡ err.old) }
 {
-    let _ = put_line(err, main, answer);
+    let _ = put_line(err, names, answer);
 }

@@ -58,7 +58,7 @@ fn answers_stay_where_calls_fail(rt: HostRuntime) -> Result<(), Fail> {
 #[test]
 fn want_of_memory_is_said(rt: HostRuntime) -> Result<(), Fail> {
     let mut err = SureSink::new(rt.alloc(), 100)?;
-    put_report(&mut err, "t.nim", &Answer::Memory);
+    put_report(&mut err, &["t.nim"], &Answer::Memory);
     assert_eq!(rt; err.written(), b"nimarc: out of memory\n".as_slice());
     assert_eq!(rt; Answer::Memory.status(), 69);
     Ok(())

@@ -1,14 +1,14 @@
 // The top call.
-ghost use Rattle.std.specs.Prelude.{◌≡◌, ◌≤◌, List, ℕ, OnOk, IfOk, IfErr, length, map, string_bytes};
+ghost use Rattle.std.specs.Prelude.{◌≡◌, ◌≤◌, [], List, ℕ, OnOk, IfOk, IfErr, length, map, string_bytes};
 ghost use Rattle.arc_base.specs.Outside.{Rose, KeepsOthers, Writes};
-ghost use Rattle.arc_top.specs.Answer.{OnDone, OnUsage, OnCommand, IfNoFile, IfTooLong, IfRefused, OnReadFault, OnStoreFault, OnKept, OnLoaded, OnStored, IsDoneOrMemory, IsLoadAnswer, IsRefusal};
+ghost use Rattle.arc_top.specs.Answer.{OnDone, OnUsage, OnCommand, IfNoFile, IfTooLong, IfRefused, OnReadFault, OnStoreFault, OnKept, OnLoaded, OnStored, IsLoadAnswer, IsRefusal};
 ghost use Rattle.arc_top.specs.Compile.{OnTooLong};
-ghost use Rattle.arc_top.specs.Command.{IsBuild, IsCommand, main_of};
+ghost use Rattle.arc_top.specs.Command.{Command, build, modules_of, IsCommand, IsNoCommand};
 ghost use Rattle.arc_top.specs.Report.{report_of};
-ghost use Rattle.arc_top.specs.Top.{Builds, LacksFile, HasLongFile, HasRefused, HasProgram, HasSource, TellsProgram, source_most};
+ghost use Rattle.arc_top.specs.Top.{Builds, LacksFile, HasLongFile, HasRefused, HasProgram, HasSource, Gave, Asks, Answered, source_most};
 
 use crate::answer::{Answer, FileName};
-use crate::command::{Build, read_words};
+use crate::command::read_words;
 use crate::compiler::{NotCompiled, SOURCE_MOST, compile};
 use crate::report::put_report;
 use arc_base::{Bytes, FileFault, Files, Loaded, Sink, Source};
@@ -26,18 +26,15 @@ fn load_source<F: Files>(alloc: Global, main: &str, files: &mut F) -> Result<Byt
     ensures too_long { IfErr result (λ a. IfTooLong a (λ name. (name ≡ main.now) × HasLongFile (F.held files.old) name)) }
     ensures read_fault { IfErr result (λ a. OnReadFault a (Rose (F.load_faults files.old) (F.load_faults files.new))) }
     ensures others { IfErr result (λ a. IsLoadAnswer a) }
+    ensures gave { IfOk result (λ source. Gave (F.calls files.old) (F.calls files.new) main.now source) }
+    ensures asked { IfErr result
+        (λ a. (out : List ℕ) → Asks (build main.now out) a (F.calls files.old) (F.calls files.new)) }
 {
     let mut source = Bytes::new(alloc);
     match files.load(alloc, main, SOURCE_MOST as u32, &mut source) {
         Ok(Loaded::Whole) => Ok(source),
-        Ok(Loaded::Absent) => match FileName::new(alloc, main) {
-            Ok(name) => Err(Answer::NoFile(name)),
-            Err(_) => Err(Answer::Memory),
-        },
-        Ok(Loaded::TooLong) => match FileName::new(alloc, main) {
-            Ok(name) => Err(Answer::TooLong(name)),
-            Err(_) => Err(Answer::Memory),
-        },
+        Ok(Loaded::Absent) => Err(Answer::NoFile(FileName::new(alloc, main)?)),
+        Ok(Loaded::TooLong) => Err(Answer::TooLong(FileName::new(alloc, main)?)),
         Err(FileFault::Failed) => Err(Answer::ReadFault),
         Err(FileFault::Memory) => Err(Answer::Memory),
     }
@@ -56,20 +53,22 @@ fn refuse(why: NotCompiled) -> Answer
 }
 
 // Loads a source, compiles it and stores its file.
-fn build<F: Files>(alloc: Global, names: &Build, files: &mut F) -> Answer
-    ensures done { OnDone result (Builds (F.held files.old) (F.held files.new) names.now.main.now names.now.out.now) }
+fn build<F: Files>(alloc: Global, main: &str, out: &str, files: &mut F) -> Answer
+    ensures done { OnDone result (Builds (F.held files.old) (F.held files.new) main.now out.now) }
     ensures no_usage { OnUsage result ⊥ }
-    ensures no_file { IfNoFile result (λ name. (name ≡ names.now.main.now) × LacksFile (F.held files.old) name) }
-    ensures too_long { IfTooLong result (λ name. (name ≡ names.now.main.now) × HasLongFile (F.held files.old) name) }
-    ensures refused { IfRefused result (λ code at. HasRefused (F.held files.old) names.now.main.now code at) }
+    ensures no_file { IfNoFile result (λ name. (name ≡ main.now) × LacksFile (F.held files.old) name) }
+    ensures too_long { IfTooLong result (λ name. (name ≡ main.now) × HasLongFile (F.held files.old) name) }
+    ensures refused { IfRefused result (λ code at. HasRefused (F.held files.old) main.now code at) }
     ensures read_fault { OnReadFault result (Rose (F.load_faults files.old) (F.load_faults files.new)) }
-    ensures store_fault { OnStoreFault result (Rose (F.store_faults files.old) (F.store_faults files.new) × HasProgram (F.held files.old) names.now.main.now) }
+    ensures store_fault { OnStoreFault result
+        (Rose (F.store_faults files.old) (F.store_faults files.new) × HasProgram (F.held files.old) main.now) }
+    ensures asked { Asks (build main.now out.now) result (F.calls files.old) (F.calls files.new) }
     ensures kept { OnKept result (F.held files.new ≡ F.held files.old) }
-    ensures others { KeepsOthers (F.held files.old) (F.held files.new) names.now.out.now }
+    ensures others { KeepsOthers (F.held files.old) (F.held files.new) out.now }
     ensures loads { OnLoaded result (F.load_faults files.new ≡ F.load_faults files.old) }
     ensures stores { OnStored result (F.store_faults files.new ≡ F.store_faults files.old) }
 {
-    let source = match load_source(alloc, names.main, files) {
+    let source = match load_source(alloc, main, files) {
         Ok(source) => source,
         Err(answer) => return answer,
     };
@@ -77,7 +76,7 @@ fn build<F: Files>(alloc: Global, names: &Build, files: &mut F) -> Answer
         Ok(file) => file,
         Err(why) => return refuse(why),
     };
-    match files.store(alloc, names.out, file.as_slice()) {
+    match files.store(alloc, out, file.as_slice()) {
         Ok(()) => Answer::Done,
         Err(FileFault::Failed) => Answer::StoreFault,
         Err(FileFault::Memory) => Answer::Memory,
@@ -98,38 +97,37 @@ pub fn nimarc<F: Files, I: Source, O: Sink, E: Sink>(
     out: &mut O,
     err: &mut E,
 ) -> Answer
-    // What each answer says.
-    ensures done { OnDone result ((main : List ℕ) × (target : List ℕ) × IsBuild (map string_bytes words.now) main target × Builds (F.held files.old) (F.held files.new) main target) }
-    ensures usage { OnUsage result (IsCommand (map string_bytes words.now) → ⊥) }
-    ensures command { OnCommand result (IsCommand (map string_bytes words.now)) }
-    ensures no_file { IfNoFile result (λ name. (name ≡ main_of (map string_bytes words.now)) × LacksFile (F.held files.old) name) }
-    ensures too_long { IfTooLong result (λ name. (name ≡ main_of (map string_bytes words.now)) × HasLongFile (F.held files.old) name) }
-    ensures refused { IfRefused result (λ code at. HasRefused (F.held files.old) (main_of (map string_bytes words.now)) code at) }
-    ensures read_fault { OnReadFault result (Rose (F.load_faults files.old) (F.load_faults files.new)) }
-    ensures store_fault { OnStoreFault result (Rose (F.store_faults files.old) (F.store_faults files.new) × HasProgram (F.held files.old) (main_of (map string_bytes words.now))) }
-    // A program is built where no file fails and memory is found.
-    ensures complete { IsCommand (map string_bytes words.now) → TellsProgram (F.held files.old) (main_of (map string_bytes words.now)) → (Rose (F.load_faults files.old) (F.load_faults files.new) → ⊥) → (Rose (F.store_faults files.old) (F.store_faults files.new) → ⊥) → IsDoneOrMemory result }
+    // What each answer to a command says of the files.
+    ensures answered { (command : Command) → IsCommand (map string_bytes words.now) command
+        → Answered command result (F.held files.old) (F.held files.new)
+        (F.load_faults files.old) (F.load_faults files.new)
+        (F.store_faults files.old) (F.store_faults files.new) (F.calls files.old) (F.calls files.new) }
+    ensures command { OnCommand result ((command : Command) × IsCommand (map string_bytes words.now) command) }
+
+    // Words that are no command.
+    ensures usage { OnUsage result (IsNoCommand (map string_bytes words.now)) }
+    ensures untouched { OnUsage result (files.new ≡ files.old) }
 
     // What stays.
-    ensures kept { OnKept result (F.held files.new ≡ F.held files.old) }
-    ensures others { (main : List ℕ) (target : List ℕ) → IsBuild (map string_bytes words.now) main target → KeepsOthers (F.held files.old) (F.held files.new) target }
-    ensures loads { OnLoaded result (F.load_faults files.new ≡ F.load_faults files.old) }
-    ensures stores { OnStored result (F.store_faults files.new ≡ F.store_faults files.old) }
     ensures input { input.new ≡ input.old }
     ensures out { out.new ≡ out.old }
 
     // What is said.
-    ensures said { Writes (E.written err.old) (E.written err.new) (E.faults err.old) (E.faults err.new) (report_of (main_of (map string_bytes words.now)) result) }
+    ensures said { (command : Command) → IsCommand (map string_bytes words.now) command
+        → Writes (E.written err.old) (E.written err.new) (E.faults err.old) (E.faults err.new)
+        (report_of (modules_of command) result) }
+    ensures said_usage { OnUsage result
+        (Writes (E.written err.old) (E.written err.new) (E.faults err.old) (E.faults err.new) (report_of [] result)) }
     ensures quiet { OnDone result (err.new ≡ err.old) }
 {
     match read_words(words) {
-        Some(names) => {
-            let answer = build(alloc, &names, files);
-            put_report(err, names.main, &answer);
+        Some(command) => {
+            let answer = build(alloc, command.main(), command.out(), files);
+            put_report(err, &[command.main()], &answer);
             answer
         }
         None => {
-            put_report(err, "", &Answer::Usage);
+            put_report(err, &[], &Answer::Usage);
             Answer::Usage
         }
     }

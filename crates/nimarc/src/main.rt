@@ -36,7 +36,7 @@ fn run(rt: &HostRuntime) -> Answer {
     let words = match words_of(rt, alloc) {
         Ok(words) => words,
         Err(answer) => {
-            put_report(&mut err, "", &answer);
+            put_report(&mut err, &[], &answer);
             return answer;
         }
     };

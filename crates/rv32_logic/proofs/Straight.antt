@@ -1,23 +1,23 @@
 -- Runs of instructions that only write registers.
-use Rattle.std.proofs.Common.{◌≡◌, ◌≢◌, ℕ, zero, suc, ◌+◌, ◌-◌, ◌*◌, ◌/◌, ◌%◌, ◌^◌, ◌<◌, List, [], ◌∷◌, ◌++◌, length, refl, ap, subst, ◌∙◌, arith, get_or}
-use Rattle.std.specs.Prelude.{nat_lt, bit_and, bit_or, bit_xor}
+use Rattle.std.proofs.Common.{◌≡◌, ℕ, zero, suc, ◌+◌, ◌-◌, ◌*◌, ◌/◌, ◌%◌, ◌^◌, ◌<◌, List, [], ◌∷◌, ◌++◌, length, refl, ap, subst, ◌∙◌, arith}
+use Rattle.std.specs.Prelude.{nat_lt}
 use Rattle.std.proofs.lemmas.Bool.{cond_both, ltb-true, ltb-false}
 use Rattle.arc_base.specs.Event.{Event}
 use Rattle.arc_base.specs.BigStep.{Meter}
 use Rattle.arc_base.specs.Simulation.{Comes}
 use Rattle.arc_base.proofs.ForCallers.{comes_refl, comes_on}
 use Rattle.rv32_isa.specs.declared.instr.Instr.{Instr}
-use Rattle.rv32_isa.specs.declared.instr.Instr.TheVariants.{Lui, Auipc, Jal, Jalr, Beq, Bne, Blt, Bge, Bltu, Bgeu, Lb, Lh, Lw, Lbu, Lhu, Sb, Sh, Sw, Addi, Slti, Sltiu, Xori, Ori, Andi, Slli, Srli, Srai, Add, Sub, Sll, Slt, Sltu, Xor, Srl, Sra, Or, And, Mul, Mulh, Mulhsu, Mulhu, Div, Divu, Rem, Remu, Fence, Ecall, Ebreak}
+use Rattle.rv32_isa.specs.declared.instr.Instr.TheVariants.{Lui, Auipc, Jal, Jalr, Beq, Bne, Blt, Bge, Bltu, Bgeu, Lb, Lh, Lw, Lbu, Lhu, Sb, Sh, Sw, Addi, Slti}
+use Rattle.rv32_isa.specs.declared.instr.Instr.TheVariants.{Sltiu, Xori, Ori, Andi, Slli, Srli, Srai, Add, Sub, Sll, Slt, Sltu, Xor, Srl, Sra, Or, And, Mul}
+use Rattle.rv32_isa.specs.declared.instr.Instr.TheVariants.{Mulh, Mulhsu, Mulhu, Div, Divu, Rem, Remu, Fence, Ecall, Ebreak}
 use Rattle.rv32_isa.specs.declared.image.HookAt.{HookAt}
 use Rattle.rv32_isa.specs.Row.{word_of}
 use Rattle.rv32_isa.specs.Hooks.{code_at}
 use Rattle.rv32_isa.specs.State.{State, with_reg, skip}
-use Rattle.rv32_isa.specs.Values.{added, subtracted, one_if, is_less_signed, shifted_left, shifted_right, shifted_right_signed, low_product, high_product_signed, high_product_mixed, high_product, quotient_signed, quotient, remainder_signed, remainder}
 use Rattle.rv32_isa.specs.Steps.{signed12, obey, next_pc}
 use Rattle.rv32_isa.specs.Steps as leads
 use Rattle.rv32_isa.specs.Machine.{Run, Lives, step}
-use Rattle.rv32_logic.specs.Registers.{put, IsRegs}
-use Rattle.rv32_logic.proofs.Registers.{put_regs, put_same, put_other}
+use Rattle.rv32_logic.specs.Registers.{put}
 use Rattle.rv32_logic.proofs.Fetch.{stands_back, next_place, before_next, quiet_less, obeys}
 use Rattle.rv32_logic.specs.Placed.{Before, Quiet}
 use Rattle.rv32_logic.specs.Straight.{IsPlain, AllPlain, regs_of, regs_after, moved, onto, after_plain}
@@ -81,14 +81,17 @@ before_rest s off is rest h = record { place = refl; code = stands_back s.code o
 
 module _ (live : Lives) (hooks : List HookAt) (c : ℕ) where
   -- instructions that only write registers, one after another
-  pub plain_run : (is rest : List Instr) (r : Run) (off : ℕ) (a : Meter Event) → AllPlain is → Before r.state off (is ++ rest) → Quiet hooks (code_at + off) (code_at + (off + 4 * length is)) → Comes (step live hooks) c (length is) r a (onto r (after_plain is r.state off)) a
+  pub plain_run : (is rest : List Instr) (r : Run) (off : ℕ) (a : Meter Event) → AllPlain is → Before r.state off (is ++ rest) →
+      Quiet hooks (code_at + off) (code_at + (off + 4 * length is)) →
+      Comes (step live hooks) c (length is) r a (onto r (after_plain is r.state off)) a
   plain_run [] rest r off a plain h quiet =
       let e : code_at + off ≡ code_at + (off + 4 * 0) = omega arith in
       subst (λ pc. Comes (step live hooks) c 0 r a (onto r (moved r.state r.state.regs pc)) a) (h.place ∙ e) (comes_refl (step live hooks) c r a)
   plain_run (i ∷ is) rest r off a plain h quiet =
       let s = moved r.state (regs_of i r.state.regs) ((r.state.pc + 4) % 2 ^ 32) in
       let at : s.pc ≡ code_at + (off + 4) = next_place r.state.pc off h.place (omega (arith, h.code.0, h.small)) in
-      let one : Comes (step live hooks) c 1 r a (onto r s) a = obeys live hooks c r off i (is ++ rest) s a h (obey_plain r.state (next_pc r.state) (word_of i) i plain.0) (quiet s.pc (omega arith) (omega arith)) in
+      let one : Comes (step live hooks) c 1 r a (onto r s) a =
+      obeys live hooks c r off i (is ++ rest) s a h (obey_plain r.state (next_pc r.state) (word_of i) i plain.0) (quiet s.pc (omega arith) (omega arith)) in
       let rest_quiet = quiet_less live hooks (code_at + off) (code_at + (off + 4)) (code_at + (off + 4 + 4 * length is)) (code_at + (off + 4 * length (i ∷ is))) (omega arith) (omega arith) quiet in
       let more = plain_run is rest (onto r s) (off + 4) a plain.1 (before_next r.state s off i (is ++ rest) h refl refl) rest_quiet in
       let end : code_at + (off + 4 + 4 * length is) ≡ code_at + (off + 4 * length (i ∷ is)) = omega arith in

@@ -1,13 +1,16 @@
 -- Instructions that only write registers, one after another.
-use Rattle.std.specs.Prelude.{ℕ, ◌+◌, ◌*◌, ◌^◌, List, [], ◌∷◌, length, get_or, nat_lt, bit_and, bit_or, bit_xor}
+use Rattle.std.specs.Prelude.{ℕ, ◌+◌, ◌*◌, ◌^◌, List, [], ◌∷◌, length, nat_lt, bit_and, bit_or, bit_xor}
 use Rattle.rv32_isa.specs.declared.instr.Instr.{Instr}
-use Rattle.rv32_isa.specs.declared.instr.Instr.TheVariants.{Lui, Auipc, Jal, Jalr, Beq, Bne, Blt, Bge, Bltu, Bgeu, Lb, Lh, Lw, Lbu, Lhu, Sb, Sh, Sw, Addi, Slti, Sltiu, Xori, Ori, Andi, Slli, Srli, Srai, Add, Sub, Sll, Slt, Sltu, Xor, Srl, Sra, Or, And, Mul, Mulh, Mulhsu, Mulhu, Div, Divu, Rem, Remu, Fence, Ecall, Ebreak}
+use Rattle.rv32_isa.specs.declared.instr.Instr.TheVariants.{Lui, Auipc, Jal, Jalr, Beq, Bne, Blt, Bge, Bltu, Bgeu, Lb, Lh, Lw, Lbu, Lhu, Sb, Sh, Sw, Addi, Slti}
+use Rattle.rv32_isa.specs.declared.instr.Instr.TheVariants.{Sltiu, Xori, Ori, Andi, Slli, Srli, Srai, Add, Sub, Sll, Slt, Sltu, Xor, Srl, Sra, Or, And, Mul}
+use Rattle.rv32_isa.specs.declared.instr.Instr.TheVariants.{Mulh, Mulhsu, Mulhu, Div, Divu, Rem, Remu, Fence, Ecall, Ebreak}
 use Rattle.rv32_isa.specs.Hooks.{code_at}
 use Rattle.rv32_isa.specs.State.{State}
-use Rattle.rv32_isa.specs.Values.{added, subtracted, one_if, is_less_signed, shifted_left, shifted_right, shifted_right_signed, low_product, high_product_signed, high_product_mixed, high_product, quotient_signed, quotient, remainder_signed, remainder}
+use Rattle.rv32_isa.specs.Values.{added, subtracted, one_if, is_less_signed, shifted_left, shifted_right, shifted_right_signed, low_product}
+use Rattle.rv32_isa.specs.Values.{high_product_signed, high_product_mixed, high_product, quotient_signed, quotient, remainder_signed, remainder}
 use Rattle.rv32_isa.specs.Steps.{signed12}
 use Rattle.rv32_isa.specs.Machine.{Run}
-use Rattle.rv32_logic.specs.Registers.{File, put, holding}
+use Rattle.rv32_logic.specs.Registers.{File, put, read_at, holding}
 
 -- an instruction that only writes a register, by registers alone
 abbrev pub IsPlain : Instr → Type 0
@@ -64,75 +67,7 @@ abbrev pub AllPlain : List Instr → Type 0
 AllPlain [] = Unit {0}
 AllPlain (i ∷ is) = IsPlain i × AllPlain is
 
--- registers after an instruction
-abbrev pub regs_of : Instr → List ℕ → List ℕ
-regs_of (Lui rd imm) regs = put regs rd (imm * 2 ^ 12)
-regs_of (Auipc rd imm) regs = regs
-regs_of (Jal rd offset) regs = regs
-regs_of (Jalr rd rs1 offset) regs = regs
-regs_of (Beq rs1 rs2 offset) regs = regs
-regs_of (Bne rs1 rs2 offset) regs = regs
-regs_of (Blt rs1 rs2 offset) regs = regs
-regs_of (Bge rs1 rs2 offset) regs = regs
-regs_of (Bltu rs1 rs2 offset) regs = regs
-regs_of (Bgeu rs1 rs2 offset) regs = regs
-regs_of (Lb rd rs1 offset) regs = regs
-regs_of (Lh rd rs1 offset) regs = regs
-regs_of (Lw rd rs1 offset) regs = regs
-regs_of (Lbu rd rs1 offset) regs = regs
-regs_of (Lhu rd rs1 offset) regs = regs
-regs_of (Sb rs1 rs2 offset) regs = regs
-regs_of (Sh rs1 rs2 offset) regs = regs
-regs_of (Sw rs1 rs2 offset) regs = regs
-regs_of (Addi rd rs1 imm) regs = put regs rd (added (get_or regs rs1 0) (signed12 imm))
-regs_of (Slti rd rs1 imm) regs = put regs rd (one_if (is_less_signed (get_or regs rs1 0) (signed12 imm)))
-regs_of (Sltiu rd rs1 imm) regs = put regs rd (one_if (nat_lt (get_or regs rs1 0) (signed12 imm)))
-regs_of (Xori rd rs1 imm) regs = put regs rd (bit_xor (get_or regs rs1 0) (signed12 imm))
-regs_of (Ori rd rs1 imm) regs = put regs rd (bit_or (get_or regs rs1 0) (signed12 imm))
-regs_of (Andi rd rs1 imm) regs = put regs rd (bit_and (get_or regs rs1 0) (signed12 imm))
-regs_of (Slli rd rs1 amount) regs = put regs rd (shifted_left (get_or regs rs1 0) amount)
-regs_of (Srli rd rs1 amount) regs = put regs rd (shifted_right (get_or regs rs1 0) amount)
-regs_of (Srai rd rs1 amount) regs = put regs rd (shifted_right_signed (get_or regs rs1 0) amount)
-regs_of (Add rd rs1 rs2) regs = put regs rd (added (get_or regs rs1 0) (get_or regs rs2 0))
-regs_of (Sub rd rs1 rs2) regs = put regs rd (subtracted (get_or regs rs1 0) (get_or regs rs2 0))
-regs_of (Sll rd rs1 rs2) regs = put regs rd (shifted_left (get_or regs rs1 0) (get_or regs rs2 0))
-regs_of (Slt rd rs1 rs2) regs = put regs rd (one_if (is_less_signed (get_or regs rs1 0) (get_or regs rs2 0)))
-regs_of (Sltu rd rs1 rs2) regs = put regs rd (one_if (nat_lt (get_or regs rs1 0) (get_or regs rs2 0)))
-regs_of (Xor rd rs1 rs2) regs = put regs rd (bit_xor (get_or regs rs1 0) (get_or regs rs2 0))
-regs_of (Srl rd rs1 rs2) regs = put regs rd (shifted_right (get_or regs rs1 0) (get_or regs rs2 0))
-regs_of (Sra rd rs1 rs2) regs = put regs rd (shifted_right_signed (get_or regs rs1 0) (get_or regs rs2 0))
-regs_of (Or rd rs1 rs2) regs = put regs rd (bit_or (get_or regs rs1 0) (get_or regs rs2 0))
-regs_of (And rd rs1 rs2) regs = put regs rd (bit_and (get_or regs rs1 0) (get_or regs rs2 0))
-regs_of (Mul rd rs1 rs2) regs = put regs rd (low_product (get_or regs rs1 0) (get_or regs rs2 0))
-regs_of (Mulh rd rs1 rs2) regs = put regs rd (high_product_signed (get_or regs rs1 0) (get_or regs rs2 0))
-regs_of (Mulhsu rd rs1 rs2) regs = put regs rd (high_product_mixed (get_or regs rs1 0) (get_or regs rs2 0))
-regs_of (Mulhu rd rs1 rs2) regs = put regs rd (high_product (get_or regs rs1 0) (get_or regs rs2 0))
-regs_of (Div rd rs1 rs2) regs = put regs rd (quotient_signed (get_or regs rs1 0) (get_or regs rs2 0))
-regs_of (Divu rd rs1 rs2) regs = put regs rd (quotient (get_or regs rs1 0) (get_or regs rs2 0))
-regs_of (Rem rd rs1 rs2) regs = put regs rd (remainder_signed (get_or regs rs1 0) (get_or regs rs2 0))
-regs_of (Remu rd rs1 rs2) regs = put regs rd (remainder (get_or regs rs1 0) (get_or regs rs2 0))
-regs_of (Fence rd rs1 imm) regs = regs
-regs_of Ecall regs = regs
-regs_of Ebreak regs = regs
-
--- registers after instructions
-abbrev pub regs_after : List Instr → List ℕ → List ℕ
-regs_after [] regs = regs
-regs_after (i ∷ is) regs = regs_after is (regs_of i regs)
-
--- the state with other registers, at another place
-abbrev pub moved : State → List ℕ → ℕ → State
-moved s regs pc = record s { regs = regs; pc = pc }
-
--- the run with another state
-abbrev pub onto : Run → State → Run
-onto r s = record { state = s; input = r.input }
-
--- the state after instructions that only write registers
-abbrev pub after_plain : List Instr → State → ℕ → State
-after_plain is s off = moved s (regs_after is s.regs) (code_at + (off + 4 * length is))
-
--- ---- the same of a file
+-- ---- what they write
 
 -- what an instruction writes, if it only writes a register
 pub record Write : Type 0 where
@@ -172,6 +107,31 @@ write_of (Divu rd rs1 rs2) = writes_to rd (λ file. quotient (file rs1) (file rs
 write_of (Rem rd rs1 rs2) = writes_to rd (λ file. remainder_signed (file rs1) (file rs2))
 write_of (Remu rd rs1 rs2) = writes_to rd (λ file. remainder (file rs1) (file rs2))
 write_of i = writes_to 0 (λ file. 0)
+
+-- ---- registers after them
+
+-- after an instruction
+abbrev pub regs_of : Instr → List ℕ → List ℕ
+regs_of i regs = put regs (write_of i).rd ((write_of i).value (read_at regs))
+
+-- after instructions
+abbrev pub regs_after : List Instr → List ℕ → List ℕ
+regs_after [] regs = regs
+regs_after (i ∷ is) regs = regs_after is (regs_of i regs)
+
+-- the state with other registers, at another place
+abbrev pub moved : State → List ℕ → ℕ → State
+moved s regs pc = record s { regs = regs; pc = pc }
+
+-- the run with another state
+abbrev pub onto : Run → State → Run
+onto r s = record { state = s; input = r.input }
+
+-- the state after instructions that only write registers
+abbrev pub after_plain : List Instr → State → ℕ → State
+after_plain is s off = moved s (regs_after is s.regs) (code_at + (off + 4 * length is))
+
+-- ---- the same of a file
 
 -- after an instruction
 abbrev pub file_of : Instr → File → File

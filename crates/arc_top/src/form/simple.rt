@@ -5,7 +5,7 @@ ghost use Rattle.nim_tree.specs.Terms.{term_of, parts_of};
 ghost use Rattle.nim_tree.specs.Statements.{definition_of};
 ghost use Rattle.arc_base.specs.Refusal.{IsRefusal};
 ghost use Rattle.arc_top.specs.Lines.{line_of};
-ghost use Rattle.arc_top.specs.Form.{lone_name, as_definition, first_place, as_section, as_assignment, is_name, as_shown, as_echo, as_quit, as_call, as_evaluation};
+ghost use Rattle.arc_top.specs.Form.{lone_name, as_definition, first_place, as_section, as_assignment, is_name, as_shown, as_echo, as_quit, as_call};
 
 use crate::form::Line;
 use crate::form::sums::{left_out, sum_in};
@@ -168,15 +168,4 @@ pub(crate) fn call_in(alloc: Global, at: Place, callee: &Expr, parts: &[Expr]) -
         return quit_in(alloc, at, parts);
     }
     Err(left_out(at))
-}
-
-// An expression that is a statement.
-pub(crate) fn evaluation_in(alloc: Global, at: Place, value: &Expr) -> Result<Line, Stop>
-    ensures gives { IfOk result (λ line. as_evaluation at (term_of value.now) ≡ Ok (line_of line)) }
-    ensures refused { IfErr result (λ stop. OnRefusal stop (IsRefusal (as_evaluation at (term_of value.now)))) }
-{
-    match value {
-        Expr::Call { base, .. } => call_in(alloc, at, base, value.parts()),
-        _ => Err(left_out(at)),
-    }
 }

@@ -1,4 +1,4 @@
-use Rattle.arc_base.proofs.Grows.{tame_got, tame_over, tame_first, tame_then, tame_spend, tame_loop, steady_by_tame}
+use Rattle.arc_base.proofs.Grows.{adds_charged, adds_told, adds_both, tame_errs, tame_got, tame_over, tame_first, tame_change, tame_look, tame_then, tame_spend, tame_loop, steady_by_tame}
 use Rattle.arc_base.proofs.Right.{sound_by_right}
 use Rattle.arc_base.proofs.laws.growth.Goals as goal
 
@@ -25,3 +25,21 @@ returns-clause-steady g c M status live same act tame start = steady_by_tame M s
 
 pub returns-clause-sound : goal.returns-clause-sound
 returns-clause-sound g c meter status live mean right = sound_by_right meter status live mean right
+
+pub returns-clause-charged : goal.returns-clause-charged
+returns-clause-charged g c work = adds_charged work
+
+pub returns-clause-told : goal.returns-clause-told
+returns-clause-told g c es = adds_told es
+
+pub returns-clause-changes : goal.returns-clause-changes
+returns-clause-changes g c M change act kept apart t = tame_change M change act kept apart t
+
+pub returns-clause-looks : goal.returns-clause-looks
+returns-clause-looks g c M look act same h = tame_look M look act same h
+
+pub returns-clause-both : goal.returns-clause-both
+returns-clause-both g c f h p q = adds_both f h p q
+
+pub returns-clause-wrong : goal.returns-clause-wrong
+returns-clause-wrong g c M = tame_errs M

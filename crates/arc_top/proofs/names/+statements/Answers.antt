@@ -2,7 +2,7 @@ use Rattle.std.proofs.Common.{refl, sym, ap, subst, ◌∙◌, arith, drop, ◌+
 use Rattle.std.proofs.Math.ListN.{drop_of_length-le}
 use Rattle.arc_top.specs.Lines.{test_of, line_of, lines_of, weight, weights}
 use Rattle.nim_core.specs.Program.{stmts_of}
-use Rattle.arc_top.specs.Names.{check_line, check_lines, gives, UseInts}
+use Rattle.arc_top.specs.Names.{check_line, check_lines, gives, FitsStmts}
 use Rattle.arc_top.proofs.Passing.{is_branch, is_loop, refused_as, branch_gives, first_refused, second_refused, loop_gives, body_refused, next_item, with_rest, one_more, onto_none, ints_more}
 use Rattle.arc_top.proofs.names.+statements.Goals as goal
 
@@ -89,7 +89,7 @@ check_lines-loop-line-preserved t c =
           ∙ sym (one_more c.loop-line.scope.globals c.check_line.new.scope.globals c.loop-line.stmts.items (line_of c.line-item.result) rest c.in-Ok.stmt c.in-Ok.ensures.gives)
           ∙ ap (λ l. with_rest c.loop-line.stmts.items (check_lines c.loop-line.scope.globals (lines_of l))) (sym e)
           ∙ c.loop-line.invariant.done;
-      ints = subst (λ l. UseInts (stmts_of l)) (sym c.in_ok-push-in-Ok.ensures) (ints_more c.loop-line.stmts.items c.in-Ok.stmt c.loop-line.invariant.ints c.in-Ok.ensures.ints);
+      ints = subst (λ l. FitsStmts (stmts_of l)) (sym c.in_ok-push-in-Ok.ensures) (ints_more c.loop-line.stmts.items c.in-Ok.stmt c.loop-line.invariant.ints c.in-Ok.ensures.ints);
     }
 
 pub check_lines-returns-clause-gives : goal.check_lines-returns-clause-gives

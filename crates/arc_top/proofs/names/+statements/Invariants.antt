@@ -1,6 +1,6 @@
 use Rattle.std.proofs.Common.{◌≡◌, ◌≤◌, ◌+◌, ◌*◌, drop, length}
 use Rattle.arc_top.specs.Lines.{line_of, lines_of, weight, weights}
-use Rattle.arc_top.specs.Names.{names_of, check_lines, UseInts}
+use Rattle.arc_top.specs.Names.{names_of, check_lines, FitsStmts}
 use Rattle.nim_core.specs.Program.{stmts_of}
 use Rattle.arc_top.proofs.Passing.{with_rest}
 use Rattle.arc_top.proofs.names.+statements.Given as goal
@@ -18,5 +18,5 @@ invariant-check_lines-loop-line l = record {
   left : length l.scope.globals + weights (lines_of (drop l.line-index l.lines)) ≤ length l.fn.scope.globals + weights (lines_of l.fn.lines);
   light : weights (lines_of (drop l.line-index l.lines)) ≤ weights (lines_of l.fn.lines);
   done : with_rest l.stmts.items (check_lines l.scope.globals (lines_of (drop l.line-index l.lines))) ≡ check_lines l.fn.scope.globals (lines_of l.fn.lines);
-  ints : UseInts (stmts_of l.stmts.items);
+  ints : FitsStmts (stmts_of l.stmts.items);
 }

@@ -6,11 +6,11 @@ use Rattle.nim_core.specs.Program.{program_of}
 use Rattle.arc_base.specs.Refusal.{IsRefusal}
 use Rattle.arc_top.specs.Lines.{lines_of, weights}
 use Rattle.arc_top.specs.Form.{form_of}
-use Rattle.arc_top.specs.Names.{check, UseInts}
+use Rattle.arc_top.specs.Names.{check, FitsStmts}
 use Rattle.arc_top.specs.Source.{IsTree}
 use Rattle.arc_top.proofs.Plain.{program_plain, program_light}
 use Rattle.arc_top.proofs.Formed.{formed_light, formed_shallow}
-use Rattle.arc_top.proofs.Reading.{reads_only, no_program, refused_bytes, refused_tokens, refused_form, refused_names, handed_on, ok_then, ok_both, err_then}
+use Rattle.arc_top.proofs.Reading.{alone_only, no_program, refused_bytes, refused_tokens, refused_form, refused_names, handed_on, ok_then, ok_both, err_then}
 use Rattle.arc_top.proofs.source.read.Goals as goal
 
 pub returns-in_err-tokens-clause-refused : goal.returns-in_err-tokens-clause-refused
@@ -70,14 +70,14 @@ returns-clause-only c =
     let lines = lines_of c.as_slice-2.result.now in
     let formed : form_of tree ≡ Ok lines = subst (λ l. form_of tree ≡ Ok (lines_of l)) (sym c.as_slice-2.ensures.value) c.in_ok-lines.ensures.gives in
     ok_then c.check.result (λ program. check lines ≡ Ok (program_of program)) _ c.check.ensures.gives
-    (λ program checked other reads. reads_only source (program_of program) other (record { tokens = c.as_slice.result.now; tree = tree; lines = lines; is_tree = is; formed = formed; checked = checked }) reads)
+    (λ program checked other reads. alone_only source (program_of program) other (record { tokens = c.as_slice.result.now; tree = tree; lines = lines; is_tree = is; formed = formed; checked = checked }) reads)
 
 pub returns-clause-plain : goal.returns-clause-plain
 returns-clause-plain c =
     let tree = tree_of c.in_ok-tree.tree in
     let lines = lines_of c.as_slice-2.result.now in
     let formed : form_of tree ≡ Ok lines = subst (λ l. form_of tree ≡ Ok (lines_of l)) (sym c.as_slice-2.ensures.value) c.in_ok-lines.ensures.gives in
-    ok_both c.check.result (λ program. check lines ≡ Ok (program_of program)) (λ program. UseInts (program_of program).start) _ c.check.ensures.gives c.check.ensures.ints
+    ok_both c.check.result (λ program. check lines ≡ Ok (program_of program)) (λ program. FitsStmts (program_of program).start) _ c.check.ensures.gives c.check.ensures.ints
     (λ program checked ints. program_plain lines (program_of program) checked ints (omega (arith, formed_shallow tree lines formed, c.in_ok-tree.ensures.few.terms)))
 
 pub returns-clause-size : goal.returns-clause-size
