@@ -56,6 +56,15 @@ fn signed12(imm: u32) -> u32
     with_sign(1 << 11, imm)
 }
 
+// Whether one register is less than the other, as signed numbers.
+fn is_below(m: &Machine, rs1: u32, rs2: u32) -> bool
+    requires rs1 { rs1 < 32 }
+    requires rs2 { rs2 < 32 }
+    ensures { result ≡ is_less_signed (reg m.now rs1) (reg m.now rs2) }
+{
+    is_less_signed(m.reg(rs1), m.reg(rs2))
+}
+
 // The address of a load or a store.
 fn address(m: &Machine, rs1: u32, offset: u32) -> u32
     requires rs1 { rs1 < 32 }
@@ -175,16 +184,8 @@ pub fn micro_op_of(m: &Machine, i: &Instr) -> MicroOp
         Instr::Jalr { rd, rs1, offset } => jump(rd, address(m, rs1, offset) / 2 * 2),
         Instr::Beq { rs1, rs2, offset } => branch(m, m.reg(rs1) == m.reg(rs2), offset),
         Instr::Bne { rs1, rs2, offset } => branch(m, m.reg(rs1) != m.reg(rs2), offset),
-        Instr::Blt { rs1, rs2, offset } => branch(
-            m,
-            is_less_signed(m.reg(rs1), m.reg(rs2)),
-            offset,
-        ),
-        Instr::Bge { rs1, rs2, offset } => branch(
-            m,
-            !is_less_signed(m.reg(rs1), m.reg(rs2)),
-            offset,
-        ),
+        Instr::Blt { rs1, rs2, offset } => branch(m, is_below(m, rs1, rs2), offset),
+        Instr::Bge { rs1, rs2, offset } => branch(m, !is_below(m, rs1, rs2), offset),
         Instr::Bltu { rs1, rs2, offset } => branch(m, m.reg(rs1) < m.reg(rs2), offset),
         Instr::Bgeu { rs1, rs2, offset } => branch(m, m.reg(rs1) >= m.reg(rs2), offset),
         Instr::Lb { rd, rs1, offset } => load_signed(m, rd, rs1, offset, Size::Byte),
