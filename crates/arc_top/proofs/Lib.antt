@@ -28,4 +28,5 @@ pub mod Sizes
 pub mod Images
 pub mod Verdicts
 mod CommandLemmas
+mod Stages
 pub mod PlainFiles

@@ -1,6 +1,6 @@
 -- A source is one program at most, and never both a program and refused.
 use Rattle.std.proofs.Common.{◌≡◌, ◌≤◌, ℕ, List, length, [], ◌∷◌, Ok, Err, Result, refl, sym, ap, subst, ◌∙◌}
-use Rattle.std.specs.Prelude.{IfOk, IfErr}
+use Rattle.std.specs.Prelude.{IfErr}
 use Rattle.std.specs.Result.{IsErrAnd}
 use Rattle.arc_base.specs.declared.place.Place.{Place}
 use Rattle.arc_base.specs.declared.place.Code.{Code}
@@ -121,26 +121,6 @@ refused_form source tokens tree Memory is h = tt
 pub refused_names : (source : List ℕ) (tokens : List Token) (tree : Statements) (lines : Lines) (stop : Stop) → IsTree source tokens tree → form_of tree ≡ Ok lines → OnRefusal stop (IsRefusal (check lines)) → OnRefusal stop (RefusesAlone source)
 refused_names source tokens tree lines (Refused c at) is formed h = by_names tokens tree lines is formed h
 refused_names source tokens tree lines Memory is formed h = tt
-
--- an error that is handed on keeps what is known of it
-pub handed_on : {T E : Type 0} (result : Result T E) (error : E) (P : E → Type 0) → IsErrAnd result (λ other. other ≡ error) → P error → IfErr result P
-handed_on (Ok x) error P same fact = absurd same
-handed_on (Err other) error P same fact = subst P (sym same) fact
-
--- ---- what is known of an answer
-
-module _ {T E : Type 0} where
-  pub ok_then : (result : Result T E) (P Q : T → Type 0) → IfOk result P → ((x : T) → P x → Q x) → IfOk result Q
-  ok_then (Ok x) P Q p f = f x p
-  ok_then (Err e) P Q p f = p
-
-  pub ok_both : (result : Result T E) (P Q R : T → Type 0) → IfOk result P → IfOk result Q → ((x : T) → P x → Q x → R x) → IfOk result R
-  ok_both (Ok x) P Q R p q f = f x p q
-  ok_both (Err e) P Q R p q f = p
-
-  pub err_then : (result : Result T E) (P Q : E → Type 0) → IfErr result P → ((e : E) → P e → Q e) → IfErr result Q
-  err_then (Ok x) P Q p f = p
-  err_then (Err e) P Q p f = f e p
 
 -- where a source can't be refused, it was compiled, or memory was wanting
 pub not_refused : {T : Type 0} (result : Result T NotCompiled) (stop : Stop) → IsErrAnd result (λ e. IsStop stop e) → OnRefusal stop (λ _ _. ⊥) → IsOkOrMemory result

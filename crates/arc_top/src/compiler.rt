@@ -6,13 +6,19 @@ ghost use Rattle.arc_top.specs.Compile.{OnTooLong, OnRefused, IsOkOrMemory};
 
 use crate::code::lower;
 use crate::elf::{ElfFile, write};
-use crate::source::read;
+use crate::form::built;
+use crate::names::check;
 use arc_base::{Bytes, Code, Memory, Place, Stop};
+use indent_scanner::scan;
 use nim_core::Plan;
+use parse_stmts::parse;
 use std::alloc::Global;
 
 /// The longest source, in bytes.
 pub const SOURCE_MOST: usize = 4096;
+
+/// The number of the main module.
+const MAIN: u32 = 0;
 
 /// The bytes of heap that a compiled program has.
 const HEAP: u32 = 16_777_216;
@@ -72,7 +78,10 @@ pub fn compile(alloc: Global, source: &[u8]) -> Result<Bytes, NotCompiled>
     if source.len() > SOURCE_MOST {
         return Err(NotCompiled::TooLong);
     }
-    let program = read(alloc, source)?;
+    let tokens = scan(alloc, source, MAIN)?;
+    let tree = parse(alloc, source, tokens.as_slice(), MAIN)?;
+    let lines = built(alloc, &tree)?;
+    let program = check(alloc, lines.as_slice())?;
     let image = lower(alloc, &program, HEAP, STACK)?;
     let file = ElfFile {
         image,
