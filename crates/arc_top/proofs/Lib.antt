@@ -28,5 +28,6 @@ pub mod Sizes
 pub mod Images
 pub mod Verdicts
 mod CommandLemmas
+mod Deciding
 mod Stages
 pub mod PlainFiles
