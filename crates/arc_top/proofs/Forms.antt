@@ -1,6 +1,5 @@
 -- Statements that are built, one after another.
 use Rattle.std.proofs.Common.{◌≡◌, Ok, Err, Result, List, [], ◌∷◌, ◌++◌, Bool, length, ◌≤◌, refl, sym, ap, subst, ◌∙◌, arith}
-use Rattle.arc_base.specs.Stops.{OnRefusal}
 use Rattle.arc_base.specs.declared.place.Stop.{Stop}
 use Rattle.arc_base.specs.declared.place.Stop.TheVariants.{Refused}
 use Rattle.arc_base.specs.declared.place.Place.{Place}
@@ -10,7 +9,7 @@ use Rattle.nim_tree.specs.Terms.{parts_of}
 use Rattle.nim_tree.specs.Statements as tree
 use Rattle.nim_tree.specs.Statements.{Statement, Statements}
 use Rattle.arc_top.specs.declared.form.lines.Line.{Line as RustLine}
-use Rattle.arc_base.specs.Refusal.{Refusal, and_then, IsRefusal}
+use Rattle.arc_base.specs.Refusal.{Refusal, and_then, Answers}
 use Rattle.arc_top.specs.Lines.{Line, Lines, empty, then, line_of, lines_of}
 use Rattle.arc_top.specs.Form.{left_out, as_echo, as_quit, as_tests, as_line, as_lines}
 
@@ -53,8 +52,8 @@ one_more in_module done first rest line h =
 
 -- ---- more than one part
 
-pub left_as : {A : Type 0} (stop : Stop) (at : Place) (result : Result A Refusal) → stop ≡ Refused LeftOut at → result ≡ left_out at → OnRefusal stop (IsRefusal result)
-left_as stop at result e f = subst (λ s. OnRefusal s (IsRefusal result)) (sym e) f
+pub left_answers : {A T : Type 0} (of : T → A) (stop : Stop) (at : Place) (said : Result A Refusal) → stop ≡ Refused LeftOut at → said ≡ left_out at → Answers of said (Err stop)
+left_answers of stop at said e f = subst (λ s. Answers of said (Err s)) (sym e) f
 
 pub no_echo : (at : Place) (parts : List Expr) → 2 ≤ length parts → as_echo at (parts_of parts) ≡ left_out at
 no_echo at [] le = absurd (omega arith)

@@ -1,5 +1,9 @@
 -- What the stages of the compiler give one another.
-use Rattle.std.proofs.Common.{◌≡◌, ◌≤◌, ℕ, List, length, Ok, arith}
+use Rattle.std.proofs.Common.{◌≡◌, ◌≤◌, ℕ, List, length, Vec, Global, Result, Ok, Err, arith}
+use Rattle.arc_base.specs.Stops.{OnRefusal}
+use Rattle.arc_base.specs.declared.place.Stop.{Stop}
+use Rattle.arc_base.specs.declared.place.Stop.TheVariants.{Refused, Memory}
+use Rattle.arc_base.specs.Refusal.{Refusal, Answers, IsRefusal}
 use Rattle.indent_scanner.specs.declared.token.Token.{Token}
 use Rattle.indent_scanner.specs.Tokens.{token_bytes}
 use Rattle.nim_tree.specs.Statements.{Statements}
@@ -7,12 +11,18 @@ use Rattle.nim_tree.specs.Weights as full
 use Rattle.parse_stmts.specs.Parsed.{HasFew}
 use Rattle.nim_core.specs.Program.{Program}
 use Rattle.arc_top.specs.Code.{ArePlain, stmts_weight}
-use Rattle.arc_top.specs.Lines.{Lines, weights}
+use Rattle.arc_top.specs.declared.form.lines.Line.{Line as RustLine}
+use Rattle.arc_top.specs.Lines.{Lines, weights, lines_of}
 use Rattle.arc_top.specs.Form.{form_of}
 use Rattle.arc_top.specs.Names.{check, FitsStmts}
 use Rattle.arc_top.specs.Top.{source_most}
 use Rattle.arc_top.proofs.Formed.{formed_light, formed_shallow}
 use Rattle.arc_top.proofs.Plain.{program_plain, program_light}
+
+-- the forms say of a stop that the tree is refused so
+pub forms_refused : (said : Result Lines Refusal) (stop : Stop) → Answers (λ (lines : Vec RustLine Global). lines_of lines.items) said (Err stop) → OnRefusal stop (IsRefusal said)
+forms_refused said (Refused code at) told = told
+forms_refused said Memory told = tt
 
 -- statements weigh no more than their source has bytes
 pub lines_light : (source : List ℕ) (tokens : List Token) (tree : Statements) (lines : Lines) → length source ≤ source_most → token_bytes tokens ≤ length source → full.weights tree ≤ token_bytes tokens → form_of tree ≡ Ok lines

@@ -1,12 +1,11 @@
 // From the tree of a module to the statements that are built, or the first form that is left out.
-ghost use Rattle.std.specs.Prelude.{◌≡◌, ◌++◌, [], ◌∷◌, false, Ok, IfOk, IfErr, OnOk};
-ghost use Rattle.arc_base.specs.Stops.{OnRefusal};
+ghost use Rattle.std.specs.Prelude.{◌≡◌, ◌++◌, [], ◌∷◌, false, OnOk};
 ghost use Rattle.arc_base.specs.declared.place.Place.{Place as At};
 ghost use Rattle.arc_base.specs.declared.place.Code.{Code as Kind};
 ghost use Rattle.arc_base.specs.declared.place.Code.TheVariants.{LeftOut};
 ghost use Rattle.nim_tree.specs.Terms.{term_of, parts_of};
 ghost use Rattle.nim_tree.specs.Statements.{Statements, branches_of, statement_of, statements_of, tree_of};
-ghost use Rattle.arc_base.specs.Refusal.{IsRefusal};
+ghost use Rattle.arc_base.specs.Refusal.{Answers, IsRefusal};
 ghost use Rattle.arc_top.specs.Lines as line;
 ghost use Rattle.arc_top.specs.Lines.{test_of, line_of, lines_of};
 ghost use Rattle.arc_top.specs.Form.{as_choice, as_repetition, as_line, as_lines, form_of};
@@ -39,8 +38,8 @@ fn choice_in(
     branches: &[Branch],
     otherwise: &[Stmt],
 ) -> Result<Line, Stop>
-    ensures gives { IfOk result (λ line. as_choice at (branches_of branches.now) (as_lines false (statements_of otherwise.now)) ≡ Ok (line_of line)) }
-    ensures refused { IfErr result (λ stop. OnRefusal stop (IsRefusal (as_choice at (branches_of branches.now) (as_lines false (statements_of otherwise.now))))) }
+    ensures { Answers line_of
+        (as_choice at (branches_of branches.now) (as_lines false (statements_of otherwise.now))) result }
 {
     let Some(branch) = branches.first() else {
         return Err(left_out(at));
@@ -57,8 +56,8 @@ fn choice_in(
 // A loop with its test.
 #[cycle(lines)]
 fn repetition_in(alloc: Global, at: Place, condition: &Expr, body: &[Stmt]) -> Result<Line, Stop>
-    ensures gives { IfOk result (λ line. as_repetition at (term_of condition.now) (as_lines false (statements_of body.now)) ≡ Ok (line_of line)) }
-    ensures refused { IfErr result (λ stop. OnRefusal stop (IsRefusal (as_repetition at (term_of condition.now) (as_lines false (statements_of body.now))))) }
+    ensures { Answers line_of
+        (as_repetition at (term_of condition.now) (as_lines false (statements_of body.now))) result }
 {
     let test = test_in(alloc, condition)?;
     let inside = lines_in(alloc, false, body)?;
@@ -68,8 +67,7 @@ fn repetition_in(alloc: Global, at: Place, condition: &Expr, body: &[Stmt]) -> R
 // A statement, in module code or in a block.
 #[cycle(lines)]
 fn line_in(alloc: Global, in_module: bool, tree: &Stmt) -> Result<Line, Stop>
-    ensures gives { IfOk result (λ line. as_line in_module (statement_of tree.now) ≡ Ok (line_of line)) }
-    ensures refused { IfErr result (λ stop. OnRefusal stop (IsRefusal (as_line in_module (statement_of tree.now)))) }
+    ensures { Answers line_of (as_line in_module (statement_of tree.now)) result }
 {
     match tree {
         Stmt::Define {
@@ -111,8 +109,7 @@ fn line_in(alloc: Global, in_module: bool, tree: &Stmt) -> Result<Line, Stop>
 // Statements, one after another.
 #[cycle(lines)]
 fn lines_in(alloc: Global, in_module: bool, trees: &[Stmt]) -> Result<Vec<Line>, Stop>
-    ensures gives { IfOk result (λ lines. as_lines in_module (statements_of trees.now) ≡ Ok (lines_of lines.items)) }
-    ensures refused { IfErr result (λ stop. OnRefusal stop (IsRefusal (as_lines in_module (statements_of trees.now)))) }
+    ensures { Answers (λ lines. lines_of lines.items) (as_lines in_module (statements_of trees.now)) result }
 {
     let mut lines = Vec::new(alloc);
     for tree in trees {
@@ -133,8 +130,7 @@ fn push(lines: &mut Vec<Line>, line: Line) -> Result<(), Memory>
 
 /// The statements of a module, or the first form that is left out.
 pub(crate) fn built(alloc: Global, tree: &Module) -> Result<Vec<Line>, Stop>
-    ensures gives { IfOk result (λ lines. form_of (tree_of tree.now) ≡ Ok (lines_of lines.items)) }
-    ensures refused { IfErr result (λ stop. OnRefusal stop (IsRefusal (form_of (tree_of tree.now)))) }
+    ensures { Answers (λ lines. lines_of lines.items) (form_of (tree_of tree.now)) result }
 {
     lines_in(alloc, true, tree.body.as_slice())
 }

@@ -1,7 +1,6 @@
 // Which expressions are built as statements: calls, and an `if` between such expressions.
-ghost use Rattle.std.specs.Prelude.{◌≡◌, [], ◌∷◌, Ok, IfOk, IfErr};
-ghost use Rattle.arc_base.specs.Stops.{OnRefusal};
-ghost use Rattle.arc_base.specs.Refusal.{IsRefusal};
+ghost use Rattle.std.specs.Prelude.{◌≡◌, [], ◌∷◌, IfOk};
+ghost use Rattle.arc_base.specs.Refusal.{Answers};
 ghost use Rattle.nim_tree.specs.Terms.{term_of, parts_of, choices_of, place_of};
 ghost use Rattle.arc_top.specs.Lines as line;
 ghost use Rattle.arc_top.specs.Lines.{test_of, line_of, lines_of};
@@ -16,8 +15,7 @@ use std::alloc::Global;
 
 // The one test of a branch.
 pub(crate) fn tests_in(alloc: Global, at: Place, tests: &[Expr]) -> Result<Test, Stop>
-    ensures gives { IfOk result (λ test. as_tests at (parts_of tests.now) ≡ Ok (test_of test)) }
-    ensures refused { IfErr result (λ stop. OnRefusal stop (IsRefusal (as_tests at (parts_of tests.now)))) }
+    ensures { Answers test_of (as_tests at (parts_of tests.now)) result }
 {
     match tests {
         [] => Err(left_out(at)),
@@ -50,8 +48,7 @@ fn lone(alloc: Global, line: Line) -> Result<Vec<Line>, Memory>
 // An expression that is a statement.
 #[cycle(evaluation)]
 pub(crate) fn evaluation_in(alloc: Global, at: Place, value: &Expr) -> Result<Line, Stop>
-    ensures gives { IfOk result (λ line. as_evaluation at (term_of value.now) ≡ Ok (line_of line)) }
-    ensures refused { IfErr result (λ stop. OnRefusal stop (IsRefusal (as_evaluation at (term_of value.now)))) }
+    ensures { Answers line_of (as_evaluation at (term_of value.now)) result }
 {
     match value {
         Expr::Call { base, .. } => call_in(alloc, at, base, value.parts()),
@@ -68,10 +65,8 @@ fn alternatives_in(
     branches: &[Choice],
     otherwise: &Expr,
 ) -> Result<Line, Stop>
-    ensures gives { IfOk result (λ line. as_alternatives at (choices_of branches.now)
-        (as_evaluation (place_of (term_of otherwise.now)) (term_of otherwise.now)) ≡ Ok (line_of line)) }
-    ensures refused { IfErr result (λ stop. OnRefusal stop (IsRefusal (as_alternatives at (choices_of branches.now)
-        (as_evaluation (place_of (term_of otherwise.now)) (term_of otherwise.now))))) }
+    ensures { Answers line_of (as_alternatives at (choices_of branches.now)
+        (as_evaluation (place_of (term_of otherwise.now)) (term_of otherwise.now))) result }
 {
     let Some(branch) = branches.first() else {
         return Err(left_out(at));

@@ -1,9 +1,8 @@
 // Which statements without blocks are built.
-ghost use Rattle.std.specs.Prelude.{◌≡◌, Ok, IfOk, IfErr, map};
-ghost use Rattle.arc_base.specs.Stops.{OnRefusal};
+ghost use Rattle.std.specs.Prelude.{◌≡◌, IfOk, map};
 ghost use Rattle.nim_tree.specs.Terms.{term_of, parts_of};
 ghost use Rattle.nim_tree.specs.Statements.{definition_of};
-ghost use Rattle.arc_base.specs.Refusal.{IsRefusal};
+ghost use Rattle.arc_base.specs.Refusal.{Answers};
 ghost use Rattle.arc_top.specs.Lines.{line_of};
 ghost use Rattle.arc_top.specs.Form.{lone_name, as_definition, first_place, as_section, as_assignment, is_name, as_shown, as_echo, as_quit, as_call};
 
@@ -36,8 +35,7 @@ fn lone_name(alloc: Global, def: &Def) -> Result<Option<Name>, Memory>
 
 // A definition of one variable.
 fn definition_in(alloc: Global, at: Place, def: &Def) -> Result<Line, Stop>
-    ensures gives { IfOk result (λ line. as_definition at (definition_of def.now) ≡ Ok (line_of line)) }
-    ensures refused { IfErr result (λ stop. OnRefusal stop (IsRefusal (as_definition at (definition_of def.now)))) }
+    ensures { Answers line_of (as_definition at (definition_of def.now)) result }
 {
     let Some(variable) = lone_name(alloc, def)? else {
         return Err(left_out(at));
@@ -65,8 +63,7 @@ fn first_place(at: Place, names: &[Declared]) -> Place
 
 // A section of definitions.
 pub(crate) fn section_in(alloc: Global, at: Place, defs: &[Def]) -> Result<Line, Stop>
-    ensures gives { IfOk result (λ line. as_section at (map definition_of defs.now) ≡ Ok (line_of line)) }
-    ensures refused { IfErr result (λ stop. OnRefusal stop (IsRefusal (as_section at (map definition_of defs.now)))) }
+    ensures { Answers line_of (as_section at (map definition_of defs.now)) result }
 {
     match defs {
         [] => Err(left_out(at)),
@@ -85,8 +82,7 @@ pub(crate) fn assignment_in(
     target: &Expr,
     value: &Expr,
 ) -> Result<Line, Stop>
-    ensures gives { IfOk result (λ line. as_assignment at (term_of target.now) (term_of value.now) ≡ Ok (line_of line)) }
-    ensures refused { IfErr result (λ stop. OnRefusal stop (IsRefusal (as_assignment at (term_of target.now) (term_of value.now)))) }
+    ensures { Answers line_of (as_assignment at (term_of target.now) (term_of value.now)) result }
 {
     match target {
         Expr::Name { at: place, text } => {
@@ -114,8 +110,7 @@ fn is_name(word: &[u8], tree: &Expr) -> bool
 
 // `echo` of a text or a sum.
 fn shown_in(alloc: Global, at: Place, value: &Expr) -> Result<Line, Stop>
-    ensures gives { IfOk result (λ line. as_shown at (term_of value.now) ≡ Ok (line_of line)) }
-    ensures refused { IfErr result (λ stop. OnRefusal stop (IsRefusal (as_shown at (term_of value.now)))) }
+    ensures { Answers line_of (as_shown at (term_of value.now)) result }
 {
     match value {
         Expr::Text { text, .. } => Ok(Line::EchoText {
@@ -131,8 +126,7 @@ fn shown_in(alloc: Global, at: Place, value: &Expr) -> Result<Line, Stop>
 
 // `echo` of one value.
 fn echo_in(alloc: Global, at: Place, parts: &[Expr]) -> Result<Line, Stop>
-    ensures gives { IfOk result (λ line. as_echo at (parts_of parts.now) ≡ Ok (line_of line)) }
-    ensures refused { IfErr result (λ stop. OnRefusal stop (IsRefusal (as_echo at (parts_of parts.now)))) }
+    ensures { Answers line_of (as_echo at (parts_of parts.now)) result }
 {
     match parts {
         [] => Err(left_out(at)),
@@ -143,8 +137,7 @@ fn echo_in(alloc: Global, at: Place, parts: &[Expr]) -> Result<Line, Stop>
 
 // `quit` with a sum.
 fn quit_in(alloc: Global, at: Place, parts: &[Expr]) -> Result<Line, Stop>
-    ensures gives { IfOk result (λ line. as_quit at (parts_of parts.now) ≡ Ok (line_of line)) }
-    ensures refused { IfErr result (λ stop. OnRefusal stop (IsRefusal (as_quit at (parts_of parts.now)))) }
+    ensures { Answers line_of (as_quit at (parts_of parts.now)) result }
 {
     match parts {
         [] => Err(left_out(at)),
@@ -158,8 +151,7 @@ fn quit_in(alloc: Global, at: Place, parts: &[Expr]) -> Result<Line, Stop>
 
 // A call, with parentheses or without.
 pub(crate) fn call_in(alloc: Global, at: Place, callee: &Expr, parts: &[Expr]) -> Result<Line, Stop>
-    ensures gives { IfOk result (λ line. as_call at (term_of callee.now) (parts_of parts.now) ≡ Ok (line_of line)) }
-    ensures refused { IfErr result (λ stop. OnRefusal stop (IsRefusal (as_call at (term_of callee.now) (parts_of parts.now)))) }
+    ensures { Answers line_of (as_call at (term_of callee.now) (parts_of parts.now)) result }
 {
     if is_name(b"echo", callee) {
         return echo_in(alloc, at, parts);

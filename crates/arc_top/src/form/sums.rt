@@ -1,10 +1,9 @@
 // Which expressions are built.
-ghost use Rattle.std.specs.Prelude.{◌≡◌, Ok, IfOk, IfErr};
-ghost use Rattle.arc_base.specs.Stops.{OnRefusal};
+ghost use Rattle.std.specs.Prelude.{◌≡◌, IfOk, IfErr};
 ghost use Rattle.arc_base.specs.declared.place.Stop.TheVariants as Stop;
 ghost use Rattle.arc_base.specs.declared.place.Code.TheVariants as Code;
 ghost use Rattle.nim_tree.specs.Terms.{term_of};
-ghost use Rattle.arc_base.specs.Refusal.{IsRefusal};
+ghost use Rattle.arc_base.specs.Refusal.{Answers};
 ghost use Rattle.arc_top.specs.Lines.{sum_of, test_of, opposite, operation};
 ghost use Rattle.arc_top.specs.Form.{operator_of, comparison_of, as_sum, as_test};
 
@@ -52,8 +51,7 @@ fn comparison_of(op: BinaryOp) -> Option<Comparison>
 
 // The sum that an expression is.
 pub(crate) fn sum_in(alloc: Global, tree: &Expr) -> Result<Sum, Stop>
-    ensures gives { IfOk result (λ sum. as_sum (term_of tree.now) ≡ Ok (sum_of sum)) }
-    ensures refused { IfErr result (λ stop. OnRefusal stop (IsRefusal (as_sum (term_of tree.now)))) }
+    ensures { Answers sum_of (as_sum (term_of tree.now)) result }
 {
     match tree {
         Expr::Int { at, value } => Ok(Sum::Int {
@@ -120,8 +118,7 @@ fn operation(
 
 // The comparison that an expression is.
 pub(crate) fn test_in(alloc: Global, tree: &Expr) -> Result<Test, Stop>
-    ensures gives { IfOk result (λ test. as_test (term_of tree.now) ≡ Ok (test_of test)) }
-    ensures refused { IfErr result (λ stop. OnRefusal stop (IsRefusal (as_test (term_of tree.now)))) }
+    ensures { Answers test_of (as_test (term_of tree.now)) result }
 {
     match tree {
         Expr::Binary {

@@ -15,7 +15,7 @@ use Rattle.arc_top.specs.Source.{IsTree, ReadsAlone}
 use Rattle.arc_top.specs.Top.{source_most}
 use Rattle.arc_top.proofs.PlainFiles.{plain_file, plan_is, image_is}
 use Rattle.arc_top.proofs.Reading.{not_refused, never, turned_down, no_program, refused_bytes, refused_tokens, refused_form, refused_names, alone_only, reads_alone, alone_reads}
-use Rattle.arc_top.proofs.Stages.{lines_light, can_lower}
+use Rattle.arc_top.proofs.Stages.{forms_refused, lines_light, can_lower}
 use Rattle.arc_top.proofs.compiler.compile.Goals as goal
 
 -- ---- refused by its bytes
@@ -62,7 +62,7 @@ returns-in_err-lines-clause-refused c =
     let within : length source ≤ source_most = search rules in
     let scanned = subst (Tokens source) (sym c.as_slice.ensures) c.in_ok-tokens.ensures.tokens in
     let is : IsTree source c.as_slice.result.now tree = record { scanned = scanned; parsed = c.in_ok-tree.ensures.reads; few = c.in_ok-tree.ensures.few } in
-    turned_down source c.from_residual-in_err-lines.result stop within c.from_residual-in_err-lines.ensures.1 (refused_form source c.as_slice.result.now tree stop is c.in_err-lines.ensures.refused)
+    turned_down source c.from_residual-in_err-lines.result stop within c.from_residual-in_err-lines.ensures.1 (refused_form source c.as_slice.result.now tree stop is (forms_refused (form_of tree) stop c.in_err-lines.ensures))
 
 pub returns-in_err-lines-clause-complete : goal.returns-in_err-lines-clause-complete
 returns-in_err-lines-clause-complete c =
@@ -72,7 +72,7 @@ returns-in_err-lines-clause-complete c =
     let scanned = subst (Tokens source) (sym c.as_slice.ensures) c.in_ok-tokens.ensures.tokens in
     let is : IsTree source c.as_slice.result.now tree = record { scanned = scanned; parsed = c.in_ok-tree.ensures.reads; few = c.in_ok-tree.ensures.few } in
     λ name reads. not_refused c.from_residual-in_err-lines.result stop c.from_residual-in_err-lines.ensures.1
-    (never source stop reads.1.0 (alone_reads name source reads.1.0 reads.1.1) (no_program source stop (refused_form source c.as_slice.result.now tree stop is c.in_err-lines.ensures.refused)))
+    (never source stop reads.1.0 (alone_reads name source reads.1.0 reads.1.1) (no_program source stop (refused_form source c.as_slice.result.now tree stop is (forms_refused (form_of tree) stop c.in_err-lines.ensures))))
 
 -- ---- the names
 
@@ -82,7 +82,7 @@ check-requires c =
     let tree = tree_of c.in_ok-tree.tree in
     let lines = lines_of c.as_slice-2.result.now in
     let within : length source ≤ source_most = search rules in
-    let formed : form_of tree ≡ Ok lines = subst (λ l. form_of tree ≡ Ok (lines_of l)) (sym c.as_slice-2.ensures.value) c.in_ok-lines.ensures.gives in
+    let formed : form_of tree ≡ Ok lines = subst (λ l. form_of tree ≡ Ok (lines_of l)) (sym c.as_slice-2.ensures.value) c.in_ok-lines.ensures in
     let bytes : token_bytes c.as_slice.result.now ≤ length source = omega (arith, ap token_bytes c.as_slice.ensures, c.in_ok-tokens.ensures.bytes) in
     record { few = omega (arith, lines_light source c.as_slice.result.now tree lines within bytes c.in_ok-tree.ensures.size formed) }
 
@@ -95,7 +95,7 @@ returns-in_err-program-clause-refused c =
     let within : length source ≤ source_most = search rules in
     let scanned = subst (Tokens source) (sym c.as_slice.ensures) c.in_ok-tokens.ensures.tokens in
     let is : IsTree source c.as_slice.result.now tree = record { scanned = scanned; parsed = c.in_ok-tree.ensures.reads; few = c.in_ok-tree.ensures.few } in
-    let formed : form_of tree ≡ Ok lines = subst (λ l. form_of tree ≡ Ok (lines_of l)) (sym c.as_slice-2.ensures.value) c.in_ok-lines.ensures.gives in
+    let formed : form_of tree ≡ Ok lines = subst (λ l. form_of tree ≡ Ok (lines_of l)) (sym c.as_slice-2.ensures.value) c.in_ok-lines.ensures in
     turned_down source c.from_residual-in_err-program.result stop within c.from_residual-in_err-program.ensures.1
     (refused_names source c.as_slice.result.now tree lines stop is formed c.in_err-program.ensures.refused)
 
@@ -107,7 +107,7 @@ returns-in_err-program-clause-complete c =
     let lines = lines_of c.as_slice-2.result.now in
     let scanned = subst (Tokens source) (sym c.as_slice.ensures) c.in_ok-tokens.ensures.tokens in
     let is : IsTree source c.as_slice.result.now tree = record { scanned = scanned; parsed = c.in_ok-tree.ensures.reads; few = c.in_ok-tree.ensures.few } in
-    let formed : form_of tree ≡ Ok lines = subst (λ l. form_of tree ≡ Ok (lines_of l)) (sym c.as_slice-2.ensures.value) c.in_ok-lines.ensures.gives in
+    let formed : form_of tree ≡ Ok lines = subst (λ l. form_of tree ≡ Ok (lines_of l)) (sym c.as_slice-2.ensures.value) c.in_ok-lines.ensures in
     λ name reads. not_refused c.from_residual-in_err-program.result stop c.from_residual-in_err-program.ensures.1
     (never source stop reads.1.0 (alone_reads name source reads.1.0 reads.1.1)
     (no_program source stop (refused_names source c.as_slice.result.now tree lines stop is formed c.in_err-program.ensures.refused)))
@@ -120,7 +120,7 @@ lower-requires c =
     let tree = tree_of c.in_ok-tree.tree in
     let lines = lines_of c.as_slice-2.result.now in
     let within : length source ≤ source_most = search rules in
-    let formed : form_of tree ≡ Ok lines = subst (λ l. form_of tree ≡ Ok (lines_of l)) (sym c.as_slice-2.ensures.value) c.in_ok-lines.ensures.gives in
+    let formed : form_of tree ≡ Ok lines = subst (λ l. form_of tree ≡ Ok (lines_of l)) (sym c.as_slice-2.ensures.value) c.in_ok-lines.ensures in
     let bytes : token_bytes c.as_slice.result.now ≤ length source = omega (arith, ap token_bytes c.as_slice.ensures, c.in_ok-tokens.ensures.bytes) in
     let light = lines_light source c.as_slice.result.now tree lines within bytes c.in_ok-tree.ensures.size formed in
     let can = can_lower tree lines (program_of c.in_ok-program.program) light c.in_ok-tree.ensures.few formed c.in_ok-program.ensures.gives c.in_ok-program.ensures.ints c.in_ok-program.ensures.count in
@@ -142,7 +142,7 @@ returns-clause-compiled c =
     let program = program_of c.in_ok-program.program in
     let scanned = subst (Tokens source) (sym c.as_slice.ensures) c.in_ok-tokens.ensures.tokens in
     let is : IsTree source c.as_slice.result.now tree = record { scanned = scanned; parsed = c.in_ok-tree.ensures.reads; few = c.in_ok-tree.ensures.few } in
-    let formed : form_of tree ≡ Ok lines = subst (λ l. form_of tree ≡ Ok (lines_of l)) (sym c.as_slice-2.ensures.value) c.in_ok-lines.ensures.gives in
+    let formed : form_of tree ≡ Ok lines = subst (λ l. form_of tree ≡ Ok (lines_of l)) (sym c.as_slice-2.ensures.value) c.in_ok-lines.ensures in
     let reads : ReadsAlone source program = record { tokens = c.as_slice.result.now; tree = tree; lines = lines; is_tree = is; formed = formed; checked = c.in_ok-program.ensures.gives } in
     λ name. record {
       program = program;

@@ -13,13 +13,13 @@ lines_in-loop-tree-preserved t c =
     record {
       light = omega (arith, ap (λ l. all_nodes (statements_of l)) e, c.loop-tree.invariant.light);
       done = ap (λ l. behind l (as_lines c.args.in_module rest)) c.in_ok-push-in-Ok.ensures
-          ∙ sym (one_more c.args.in_module c.loop-tree.lines.items (statement_of c.tree-item.result) rest c.in-Ok.line c.in-Ok.ensures.gives)
+          ∙ sym (one_more c.args.in_module c.loop-tree.lines.items (statement_of c.tree-item.result) rest c.in-Ok.line c.in-Ok.ensures)
           ∙ ap (λ l. behind c.loop-tree.lines.items (as_lines c.args.in_module (statements_of l))) (sym e)
           ∙ c.loop-tree.invariant.done;
     }
 
-pub lines_in-returns-clause-gives : goal.lines_in-returns-clause-gives
-lines_in-returns-clause-gives t c =
+pub lines_in-returns : goal.lines_in-returns
+lines_in-returns t c =
     let e = drop_of_length-le c.args.trees.now c.loop-tree-test.false in
     sym c.loop-tree.invariant.done
     ∙ ap (λ l. behind c.loop-tree.lines.items (as_lines c.args.in_module (statements_of l))) e
