@@ -1,4 +1,4 @@
-// What no clause says: that calls succeed, the texts as they are printed, and the real files and streams.
+// What no clause says: the texts as they are printed, calls that fail, and the real files and streams.
 use crate::*;
 use std::alloc::Global;
 use std::fs;
@@ -41,137 +41,63 @@ fn loaded<F: Files>(
     Ok((loaded, into))
 }
 
+/// Each code with its text.
+const TEXTS: [(Code, &str); 26] = [
+    (Code::BadByte, "E1 BadByte"),
+    (Code::BadLiteral, "E2 BadLiteral"),
+    (Code::IntTooLarge, "E3 IntTooLarge"),
+    (Code::Syntax, "E4 Syntax"),
+    (Code::NestTooDeep, "E5 NestTooDeep"),
+    (Code::UnknownName, "E6 UnknownName"),
+    (Code::Redefined, "E7 Redefined"),
+    (Code::NotTyped, "E8 NotTyped"),
+    (Code::Ambiguous, "E9 Ambiguous"),
+    (Code::NotAssignable, "E10 NotAssignable"),
+    (Code::CaseCover, "E11 CaseCover"),
+    (Code::CannotCopy, "E12 CannotCopy"),
+    (Code::VarOverlap, "E13 VarOverlap"),
+    (Code::VarThroughRef, "E14 VarThroughRef"),
+    (Code::VarOfGlobal, "E15 VarOfGlobal"),
+    (Code::HookShape, "E16 HookShape"),
+    (Code::HookLate, "E17 HookLate"),
+    (Code::HookRaises, "E18 HookRaises"),
+    (Code::ImportCycle, "E19 ImportCycle"),
+    (Code::TooManyInstances, "E20 TooManyInstances"),
+    (Code::FrameTooLarge, "E21 FrameTooLarge"),
+    (Code::LeaveFromFinally, "E22 LeaveFromFinally"),
+    (Code::LeftOut, "E23 LeftOut"),
+    (Code::CursorUnsafe, "E24 CursorUnsafe"),
+    (Code::TooLarge, "E25 TooLarge"),
+    (Code::MissingBody, "E26 MissingBody"),
+];
+
 #[test]
 fn codes_have_texts(rt: HostRuntime) {
-    let table = [
-        (Code::BadByte, "E1 BadByte"),
-        (Code::BadLiteral, "E2 BadLiteral"),
-        (Code::IntTooLarge, "E3 IntTooLarge"),
-        (Code::Syntax, "E4 Syntax"),
-        (Code::NestTooDeep, "E5 NestTooDeep"),
-        (Code::UnknownName, "E6 UnknownName"),
-        (Code::Redefined, "E7 Redefined"),
-        (Code::NotTyped, "E8 NotTyped"),
-        (Code::Ambiguous, "E9 Ambiguous"),
-        (Code::NotAssignable, "E10 NotAssignable"),
-        (Code::CaseCover, "E11 CaseCover"),
-        (Code::CannotCopy, "E12 CannotCopy"),
-        (Code::VarOverlap, "E13 VarOverlap"),
-        (Code::VarThroughRef, "E14 VarThroughRef"),
-        (Code::VarOfGlobal, "E15 VarOfGlobal"),
-        (Code::HookShape, "E16 HookShape"),
-        (Code::HookLate, "E17 HookLate"),
-        (Code::HookRaises, "E18 HookRaises"),
-        (Code::ImportCycle, "E19 ImportCycle"),
-        (Code::TooManyInstances, "E20 TooManyInstances"),
-        (Code::FrameTooLarge, "E21 FrameTooLarge"),
-        (Code::LeaveFromFinally, "E22 LeaveFromFinally"),
-        (Code::LeftOut, "E23 LeftOut"),
-        (Code::CursorUnsafe, "E24 CursorUnsafe"),
-        (Code::TooLarge, "E25 TooLarge"),
-        (Code::MissingBody, "E26 MissingBody"),
-    ];
-    for (code, text) in table {
-        assert_eq!(rt; code.text(), text);
+    for (code, text) in &TEXTS {
+        assert_eq!(rt; code.text(), *text);
     }
 }
 
 #[test]
-fn lists_grow(rt: HostRuntime) -> Result<(), Fail> {
-    let mut bytes = Bytes::new(rt.alloc());
-    bytes.push(1)?;
-    bytes.append(&[2, 3])?;
-    assert_eq!(rt; bytes.as_slice(), [1, 2, 3].as_slice());
-    let mut items = Items::new(rt.alloc());
-    items.push(7u32)?;
-    items.push(8)?;
-    assert_eq!(rt; items.as_slice(), [7u32, 8].as_slice());
-    Ok(())
-}
-
-#[test]
-fn sure_files_load_within_the_limit(rt: HostRuntime) -> Result<(), Fail> {
-    let mut files = SureFiles::new(rt.alloc());
-    files.add("a", b"old")?;
-    files.add("b", b"other")?;
-    files.add("a", b"four")?;
-    let table = [
-        ("a", 4, Loaded::Whole),
-        ("a", 3, Loaded::TooLong),
-        ("b", 5, Loaded::Whole),
-        ("c", 9, Loaded::Absent),
-    ];
-    for (name, limit, want) in table {
-        let (got, _) = loaded(&mut files, rt.alloc(), name, limit)?;
-        assert_eq!(rt; got, want, "{name} within {limit}");
-    }
-    files.store(rt.alloc(), "c", b"third")?;
-    files.store(rt.alloc(), "b", b"new")?;
-    assert!(rt; holds(files.entry("a"), b"four"));
-    assert!(rt; holds(files.entry("b"), b"new"));
-    assert!(rt; holds(files.entry("c"), b"third"));
-    assert!(rt; files.entry("d").is_none());
-    Ok(())
-}
-
-#[test]
-fn mem_files_fail_at_listed_calls(rt: HostRuntime) -> Result<(), Fail> {
-    let mut files = MemFiles::new(rt.alloc(), failing(rt.alloc(), &[2, 3])?);
+fn objects_in_memory_fail_at_listed_calls(rt: HostRuntime) -> Result<(), Fail> {
+    let alloc = rt.alloc();
+    let mut files = MemFiles::new(alloc, failing(alloc, &[2])?);
     files.add("a", b"one")?;
-    let (got, into) = loaded(&mut files, rt.alloc(), "a", 3)?;
+    let (got, into) = loaded(&mut files, alloc, "a", 3)?;
     assert_eq!(rt; got, Loaded::Whole);
     assert_eq!(rt; into.as_slice(), b"one".as_slice());
-    assert_eq!(rt;
-        files.store(rt.alloc(), "a", b"two"),
-        Err(FileFault::Failed)
-    );
-    files.add("b", b"no call")?;
-    assert_eq!(rt;
-        loaded(&mut files, rt.alloc(), "b", 9).err(),
-        Some(FileFault::Failed)
-    );
-    assert!(rt; holds(files.entry("a"), b"one"));
-    files.store(rt.alloc(), "a", b"three")?;
+    assert_eq!(rt; files.store(alloc, "a", b"two"), Err(FileFault::Failed));
+    files.store(alloc, "a", b"three")?;
     assert!(rt; holds(files.entry("a"), b"three"));
-    let (got, _) = loaded(&mut files, rt.alloc(), "a", 4)?;
-    assert_eq!(rt; got, Loaded::TooLong);
-    Ok(())
-}
-
-#[test]
-fn sources_give_their_bytes(rt: HostRuntime) -> Result<(), Fail> {
+    let mut source = MemSource::new(bytes_of(alloc, b"abc")?, failing(alloc, &[1])?);
     let mut into = [0u8; 2];
-    let mut sure = SureSource::new(bytes_of(rt.alloc(), b"abc")?);
-    assert_eq!(rt; sure.take(&mut into), Ok(2));
-    assert_eq!(rt; into, *b"ab");
-    assert_eq!(rt; sure.take(&mut into), Ok(1));
-    assert_eq!(rt; into, *b"cb");
-    assert_eq!(rt; sure.take(&mut into), Ok(0));
-    let mut faulty = MemSource::new(bytes_of(rt.alloc(), b"abc")?, failing(rt.alloc(), &[2])?);
-    assert_eq!(rt; faulty.take(&mut into), Ok(2));
-    assert_eq!(rt; faulty.take(&mut into), Err(Failed));
-    assert_eq!(rt; into, *b"ab");
-    assert_eq!(rt; faulty.take(&mut into), Ok(1));
-    assert_eq!(rt; into, *b"cb");
-    assert_eq!(rt; faulty.take(&mut into), Ok(0));
-    Ok(())
-}
-
-#[test]
-fn sinks_keep_their_bytes(rt: HostRuntime) -> Result<(), Fail> {
-    let mut sure = SureSink::new(rt.alloc(), 3)?;
-    assert_eq!(rt; put_all(&mut sure, b"ab"), Ok(()));
-    assert_eq!(rt; sure.put(b"c"), Ok(1));
-    assert_eq!(rt; sure.put(b"de"), Ok(2));
-    assert_eq!(rt; sure.put(b""), Ok(0));
-    assert_eq!(rt; sure.written(), b"abc".as_slice());
-    let mut faulty = MemSink::new(rt.alloc(), 3, failing(rt.alloc(), &[2])?)?;
-    assert_eq!(rt; put_all(&mut faulty, b"ab"), Ok(()));
-    assert_eq!(rt; faulty.put(b"c"), Err(Failed), "listed");
-    assert_eq!(rt; faulty.put(b"cd"), Err(Failed), "beyond the room");
-    assert_eq!(rt; faulty.put(b"c"), Ok(1));
-    assert_eq!(rt; put_all(&mut faulty, b"d"), Err(Failed));
-    assert_eq!(rt; faulty.written(), b"abc".as_slice());
+    assert_eq!(rt; source.take(&mut into), Err(Failed));
+    assert_eq!(rt; source.take(&mut into), Ok(2));
+    let mut sink = MemSink::new(alloc, 3, failing(alloc, &[2])?)?;
+    assert_eq!(rt; put_all(&mut sink, b"ab"), Ok(()));
+    assert_eq!(rt; sink.put(b"c"), Err(Failed), "listed");
+    assert_eq!(rt; sink.put(b"cd"), Err(Failed), "beyond the room");
+    assert_eq!(rt; sink.written(), b"ab".as_slice());
     Ok(())
 }
 

@@ -44,7 +44,8 @@ pub record IsImageOf (program : Program) (image : Image) : Type 0 where
 -- the traps stand at the front
 traps_stand : (code : List ℕ) (rest : List Instr) → Stands code 0 (start_code ++ rest) → (trap : Trap) → Stands code (trap_at trap) (trap_code trap)
 traps_stand code rest h Overflow = stands_front code 8 (trap_code Overflow) (trap_code DivisionByZero ++ rest) h.3.3
-traps_stand code rest h DivisionByZero = stands_front code 48 (trap_code DivisionByZero) rest (stands_back code 8 (trap_code Overflow) (trap_code DivisionByZero ++ rest) h.3.3)
+traps_stand code rest h DivisionByZero =
+    stands_front code 48 (trap_code DivisionByZero) rest (stands_back code 8 (trap_code Overflow) (trap_code DivisionByZero ++ rest) h.3.3)
 
 -- ---- the run
 
@@ -81,27 +82,42 @@ module _ (program : Program) (image : Image) (is : IsImageOf program image) wher
   started : (input : List ℕ) (n : ℕ) → Reaches setting pace 2 (start image input) (first n) (Ready setting (λ _. pos 0) 88)
   unfolding first_state
   started input n =
-      start_moves setting pace (λ _. pos 0) ((trap_code Overflow ++ trap_code DivisionByZero) ++ body) (start image input) (first n) refl refl (record { all = refl; none = refl }) is.data_is
+      start_moves setting pace (λ _. pos 0) ((trap_code Overflow ++ trap_code DivisionByZero) ++ body) (start image input) (first n) refl refl (record {
+        all =
+            refl;
+        none = refl;
+      }) is.data_is
       (omega (arith, is.heap, length-replicate {A = ℕ} image.heap 0)) (length-replicate {A = ℕ} image.stack 0 ∙ is.stack) (λ _. refl) code_stands
 
   -- where the meaning has answered, the machine ends by itself
   abbrev Done : Values → Meter Event → Run → Type 0
   Done = WillEnd (step live_objects image.hooks) pace same (λ _. 0) (λ _. no_objects) 3
 
-  program_follows : (input : List ℕ) (n : ℕ) → Follows (step live_objects image.hooks) pace same Done 2 (start image input) (first n) (exec_all program.start (λ _. pos 0) (first n))
+  program_follows : (input : List ℕ) (n : ℕ) →
+      Follows (step live_objects image.hooks) pace same Done 2 (start image input) (first n) (exec_all program.start (λ _. pos 0) (first n))
   program_follows input n =
       let x = setting in
       let begun = started input n in
       let inside = stmts_code program.start (variable_at count) in
       let end = 88 + 4 * length inside in
       let body_stands : Stands image.code 88 body = stands_back image.code 0 start_code body code_stands in
-      let all_texts : TextStands x (variable_at count) (texts program.start) = record { pre = []; post = is.padding; texts_are = refl; from_is = omega arith } in
-      follows_after (step live_objects image.hooks) pace same Done 2 0 (start image input) begun.0 (first n) (first n) (exec_all program.start (λ _. pos 0) (first n)) begun.1
-      (follows_map (step live_objects image.hooks) pace same (λ values b s. Ready x values end s) Done 0 0 begun.0 (first n) (exec_all program.start (λ _. pos 0) (first n))
-      (stmts_follow x program.start (variable_at count) 88 (λ _. pos 0) begun.0 (first n) is.plain all_texts (stands_front image.code 88 inside end_code body_stands) begun.2)
-      (λ values b s h. (s, comes_refl (step live_objects image.hooks) pace s b, end_halts x values end s b (stands_back image.code 88 inside end_code body_stands) h)))
+      let all_texts : TextStands x (variable_at count) (texts program.start) =
+      record { pre = []; post = is.padding; texts_are = refl; from_is = omega arith } in
+      follows_after (step live_objects image.hooks) pace same Done 2 0 (start image input) begun.0 (first n) (first n)
+      (exec_all program.start (λ _. pos 0) (first n)) begun.1
+      (follows_map (step live_objects image.hooks) pace same (λ values b s. Ready x values end s) Done 0 0 begun.0 (first n)
+      (exec_all program.start (λ _. pos 0) (first n))
+      (stmts_follow x program.start (variable_at count) 88 (λ _. pos 0) begun.0 (first n) is.plain all_texts
+      (stands_front image.code 88 inside end_code body_stands) begun.2)
+      (λ values b s h. (
+        s,
+        comes_refl (step live_objects image.hooks) pace s b,
+        end_halts x values end s b
+            (stands_back image.code 88 inside end_code body_stands) h,
+      )))
 
   -- the image of a program, on any input, agrees with what the program means under any plan and heap
   pub image_agrees : (plan : Plan) (heap : ℕ) (input : List ℕ) → Agrees (machine live_objects image input) (meaning program plan heap input)
   image_agrees plan heap input =
-      agrees_by_units (step live_objects image.hooks) pace 2 3 same (λ _. 0) (λ _. no_objects) (start image input) (λ n. exec_all program.start (λ _. pos 0) (first n)) (meaning_sound program plan heap input) (program_follows input)
+      agrees_by_units (step live_objects image.hooks) pace 2 3 same (λ _. 0) (λ _. no_objects) (start image input)
+      (λ n. exec_all program.start (λ _. pos 0) (first n)) (meaning_sound program plan heap input) (program_follows input)

@@ -6,7 +6,7 @@ use Rattle.std.proofs.lemmas.List.Quantifiers.{position-Some}
 use Rattle.arc_base.specs.declared.place.Place.{Place}
 use Rattle.indent_scanner.specs.declared.token.Tok.TheVariants as T
 use Rattle.indent_scanner.specs.Words.{normal}
-use Rattle.indent_scanner.proofs.Characters.{meaning_short}
+use Rattle.indent_scanner.proofs.ForCallers.{meaning_short}
 use Rattle.nim_core.specs.Program.{Expr, Number, Variable, Negate, Binary, Cond, Stmt, Declare, Assign, EchoInt, Quit, If, While, Stmts, Then, Program}
 use Rattle.arc_top.specs.Code.{IsPlainExpr, IsPlainCond, IsPlainStmt, ArePlain, expr_weight, cond_weight, stmt_weight, stmts_weight}
 use Rattle.arc_base.specs.Refusal.{and_then}

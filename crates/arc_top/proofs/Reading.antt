@@ -9,7 +9,7 @@ use Rattle.arc_base.specs.declared.place.Stop.TheVariants.{Refused, Memory}
 use Rattle.arc_base.specs.Stops.{OnRefusal}
 use Rattle.indent_scanner.specs.declared.token.Token.{Token}
 use Rattle.indent_scanner.specs.Tokens.{Tokens}
-use Rattle.indent_scanner.proofs.OneReading.{once, apart, refused_once as bytes_refused_once}
+use Rattle.indent_scanner.proofs.ForCallers.{once, apart, refused_once as bytes_refused_once}
 use Rattle.nim_tree.specs.Statements.{Statements}
 use Rattle.parse_stmts.specs.Grammar.{IsModule}
 use Rattle.parse_stmts.specs.Parsed.{IsRefused}

@@ -1,96 +1,65 @@
-// The compiler over objects in memory.
-mod answers;
-mod faults;
-mod programs;
-
-use crate::{Answer, nimarc};
-use arc_base::{Bytes, Files, Memory, Sink, Source, SureFiles, SureSink, SureSource};
+// Calls outside that fail. What the compiler answers, builds and says otherwise are rows: crates/rows.
+use crate::{Answer, nimarc, put_report};
+use arc_base::{Bytes, Faults, MemFiles, MemSink, Memory, SureSink, SureSource};
 use std::alloc::Global;
-use std::process::Abort;
-
-/// The words of a build.
-const BUILD: [&str; 3] = ["build", "t.nim", "o"];
+use std::test::Fail;
 
 /// What the entry `o` holds before a build.
 const OLDER: &[u8] = b"older";
 
-/// What the entry `other` holds.
-const OTHER: &[u8] = b"stays";
-
-// Files with a main module, an older file under the name of the new one, and one more.
-fn files_with(alloc: Global, main: &[u8]) -> Result<SureFiles, Memory> {
-    let mut files = SureFiles::new(alloc);
-    files.add("t.nim", main)?;
-    files.add("o", OLDER)?;
-    files.add("other", OTHER)?;
-    Ok(files)
+// Only this call fails, counted from 1.
+fn only(alloc: Global, call: u64) -> Result<Faults, Memory> {
+    let mut calls = Vec::new(alloc);
+    calls.push(call)?;
+    Ok(Faults { calls })
 }
 
-// What the compiler answers. Input and output stay as they were. Want of memory is said, and is an error.
-fn answer_of<F: Files>(
-    rt: &impl Abort,
-    alloc: Global,
-    words: &[&str],
-    files: &mut F,
-    err: &mut impl Sink,
-) -> Result<Answer, Memory> {
-    let mut own = Vec::new(alloc);
-    for word in words {
-        own.push(String::from_str(alloc, word)?)?;
+// The status of a build where this call of the files fails.
+fn status_of(alloc: Global, files: &mut MemFiles, err: &mut MemSink) -> Result<u8, Memory> {
+    let mut words = Vec::new(alloc);
+    for word in ["build", "t.nim", "o"] {
+        words.push(String::from_str(alloc, word)?)?;
     }
-    let mut bytes = Bytes::new(alloc);
-    bytes.append(b"input")?;
-    let mut input = SureSource::new(bytes);
-    let mut out = SureSink::new(alloc, 8)?;
-    let answer = nimarc(alloc, own.as_slice(), files, &mut input, &mut out, err);
-    assert_eq!(rt; input.take(&mut [0; 8]), Ok(5));
-    assert!(rt; out.written().is_empty());
-    if matches!(answer, Answer::Memory) {
-        return Err(Memory);
-    }
-    Ok(answer)
+    let mut input = SureSource::new(Bytes::new(alloc));
+    let mut out = SureSink::new(alloc, 0)?;
+    let answer = nimarc(alloc, words.as_slice(), files, &mut input, &mut out, err);
+    Ok(answer.status())
 }
 
-// The name of an answer.
-fn name_of(answer: &Answer) -> &'static str {
-    match answer {
-        Answer::Done => "Done",
-        Answer::Usage => "Usage",
-        Answer::NoFile(_) => "NoFile",
-        Answer::TooLong(_) => "TooLong",
-        Answer::Refused { .. } => "Refused",
-        Answer::ReadFault => "ReadFault",
-        Answer::StoreFault => "StoreFault",
-        Answer::Memory => "Memory",
-    }
-}
+// Sources, the call of the files that fails, and what is answered and said.
+const TABLE: [(&str, u64, u8, &str); 5] = [
+    ("echo 7 div 2", 1, 74, "nimarc: read fault\n"),
+    ("echo 7 div 2", 2, 74, "nimarc: store fault\n"),
+    ("echo 7 div 2", 3, 0, ""),
+    ("echo 1 2", 1, 74, "nimarc: read fault\n"),
+    ("echo 1 2", 2, 65, "t.nim:1:8: E4 Syntax\n"),
+];
 
-// Adds a text so many times.
-fn repeat(source: &mut Bytes, times: usize, text: &[u8]) -> Result<(), Memory> {
-    for _ in 0..times {
-        source.append(text)?;
+// The answer stays where a put of the line fails, and a front of it is written.
+#[test]
+fn answers_stay_where_calls_fail(rt: HostRuntime) -> Result<(), Fail> {
+    let alloc = rt.alloc();
+    for (source, call, want, line) in &TABLE {
+        for put in [1, 2, 9] {
+            let mut files = MemFiles::new(alloc, only(alloc, *call)?);
+            files.add("t.nim", source.as_bytes())?;
+            files.add("o", OLDER)?;
+            let mut err = MemSink::new(alloc, 100, only(alloc, put)?)?;
+            let status = status_of(alloc, &mut files, &mut err)?;
+            assert_eq!(rt; status, *want, "for {source}");
+            assert!(rt; line.as_bytes().starts_with(err.written()));
+            assert_eq!(rt; err.written().is_empty(), put == 1 || *want == 0);
+            assert_eq!(rt; files.entry("o") == Some(OLDER), *want != 0);
+        }
     }
     Ok(())
 }
 
-// A statement inside so many blocks.
-fn nested(alloc: Global, blocks: usize) -> Result<Bytes, Memory> {
-    let mut source = Bytes::new(alloc);
-    for level in 0..blocks {
-        repeat(&mut source, level, b" ")?;
-        source.append(b"if 0 == 0:\n")?;
-    }
-    repeat(&mut source, blocks, b" ")?;
-    source.append(b"echo 1")?;
-    Ok(source)
-}
-
-// A statement with a 1 behind so many texts, of which each opens a bracket.
-fn bracketed(alloc: Global, times: usize, front: &[u8]) -> Result<Bytes, Memory> {
-    let mut source = Bytes::new(alloc);
-    source.append(b"echo ")?;
-    repeat(&mut source, times, front)?;
-    source.append(b"1")?;
-    repeat(&mut source, times, b")")?;
-    Ok(source)
+#[test]
+fn want_of_memory_is_said(rt: HostRuntime) -> Result<(), Fail> {
+    let mut err = SureSink::new(rt.alloc(), 100)?;
+    put_report(&mut err, &["t.nim"], &Answer::Memory);
+    assert_eq!(rt; err.written(), b"nimarc: out of memory\n".as_slice());
+    assert_eq!(rt; Answer::Memory.status(), 69);
+    Ok(())
 }

@@ -1,26 +1,27 @@
-pub mod Fronts
-pub mod Strays
-pub mod Bools
-pub mod Matches
-pub mod Checks
-pub mod WordFronts
-pub mod ClosedFronts
-pub mod RunFronts
-pub mod Openings
-pub mod Rows
-pub mod Feeds
-pub mod Spelling
-pub mod Standing
-pub mod Beginnings
-pub mod Names
-pub mod Characters
-pub mod Reading
-pub mod OneReading
-pub mod Outcomes
-pub mod Firsts
-pub mod Neighbours
-pub mod Indents
-pub mod GrammarNames
-pub mod GrammarComments
-pub mod GrammarIntegers
-pub mod GrammarLiterals
+pub mod ForCallers
+mod Fronts
+mod Strays
+mod Bools
+mod Matches
+mod Checks
+mod WordFronts
+mod ClosedFronts
+mod RunFronts
+mod Openings
+mod Rows
+mod Feeds
+mod Spelling
+mod Standing
+mod Beginnings
+mod Names
+mod Characters
+mod Reading
+mod OneReading
+mod Outcomes
+mod Firsts
+mod Neighbours
+mod Indents
+mod GrammarNames
+mod GrammarComments
+mod GrammarIntegers
+mod GrammarLiterals

@@ -1,6 +1,6 @@
 -- Reading ends: one line for each function of specs/Run.antt. A call has fewer tokens, or a lower number behind `64 *`.
 use Rattle.std.proofs.Common.{ℕ, zero, suc, ◌<◌, ◌≤◌, ◌+◌, ◌*◌, List, [], ◌∷◌, ◌++◌, length, Bool, true, false, arith}
-use Rattle.std.specs.Prelude.{Option, Some, None, ◌&&◌, if◌then◌else◌, codes}
+use Rattle.std.specs.Prelude.{Option, Some, None, nat_lt, ◌&&◌, if◌then◌else◌, codes}
 use Rattle.arc_base.specs.declared.place.Place.{Place}
 use Rattle.indent_scanner.specs.declared.token.Token.{Token}
 use Rattle.nim_tree.specs.declared.name.Name.{Name}
@@ -9,6 +9,7 @@ use Rattle.nim_tree.specs.declared.name.Pragma.{Pragma}
 use Rattle.nim_tree.specs.declared.name.PragmaKind.{PragmaKind}
 use Rattle.nim_tree.specs.declared.stmt.ParamMode.{ParamMode}
 use Rattle.nim_tree.specs.declared.stmt.ParamMode.TheVariants as M
+use Rattle.nim_tree.specs.Terms.{Term, levels}
 use Rattle.nim_tree.specs.Types.{Written, Arguments, no_arguments, argument, and_argument, Fields, no_fields, fields, and_field, Declaration}
 use Rattle.nim_tree.specs.Statements.{Definition, Parameters}
 use Rattle.parse_exprs.specs.declared.layout.Layout.{Layout}
@@ -24,8 +25,8 @@ use Rattle.parse_decls.specs.declared.look.TypeLead.TheVariants as L
 use Rattle.parse_decls.specs.declared.look.BodyLead.{BodyLead}
 use Rattle.parse_decls.specs.declared.look.BodyLead.TheVariants as B
 use Rattle.parse_decls.specs.Look.{behind, deeper_at, stands_at, level_at, past_star, proc_name_on, opens_at, equals_at, of_at, separator_at, is_pragma_close, pragmas_at, pragma_named, type_lead, type_at, mode_at, past_if_mode, past_mode, body_lead, member_at}
-use Rattle.parse_decls.specs.Outcome.{Out, bad, then_do, too_deep, left_out, stuck, stuck_at, unless_stuck, of_expr}
-use Rattle.parse_decls.specs.Run.{most_levels, run_named, run_name, run_more_names, run_names, run_shown, run_declared, run_more_declared, run_declareds, run_generics, run_known, run_pragma_name, run_pragma, run_more_pragmas, run_pragmas, run_type, run_sort, run_arguments, run_part, run_parts, run_written, run_typed, run_annotation, run_given, run_defined, run_def, run_defs, run_def_block, run_parent, run_field, run_fields, run_field_block, run_object, run_more_members, run_members, run_body_by, run_body, run_declaration, run_declarations, run_types, run_param, run_more_params, run_params, run_head}
+use Rattle.parse_decls.specs.Outcome.{Out, got, bad, then_do, too_deep, left_out, stuck, stuck_at, unless_stuck, of_expr}
+use Rattle.parse_decls.specs.Run.{most_levels, run_named, run_name, run_more_names, run_names, run_shown, run_declared, run_more_declared, run_declareds, run_generics, run_known, run_pragma_name, run_pragma, run_more_pragmas, run_pragmas, length_of, run_length, run_type, run_sort, run_inside, run_arguments, run_part, run_parts, run_written, run_typed, run_annotation, run_given, run_defined, run_def, run_defs, run_def_block, run_parent, run_field, run_fields, run_field_block, run_object, run_more_members, run_members, run_body_by, run_body, run_declaration, run_declarations, run_types, run_param, run_more_params, run_params, run_head}
 use Rattle.parse_decls.specs.Ends.{Ends, e_read, e_not}
 
 -- ---- steps put together
@@ -162,6 +163,27 @@ ends_pragmas k x i (tok ∷ ts) le =
 
 -- ---- written types
 
+ends_few : (b : Bool) (whole : List Token) (n : ℕ) (a : Term) (rest : List Token) → 0 < length whole → length rest < n
+    → Ends n (if b then bad (too_deep whole) else got (Some a) rest)
+ends_few true whole n a rest some lt = e_not some
+ends_few false whole n a rest some lt = e_read lt
+
+ends_length_of : {o : E.Out Term} (whole : List Token) (n : ℕ) (ts : List Token) → length ts ≤ length whole → N.Ends (length ts) o
+    → Ends (suc (length ts)) (length_of whole n ts o)
+ends_length_of whole n ts part (N.e_read {a = a} {rest = mid} lt) =
+    let h = behind_within mid in
+    ends_if (comma_at Brackets mid) (ends_few (nat_lt n (levels a)) whole (suc (length ts)) a (behind mid) (omega (arith, part, lt)) (omega (arith, lt, h)))
+    (e_read (omega arith))
+ends_length_of whole n ts part (N.e_deep some) = e_not (omega (arith, part, some))
+ends_length_of whole n ts part N.e_stuck = e_read (omega arith)
+
+ends_length : (k : ℕ) (x : Origin) (whole : List Token) (n : ℕ) (ts : List Token) → length ts ≤ length whole → 64 * length ts + 32 ≤ k
+    → Ends (suc (length ts)) (run_length k x whole n ts)
+ends_length k x whole n ts part le =
+    ends_if (type_at ts) (ends_length_of whole n ts part (exprs_end x Brackets most_levels ts k le))
+    (ends_then _ (ends_of whole part (exprs_end x Brackets n ts k le)) (λ a mid lt.
+    let h = behind_within mid in ends_unless (comma_at Brackets mid) mid (e_read (omega (arith, lt, h)))))
+
 mutual
   ends_type : (k : ℕ) (x : Origin) (i : Layout) (whole : List Token) (n : ℕ) (ts : List Token) → length ts ≤ length whole → 64 * length ts + 40 ≤ k
       → Ends (length ts) (run_type k x i whole n ts)
@@ -181,17 +203,12 @@ mutual
   ends_sort (suc k) L.Other x i whole n tok ts part le = ends_stuck (tok ∷ ts)
   ends_sort (suc k) L.Name x i whole n tok ts part le =
       let h = behind_within ts in
-      ends_if (opens_at i Square ts) (
-      ends_then _ (ends_type k x Brackets whole n (behind ts) (omega (arith, part, h)) (omega (arith, le, h))) (λ a mid lt.
-      ends_then _ (ends_arguments k x whole n (argument a no_arguments) mid (omega (arith, part, h, lt)) (omega (arith, le, h, lt))) (λ all end less.
-      let g = behind_within end in ends_unless (closes_at Square end) end (e_read (omega (arith, h, lt, less, g)))))) (e_read (omega arith))
+      ends_if (opens_at i Square ts) (wider (omega (arith, h)) (ends_inside k None x whole n tok (behind ts) (omega (arith, part, h)) (omega (arith, le, h))))
+      (e_read (omega arith))
   ends_sort (suc k) L.Array x i whole n tok ts part le =
       let h = behind_within ts in
-      ends_then _ (ends_expr k x Brackets (behind ts) (omega (arith, le, h))) (λ length mid lt.
-      let g = behind_within mid in
-      ends_unless (comma_at Brackets mid) mid (
-      ends_then _ (ends_type k x Brackets whole n (behind mid) (omega (arith, part, h, lt, g)) (omega (arith, le, h, lt, g))) (λ a end less.
-      let f = behind_within end in ends_unless (closes_at Square end) end (e_read (omega (arith, h, lt, g, less, f))))))
+      ends_then _ (ends_length k x whole n (behind ts) (omega (arith, part, h)) (omega (arith, le, h))) (λ given mid lt.
+      wider (omega (arith, h, lt)) (ends_inside k given x whole n tok mid (omega (arith, part, h, lt)) (omega (arith, le, h, lt))))
   ends_sort (suc k) L.Ref x i whole n tok ts part le =
       ends_unless (stays i ts) ts (ends_then _ (ends_type k x i whole n ts (omega (arith, part)) (omega (arith, le))) (λ a rest lt. e_read (omega (arith, lt))))
   ends_sort (suc k) L.Tuple x i whole n tok ts part le =
@@ -202,6 +219,17 @@ mutual
       ends_then _ (ends_part k x whole n (behind ts) (omega (arith, part, h)) (omega (arith, le, h))) (λ one mid lt.
       ends_then _ (ends_parts k x whole n (fields one.names one.of no_fields) mid (omega (arith, part, h, lt)) (omega (arith, le, h, lt))) (λ all end less.
       let f = behind_within end in ends_unless (closes_at Square end) end (e_read (omega (arith, h, lt, less, f)))))))
+
+  ends_inside : (k : ℕ) (given : Option Term) (x : Origin) (whole : List Token) (n : ℕ) (tok : Token) (ts : List Token) → length ts ≤ length whole
+      → 64 * length ts + 41 ≤ k → Ends (length ts) (run_inside k given x whole n tok ts)
+  ends_inside zero given x whole n tok ts part le = absurd (omega (arith, le))
+  ends_inside (suc k) None x whole n tok ts part le =
+      ends_then _ (ends_type k x Brackets whole n ts part (omega (arith, le))) (λ a mid lt.
+      ends_then _ (ends_arguments k x whole n (argument a no_arguments) mid (omega (arith, part, lt)) (omega (arith, le, lt))) (λ all end less.
+      let g = behind_within end in ends_unless (closes_at Square end) end (e_read (omega (arith, lt, less, g)))))
+  ends_inside (suc k) (Some given) x whole n tok ts part le =
+      ends_then _ (ends_type k x Brackets whole n ts part (omega (arith, le))) (λ a end lt.
+      let g = behind_within end in ends_unless (closes_at Square end) end (e_read (omega (arith, lt, g))))
 
   ends_arguments : (k : ℕ) (x : Origin) (whole : List Token) (n : ℕ) (some : Arguments) (ts : List Token) → length ts ≤ length whole → 64 * length ts + 1 ≤ k
       → Ends (suc (length ts)) (run_arguments k x whole n some ts)

@@ -1,29 +1,29 @@
-pub mod Settling
-pub mod Productions
-pub mod Loops
-pub mod Pieces
-pub mod NameLists
-pub mod Exprs
-pub mod Lengths
-pub mod TypeLists
-pub mod TypeForms
-pub mod TypeFaults
-pub mod Types
-pub mod Shorts
-pub mod Definitions
-pub mod Declarations
-pub mod Heads
-pub mod Claims
-pub mod Spans
-pub mod Coming
-pub mod Repeats
-pub mod Places
-pub mod Steps
-pub mod LengthSteps
-pub mod TypeSteps
-pub mod BodySteps
-pub mod HeadSteps
-pub mod Answering
+pub mod ForCallers
+mod Settling
+mod Productions
+mod Loops
+mod Pieces
+mod NameLists
+mod Exprs
+mod Lengths
+mod TypeLists
+mod TypeForms
+mod TypeFaults
+mod Types
+mod Shorts
+mod Definitions
+mod Declarations
+mod Heads
+mod Claims
+mod Spans
+mod Coming
+mod Repeats
+mod Places
+mod Steps
+mod LengthSteps
+mod TypeSteps
+mod BodySteps
+mod HeadSteps
+mod Answering
 mod Ending
 mod Deciding
-pub mod ForCallers

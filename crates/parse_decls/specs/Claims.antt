@@ -17,7 +17,8 @@ ReadsNone {A = A} Reads Short ts (stuck at) = (a : A) (rest : List Token) → Re
 ReadsNone Reads Short ts tired = ⊥
 
 -- nothing is read, and what is told of it
-pub record IsRefused {A : Type 0} (Reads Short : A → List Token → List Token → Type 0) (Fault : Why → List Token → Type 0) (Tells : Why → Code → Place → Type 0) (ts : List Token) (code : Code) (at : Place) : Type 0 where
+pub record IsRefused {A : Type 0} (Reads Short : A → List Token → List Token → Type 0) (Fault : Why → List Token → Type 0) (Tells : Why → Code → Place → Type 0)
+    (ts : List Token) (code : Code) (at : Place) : Type 0 where
   pub why : Why
   pub fault : Fault why ts
   pub none : ReadsNone Reads Short ts why
@@ -25,7 +26,8 @@ pub record IsRefused {A : Type 0} (Reads Short : A → List Token → List Token
 
 -- What begins at some tokens, why nothing does, and what the computation comes to agree. Short is what is read with the most
 -- levels at most.
-pub record Agree {A : Type 0} (Reads Short : A → List Token → List Token → Type 0) (Fault : Why → List Token → Type 0) (run : List Token → ℕ → Out A) : Type 0 where
+pub record Agree {A : Type 0} (Reads Short : A → List Token → List Token → Type 0) (Fault : Why → List Token → Type 0)
+    (run : List Token → ℕ → Out A) : Type 0 where
   pub sound : (a : A) (ts rest : List Token) → Settles (run ts) (got a rest) → Short a ts rest
   pub complete : (a : A) (ts rest : List Token) → Short a ts rest → Settles (run ts) (got a rest)
   pub deep : (a : A) (ts rest : List Token) → Reads a ts rest → Short a ts rest ⊎ ((at : List Token) × Fault (too_deep at) ts)

@@ -3,7 +3,7 @@ use Rattle.std.specs.Prelude.{ℕ, suc, ◌<◌, ◌≤◌, ◌+◌, ◌*◌, Li
 use Rattle.indent_scanner.specs.declared.token.Token.{Token}
 use Rattle.parse_decls.specs.Outcome.{Why, too_deep, left_out, stuck, tired, Out, got, bad}
 
--- it stands at a token, or at the end of the tokens where nothing is left out and no level is too many
+-- a level too many and what is left out stand at a token; the tokens may also end where they can't go on
 abbrev pub HasPlace : Why → Type 0
 HasPlace (too_deep at) = 0 < length at
 HasPlace (left_out at) = 0 < length at

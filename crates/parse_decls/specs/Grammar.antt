@@ -13,8 +13,8 @@
 -- Each relation says: these tokens begin with that, and these are the tokens behind it. A declaration stands behind n spaces
 -- (the layout `Lines n`). Line ends are ignored inside brackets and straight behind a comma; what stands behind `:`, `=`,
 -- `ref` or `distinct` begins on the same line. A block begins on the next line behind more spaces than n, and each of its
--- lines stands behind the same number; so the first name there may begin a line. What can go on goes on: where a repetition or an optional part ends, the token that
--- would begin more of it doesn't stand.
+-- lines stands behind the same number; so the first name there may begin a line. What can go on goes on: where a repetition or an
+-- optional part ends, the token that would begin more of it doesn't stand.
 use Rattle.std.specs.Prelude.{◌≡◌, ◌≤◌, ℕ, Bool, true, false, List, [], ◌∷◌, Option, Some, None}
 use Rattle.indent_scanner.specs.declared.token.Token.{Token}
 use Rattle.nim_tree.specs.declared.name.Name.{Name}
@@ -38,13 +38,17 @@ use Rattle.parse_decls.specs.Run.{most_levels}
 -- ---- repetitions and optional parts
 
 -- one after another, as long as one more goes on; it begins at what `past` gives
-pub data Each {A : Type 0} (goes : List Token → Bool) (past : List Token → List Token) (Item : A → List Token → List Token → Type 0) : List A → List Token → List Token → Type 0 where
+pub data Each {A : Type 0} (goes : List Token → Bool) (past : List Token → List Token) (Item : A → List Token → List Token → Type 0) : List A → List Token
+    → List Token → Type 0 where
   e_over : {rest : List Token} → goes rest ≡ false → Each goes past Item [] rest rest
-  e_next : {a : A} {all : List A} {ts mid rest : List Token} → goes ts ≡ true → Item a (past ts) mid → Each goes past Item all mid rest → Each goes past Item (a ∷ all) ts rest
+  e_next : {a : A} {all : List A} {ts mid rest : List Token} → goes ts ≡ true → Item a (past ts) mid → Each goes past Item all mid rest
+      → Each goes past Item (a ∷ all) ts rest
 
 -- a first one, and each that goes on
-pub data Listed {A : Type 0} (First : A → List Token → List Token → Type 0) (goes : List Token → Bool) (past : List Token → List Token) (Item : A → List Token → List Token → Type 0) : List A → List Token → List Token → Type 0 where
-  e_first : {a : A} {all : List A} {ts mid rest : List Token} → First a ts mid → Each goes past Item all mid rest → Listed First goes past Item (a ∷ all) ts rest
+pub data Listed {A : Type 0} (First : A → List Token → List Token → Type 0) (goes : List Token → Bool) (past : List Token → List Token)
+    (Item : A → List Token → List Token → Type 0) : List A → List Token → List Token → Type 0 where
+  e_first : {a : A} {all : List A} {ts mid rest : List Token} → First a ts mid → Each goes past Item all mid rest
+      → Listed First goes past Item (a ∷ all) ts rest
 
 -- this where it goes on, else none
 pub data Perhaps {A : Type 0} (goes : List Token → Bool) (none : A) (Item : A → List Token → List Token → Type 0) : A → List Token → List Token → Type 0 where
@@ -85,7 +89,8 @@ abbrev pub Generics : Origin → Layout → List Name → List Token → List To
 Generics x i = Perhaps (opens_at i Square) [] (Closed (closes_at Square) (Names x Brackets))
 
 pub data IsPragma (x : Origin) : Pragma → List Token → List Token → Type 0 where
-  n_pragma : {tok : Token} {kind : PragmaKind} {ts : List Token} → name_on Brackets ts ≡ Some tok → pragma_named (spelling x tok) ≡ Some kind → IsPragma x (pragma_of x tok kind) ts (behind ts)
+  n_pragma : {tok : Token} {kind : PragmaKind} {ts : List Token} → name_on Brackets ts ≡ Some tok → pragma_named (spelling x tok) ≡ Some kind
+      → IsPragma x (pragma_of x tok kind) ts (behind ts)
 
 -- pragmas, where there are any
 abbrev pub Pragmas : Origin → Layout → List Pragma → List Token → List Token → Type 0
@@ -120,14 +125,16 @@ mutual
         → IsType x i (ref_to (place_at x tok) a) (tok ∷ ts) rest
     t_empty : {i : Layout} {tok : Token} {ts : List Token} → type_lead x i tok ts ≡ L.Tuple → opens_at i Square ts ≡ true → closes_at Square (behind ts) ≡ true
         → IsType x i (tuple_of (place_at x tok) no_fields) (tok ∷ ts) (behind (behind ts))
-    t_tuple : {i : Layout} {names : List Declared} {a : Written} {all : Fields} {tok : Token} {ts mid end : List Token} → type_lead x i tok ts ≡ L.Tuple → opens_at i Square ts ≡ true
+    t_tuple : {i : Layout} {names : List Declared} {a : Written} {all : Fields} {tok : Token} {ts mid end : List Token} → type_lead x i tok ts ≡ L.Tuple
+        → opens_at i Square ts ≡ true
         → closes_at Square (behind ts) ≡ false → IsField x names a (behind ts) mid → IsFields x all mid end → closes_at Square end ≡ true
         → IsType x i (tuple_of (place_at x tok) (fields names a all)) (tok ∷ ts) (behind end)
 
   -- what follows a type in brackets: { ',' type }
   pub data IsTypes (x : Origin) : Arguments → List Token → List Token → Type 0 where
     t_last : {rest : List Token} → comma_at Brackets rest ≡ false → IsTypes x no_arguments rest rest
-    t_next : {a : Written} {all : Arguments} {ts mid rest : List Token} → comma_at Brackets ts ≡ true → IsType x Brackets a (behind ts) mid → IsTypes x all mid rest
+    t_next : {a : Written} {all : Arguments} {ts mid rest : List Token} → comma_at Brackets ts ≡ true → IsType x Brackets a (behind ts) mid
+        → IsTypes x all mid rest
         → IsTypes x (argument a all) ts rest
 
   -- names of fields of a tuple, and their type
@@ -138,7 +145,8 @@ mutual
   -- what follows a field of a tuple: { ',' field }
   pub data IsFields (x : Origin) : Fields → List Token → List Token → Type 0 where
     t_last_field : {rest : List Token} → comma_at Brackets rest ≡ false → IsFields x no_fields rest rest
-    t_next_field : {names : List Declared} {a : Written} {all : Fields} {ts mid rest : List Token} → comma_at Brackets ts ≡ true → IsField x names a (behind ts) mid
+    t_next_field : {names : List Declared} {a : Written} {all : Fields} {ts mid rest : List Token} → comma_at Brackets ts ≡ true
+        → IsField x names a (behind ts) mid
         → IsFields x all mid rest → IsFields x (fields names a all) ts rest
 
 -- a colon, and a type on its line
@@ -191,7 +199,8 @@ Parent x i = Maybe (of_at i) (λ name ts rest. IsName x i name (behind ts) rest)
 -- fields of an object, each first on its line behind n spaces
 pub data IsFieldLines (x : Origin) (n : ℕ) : Fields → List Token → List Token → Type 0 where
   o_over : {rest : List Token} → stands_at n rest ≡ false → IsFieldLines x n no_fields rest rest
-  o_field : {names : List Declared} {a : Written} {all : Fields} {ts mid end rest : List Token} → stands_at n ts ≡ true → Declareds x Brackets (Lines n) names ts mid
+  o_field : {names : List Declared} {a : Written} {all : Fields} {ts mid end rest : List Token} → stands_at n ts ≡ true
+      → Declareds x Brackets (Lines n) names ts mid
       → IsTyped x (Lines n) a mid end → IsFieldLines x n all end rest → IsFieldLines x n (fields names a all) ts rest
 
 -- a block of fields behind more than n spaces, where there is one
@@ -202,7 +211,8 @@ FieldBlock x n = Perhaps (deeper_at n) no_fields (λ all ts rest. IsFieldLines x
 pub data IsMembers (x : Origin) (n : ℕ) : List Name → List Token → List Token → Type 0 where
   o_line : {all : List Name} {ts rest : List Token} → deeper_at n ts ≡ false → Names x (Lines n) all ts rest → IsMembers x n all ts rest
   o_block : {all : List Name} {ts rest : List Token} → deeper_at n ts ≡ true
-      → Listed (IsName x Brackets) (more_members_at (level_at ts)) (past_comma (Lines (level_at ts))) (IsName x Brackets) all ts rest → IsMembers x n all ts rest
+      → Listed (IsName x Brackets) (more_members_at (level_at ts)) (past_comma (Lines (level_at ts))) (IsName x Brackets) all ts rest
+      → IsMembers x n all ts rest
 
 pub data IsBody (x : Origin) (n : ℕ) : Body → List Token → List Token → Type 0 where
   o_object : {parent : Option Name} {all : Fields} {tok : Token} {ts mid rest : List Token} → body_lead (Lines n) (tok ∷ ts) ≡ B.Object
@@ -230,7 +240,8 @@ pub record IsDeclaration (x : Origin) (first : Layout) (n : ℕ) (d : Declaratio
 pub data IsDeclarations (x : Origin) (n : ℕ) : List Declaration → List Token → List Token → Type 0 where
   o_declarations : {all : List Declaration} {ts rest : List Token} → deeper_at n ts ≡ true
       → Each (stands_at (level_at ts)) (λ ts. ts) (IsDeclaration x Brackets (level_at ts)) all ts rest → IsDeclarations x n all ts rest
-  o_declaration : {d : Declaration} {ts rest : List Token} → deeper_at n ts ≡ false → IsDeclaration x (Lines n) n d ts rest → IsDeclarations x n (d ∷ []) ts rest
+  o_declaration : {d : Declaration} {ts rest : List Token} → deeper_at n ts ≡ false → IsDeclaration x (Lines n) n d ts rest
+      → IsDeclarations x n (d ∷ []) ts rest
 
 -- ---- heads of procedures
 

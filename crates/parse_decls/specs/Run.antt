@@ -39,7 +39,8 @@ run_name x i ts = run_named x (name_on i ts) ts
 
 abbrev pub run_more_names : ℕ → Origin → Layout → List Name → List Token → Out (List Name)
 run_more_names zero x i some ts = bad tired
-run_more_names (suc k) x i some ts = if comma_at i ts then then_do (run_name x Brackets (behind ts)) (λ name mid. run_more_names k x i (some ++ name ∷ []) mid) else got some ts
+run_more_names (suc k) x i some ts =
+    if comma_at i ts then then_do (run_name x Brackets (behind ts)) (λ name mid. run_more_names k x i (some ++ name ∷ []) mid) else got some ts
 
 -- names with commas between them
 abbrev pub run_names : ℕ → Origin → Layout → List Token → Out (List Name)
@@ -55,14 +56,18 @@ run_declared x first i ts = run_shown x i (name_on first ts) ts
 
 abbrev pub run_more_declared : ℕ → Origin → Layout → List Declared → List Token → Out (List Declared)
 run_more_declared zero x i some ts = bad tired
-run_more_declared (suc k) x i some ts = if comma_at i ts then then_do (run_shown x i (name_on Brackets (behind ts)) (behind ts)) (λ name mid. run_more_declared k x i (some ++ name ∷ []) mid) else got some ts
+run_more_declared (suc k) x i some ts =
+    if comma_at i ts then then_do (run_shown x i (name_on Brackets (behind ts)) (behind ts))
+    (λ name mid. run_more_declared k x i (some ++ name ∷ []) mid) else got some ts
 
 abbrev pub run_declareds : ℕ → Origin → (first : Layout) → Layout → List Token → Out (List Declared)
 run_declareds k x first i ts = then_do (run_declared x first i ts) (λ name mid. run_more_declared k x i (name ∷ []) mid)
 
 -- type parameters in brackets, where there are any
 abbrev pub run_generics : ℕ → Origin → Layout → List Token → Out (List Name)
-run_generics k x i ts = if opens_at i Square ts then then_do (run_names k x Brackets (behind ts)) (λ names mid. unless_stuck (closes_at Square mid) mid (got names (behind mid))) else got [] ts
+run_generics k x i ts =
+    if opens_at i Square ts then then_do (run_names k x Brackets (behind ts))
+    (λ names mid. unless_stuck (closes_at Square mid) mid (got names (behind mid))) else got [] ts
 
 -- ---- pragmas
 
@@ -80,7 +85,8 @@ run_pragma x ts = run_pragma_name x (name_on Brackets ts) ts
 abbrev pub run_more_pragmas : ℕ → Origin → List Pragma → List Token → Out (List Pragma)
 run_more_pragmas zero x some ts = bad tired
 run_more_pragmas (suc k) x some ts =
-    if comma_at Brackets ts then then_do (run_pragma x (behind ts)) (λ pragma mid. run_more_pragmas k x (some ++ pragma ∷ []) mid) else unless_stuck (kind_at is_pragma_close ts) ts (got some (behind ts))
+    if comma_at Brackets ts then then_do (run_pragma x (behind ts)) (λ pragma mid. run_more_pragmas k x (some ++ pragma ∷ []) mid) else unless_stuck
+    (kind_at is_pragma_close ts) ts (got some (behind ts))
 
 -- pragmas, where there are any
 abbrev pub run_pragmas : ℕ → Origin → Layout → List Token → Out (List Pragma)
@@ -95,14 +101,16 @@ pub record Typed : Type 0 where
 
 -- a length with a comma behind it, as reading the expression that may stand there tells
 abbrev pub length_of : List Token → ℕ → List Token → E.Out Term → Out (Option Term)
-length_of whole n ts (E.got a mid) = if comma_at Brackets mid then (if nat_lt n (levels a) then bad (too_deep whole) else got (Some a) (behind mid)) else got None ts
+length_of whole n ts (E.got a mid) =
+    if comma_at Brackets mid then (if nat_lt n (levels a) then bad (too_deep whole) else got (Some a) (behind mid)) else got None ts
 length_of whole n ts (E.bad E.deep) = bad (too_deep whole)
 length_of whole n ts (E.bad (E.stuck rest)) = got None ts
 length_of whole n ts (E.bad E.tired) = bad tired
 
 -- the same where no type begins there
 abbrev pub run_due_length : ℕ → Origin → List Token → ℕ → List Token → Out (Option Term)
-run_due_length k x whole n ts = then_do (of_expr whole (run_expr k x Brackets n ts)) (λ a mid. unless_stuck (comma_at Brackets mid) mid (got (Some a) (behind mid)))
+run_due_length k x whole n ts =
+    then_do (of_expr whole (run_expr k x Brackets n ts)) (λ a mid. unless_stuck (comma_at Brackets mid) mid (got (Some a) (behind mid)))
 
 -- the length of an array and its comma, behind the bracket; none where types stand there
 abbrev pub run_length : ℕ → Origin → List Token → ℕ → List Token → Out (Option Term)
@@ -119,9 +127,11 @@ abbrev mutual
   pub run_sort : ℕ → TypeLead → Origin → Layout → List Token → ℕ → Token → List Token → Out Written
   run_sort zero lead x i whole n tok ts = bad tired
   run_sort (suc k) L.Other x i whole n tok ts = bad (stuck_at (tok ∷ ts))
-  run_sort (suc k) L.Name x i whole n tok ts = if opens_at i Square ts then run_inside k None x whole n tok (behind ts) else got (named (place_at x tok) (spelling x tok) no_arguments) ts
+  run_sort (suc k) L.Name x i whole n tok ts =
+      if opens_at i Square ts then run_inside k None x whole n tok (behind ts) else got (named (place_at x tok) (spelling x tok) no_arguments) ts
   run_sort (suc k) L.Array x i whole n tok ts = then_do (run_length k x whole n (behind ts)) (λ length mid. run_inside k length x whole n tok mid)
-  run_sort (suc k) L.Ref x i whole n tok ts = unless_stuck (stays i ts) ts (then_do (run_type k x i whole n ts) (λ a rest. got (ref_to (place_at x tok) a) rest))
+  run_sort (suc k) L.Ref x i whole n tok ts =
+      unless_stuck (stays i ts) ts (then_do (run_type k x i whole n ts) (λ a rest. got (ref_to (place_at x tok) a) rest))
   run_sort (suc k) L.Tuple x i whole n tok ts =
       unless_stuck (opens_at i Square ts) ts (
       if closes_at Square (behind ts) then got (tuple_of (place_at x tok) no_fields) (behind (behind ts)) else
@@ -143,7 +153,8 @@ abbrev mutual
   pub run_arguments : ℕ → Origin → List Token → ℕ → Arguments → List Token → Out Arguments
   run_arguments zero x whole n some ts = bad tired
   run_arguments (suc k) x whole n some ts =
-      if comma_at Brackets ts then then_do (run_type k x Brackets whole n (behind ts)) (λ a mid. run_arguments k x whole n (and_argument some a) mid) else got some ts
+      if comma_at Brackets ts then then_do (run_type k x Brackets whole n (behind ts))
+      (λ a mid. run_arguments k x whole n (and_argument some a) mid) else got some ts
 
   -- a part of a tuple
   pub run_part : ℕ → Origin → List Token → ℕ → List Token → Out Typed
@@ -156,7 +167,8 @@ abbrev mutual
   pub run_parts : ℕ → Origin → List Token → ℕ → Fields → List Token → Out Fields
   run_parts zero x whole n some ts = bad tired
   run_parts (suc k) x whole n some ts =
-      if comma_at Brackets ts then then_do (run_part k x whole n (behind ts)) (λ one mid. run_parts k x whole n (and_field some one.names one.of) mid) else got some ts
+      if comma_at Brackets ts then then_do (run_part k x whole n (behind ts))
+      (λ one mid. run_parts k x whole n (and_field some one.names one.of) mid) else got some ts
 
 -- a whole written type
 abbrev pub run_written : ℕ → Origin → Layout → List Token → Out Written
@@ -175,7 +187,8 @@ run_annotation k x i ts = if colon_at i ts then then_do (run_typed k x i ts) (λ
 -- `=` and a value, where there is one
 abbrev pub run_given : ℕ → Origin → Layout → List Token → Out (Option Term)
 run_given k x i ts =
-    if equals_at i ts then unless_stuck (stays i (behind ts)) (behind ts) (then_do (of_expr (behind ts) (run_expr k x i most_levels (behind ts))) (λ a rest. got (Some a) rest)) else got None ts
+    if equals_at i ts then unless_stuck (stays i (behind ts)) (behind ts)
+    (then_do (of_expr (behind ts) (run_expr k x i most_levels (behind ts))) (λ a rest. got (Some a) rest)) else got None ts
 
 -- its first name goes on in the layout first
 abbrev pub run_defined : ℕ → Origin → (first : Layout) → Layout → List Token → Out Definition
@@ -192,7 +205,8 @@ run_def k x i ts = run_defined k x i i ts
 -- definitions, each first on its line behind n spaces
 abbrev pub run_defs : ℕ → Origin → ℕ → List Definition → List Token → Out (List Definition)
 run_defs zero x n some ts = bad tired
-run_defs (suc k) x n some ts = if stands_at n ts then then_do (run_defined k x Brackets (Lines n) ts) (λ one mid. run_defs k x n (some ++ one ∷ []) mid) else got some ts
+run_defs (suc k) x n some ts =
+    if stands_at n ts then then_do (run_defined k x Brackets (Lines n) ts) (λ one mid. run_defs k x n (some ++ one ∷ []) mid) else got some ts
 
 -- a block of definitions behind more than n spaces
 abbrev pub run_def_block : ℕ → Origin → ℕ → List Token → Out (List Definition)
@@ -205,18 +219,22 @@ run_parent x i ts = if of_at i ts then then_do (run_name x i (behind ts)) (λ na
 
 -- names of fields and their type
 abbrev pub run_field : ℕ → Origin → ℕ → List Token → Out Typed
-run_field k x n ts = then_do (run_declareds k x Brackets (Lines n) ts) (λ names mid. then_do (run_typed k x (Lines n) mid) (λ a rest. got (record { names = names; of = a }) rest))
+run_field k x n ts =
+    then_do (run_declareds k x Brackets (Lines n) ts)
+    (λ names mid. then_do (run_typed k x (Lines n) mid) (λ a rest. got (record { names = names; of = a }) rest))
 
 -- fields of an object, each first on its line behind n spaces
 abbrev pub run_fields : ℕ → Origin → ℕ → Fields → List Token → Out Fields
 run_fields zero x n some ts = bad tired
-run_fields (suc k) x n some ts = if stands_at n ts then then_do (run_field k x n ts) (λ one mid. run_fields k x n (and_field some one.names one.of) mid) else got some ts
+run_fields (suc k) x n some ts =
+    if stands_at n ts then then_do (run_field k x n ts) (λ one mid. run_fields k x n (and_field some one.names one.of) mid) else got some ts
 
 abbrev pub run_field_block : ℕ → Origin → ℕ → List Token → Out Fields
 run_field_block k x n ts = if deeper_at n ts then run_fields k x (level_at ts) no_fields ts else got no_fields ts
 
 abbrev pub run_object : ℕ → Origin → ℕ → Place → Bool → List Token → Out Body
-run_object k x n at is_ref ts = then_do (run_parent x (Lines n) ts) (λ parent mid. then_do (run_field_block k x n mid) (λ all rest. got (object at is_ref parent all) rest))
+run_object k x n at is_ref ts =
+    then_do (run_parent x (Lines n) ts) (λ parent mid. then_do (run_field_block k x n mid) (λ all rest. got (object at is_ref parent all) rest))
 
 -- members behind the first: behind a comma, on the same line, or first on a line behind m spaces
 abbrev pub run_more_members : ℕ → Origin → ℕ → List Name → List Token → Out (List Name)
@@ -263,11 +281,13 @@ run_declaration k x first n ts =
 -- declarations, each first on its line behind n spaces
 abbrev pub run_declarations : ℕ → Origin → ℕ → List Declaration → List Token → Out (List Declaration)
 run_declarations zero x n some ts = bad tired
-run_declarations (suc k) x n some ts = if stands_at n ts then then_do (run_declaration k x Brackets n ts) (λ one mid. run_declarations k x n (some ++ one ∷ []) mid) else got some ts
+run_declarations (suc k) x n some ts =
+    if stands_at n ts then then_do (run_declaration k x Brackets n ts) (λ one mid. run_declarations k x n (some ++ one ∷ []) mid) else got some ts
 
 -- what stands behind `type`: a block of declarations, or one on its line
 abbrev pub run_types : ℕ → Origin → ℕ → List Token → Out (List Declaration)
-run_types k x n ts = if deeper_at n ts then run_declarations k x (level_at ts) [] ts else then_do (run_declaration k x (Lines n) n ts) (λ one rest. got (one ∷ []) rest)
+run_types k x n ts =
+    if deeper_at n ts then run_declarations k x (level_at ts) [] ts else then_do (run_declaration k x (Lines n) n ts) (λ one rest. got (one ∷ []) rest)
 
 -- ---- heads of procedures
 
@@ -281,7 +301,8 @@ run_param k x ts =
 abbrev pub run_more_params : ℕ → Origin → List Parameters → List Token → Out (List Parameters)
 run_more_params zero x some ts = bad tired
 run_more_params (suc k) x some ts =
-    if separator_at ts then then_do (run_param k x (behind ts)) (λ one mid. run_more_params k x (some ++ one ∷ []) mid) else unless_stuck (closes_at Round ts) ts (got some (behind ts))
+    if separator_at ts then then_do (run_param k x (behind ts)) (λ one mid. run_more_params k x (some ++ one ∷ []) mid) else unless_stuck
+    (closes_at Round ts) ts (got some (behind ts))
 
 -- parameters in parentheses, where there are any
 abbrev pub run_params : ℕ → Origin → Layout → List Token → Out (List Parameters)

@@ -115,7 +115,7 @@ mutual
   ends_signed zero op x i n tok ts le = absurd (omega (arith, le))
   ends_signed (suc k) None x i n tok ts le =
       ends_then _ (omega arith) (ends_primary k x i (at_start i) (suc n) (tok ∷ ts) (omega (arith, le)))
-      (λ a rest lt. ends_unless (no_command_on x i rest) rest (e_read (omega (arith, lt))))
+      (λ a rest lt. ends_unless (no_command_on x i rest) rest (e_read lt))
   ends_signed (suc k) (Some op) x i n tok ts le =
       ends_unless (stays i ts) ts (ends_then _ (omega arith) (ends_unary k x (past_start i) n ts (omega (arith, le))) (λ a rest lt. e_read (omega (arith, lt))))
 
@@ -224,12 +224,11 @@ mutual
   ends_value : (k : ℕ) (x : Origin) (i : Layout) (n : ℕ) (ts : List Token) → 64 * length ts + 22 ≤ k → Ends (length ts) (run_value k x i n ts)
   ends_value zero x i n ts le = absurd (omega (arith, le))
   ends_value (suc k) x i n ts le =
-      let h = behind_within ts in ends_unless (colon_at i ts) ts
-      (ends_if (stays i (behind ts)) (wider (omega (arith, h)) (ends_expr k x i n (behind ts) (omega (arith, le, h))))
-      (wider (omega (arith, h)) (ends_own_line k x i n (behind ts) (omega (arith, le, h)))))
+      let h = behind_within ts in
+      ends_unless (colon_at i ts) ts (wider h (ends_if (stays i (behind ts)) (ends_expr k x i n (behind ts) (omega (arith, le, h)))
+      (ends_own_line k x i n (behind ts) (omega (arith, le, h)))))
 
-  ends_own_line : (k : ℕ) (x : Origin) (i : Layout) (n : ℕ) (ts : List Token) → 64 * length ts + 21 ≤ k
-      → Ends (length ts) (run_own_line k x i n ts)
+  ends_own_line : (k : ℕ) (x : Origin) (i : Layout) (n : ℕ) (ts : List Token) → 64 * length ts + 21 ≤ k → Ends (length ts) (run_own_line k x i n ts)
   ends_own_line zero x i n ts le = absurd (omega (arith, le))
   ends_own_line (suc k) x i n ts le =
       ends_unless (deeper_line_at i ts) ts (ends_then _ (omega arith) (ends_expr k x (line_layout i ts) n ts (omega (arith, le)))
@@ -304,7 +303,7 @@ mutual
       (λ one mid lt. wider (omega (arith, lt)) (ends_ofs k x i n (and_choice some (place_at x tok) one.tests one.value) mid (omega (arith, le, lt)))))
       (e_read (omega arith))
 
-  ends_otherwise : (k : ℕ) (x : Origin) (i : Layout) (n : ℕ) (at : Place) (s : Term) (all : Choices) (ts : List Token) → 64 * length ts + 23 ≤ k
+  ends_otherwise : (k : ℕ) (x : Origin) (i : Layout) (n : ℕ) (at : Place) (s : Term) (all : Choices) (ts : List Token) → 64 * length ts + 24 ≤ k
       → Ends (suc (length ts)) (run_otherwise k x i n at s all ts)
   ends_otherwise zero x i n at s all ts le = absurd (omega (arith, le))
   ends_otherwise (suc k) x i n at s all ts le =

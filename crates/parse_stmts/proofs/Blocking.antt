@@ -12,8 +12,7 @@ use Rattle.parse_exprs.specs.Look.{Origin, place_at, stays, colon_at, branch_at,
 use Rattle.parse_decls.specs.Look.{behind, deeper_at, stands_at, level_at}
 use Rattle.parse_decls.specs.Outcome.{Out, got, bad, then_do, too_deep, stuck_at, unless_stuck, Settles}
 use Rattle.parse_decls.specs.Gives.{Told, Fails, Leads}
-use Rattle.parse_decls.proofs.Settling.{settles_suc, settles_is, settles_got, settles_then, settles_bad, settles_unless, settles_stuck, settles_if, settles_else}
-use Rattle.parse_decls.proofs.Coming.{told_fails, fails_by}
+use Rattle.parse_decls.proofs.ForCallers.{settles_suc, settles_is, settles_got, settles_then, settles_bad, settles_unless, settles_stuck, settles_if, settles_else, told_fails, fails_by}
 use Rattle.parse_stmts.specs.declared.look.Lead.{Lead}
 use Rattle.parse_stmts.specs.declared.look.Lead.TheVariants as L
 use Rattle.parse_stmts.specs.Look.{chooses, opens_block, lead, on_line_at, ends_at, is_except, is_finally}

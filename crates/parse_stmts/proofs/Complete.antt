@@ -8,7 +8,7 @@ use Rattle.parse_exprs.specs.declared.layout.Layout.TheVariants.{Lines}
 use Rattle.parse_exprs.specs.Look.{Origin, place_at, branch_at, is_elif, is_of}
 use Rattle.parse_decls.specs.Outcome.{Out, got, Settles}
 use Rattle.parse_decls.specs.Grammar.{e_first}
-use Rattle.parse_decls.proofs.Settling.{settles_got, settles_then, settles_unless, settles_if, settles_else}
+use Rattle.parse_decls.proofs.ForCallers.{settles_got, settles_then, settles_unless, settles_if, settles_else}
 use Rattle.parse_stmts.specs.declared.look.Lead.{Lead}
 use Rattle.parse_stmts.specs.declared.look.Lead.TheVariants as L
 use Rattle.parse_stmts.specs.Look.{chooses, lead, is_except}

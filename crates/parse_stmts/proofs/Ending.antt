@@ -10,8 +10,8 @@ use Rattle.nim_tree.specs.declared.stmt.Binding.TheVariants as B
 use Rattle.nim_tree.specs.Terms.{Term, Parts, no_parts, part, and_part, levels}
 use Rattle.nim_tree.specs.Statements.{Statements, empty, and_statement, Branches, no_branches, Handlers, no_handlers}
 use Rattle.parse_exprs.specs.declared.layout.Layout.{Layout}
-use Rattle.parse_exprs.specs.declared.layout.Layout.TheVariants.{Brackets, Lines}
-use Rattle.parse_exprs.specs.Look.{Origin, place_at, goes_on, stays, colon_at, comma_at, past_colon, dots_at, expr_at, lead_at, branch_at, is_elif, is_else, is_of, first_of_at, is_punct}
+use Rattle.parse_exprs.specs.declared.layout.Layout.TheVariants.{Brackets, Lines, Start}
+use Rattle.parse_exprs.specs.Look.{Origin, place_at, goes_on, stays, colon_at, comma_at, past_colon, dots_at, expr_at, lead_at, branch_at, is_elif, is_else, is_of, first_of_at, is_punct, operand_on}
 use Rattle.parse_exprs.specs.Ends as N
 use Rattle.parse_exprs.specs.Outcome as E
 use Rattle.parse_exprs.proofs.ForCallers.{exprs_end, callees_end}
@@ -20,12 +20,13 @@ use Rattle.parse_decls.specs.Look.{behind, deeper_at, stands_at, level_at, equal
 use Rattle.parse_decls.specs.Outcome.{Why, too_deep, Out, got, bad, then_do, stuck_at}
 use Rattle.parse_decls.specs.Run.{most_levels}
 use Rattle.parse_decls.proofs.ForCallers.{names_end, definitions_end, definition_blocks_end, type_declarations_end, heads_end, wider, ends_then, ends_stuck, ends_unless, ends_if, ends_of, ends_expr, behind_within, ends_name}
+use Rattle.parse_stmts.specs.declared.alone.TheConstants.{MOST_ALONE}
 use Rattle.parse_stmts.specs.declared.look.Lead.{Lead}
 use Rattle.parse_stmts.specs.declared.look.Lead.TheVariants as L
 use Rattle.parse_stmts.specs.declared.look.Simple.{Simple}
 use Rattle.parse_stmts.specs.declared.look.Simple.TheVariants as S
 use Rattle.parse_stmts.specs.Handling.{and_caught, are_some, have_some, hold_some}
-use Rattle.parse_stmts.specs.Look.{assigned_by, branch_level, end_at, on_line_at, ends_at, opens_block, line_over, lead, simple_of, atom_at, operand_on, assign_on, is_in, is_as, is_except, is_finally, word_on, below_at, path_at}
+use Rattle.parse_stmts.specs.Look.{assigned_by, branch_level, end_at, on_line_at, ends_at, opens_block, line_over, lead, simple_of, atom_at, assign_on, is_in, is_as, is_except, is_finally, word_on, below_at, path_at}
 use Rattle.parse_stmts.specs.Run.{run_value, run_here, run_optional, run_module_name, run_more_modules, run_operands, run_command, run_assigned, run_expression, run_plain, run_bound, run_simple_by, run_simple, run_line, run_label, run_labels, run_course, run_types_of, run_binding, alone_in, run_alone, run_statements, run_statement, run_led, run_choice, run_compound, run_body, run_block, run_if, run_branch, run_elifs, run_else, run_case, run_branches, run_of, run_ofs, run_try, run_handler, run_handlers, run_finally, run_proc, run_module}
 
 -- ---- expressions
@@ -80,7 +81,7 @@ ends_expression k x n ts le =
 ends_plain : (k : ℕ) (x : Origin) (n : ℕ) (ts : List Token) → 64 * length ts + 32 ≤ k → Ends (length ts) (run_plain k x n ts)
 ends_plain k x n ts le =
     ends_if (atom_at x ts) (ends_then _ (ends_of ts (omega arith) (callees_end x n ts k le)) (λ a mid lt.
-    ends_if (operand_on x n mid) (wider (omega (arith, lt)) (ends_command k x n a mid (omega (arith, le, lt)))) (ends_expression k x n ts le)))
+    ends_if (operand_on x (Lines n) mid) (wider (omega (arith, lt)) (ends_command k x n a mid (omega (arith, le, lt)))) (ends_expression k x n ts le)))
     (ends_expression k x n ts le)
 
 ends_bound : (k : ℕ) (binding : Binding) (x : Origin) (n : ℕ) (at : Place) (ts : List Token) → 64 * length ts + 64 ≤ k
@@ -180,7 +181,7 @@ finds_in n whole (N.e_deep some) = f_none
 finds_in n whole N.e_stuck = f_none
 
 finds_alone : (k : ℕ) (x : Origin) (n : ℕ) (ts : List Token) → 64 * length ts + 32 ≤ k → Finds (length ts) (run_alone k x n ts)
-finds_alone k x n ts le = finds_in n ts (exprs_end x (Lines n) 65 ts k le)
+finds_alone k x n ts le = finds_in n ts (exprs_end x (Start n) MOST_ALONE ts k le)
 
 ends_found : {Y : Type 0} {m n : ℕ} {o : Out (Option Term)} (go : Option Term → List Token → Out Y) → Finds m o
     → ((a : Term) (rest : List Token) → length rest < m → Ends n (go (Some a) rest)) → ((rest : List Token) → Ends n (go None rest)) → Ends n (then_do o go)

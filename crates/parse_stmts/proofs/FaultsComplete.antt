@@ -10,8 +10,7 @@ use Rattle.parse_exprs.specs.Look.{Origin, place_at, first_of_at}
 use Rattle.parse_decls.specs.Look.{deeper_at}
 use Rattle.parse_decls.specs.Outcome.{Why, too_deep, stuck_at, bad, Settles}
 use Rattle.parse_decls.specs.Grammar.{e_first}
-use Rattle.parse_decls.proofs.Settling.{settles_got, settles_is, settles_then, settles_bad, settles_unless, settles_stuck, settles_if, settles_else}
-use Rattle.parse_decls.proofs.Productions.{settles_why}
+use Rattle.parse_decls.proofs.ForCallers.{settles_got, settles_is, settles_then, settles_bad, settles_unless, settles_stuck, settles_if, settles_else, settles_why}
 use Rattle.parse_stmts.specs.declared.look.Lead.{Lead}
 use Rattle.parse_stmts.specs.declared.look.Lead.TheVariants as L
 use Rattle.parse_stmts.specs.Look.{chooses, opens_block, on_line_at, lead}

@@ -11,12 +11,7 @@ use Rattle.parse_exprs.proofs.ForCallers.{sound_primary, complete_primary, fault
 use Rattle.parse_decls.specs.Outcome.{bad, of_expr, Settles}
 use Rattle.parse_decls.specs.Run.{most_levels}
 use Rattle.parse_decls.specs.Faults.{of_fault}
-use Rattle.parse_decls.proofs.Exprs.{term}
-use Rattle.parse_decls.proofs.NameLists.{name, names}
-use Rattle.parse_decls.proofs.Definitions.{definition, definition_block}
-use Rattle.parse_decls.proofs.Declarations.{declarations}
-use Rattle.parse_decls.proofs.Heads.{head}
-use Rattle.parse_decls.proofs.Productions.{settles_why}
+use Rattle.parse_decls.proofs.ForCallers.{term, name, names, definition, definition_block, declarations, head, settles_why}
 use Rattle.parse_stmts.specs.Grammar.{IsCalled}
 use Rattle.parse_stmts.specs.Faults.{FaultsCalled}
 use Rattle.parse_stmts.proofs.Means.{Means, m_got, m_bad, m_tired, Told, told}

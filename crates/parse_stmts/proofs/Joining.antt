@@ -15,8 +15,7 @@ use Rattle.parse_exprs.specs.Look.{Origin, place_at, stays, branch_at, first_of_
 use Rattle.parse_exprs.specs.Input.{from_at}
 use Rattle.parse_decls.specs.Outcome.{Out, got, bad, then_do, stuck_at, unless_stuck, Settles}
 use Rattle.parse_decls.specs.Gives.{Fails, Leads}
-use Rattle.parse_decls.proofs.Settling.{settles_suc, settles_got, settles_unless, settles_stuck, settles_if, settles_else}
-use Rattle.parse_decls.proofs.Coming.{fails_by}
+use Rattle.parse_decls.proofs.ForCallers.{settles_suc, settles_got, settles_unless, settles_stuck, settles_if, settles_else, fails_by}
 use Rattle.parse_stmts.specs.Look.{is_except}
 use Rattle.parse_stmts.specs.Run.{run_line, run_statements, run_branch, run_label, run_labels, run_body, run_of, run_ofs, run_else, run_branches, branch_level, have_some, hold_some, Caught, run_handler, run_handlers, and_caught, are_some}
 use Rattle.parse_stmts.specs.Blocks.{caught_of}

@@ -12,8 +12,7 @@ use Rattle.parse_decls.specs.Look.{behind}
 use Rattle.parse_decls.specs.Outcome.{Why, Out, got, bad, Settles}
 use Rattle.parse_decls.specs.Grammar.{e_none, e_some}
 use Rattle.parse_decls.specs.Faults.{FaultsEach, f_here, f_later, f_first, f_next}
-use Rattle.parse_decls.proofs.Settling.{settles_got, settles_is, settles_then, settles_bad, settles_unless, settles_stuck, settles_if, settles_else}
-use Rattle.parse_decls.proofs.Productions.{settles_why}
+use Rattle.parse_decls.proofs.ForCallers.{settles_got, settles_is, settles_then, settles_bad, settles_unless, settles_stuck, settles_if, settles_else, settles_why}
 use Rattle.parse_stmts.specs.Look.{atom_at}
 use Rattle.parse_stmts.specs.Run.{run_here, run_optional, run_module_name, run_more_modules, run_operands, run_assigned, run_expression, run_plain, run_simple_by, run_simple, run_line, run_label, run_labels, run_course, run_binding}
 use Rattle.parse_stmts.specs.Grammar.{IsHere, Optional, NoCommand, n_other, n_alone, IsModuleName, MoreModules, m_over, m_next, MoreOperands, o_over, o_next, IsPlain, p_command, p_value, p_assign, b_let, b_var, b_const, IsSimple, i_discard, i_return, i_raise, i_break, i_continue, i_import, i_define, i_plain, IsLine, l_last, l_more, IsLabel, a_one, a_range, MoreLabels, a_over, a_next, IsCourse, f_each, f_up_to, f_below, Alias}

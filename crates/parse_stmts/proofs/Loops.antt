@@ -7,7 +7,7 @@ use Rattle.parse_exprs.specs.declared.layout.Layout.TheVariants.{Brackets, Lines
 use Rattle.parse_exprs.specs.Look.{Origin, comma_at}
 use Rattle.parse_decls.specs.Look.{behind}
 use Rattle.parse_decls.specs.Outcome.{got}
-use Rattle.parse_decls.proofs.Repeats.{Loop}
+use Rattle.parse_decls.proofs.ForCallers.{Loop}
 use Rattle.parse_stmts.specs.Run.{run_value, run_operands, run_module_name, run_more_modules, run_label, run_labels}
 
 abbrev pub operands_loop : Origin → ℕ → Loop Parts Term Parts

@@ -3,8 +3,7 @@ use Rattle.std.proofs.Common.{◌≡◌, ℕ, suc, List, Bool, true, false, refl
 use Rattle.std.specs.Prelude.{◌⊎◌, if◌then◌else◌}
 use Rattle.indent_scanner.specs.declared.token.Token.{Token}
 use Rattle.parse_decls.specs.Outcome.{Why, tired, stuck_at, Out, got, bad, then_do, unless_stuck, Settles}
-use Rattle.parse_decls.proofs.Settling.{settles_suc}
-use Rattle.parse_decls.proofs.Productions.{Parses}
+use Rattle.parse_decls.proofs.ForCallers.{settles_suc, Parses}
 
 -- what is read is D, what it refuses is F, or it is tired
 pub data Means {X : Type 0} (D : X → List Token → Type 0) (F : Why → Type 0) : Out X → Type 0 where

@@ -7,8 +7,7 @@ use Rattle.parse_exprs.specs.Look.{Origin}
 use Rattle.parse_decls.specs.Look.{level_at}
 use Rattle.parse_decls.specs.Outcome.{Out, got, then_do, unless_stuck, stuck_at, Settles}
 use Rattle.parse_decls.specs.Gives.{Told, Fails, Leads}
-use Rattle.parse_decls.proofs.Settling.{settles_got}
-use Rattle.parse_decls.proofs.Coming.{fails_then, fails_stuck, fails_leads, leads_then, leads_unless}
+use Rattle.parse_decls.proofs.ForCallers.{settles_got, fails_then, fails_stuck, fails_leads, leads_then, leads_unless}
 use Rattle.parse_stmts.specs.Look.{end_at}
 use Rattle.parse_stmts.specs.Run.{run_statements, run_module}
 

@@ -15,7 +15,7 @@ use Rattle.nim_tree.specs.Weights.{weight, weight_in, course_weight, statement_w
 use Rattle.parse_exprs.specs.Look.{Origin, place_at, lead_at, is_punct, is_elif, is_else, is_of}
 use Rattle.parse_exprs.proofs.ForCallers.{count_bytes}
 use Rattle.parse_decls.specs.Grammar.{e_none, e_some}
-use Rattle.parse_decls.proofs.Spans.{names_takes, declarations_takes, head_takes}
+use Rattle.parse_decls.proofs.ForCallers.{names_takes, declarations_takes, head_takes}
 use Rattle.parse_stmts.specs.declared.look.Lead.{Lead}
 use Rattle.parse_stmts.specs.declared.look.Lead.TheVariants as L
 use Rattle.parse_stmts.specs.declared.look.Simple.{Simple}

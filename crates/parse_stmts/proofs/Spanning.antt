@@ -19,7 +19,7 @@ use Rattle.parse_exprs.proofs.ForCallers.{Free, stop, step, expr_spans, primary_
 use Rattle.parse_exprs.specs.Counts.{unit, count}
 use Rattle.parse_decls.specs.Look.{behind, equals_at, stands_at, level_at}
 use Rattle.parse_decls.specs.Grammar.{Each, e_over, e_next, e_first, e_none, e_some, IsName, n_name, Declareds, IsDefined, IsDefinitionBlock, Given}
-use Rattle.parse_decls.proofs.Spans.{Takes, takes_then, declareds_takes, all_pragmas_takes, annotation_takes, definition_takes}
+use Rattle.parse_decls.proofs.ForCallers.{Takes, takes_then, declareds_takes, all_pragmas_takes, annotation_takes, definition_takes}
 use Rattle.parse_exprs.specs.declared.input.Lead.{Lead as ExprLead}
 use Rattle.parse_exprs.specs.declared.input.Lead.TheVariants as E
 use Rattle.parse_stmts.specs.Look.{assign_on, assign_of, word_on, below_at}

@@ -11,8 +11,7 @@ use Rattle.parse_exprs.specs.Input.{from_at}
 use Rattle.parse_decls.specs.Look.{behind}
 use Rattle.parse_decls.specs.Outcome.{Out, got, stuck_at, unless_stuck, Settles}
 use Rattle.parse_decls.specs.Gives.{Told, Fails, Leads}
-use Rattle.parse_decls.proofs.Settling.{settles_suc, settles_is, settles_then, settles_bad, settles_unless, settles_stuck, settles_if, settles_else}
-use Rattle.parse_decls.proofs.Coming.{told_fails, fails_by}
+use Rattle.parse_decls.proofs.ForCallers.{settles_suc, settles_is, settles_then, settles_bad, settles_unless, settles_stuck, settles_if, settles_else, told_fails, fails_by}
 use Rattle.parse_stmts.specs.declared.look.Simple.{Simple}
 use Rattle.parse_stmts.specs.Look.{simple_of, word_on}
 use Rattle.parse_stmts.specs.Run.{run_simple, run_simple_by, run_line}

@@ -8,8 +8,7 @@ use Rattle.nim_tree.specs.Statements.{Statements}
 use Rattle.parse_exprs.specs.Look.{Origin, place_at, next_at}
 use Rattle.parse_exprs.specs.Parsed.{IsFirst}
 use Rattle.parse_decls.specs.Outcome.{Why, too_deep, left_out, stuck, got, bad, Settles}
-use Rattle.parse_decls.proofs.Settling.{settles_one, got_one, got_bad}
-use Rattle.parse_decls.proofs.Productions.{bad_one}
+use Rattle.parse_decls.proofs.ForCallers.{settles_one, got_one, got_bad, bad_one}
 use Rattle.parse_stmts.specs.Run.{run_module}
 use Rattle.parse_stmts.specs.Grammar.{IsModule}
 use Rattle.parse_stmts.specs.Faults.{FaultsModule}

@@ -92,12 +92,14 @@ module _ (live : Lives) (hooks : List HookAt) (c : ℕ) where
       let at : s.pc ≡ code_at + (off + 4) = next_place r.state.pc off h.place (omega (arith, h.code.0, h.small)) in
       let one : Comes (step live hooks) c 1 r a (onto r s) a =
       obeys live hooks c r off i (is ++ rest) s a h (obey_plain r.state (next_pc r.state) (word_of i) i plain.0) (quiet s.pc (omega arith) (omega arith)) in
-      let rest_quiet = quiet_less live hooks (code_at + off) (code_at + (off + 4)) (code_at + (off + 4 + 4 * length is)) (code_at + (off + 4 * length (i ∷ is))) (omega arith) (omega arith) quiet in
+      let rest_quiet = quiet_less live hooks (code_at + off) (code_at + (off + 4)) (code_at + (off + 4 + 4 * length is))
+      (code_at + (off + 4 * length (i ∷ is))) (omega arith) (omega arith) quiet in
       let more = plain_run is rest (onto r s) (off + 4) a plain.1 (before_next r.state s off i (is ++ rest) h refl refl) rest_quiet in
       let end : code_at + (off + 4 + 4 * length is) ≡ code_at + (off + 4 * length (i ∷ is)) = omega arith in
       let count : 1 + length is ≡ length (i ∷ is) = omega arith in
       subst (λ n. Comes (step live hooks) c n r a (onto r (after_plain (i ∷ is) r.state off)) a) count
-      (subst (λ pc. Comes (step live hooks) c (1 + length is) r a (onto r (moved r.state (regs_after (i ∷ is) r.state.regs) pc)) a) end (comes_on (step live hooks) c 1 (length is) r (onto r s) _ a a a one more))
+      (subst (λ pc. Comes (step live hooks) c (1 + length is) r a (onto r (moved r.state (regs_after (i ∷ is) r.state.regs) pc)) a) end
+      (comes_on (step live hooks) c 1 (length is) r (onto r s) _ a a a one more))
 
 -- ---- constants
 

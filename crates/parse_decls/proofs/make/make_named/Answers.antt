@@ -1,4 +1,4 @@
-use Rattle.nim_tree.proofs.TypeRows.{named_type}
+use Rattle.nim_tree.proofs.ForCallers.{named_type}
 use Rattle.parse_decls.proofs.make.make_named.Goals as goal
 
 pub returns : goal.returns

@@ -1,4 +1,4 @@
-use Rattle.nim_tree.proofs.TypeRows.{tuple_type}
+use Rattle.nim_tree.proofs.ForCallers.{tuple_type}
 use Rattle.parse_decls.proofs.make.make_tuple.Goals as goal
 
 pub returns : goal.returns

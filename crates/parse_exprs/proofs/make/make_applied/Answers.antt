@@ -1,7 +1,7 @@
 use Rattle.std.proofs.Common.{sym, ap, ap₂, ◌∙◌}
 use Rattle.std.specs.Prelude.{Some}
 use Rattle.nim_tree.specs.Terms.{term_of, parts_of, call, index}
-use Rattle.nim_tree.proofs.Rows.{called, indexed}
+use Rattle.nim_tree.proofs.ForCallers.{called, indexed}
 use Rattle.parse_exprs.specs.Look.{applied}
 use Rattle.parse_exprs.proofs.make.make_applied.Goals as goal
 

@@ -1,6 +1,6 @@
 use Rattle.std.proofs.Common.{ap, ◌∙◌}
 use Rattle.nim_tree.specs.Terms.{term_of, choices_of, case_term}
-use Rattle.nim_tree.proofs.Rows.{selected}
+use Rattle.nim_tree.proofs.ForCallers.{selected}
 use Rattle.parse_exprs.proofs.make.make_case.Goals as goal
 
 pub returns-in-Ok-clause-ok : goal.returns-in-Ok-clause-ok

@@ -1,6 +1,6 @@
 use Rattle.std.proofs.Common.{ap₂, ◌∙◌}
 use Rattle.nim_tree.specs.Terms.{term_of, choices_of, case_else}
-use Rattle.nim_tree.proofs.Rows.{selected_else}
+use Rattle.nim_tree.proofs.ForCallers.{selected_else}
 use Rattle.parse_exprs.proofs.make.make_case_else.Goals as goal
 
 pub returns-in-Ok-new-clause-ok : goal.returns-in-Ok-new-clause-ok

@@ -2,7 +2,7 @@ use Rattle.std.proofs.Common.{◌≡◌, sym, ap, ap₂, ◌∙◌, length}
 use Rattle.std.specs.Prelude.{Some}
 use Rattle.std.specs.Vec.{vec_len}
 use Rattle.nim_tree.specs.Terms.{parts_of}
-use Rattle.nim_tree.proofs.Rows.{listed}
+use Rattle.nim_tree.proofs.ForCallers.{listed}
 use Rattle.parse_exprs.specs.Look.{grouped}
 use Rattle.parse_exprs.proofs.Making.{is_several}
 use Rattle.parse_exprs.proofs.make.make_group.Goals as goal

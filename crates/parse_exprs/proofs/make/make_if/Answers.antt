@@ -1,6 +1,6 @@
 use Rattle.std.proofs.Common.{ap, ◌∙◌}
 use Rattle.nim_tree.specs.Terms.{term_of, choices_of, if_term}
-use Rattle.nim_tree.proofs.Rows.{chosen}
+use Rattle.nim_tree.proofs.ForCallers.{chosen}
 use Rattle.parse_exprs.proofs.make.make_if.Goals as goal
 
 pub returns-in-Ok-clause-ok : goal.returns-in-Ok-clause-ok

@@ -3,7 +3,7 @@ use Rattle.std.specs.Prelude.{Some}
 use Rattle.std.specs.Vec.{vec_len}
 use Rattle.std.proofs.lemmas.Bool.{eqb-false}
 use Rattle.nim_tree.specs.Terms.{parts_of}
-use Rattle.nim_tree.proofs.Rows.{constructed}
+use Rattle.nim_tree.proofs.ForCallers.{constructed}
 use Rattle.parse_exprs.specs.Look.{object}
 use Rattle.parse_exprs.proofs.Making.{is_object}
 use Rattle.parse_exprs.proofs.make.make_object.Goals as goal

@@ -1,4 +1,4 @@
-use Rattle.nim_tree.proofs.Rows.{sequenced}
+use Rattle.nim_tree.proofs.ForCallers.{sequenced}
 use Rattle.parse_exprs.proofs.make.make_sequence.Goals as goal
 
 pub returns : goal.returns

@@ -2,7 +2,7 @@ use Rattle.std.proofs.Common.{◌≡◌, sym, ap, ◌∙◌, length}
 use Rattle.std.specs.Prelude.{Some}
 use Rattle.std.specs.Vec.{vec_len}
 use Rattle.std.proofs.lemmas.Bool.{eqb-false}
-use Rattle.nim_tree.proofs.Rows.{tupled}
+use Rattle.nim_tree.proofs.ForCallers.{tupled}
 use Rattle.parse_exprs.proofs.Making.{is_tuple}
 use Rattle.parse_exprs.proofs.make.make_tuple.Goals as goal
 

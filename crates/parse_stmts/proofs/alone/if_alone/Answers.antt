@@ -1,6 +1,6 @@
 use Rattle.std.proofs.Common.{sym, ◌∙◌}
 use Rattle.parse_exprs.specs.Input.{origin_of, from_at}
-use Rattle.parse_decls.proofs.Coming.{told_fails}
+use Rattle.parse_decls.proofs.ForCallers.{told_fails}
 use Rattle.parse_stmts.proofs.OnlyExpr.{deep_settles}
 use Rattle.parse_stmts.proofs.alone.if_alone.Goals as goal
 

@@ -7,7 +7,7 @@ use Rattle.nim_tree.specs.declared.stmt.Stmt.{Stmt}
 use Rattle.nim_tree.specs.declared.stmt.Handler.{Handler}
 use Rattle.nim_tree.specs.Terms.{term_of}
 use Rattle.nim_tree.specs.Statements.{empty, and_statement, no_branches, and_branch, branches, selects, repeats, counts, tries, defers, proclaims, statement_of, statements_of, handlers_of, head_of, course_of}
-use Rattle.nim_tree.proofs.StmtRows.{conditional, selected, repeated, counted, tried, deferred, proclaimed}
+use Rattle.nim_tree.proofs.ForCallers.{conditional, selected_statement as selected, repeated, counted, tried, deferred, proclaimed}
 use Rattle.parse_exprs.specs.declared.layout.Layout.TheVariants.{Lines}
 use Rattle.parse_exprs.specs.Look.{place_at}
 use Rattle.parse_exprs.specs.Input.{origin_of, from_at}
@@ -15,8 +15,7 @@ use Rattle.parse_decls.specs.Look.{behind}
 use Rattle.parse_decls.specs.Outcome.{got, bad, Settles}
 use Rattle.parse_decls.specs.Run.{run_name, run_head}
 use Rattle.parse_decls.specs.Gives.{Fails, Found, Comes}
-use Rattle.parse_decls.proofs.Settling.{settles_stuck}
-use Rattle.parse_decls.proofs.Coming.{told_fails, fails_then, fails_leads, comes_leads, leads_suc, leads_then, leads_on, leads_if, leads_else, leads_unless, found}
+use Rattle.parse_decls.proofs.ForCallers.{settles_stuck, told_fails, fails_then, fails_leads, comes_leads, leads_suc, leads_then, leads_on, leads_if, leads_else, leads_unless, found}
 use Rattle.parse_stmts.specs.declared.look.Lead.TheVariants as L
 use Rattle.parse_stmts.specs.Run.{run_here, run_course, run_binding, run_statements, run_compound, run_body, run_block, run_if, run_branch, run_case, run_branches, run_try, run_proc, choice_run, are_some, have_some, hold_some}
 use Rattle.parse_stmts.specs.Blocks.{block_of, chosen_of}

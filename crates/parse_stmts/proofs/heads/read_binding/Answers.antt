@@ -3,7 +3,7 @@ use Rattle.std.proofs.lemmas.Result.{err_from_is_err_and}
 use Rattle.parse_exprs.specs.declared.layout.Layout.TheVariants.{Lines}
 use Rattle.parse_exprs.specs.Input.{origin_of}
 use Rattle.parse_decls.specs.Run.{run_name}
-use Rattle.parse_decls.proofs.Coming.{fails_then, fails_leads, leads_if}
+use Rattle.parse_decls.proofs.ForCallers.{fails_then, fails_leads, leads_if}
 use Rattle.parse_stmts.proofs.Steps.{fails_at}
 use Rattle.parse_stmts.proofs.heads.read_binding.Goals as goal
 

@@ -1,7 +1,7 @@
 use Rattle.std.proofs.Common.{suc, ap, ◌∙◌, sym, arith}
 use Rattle.std.proofs.lemmas.Result.{err_from_is_err_and}
 use Rattle.parse_exprs.specs.Input.{origin_of}
-use Rattle.parse_decls.proofs.Coming.{fails_then, fails_leads, leads_then, leads_on, leads_if, leads_else, found}
+use Rattle.parse_decls.proofs.ForCallers.{fails_then, fails_leads, leads_then, leads_on, leads_if, leads_else, found}
 use Rattle.parse_stmts.specs.Run.{run_here}
 use Rattle.parse_stmts.proofs.Steps.{fails_at, settles_at}
 use Rattle.parse_stmts.proofs.heads.read_course.Goals as goal

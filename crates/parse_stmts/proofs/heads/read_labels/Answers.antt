@@ -2,8 +2,7 @@ use Rattle.std.proofs.Common.{◌≡◌, suc, ap, ◌∙◌, refl, arith}
 use Rattle.std.proofs.lemmas.Result.{err_from_is_err_and}
 use Rattle.nim_tree.specs.Terms.{parts_of}
 use Rattle.parse_exprs.specs.Input.{origin_of}
-use Rattle.parse_decls.proofs.Coming.{found}
-use Rattle.parse_decls.proofs.Repeats.{loop_on, loop_fails, loop_ends}
+use Rattle.parse_decls.proofs.ForCallers.{found, loop_on, loop_fails, loop_ends}
 use Rattle.parse_stmts.proofs.Lists.{one_more_part}
 use Rattle.parse_stmts.proofs.Loops.{labels_loop}
 use Rattle.parse_stmts.proofs.heads.read_labels.Goals as goal

@@ -2,7 +2,7 @@ use Rattle.std.proofs.Common.{suc, ap, ◌∙◌, sym, refl, arith}
 use Rattle.std.proofs.lemmas.Result.{err_from_is_err_and}
 use Rattle.nim_tree.specs.Statements.{statements_of}
 use Rattle.parse_exprs.specs.Input.{from_at, origin_of}
-use Rattle.parse_decls.proofs.Coming.{told_fails, fails_then, fails_leads, leads_then, leads_on, leads_if, leads_else, found}
+use Rattle.parse_decls.proofs.ForCallers.{told_fails, fails_then, fails_leads, leads_then, leads_on, leads_if, leads_else, found}
 use Rattle.parse_stmts.proofs.Lists.{one_more_statement}
 use Rattle.parse_stmts.proofs.Steps.{line_fails, line_more, line_ends, line_on, line_stuck, fails_at, settles_at}
 use Rattle.parse_stmts.proofs.line.read_line.Goals as goal

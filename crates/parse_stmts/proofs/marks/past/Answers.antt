@@ -1,5 +1,5 @@
 use Rattle.std.proofs.Common.{◌+◌, suc, arith}
-use Rattle.parse_decls.proofs.Coming.{behind_at}
+use Rattle.parse_decls.proofs.ForCallers.{behind_at}
 use Rattle.parse_stmts.proofs.marks.past.Goals as goal
 
 pub returns-then-at-input : goal.returns-then-at-input

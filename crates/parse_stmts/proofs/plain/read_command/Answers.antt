@@ -1,6 +1,6 @@
 use Rattle.std.proofs.Common.{suc, arith}
 use Rattle.std.proofs.lemmas.Result.{err_from_is_err_and}
-use Rattle.parse_decls.proofs.Coming.{fails_then, fails_leads, leads_then, leads_on, found}
+use Rattle.parse_decls.proofs.ForCallers.{fails_then, fails_leads, leads_then, leads_on, found}
 use Rattle.parse_stmts.proofs.plain.read_command.Goals as goal
 
 pub returns-in_err-first : goal.returns-in_err-first

@@ -6,7 +6,7 @@ use Rattle.nim_tree.specs.Statements.{statement_of}
 use Rattle.parse_exprs.specs.Look.{lead_at}
 use Rattle.parse_exprs.specs.Input.{from_at, origin_of}
 use Rattle.parse_decls.specs.Gives.{Comes}
-use Rattle.parse_decls.proofs.Coming.{comes_leads, leads_then}
+use Rattle.parse_decls.proofs.ForCallers.{comes_leads, leads_then}
 use Rattle.parse_stmts.specs.Look.{assign_on}
 use Rattle.parse_stmts.specs.Run.{assigned_by, run_assigned}
 use Rattle.parse_stmts.proofs.plain.read_expression.Goals as goal

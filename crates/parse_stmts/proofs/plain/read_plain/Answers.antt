@@ -1,6 +1,6 @@
 use Rattle.std.proofs.Common.{suc, sym, ◌∙◌, arith}
 use Rattle.nim_tree.specs.Statements.{statement_of}
-use Rattle.parse_decls.proofs.Coming.{comes_leads, leads_then, leads_on, leads_if, leads_else}
+use Rattle.parse_decls.proofs.ForCallers.{comes_leads, leads_then, leads_on, leads_if, leads_else}
 use Rattle.parse_stmts.proofs.plain.read_plain.Goals as goal
 
 pub returns-then-operand_on : goal.returns-then-operand_on

@@ -1,7 +1,6 @@
 use Rattle.std.proofs.Common.{suc, sym, ◌∙◌, arith}
 use Rattle.parse_exprs.specs.Input.{from_at, origin_of}
-use Rattle.parse_decls.proofs.Settling.{settles_if, settles_got}
-use Rattle.parse_decls.proofs.Coming.{told_fails, comes_leads, leads_else}
+use Rattle.parse_decls.proofs.ForCallers.{settles_if, settles_got, told_fails, comes_leads, leads_else}
 use Rattle.parse_stmts.specs.Run.{run_module_name}
 use Rattle.parse_stmts.proofs.simple.read_module_name.Goals as goal
 

@@ -1,8 +1,7 @@
 use Rattle.std.proofs.Common.{◌≡◌, suc, refl, arith}
 use Rattle.std.proofs.lemmas.Result.{err_from_is_err_and}
 use Rattle.parse_exprs.specs.Input.{origin_of}
-use Rattle.parse_decls.proofs.Coming.{found}
-use Rattle.parse_decls.proofs.Repeats.{loop_on, loop_fails, loop_ends}
+use Rattle.parse_decls.proofs.ForCallers.{found, loop_on, loop_fails, loop_ends}
 use Rattle.parse_stmts.proofs.Loops.{modules_loop}
 use Rattle.parse_stmts.proofs.simple.read_more_modules.Goals as goal
 

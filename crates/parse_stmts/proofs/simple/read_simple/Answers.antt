@@ -1,7 +1,7 @@
 use Rattle.std.proofs.Common.{suc, sym, ◌∙◌, arith}
 use Rattle.nim_tree.specs.Statements.{statement_of}
 use Rattle.parse_exprs.specs.Input.{origin_of}
-use Rattle.parse_decls.proofs.Coming.{comes_leads}
+use Rattle.parse_decls.proofs.ForCallers.{comes_leads}
 use Rattle.parse_stmts.proofs.Steps.{head_on, simple_by}
 use Rattle.parse_stmts.proofs.simple.read_simple.Goals as goal
 

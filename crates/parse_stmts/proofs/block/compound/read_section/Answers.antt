@@ -2,7 +2,7 @@ use Rattle.std.proofs.Common.{suc, refl, arith}
 use Rattle.std.proofs.lemmas.Result.{err_from_is_err_and}
 use Rattle.parse_exprs.specs.Input.{origin_of}
 use Rattle.parse_decls.specs.Run.{run_def_block}
-use Rattle.parse_decls.proofs.Coming.{fails_then, leads_on, leads_then, leads_suc, found}
+use Rattle.parse_decls.proofs.ForCallers.{fails_then, leads_on, leads_then, leads_suc, found}
 use Rattle.parse_stmts.proofs.Steps.{fails_at, settles_at}
 use Rattle.parse_stmts.proofs.Joining.{fails_suc, suc_at}
 use Rattle.parse_stmts.proofs.block.compound.read_section.Goals as goal

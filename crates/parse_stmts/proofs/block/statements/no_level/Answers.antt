@@ -1,6 +1,6 @@
 use Rattle.std.proofs.Common.{sym, ◌∙◌, refl, arith}
 use Rattle.parse_exprs.specs.Input.{origin_of, from_at}
-use Rattle.parse_decls.proofs.Coming.{told_fails}
+use Rattle.parse_decls.proofs.ForCallers.{told_fails}
 use Rattle.parse_stmts.specs.Look.{opens_block}
 use Rattle.parse_stmts.proofs.Steps.{beyond}
 use Rattle.parse_stmts.proofs.Blocking.{block_none, block_deep}
