@@ -28,5 +28,6 @@ mod Sizes
 mod Images
 mod Verdicts
 mod CommandLemmas
+mod Deciding
 mod Stages
 mod PlainFiles
