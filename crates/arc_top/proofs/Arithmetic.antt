@@ -6,7 +6,7 @@ use Rattle.std.proofs.lemmas.Int.{ints, of_z-to_z, wrapping_mul_is, int_wrap_fit
 use Rattle.std.proofs.lemmas.Bool.{false_from_ne_true, eqb-true, eqb-false, cond-false}
 use Rattle.std.proofs.lemmas.Bool.Decides.{same_from_decides, Decides-eqb, Decides-int_eq}
 use Rattle.nim_core.specs.Ints.{low, fits, low_byte}
-use Rattle.nim_core.proofs.ForCallers as ranges
+use Rattle.nim_core.proofs.ForCallers.{rem_fits as remainder_fits, low_byte_is}
 use Rattle.rv32_isa.specs.Values.{signed, added, subtracted, one_if, is_less_signed, low_product, high_product_signed, shifted_right_signed, quotient_signed, remainder_signed}
 use Rattle.arc_top.specs.Code.{word}
 
@@ -177,7 +177,7 @@ quotient_fits (negsuc a) (negsuc (suc b)) fu fv ne apart =
     signed_fits (pos q) (omega (arith, ints))
 
 pub rem_fits : (u v : ℤ) → fits u ≡ true → fits (int_rem u v) ≡ true
-rem_fits u v fu = ranges.rem_fits u v fu
+rem_fits u v fu = remainder_fits u v fu
 
 pub quotient_is : (u v : ℤ) → fits u ≡ true → fits v ≡ true → v ≢ pos 0 → quotient_signed (word u) (word v) ≡ word (int_div u v)
 quotient_is u v fu fv ne = cond-false _ _ _ (not_zero v fv ne) ∙ ap₂ (λ x y. word (int_div x y)) (signed_word u fu) (signed_word v fv)
@@ -231,5 +231,5 @@ greater_is u v fu fv = by _ _ (at_most_is u v fu fv)
 -- ---- the status of an exit
 
 pub exit_status : (z : ℤ) → fits z ≡ true → word z % 256 ≡ low_byte z
-exit_status (pos n) f = sym (ranges.low_byte_is (pos n) 0 n (ap pos (omega arith)))
-exit_status (negsuc n) f = let h = fits_signed (negsuc n) f in sym (ranges.low_byte_is (negsuc n) (2 ^ 24) (word (negsuc n)) (omega (arith, ints)))
+exit_status (pos n) f = sym (low_byte_is (pos n) 0 n (ap pos (omega arith)))
+exit_status (negsuc n) f = let h = fits_signed (negsuc n) f in sym (low_byte_is (negsuc n) (2 ^ 24) (word (negsuc n)) (omega (arith, ints)))
