@@ -6,7 +6,6 @@ ghost use Rattle.nim_core.specs.Program.{Program};
 ghost use Rattle.arc_top.specs.Source.{Module, Reads, Refuses};
 
 use indent_scanner::one_reading;
-use parse_stmts::tree_or_fault;
 
 /// A main module is a program or is refused. Modules are one program at most, or are refused with one code at one place,
 /// and never both.
@@ -18,5 +17,4 @@ pub fn one_answer()
     ensures either { (modules : List Module) (program : Program) (c : Code) (at : Place) → Reads modules program → Refuses modules c at → ⊥ }
 {
     one_reading();
-    tree_or_fault();
 }

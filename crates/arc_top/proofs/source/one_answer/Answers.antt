@@ -1,10 +1,11 @@
+use Rattle.parse_stmts.proofs.ForCallers.{module_decided}
 use Rattle.arc_top.proofs.Reading.{reads_only, refuses_once, read_not_refused}
 use Rattle.arc_top.specs.Source.{main_module}
 use Rattle.arc_top.proofs.Deciding.{decided, lone_decided}
 use Rattle.arc_top.proofs.source.one_answer.Goals as goal
 
 pub returns-clause-some : goal.returns-clause-some
-returns-clause-some c = λ main. lone_decided main (decided main.source (c.one_reading.ensures.some main.source 0) (λ tokens. c.tree_or_fault.ensures (main_module main.source) tokens))
+returns-clause-some c = λ main. lone_decided main (decided main.source (c.one_reading.ensures.some main.source 0) (module_decided (main_module main.source)))
 
 pub returns-clause-program : goal.returns-clause-program
 returns-clause-program c = λ modules p q r s. reads_only modules q p s r
