@@ -1,0 +1,4 @@
+mod Carrying
+mod Filling
+mod Calling
+mod Telling

@@ -1,0 +1,4 @@
+pub mod Streams
+pub mod Runs
+pub mod Calls
+pub mod Told
