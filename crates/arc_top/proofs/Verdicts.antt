@@ -3,13 +3,14 @@ use Rattle.std.proofs.Common.{◌≡◌, ℕ, List, length, sym, ap, ◌∙◌, 
 use Rattle.std.specs.Prelude.{Option, Some, None}
 use Rattle.arc_base.specs.FileCalls.{FileCall}
 use Rattle.arc_base.specs.Outside.{Held, Rose, KeepsOthers}
+use Rattle.source_compiler.specs.Source.{alone, Reads}
+use Rattle.source_compiler.specs.Compile.{IsProgram}
+use Rattle.source_compiler.proofs.ForCallers.{read_not_refused}
 use Rattle.arc_top.specs.declared.answer.Answer.{Answer}
 use Rattle.arc_top.specs.declared.answer.Answer.TheVariants.{Done, Usage, NoFile, TooLong, Refused, ReadFault, StoreFault, Memory}
 use Rattle.arc_top.specs.Answer.{OnDone, OnUsage, IfNoFile, IfTooLong, IfRefused, OnReadFault, OnStoreFault, OnKept, OnLoaded, OnStored, IsDoneOrMemory}
 use Rattle.arc_top.specs.Command.{build}
-use Rattle.arc_top.specs.Source.{alone, Reads}
-use Rattle.arc_top.specs.Top.{Builds, LacksFile, HasLongFile, HasRefused, HasSource, HasProgram, IsProgram, TellsProgram, Asks, Answered}
-use Rattle.arc_top.proofs.Reading.{read_not_refused}
+use Rattle.arc_top.specs.Top.{Builds, LacksFile, HasLongFile, HasRefused, HasSource, HasProgram, TellsProgram, Asks, Answered}
 
 -- what the answers of a build say of a program
 record Verdict (answer : Answer) (held : Option Held) (main : List ℕ) (Loading Storing : Type 0) : Type 0 where

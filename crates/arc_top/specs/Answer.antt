@@ -2,8 +2,8 @@
 use Rattle.std.specs.Prelude.{◌≡◌, ℕ, List, ⊤}
 use Rattle.arc_base.specs.declared.place.Place.{Place}
 use Rattle.arc_base.specs.declared.place.Code.{Code}
-use Rattle.arc_top.specs.declared.compiler.NotCompiled.{NotCompiled}
-use Rattle.arc_top.specs.declared.compiler.NotCompiled.TheVariants as why
+use Rattle.source_compiler.specs.declared.compiler.NotCompiled.{NotCompiled}
+use Rattle.source_compiler.specs.declared.compiler.NotCompiled.TheVariants as why
 use Rattle.arc_top.specs.declared.answer.Answer.{Answer}
 use Rattle.arc_top.specs.declared.answer.Answer.TheVariants.{Done, Usage, NoFile, TooLong, Refused, ReadFault, StoreFault, Memory}
 

@@ -1,13 +1,4 @@
-pub mod Lines
-pub mod Form
-pub mod Names
-pub mod Source
-pub mod Elf
 pub mod Command
-pub mod Objects
-pub mod Code
-pub mod Emission
 pub mod Answer
 pub mod Report
-pub mod Compile
 pub mod Top

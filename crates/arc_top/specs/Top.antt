@@ -1,54 +1,28 @@
 -- What the top call promises.
 use Rattle.std.specs.Prelude.{◌≡◌, ◌≢◌, ◌<◌, ◌≤◌, ℕ, List, [], ◌∷◌, ◌++◌, length, ⊤, Option, Some, None}
-use Rattle.arc_base.specs.Behaviour.{Agrees}
 use Rattle.arc_base.specs.FileCalls.{FileCall, load, store}
 use Rattle.arc_base.specs.Outside.{Held, Rose, KeepsOthers}
 use Rattle.arc_base.specs.declared.outside.Loaded.TheVariants as loaded
 use Rattle.arc_base.specs.declared.place.Place.{Place}
 use Rattle.arc_base.specs.declared.place.Code.{Code}
-use Rattle.nim_core.specs.declared.plan.Plan.{Plan}
-use Rattle.nim_core.specs.Program.{Program}
-use Rattle.nim_core.specs.Meaning.{meaning}
-use Rattle.rv32_isa.specs.Machine.{machine}
+use Rattle.elf32.specs.Elf.{File, Elf}
+use Rattle.source_compiler.specs.Source.{Module, alone}
+use Rattle.source_compiler.specs.Compile.{Compiled, IsProgram, IsNoProgram, source_most}
 use Rattle.arc_top.specs.declared.answer.Answer.{Answer}
 use Rattle.arc_top.specs.declared.answer.Answer.TheVariants.{Done, Usage, NoFile, TooLong, Refused, ReadFault, StoreFault, Memory}
 use Rattle.arc_top.specs.Answer.{OnDone, IfNoFile, IfTooLong, IfRefused, OnReadFault, OnStoreFault, OnKept, OnLoaded, OnStored, IsDoneOrMemory}
 use Rattle.arc_top.specs.Command.{Command, build, main_of}
-use Rattle.arc_top.specs.Source.{Module, alone, Reads, Refuses}
-use Rattle.arc_top.specs.Objects.{live_objects}
-use Rattle.arc_top.specs.Elf.{File, Elf}
 
--- the plan of a program without sites
-abbrev pub empty_plan : Plan
-empty_plan = record { sites = []; sinks = []; skips = [] }
+-- the bytes of heap that a program has
+abbrev pub heap_bytes : ℕ
+heap_bytes = 16777216
 
--- THE HEADLINE. The modules are one program and the bytes are one file. For every input and every number of steps the
--- machine on the file's image agrees with the meaning of the program under the file's plan and heap. The plan is empty, and
--- there are no hooks.
-pub record Compiled (modules : List Module) (bytes : List ℕ) : Type 0 where
-  pub program : Program
+-- The bytes are one file, and it is what the modules are compiled into.
+pub record IsFileOf (modules : List Module) (heap : ℕ) (bytes : List ℕ) : Type 0 where
   pub file : File
-  pub reads : Reads modules program
-  pub reads_only : (other : Program) → Reads modules other → other ≡ program
   pub elf : Elf bytes file
   pub elf_only : (other : File) → Elf bytes other → other ≡ file
-  pub agrees : (input : List ℕ) → Agrees (machine live_objects file.image input) (meaning program file.plan file.image.heap input)
-  pub plan : file.plan ≡ empty_plan
-  pub heap : file.image.heap ≡ 16777216
-  pub stack : file.image.stack ≡ 65536
-  pub hooks : file.image.hooks ≡ []
-
--- the longest source
-abbrev pub source_most : ℕ
-source_most = 4096
-
--- the bytes are those of a main module that is within the limit and is a program
-abbrev pub IsProgram : (name source : List ℕ) → Type 0
-IsProgram name source = (length source ≤ source_most) × ((program : Program) × Reads (alone name source) program)
-
--- they are those of one that is within the limit and is refused
-abbrev pub IsNoProgram : (name source : List ℕ) → Code → Place → Type 0
-IsNoProgram name source code at = (length source ≤ source_most) × Refuses (alone name source) code at
+  pub compiled : Compiled modules heap file
 
 -- ---- what the files hold, where they tell it
 
@@ -59,7 +33,7 @@ pub record Built (old new : Held) (main out : List ℕ) : Type 0 where
   pub main_is : old main ≡ Some source
   pub within : length source ≤ source_most
   pub out_is : new out ≡ Some bytes
-  pub compiled : Compiled (alone main source) bytes
+  pub is_file : IsFileOf (alone main source) heap_bytes bytes
   pub others : (name : List ℕ) → name ≢ out → new name ≡ old name
 
 -- a build did all of it
@@ -111,7 +85,7 @@ pub record HandsOver (before after : List FileCall) (main out : List ℕ) : Type
   pub bytes : List ℕ
   pub calls : after ≡ before ++ load main loaded.Whole source ∷ store out bytes ∷ []
   pub within : length source ≤ source_most
-  pub compiled : Compiled (alone main source) bytes
+  pub is_file : IsFileOf (alone main source) heap_bytes bytes
 
 -- the calls that led to the answer
 abbrev pub Asks : Command → Answer → (before after : List FileCall) → Type 0

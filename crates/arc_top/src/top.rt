@@ -2,17 +2,21 @@
 ghost use Rattle.std.specs.Prelude.{◌≡◌, ◌≤◌, [], List, ℕ, OnOk, IfOk, IfErr, length, map, string_bytes};
 ghost use Rattle.arc_base.specs.Outside.{Rose, KeepsOthers, Writes};
 ghost use Rattle.arc_top.specs.Answer.{OnDone, OnUsage, OnCommand, IfNoFile, IfTooLong, IfRefused, OnReadFault, OnStoreFault, OnKept, OnLoaded, OnStored, IsLoadAnswer, IsRefusal};
-ghost use Rattle.arc_top.specs.Compile.{OnTooLong};
+ghost use Rattle.source_compiler.specs.Compile.{OnTooLong, source_most};
 ghost use Rattle.arc_top.specs.Command.{Command, build, modules_of, IsCommand, IsNoCommand};
 ghost use Rattle.arc_top.specs.Report.{report_of};
-ghost use Rattle.arc_top.specs.Top.{Builds, LacksFile, HasLongFile, HasRefused, HasProgram, HasSource, Gave, Asks, Answered, source_most};
+ghost use Rattle.arc_top.specs.Top.{Builds, LacksFile, HasLongFile, HasRefused, HasProgram, HasSource, Gave, Asks, Answered};
 
 use crate::answer::{Answer, FileName};
 use crate::command::read_words;
-use crate::compiler::{NotCompiled, SOURCE_MOST, compile};
 use crate::report::put_report;
-use arc_base::{Bytes, FileFault, Files, Loaded, Sink, Source};
+use arc_base::{Bytes, FileFault, Files, Loaded, Memory, Sink, Source};
+use elf32::write;
+use source_compiler::{NotCompiled, SOURCE_MOST, compile};
 use std::alloc::Global;
+
+/// The bytes of heap that a compiled program has.
+const HEAP: u32 = 16_777_216;
 
 // Loads a source, or says why not.
 fn load_source<F: Files>(alloc: Global, main: &str, files: &mut F) -> Result<Bytes, Answer>
@@ -72,11 +76,15 @@ fn build<F: Files>(alloc: Global, main: &str, out: &str, files: &mut F) -> Answe
         Ok(source) => source,
         Err(answer) => return answer,
     };
-    let file = match compile(alloc, source.as_slice()) {
+    let file = match compile(alloc, source.as_slice(), HEAP) {
         Ok(file) => file,
         Err(why) => return refuse(why),
     };
-    match files.store(alloc, out, file.as_slice()) {
+    let bytes = match write(alloc, &file) {
+        Ok(bytes) => bytes,
+        Err(Memory) => return Answer::Memory,
+    };
+    match files.store(alloc, out, bytes.as_slice()) {
         Ok(()) => Answer::Done,
         Err(FileFault::Failed) => Answer::StoreFault,
         Err(FileFault::Memory) => Answer::Memory,

@@ -1,7 +1,0 @@
-use Rattle.std.proofs.Common.{arith}
-use Rattle.std.proofs.lemmas.Grind.{common_steps}
-use Rattle.arc_top.proofs.Files.{words_of_sinks}
-use Rattle.arc_top.proofs.elf.push_sinks.Goals as goal
-
-pub returns : goal.returns
-returns c = rw (words_of_sinks c.args.sinks.now) (grind (arith, common_steps))

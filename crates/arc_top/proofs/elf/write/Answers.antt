@@ -1,8 +1,0 @@
-use Rattle.std.proofs.Common.{arith}
-use Rattle.std.proofs.lemmas.Grind.{common_steps}
-use Rattle.arc_top.specs.Elf.{file_of}
-use Rattle.arc_top.proofs.Files.{elf_only}
-use Rattle.arc_top.proofs.elf.write.Goals as goal
-
-pub returns-clause-only : goal.returns-clause-only
-returns-clause-only c = λ other said. elf_only _ (file_of c.args.file.now) other (record { spelled = grind (arith, common_steps); allowed = c.requires }) said

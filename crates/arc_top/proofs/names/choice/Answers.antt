@@ -1,5 +1,0 @@
-use Rattle.nim_core.proofs.ForCallers.{conditional}
-use Rattle.arc_top.proofs.names.choice.Goals as goal
-
-pub returns : goal.returns
-returns c = conditional c.args.at c.args.condition c.args.then_branch c.args.else_branch

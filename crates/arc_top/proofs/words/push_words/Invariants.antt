@@ -1,7 +1,0 @@
-use Rattle.std.proofs.Common.{◌≡◌, ◌++◌, drop}
-use Rattle.arc_top.specs.Elf.{words}
-use Rattle.arc_top.proofs.words.push_words.Given as goal
-
--- with the words of what is left, they are the words of all
-abbrev pub invariant-loop-n : goal.invariant-loop-n
-invariant-loop-n l = l.bytes ++ words (drop l.n-index l.numbers) ≡ l.initial.bytes ++ words l.numbers

@@ -1,0 +1,5 @@
+use Rattle.nim_core.proofs.ForCallers.{repeated}
+use Rattle.source_compiler.proofs.names.repetition.Goals as goal
+
+pub returns : goal.returns
+returns c = repeated c.args.at c.args.condition c.args.body

@@ -1,0 +1,73 @@
+-- What the compiler promises of a source and its file.
+--
+--     source ──Reads──> program ──meaning──> behaviour
+--       │                                       │
+--       └─────compile────> file ──machine──> behaviour that agrees
+use Rattle.std.specs.Prelude.{◌≡◌, ◌≤◌, ℕ, List, [], length, ⊤, Result, Ok, Err}
+use Rattle.arc_base.specs.Behaviour.{Agrees}
+use Rattle.arc_base.specs.declared.place.Place.{Place}
+use Rattle.arc_base.specs.declared.place.Code.{Code}
+use Rattle.arc_base.specs.declared.place.Stop.{Stop}
+use Rattle.arc_base.specs.declared.place.Stop.TheVariants as stop
+use Rattle.nim_core.specs.declared.plan.Plan.{Plan}
+use Rattle.nim_core.specs.Program.{Program}
+use Rattle.nim_core.specs.Meaning.{meaning}
+use Rattle.rv32_isa.specs.Machine.{machine}
+use Rattle.elf32.specs.Elf.{File, IsFile}
+use Rattle.source_compiler.specs.declared.compiler.NotCompiled.{NotCompiled}
+use Rattle.source_compiler.specs.declared.compiler.NotCompiled.TheVariants.{TooLong, Refused, Memory}
+use Rattle.source_compiler.specs.Source.{Module, alone, Reads, Refuses}
+use Rattle.source_compiler.specs.Objects.{live_objects}
+
+-- the plan of a program without sites
+abbrev pub empty_plan : Plan
+empty_plan = record { sites = []; sinks = []; skips = [] }
+
+-- THE HEADLINE. The modules are one program. For every input and every number of steps the machine on the file's image
+-- agrees with the meaning of the program under the file's plan and this heap, in bytes. The file is one that can be written,
+-- its plan is empty, and there are no hooks.
+pub record Compiled (modules : List Module) (heap : ℕ) (file : File) : Type 0 where
+  pub program : Program
+  pub reads : Reads modules program
+  pub reads_only : (other : Program) → Reads modules other → other ≡ program
+  pub allowed : IsFile file
+  pub agrees : (input : List ℕ) → Agrees (machine live_objects file.image input) (meaning program file.plan heap input)
+  pub plan : file.plan ≡ empty_plan
+  pub heap_is : file.image.heap ≡ heap
+  pub stack : file.image.stack ≡ 65536
+  pub hooks : file.image.hooks ≡ []
+
+-- the longest source
+abbrev pub source_most : ℕ
+source_most = 4096
+
+-- the bytes are those of a main module that is within the limit and is a program
+abbrev pub IsProgram : (name source : List ℕ) → Type 0
+IsProgram name source = (length source ≤ source_most) × ((program : Program) × Reads (alone name source) program)
+
+-- they are those of one that is within the limit and is refused
+abbrev pub IsNoProgram : (name source : List ℕ) → Code → Place → Type 0
+IsNoProgram name source code at = (length source ≤ source_most) × Refuses (alone name source) code at
+
+-- ---- answers
+
+abbrev pub OnTooLong : NotCompiled → Type 0 → Type 0
+OnTooLong TooLong P = P
+OnTooLong (Refused code at) P = ⊤
+OnTooLong Memory P = ⊤
+
+abbrev pub OnRefused : NotCompiled → (Code → Place → Type 0) → Type 0
+OnRefused TooLong P = ⊤
+OnRefused (Refused code at) P = P code at
+OnRefused Memory P = ⊤
+
+abbrev pub IsOkOrMemory : {T : Type 0} → Result T NotCompiled → Type 0
+IsOkOrMemory (Ok x) = ⊤
+IsOkOrMemory (Err TooLong) = ⊥
+IsOkOrMemory (Err (Refused code at)) = ⊥
+IsOkOrMemory (Err Memory) = ⊤
+
+-- what a front-end call said, said of the source
+abbrev pub IsStop : Stop → NotCompiled → Type 0
+IsStop (stop.Refused code at) e = e ≡ Refused code at
+IsStop stop.Memory e = e ≡ Memory
