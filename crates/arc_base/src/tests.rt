@@ -3,12 +3,16 @@ use crate::*;
 use std::alloc::Global;
 use std::fs;
 use std::fs::File;
+use std::os::unix::fs::symlink;
 use std::test::Fail;
 
 // A file that no other test writes.
 const PATH: &str = "/tmp/arc_base-outside-5d31c0";
 
-const NO_PATH: &str = "/tmp/arc_base-outside-no-such-file";
+// A link of these tests, and what it points to.
+const LINK: &str = "/tmp/arc_base-link-5d31c0";
+
+const LINKED: &str = "/tmp/arc_base-linked-5d31c0";
 
 fn bytes_of(alloc: Global, content: &[u8]) -> Result<Bytes, Memory> {
     let mut bytes = Bytes::new(alloc);
@@ -123,6 +127,21 @@ fn host_files_store_and_load(rt: HostRuntime) -> Result<(), Fail> {
         files.store(rt.alloc(), "/tmp", b"x"),
         Err(FileFault::Failed)
     );
+    Ok(())
+}
+
+#[test]
+fn host_files_replace_what_a_link_points_to(rt: HostRuntime) -> Result<(), Fail> {
+    let _ = fs::remove_file(&rt, LINK);
+    symlink(&rt, LINKED, LINK)?;
+    let mut files = HostFiles::new(&rt);
+    files.store(rt.alloc(), LINK, b"made")?;
+    files.store(rt.alloc(), LINK, b"new")?;
+    let (_, into) = loaded(&mut files, rt.alloc(), LINKED, 4)?;
+    assert_eq!(rt; into.as_slice(), b"new".as_slice());
+    assert!(rt; fs::symlink_metadata(&rt, LINK)?.is_symlink());
+    fs::remove_file(&rt, LINK)?;
+    fs::remove_file(&rt, LINKED)?;
     Ok(())
 }
 
