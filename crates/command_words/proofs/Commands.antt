@@ -4,9 +4,10 @@ use Rattle.std.proofs.Common.{◌⊎◌, arith, codes, bytes_eq, option_and_then
 use Rattle.std.proofs.lemmas.Option.{same_Some, option_and_then_some}
 use Rattle.std.proofs.lemmas.Slice.Eq.{bytes_eq-Decides}
 use Rattle.command_words.specs.Command.{Command, Arguments, AreArguments, IsCommand, is_check, is_build, is_run, is_exec}
-use Rattle.command_words.specs.Command.{IsNoCommand, command_of}
+use Rattle.command_words.specs.Command.{IsNoCommand, command_of, IsInRange}
 use Rattle.command_words.specs.Walk.{arguments, as_check_at, as_check, as_build_at, as_build, as_run_at, as_run, as_exec_at, as_exec, chosen, command_at}
 use Rattle.command_words.specs.declared.command.Command.{Command as RustCommand}
+use Rattle.command_words.proofs.Ranges.{in_range}
 use Rattle.command_words.proofs.Reading.{arguments_are, arguments_read}
 
 -- the words behind a name give these arguments, which are the command's
@@ -100,3 +101,8 @@ some_said words (Some command) e = command_is words (command_of command) (sym e)
 pub none_said : (words : List (List ℕ)) (result : Option RustCommand) → option_map command_of result ≡ command_at words → IfNone result (IsNoCommand words)
 none_said words None e = none_found words (sym e)
 none_said words (Some command) e = tt
+
+pub ranges_said : (words : List (List ℕ)) (result : Option RustCommand) → IfSome result (λ command. IsCommand words (command_of command)) →
+    IfSome result (λ command. IsInRange (command_of command))
+ranges_said words None h = tt
+ranges_said words (Some command) h = in_range words (command_of command) h

@@ -76,7 +76,7 @@ pub data AreArguments : List (List ℕ) → Arguments → Type 0 where
 
 -- ---- commands
 
--- the words are the command; an option that isn't listed isn't the command's
+-- the words are the command; an option for which None stands isn't the command's
 pub data IsCommand (words : List (List ℕ)) : Command → Type 0 where
   is_check : {arguments : List (List ℕ)} {main : List ℕ} → words ≡ codes "check" ∷ arguments →
       AreArguments arguments (record { places = main ∷ []; heap = None; steps = None }) →

@@ -1,6 +1,6 @@
 // Commands, and the words that they are spelled with.
 ghost use Rattle.std.specs.Prelude.{◌≡◌, IfSome, IfNone, map, option_map, string_bytes};
-ghost use Rattle.command_words.specs.Command.{Command as TheCommand, file_of, command_of, IsCommand, IsNoCommand};
+ghost use Rattle.command_words.specs.Command.{file_of, command_of, IsCommand, IsNoCommand, IsInRange};
 ghost use Rattle.command_words.specs.Walk.{arguments_of, as_check, as_build, as_run, as_exec, chosen, command_at};
 
 use crate::arguments::{Arguments, HEAP_MOST, Places, read_arguments};
@@ -123,6 +123,7 @@ impl<'a> Arguments<'a> {
 pub fn read_words<'a>(words: &'a [String]) -> Option<Command<'a>>
     ensures some { IfSome result (λ command. IsCommand (map string_bytes words.now) (command_of command)) }
     ensures none { IfNone result (IsNoCommand (map string_bytes words.now)) }
+    ensures ranges { IfSome result (λ command. IsInRange (command_of command)) }
 {
     read(words)
 }

@@ -1,5 +1,5 @@
 use Rattle.std.proofs.Common.{map, string_bytes}
-use Rattle.command_words.proofs.Commands.{some_said, none_said}
+use Rattle.command_words.proofs.Commands.{some_said, none_said, ranges_said}
 use Rattle.command_words.proofs.command.read_words.Goals as goal
 
 pub returns-clause-some : goal.returns-clause-some
@@ -7,3 +7,6 @@ returns-clause-some c = some_said (map string_bytes c.args.words.now) c.read.res
 
 pub returns-clause-none : goal.returns-clause-none
 returns-clause-none c = none_said (map string_bytes c.args.words.now) c.read.result c.read.ensures
+
+pub returns-clause-ranges : goal.returns-clause-ranges
+returns-clause-ranges c = ranges_said (map string_bytes c.args.words.now) c.read.result (some_said (map string_bytes c.args.words.now) c.read.result c.read.ensures)
