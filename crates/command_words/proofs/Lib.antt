@@ -1,0 +1,5 @@
+mod Spelling
+mod Reading
+mod Commands
+mod Choosing
+mod Ranges
