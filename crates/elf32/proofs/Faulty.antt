@@ -1,9 +1,13 @@
 -- The fault of bytes: one at each of the first parts that differ.
-use Rattle.std.proofs.Common.{◌≡◌, ◌<◌, ◌≤◌, ℕ, List, take, length, arith}
+use Rattle.std.proofs.Common.{◌≡◌, ◌<◌, ◌≤◌, ℕ, List, take, length, sym, ap, ◌∙◌, arith}
+use Rattle.std.proofs.lemmas.List.{take-take}
 use Rattle.elf32.specs.declared.file.ElfFault.{ElfFault}
 use Rattle.elf32.specs.declared.file.ElfFault.TheVariants.{Short, Magic, Class, FileType, Machine, Header, Segment, Note}
 use Rattle.elf32.specs.Elf.{File, Elf, header}
-use Rattle.elf32.specs.Faults.{fault_number, Fits, HasFault, HasFile, HasSegments}
+use Rattle.elf32.specs.declared.file.ElfStop.{ElfStop}
+use Rattle.elf32.specs.declared.file.ElfStop.TheVariants.{Bad, Memory}
+use Rattle.elf32.specs.Faults.{fault_number, Fits, HasFault, HasFile, HasSegments, StopsRightly}
+use Rattle.elf32.specs.Reading.{Because}
 
 -- ---- Short
 
@@ -124,3 +128,19 @@ before_note bytes long magic class kind machine header_is segments Note less = a
 
 pub fault_note : (bytes : List ℕ) → Fits Short bytes → Fits Magic bytes → Fits Class bytes → Fits FileType bytes → Fits Machine bytes → Fits Header bytes → Fits Segment bytes → (Fits Note bytes → ⊥) → HasFault bytes Note
 fault_note bytes long magic class kind machine header_is segments differs = record { differs = differs; before = before_note bytes long magic class kind machine header_is segments }
+
+-- ---- where the reader stops behind the header
+
+-- where the whole header is there, each part of it is
+pub part_there : (k : ℕ) (bytes : List ℕ) → k ≤ 52 → take 52 bytes ≡ header → take k bytes ≡ take k header
+part_there k bytes least whole = sym (take-take k 52 bytes least) ∙ ap (take k) whole
+
+pub segment_stops : (bytes : List ℕ) (stop : ElfStop) → 212 ≤ length bytes → take 52 bytes ≡ header → Because stop Segment (HasSegments bytes → ⊥) → StopsRightly bytes stop
+segment_stops bytes (Bad fault) long whole why =
+    rw why.0 (fault_segment bytes long (part_there 4 bytes (omega arith) whole) (part_there 16 bytes (omega arith) whole) (part_there 18 bytes (omega arith) whole) (part_there 20 bytes (omega arith) whole) whole why.1)
+segment_stops bytes Memory long whole why = why
+
+pub note_stops : (bytes : List ℕ) (stop : ElfStop) → 212 ≤ length bytes → take 52 bytes ≡ header → HasSegments bytes → Because stop Note (HasFile bytes → ⊥) → StopsRightly bytes stop
+note_stops bytes (Bad fault) long whole segments why =
+    rw why.0 (fault_note bytes long (part_there 4 bytes (omega arith) whole) (part_there 16 bytes (omega arith) whole) (part_there 18 bytes (omega arith) whole) (part_there 20 bytes (omega arith) whole) whole segments why.1)
+note_stops bytes Memory long whole segments why = why

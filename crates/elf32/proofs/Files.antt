@@ -104,15 +104,15 @@ sink_only x y e = cc
 pub skip_only : (x y : SkipAt) → skip_words x ≡ skip_words y → x ≡ y
 skip_only x y e = same_two (λ place exit. record { place = place; exit = exit }) _ _ _ _ (cc) (cc)
 
-record Said (a b : File) : Type 0 where
-  version : a.version ≡ b.version
-  hooks : a.image.hooks ≡ b.image.hooks
-  plan : a.plan ≡ b.plan
+pub record Said (a b : File) : Type 0 where
+  pub version : a.version ≡ b.version
+  pub hooks : a.image.hooks ≡ b.image.hooks
+  pub plan : a.plan ≡ b.plan
 
 rest_only : (m n : ℕ) (ms ns : List ℕ) → m ∷ ms ≡ n ∷ ns → ms ≡ ns
 rest_only m n ms ns e = cc
 
-description_only : (a b : File) → description a ≡ description b → Said a b
+pub description_only : (a b : File) → description a ≡ description b → Said a b
 description_only a b e =
     let version : a.version ≡ b.version = cc in
     let hooks = counted_only hook_words 3 (λ x. refl) hook_only a.image.hooks b.image.hooks _ _ (rest_only _ _ _ _ e) in

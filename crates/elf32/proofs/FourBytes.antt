@@ -3,7 +3,7 @@ use Rattle.std.proofs.Common.{◌≡◌, ◌<◌, ◌≤◌, ℕ, zero, suc, ◌
 use Rattle.std.proofs.lemmas.List.{drop-drop, get_or-drop, length-drop}
 use Rattle.rv32_isa.specs.Words.{word_bytes}
 use Rattle.byteorder.specs.Endian.{little_number}
-use Rattle.elf32.specs.Faults.{word_in}
+use Rattle.elf32.specs.Reading.{word_in}
 
 -- numbers below 256
 abbrev pub IsBytes : List ℕ → Type 0

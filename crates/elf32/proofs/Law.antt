@@ -1,16 +1,18 @@
 -- Bytes are one file at most, have one fault at most, and never both.
 use Rattle.std.proofs.Common.{◌≡◌, ◌<◌, ◌≤◌, ℕ, zero, suc, List, take, length, refl, sym, ap, ◌∙◌, ◌⊎◌, inl, inr, arith}
 use Rattle.std.proofs.lemmas.Bool.{cases_lt}
-use Rattle.std.proofs.lemmas.List.{take-take}
 use Rattle.elf32.specs.declared.file.ElfFault.{ElfFault}
 use Rattle.elf32.specs.declared.file.ElfFault.TheVariants.{Short, Magic, Class, FileType, Machine, Header, Segment, Note}
+use Rattle.rv32_isa.specs.Words.{word_bytes}
 use Rattle.elf32.specs.Elf.{File, Elf, header}
 use Rattle.elf32.specs.Faults.{fault_number, Fits, HasFault, HasFile, HasSegments}
+use Rattle.elf32.proofs.Faulty.{part_there}
 use Rattle.elf32.proofs.Segments.{Sized, file_sized, file_segments}
 
--- where the whole header is there, each part of it is
-part_there : (k : ℕ) (bytes : List ℕ) → k ≤ 52 → take 52 bytes ≡ header → take k bytes ≡ take k header
-part_there k bytes least whole = sym (take-take k 52 bytes least) ∙ ap (take k) whole
+-- the header has 52 bytes
+pub whole_header : take 52 header ≡ header
+unfolding word_bytes
+whole_header = refl
 
 long_enough : (bytes : List ℕ) (file : File) → Elf bytes file → 212 ≤ length bytes
 long_enough bytes file elf = let sized : Sized bytes file = file_sized bytes file elf in omega (arith, sized.sizes.whole)

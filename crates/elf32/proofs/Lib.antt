@@ -10,3 +10,8 @@ mod Law
 mod Orders
 mod WholeFile
 mod Missing
+mod NoteRead
+mod Decided
+mod FileOrFault
+mod Callers
+pub mod ForCallers

@@ -34,7 +34,7 @@ lists_fit file is =
       skips_fit = AllByRecursion-append (λ n. n < 2 ^ 32) sinks skips after_sites }
 
 -- the note of a file, with its version
-noted : (file : File) → IsFile file → note file ≡ note_of (described 1 file.image.hooks file.plan)
+pub noted : (file : File) → IsFile file → note file ≡ note_of (described 1 file.image.hooks file.plan)
 noted file is = ap (λ version. note_of (described version file.image.hooks file.plan)) is.version
 
 -- the numbers behind its version

@@ -90,7 +90,7 @@ words_of_four here hooks plan four =
 abbrev fronted : ℕ → List ℕ
 fronted size = words (7 ∷ size ∷ 1 ∷ []) ++ (codes "NimArc" ++ (0 ∷ 0 ∷ word_bytes 1))
 
-length_note : (ws : List ℕ) → length (note_of ws) ≡ 20 + length (words ws)
+pub length_note : (ws : List ℕ) → length (note_of ws) ≡ 20 + length (words ws)
 unfolding word_bytes
 length_note ws =
     let sizes : length (words (7 ∷ length (words ws) ∷ 1 ∷ [])) ≡ 12 = refl in

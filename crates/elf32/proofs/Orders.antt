@@ -55,3 +55,53 @@ stand_tests size least (hook ∷ hooks) s =
     let whole_is : eqb (hook.addr % 4) 0 ≡ true = eq-eqb _ _ s.1.1.0 in
     let kind_is : ltb hook.kind 4 ≡ true = lt-ltb _ _ s.1.1.1.0 in
     true_both (stands least (code_at + size) hook) (stand size (hook.addr + 1) hooks) (true_both (leb least hook.addr) _ least_is (true_both (leb (hook.addr + 4) (code_at + size)) _ end_is (true_both (eqb (hook.addr % 4) 0) (ltb hook.kind 4) whole_is kind_is))) (stand_tests size (hook.addr + 1) hooks s.1.1.1.1)
+
+-- ---- sites, sinks and skips
+
+pub sites_by : (sites : List SiteAct) → rises site_before None sites ≡ true → Ordered (λ a b. a.site < b.site) sites
+sites_by sites e = ordered_by site_before (λ a b. a.site < b.site) (λ a b less. ltb-true a.site b.site less) None sites e
+
+pub sites_tests : (sites : List SiteAct) → Ordered (λ a b. a.site < b.site) sites → rises site_before None sites ≡ true
+sites_tests sites ordered = rises_by site_before (λ a b. a.site < b.site) (λ a b less. lt-ltb a.site b.site less) sites ordered
+
+pub sinks_by : (sinks : List ℕ) → rises ltb None sinks ≡ true → Ordered (λ a b. a < b) sinks
+sinks_by sinks e = ordered_by ltb (λ a b. a < b) (λ a b less. ltb-true a b less) None sinks e
+
+pub sinks_tests : (sinks : List ℕ) → Ordered (λ a b. a < b) sinks → rises ltb None sinks ≡ true
+sinks_tests sinks ordered = rises_by ltb (λ a b. a < b) (λ a b less. lt-ltb a b less) sinks ordered
+
+-- one of two tests holds, and a test that one of them does
+either_true : (a b : Bool) → a || b ≡ true → (a ≡ true) ⊎ (b ≡ true)
+either_true true b e = inl refl
+either_true false b e = inr e
+
+first_true : (a b : Bool) → a ≡ true → a || b ≡ true
+first_true true b e = refl
+first_true false b e = absurd (cc)
+
+second_true : (a b : Bool) → b ≡ true → a || b ≡ true
+second_true true b e = refl
+second_true false b e = e
+
+-- by place, and then by exit
+abbrev pub SkipBefore : SkipAt → SkipAt → Type 0
+SkipBefore a b = (a.place < b.place) ⊎ ((a.place ≡ b.place) × (a.exit < b.exit))
+
+skip_by : (a b : SkipAt) → skip_before a b ≡ true → SkipBefore a b
+skip_by a b e = by (either_true (ltb a.place b.place) (eqb a.place b.place && ltb a.exit b.exit) e) where
+  by : (ltb a.place b.place ≡ true) ⊎ (eqb a.place b.place && ltb a.exit b.exit ≡ true) → SkipBefore a b
+  by (inl less) = inl (ltb-true _ _ less)
+  by (inr same) = let parts = both_true (eqb a.place b.place) (ltb a.exit b.exit) same in inr (eqb-true _ _ parts.0, ltb-true _ _ parts.1)
+
+skip_tests : (a b : SkipAt) → SkipBefore a b → skip_before a b ≡ true
+skip_tests a b (inl less) = first_true (ltb a.place b.place) (eqb a.place b.place && ltb a.exit b.exit) (lt-ltb _ _ less)
+skip_tests a b (inr same) =
+    let place : eqb a.place b.place ≡ true = eq-eqb _ _ same.0 in
+    let exit : ltb a.exit b.exit ≡ true = lt-ltb _ _ same.1 in
+    second_true (ltb a.place b.place) (eqb a.place b.place && ltb a.exit b.exit) (true_both (eqb a.place b.place) (ltb a.exit b.exit) place exit)
+
+pub skips_by : (skips : List SkipAt) → rises skip_before None skips ≡ true → Ordered SkipBefore skips
+skips_by skips e = ordered_by skip_before SkipBefore skip_by None skips e
+
+pub skips_tests : (skips : List SkipAt) → Ordered SkipBefore skips → rises skip_before None skips ≡ true
+skips_tests skips ordered = rises_by skip_before SkipBefore skip_tests skips ordered

@@ -5,7 +5,8 @@ use Rattle.std.proofs.Math.Seq.{take-append_seam}
 use Rattle.rv32_isa.specs.Words.{word_bytes, little}
 use Rattle.rv32_isa.proofs.ForCallers.{little-word_bytes}
 use Rattle.elf32.specs.Elf.{File, IsFile, Elf, header, segments_of, note, elf_bytes}
-use Rattle.elf32.specs.Faults.{word_in, AreFields, AreSizes, HasSegments}
+use Rattle.elf32.specs.Faults.{AreSizes, HasSegments}
+use Rattle.elf32.specs.Reading.{word_in, AreFields}
 
 fields_by_words : (n c d h s : ℕ) (rest : List ℕ) → AreFields (header ++ (segments_of n c d h s ++ rest)) (little (word_bytes n)) (little (word_bytes c)) (little (word_bytes d)) (little (word_bytes h)) (little (word_bytes s))
 unfolding word_bytes
@@ -39,6 +40,33 @@ fields_fit bytes n c d h s fit_n fit_c fit_d fit_h fit_s fields = record {
     statics_is = sym (little-word_bytes d fit_d) ∙ fields.statics_is;
     heap_is = sym (little-word_bytes h fit_h) ∙ fields.heap_is;
     stack_is = sym (little-word_bytes s fit_s) ∙ fields.stack_is }
+
+-- the number of a field, behind the header
+behind_header : (at : ℕ) (bytes : List ℕ) → word_in bytes (52 + at) ≡ word_in (drop 52 bytes) at
+behind_header at bytes = ap (λ l. little (take 4 l)) (sym (drop-drop at 52 bytes))
+
+-- whatever the header, the fields are those of the program headers
+fields_anywhere : (bytes there : List ℕ) (n c d h s : ℕ) → drop 52 bytes ≡ drop 52 there → AreFields there n c d h s → AreFields bytes n c d h s
+fields_anywhere bytes there n c d h s same fields =
+    let field : (at : ℕ) → word_in there (52 + at) ≡ word_in bytes (52 + at) = λ at. behind_header at there ∙ ap (λ l. word_in l at) (sym same) ∙ sym (behind_header at bytes) in
+    record {
+      note_is = fields.note_is ∙ field 144;
+      code_is = fields.code_is ∙ field 16;
+      statics_is = fields.statics_is ∙ field 48;
+      heap_is = fields.heap_is ∙ field 84;
+      stack_is = fields.stack_is ∙ field 116 }
+
+behind_any : (n c d h s : ℕ) (rest : List ℕ) → drop 52 (header ++ (segments_of n c d h s ++ rest)) ≡ segments_of n c d h s ++ rest
+unfolding word_bytes
+behind_any n c d h s rest = refl
+
+-- program headers of sizes that are in their ranges tell these
+pub fields_told : (bytes : List ℕ) (n c d h s : ℕ) → AreSizes n c d h s (length bytes) → take 160 (drop 52 bytes) ≡ segments_of n c d h s → AreFields bytes n c d h s
+fields_told bytes n c d h s sizes spelled =
+    let rest = drop 160 (drop 52 bytes) in
+    let same : drop 52 bytes ≡ drop 52 (header ++ (segments_of n c d h s ++ rest)) = sym (take-append-drop 160 (drop 52 bytes)) ∙ ap (λ l. l ++ rest) spelled ∙ sym (behind_any n c d h s rest) in
+    fields_fit bytes n c d h s (omega (arith, sizes.note_most)) (omega (arith, sizes.code_most)) (omega (arith, sizes.statics_most)) (omega (arith, sizes.heap_most)) (omega (arith, sizes.stack_most))
+      (fields_anywhere bytes _ (little (word_bytes n)) (little (word_bytes c)) (little (word_bytes d)) (little (word_bytes h)) (little (word_bytes s)) same (fields_by_words n c d h s rest))
 
 -- ---- a file
 
@@ -76,7 +104,7 @@ file_sized bytes file elf = rw elf.spelled (sized_bytes file elf.allowed)
 pub file_segments : (bytes : List ℕ) (file : File) → Elf bytes file → HasSegments bytes
 file_segments bytes file elf =
     let sized : Sized bytes file = file_sized bytes file elf in
-    record { note = length (note file); code = length file.image.code; statics = length file.image.statics; heap = file.image.heap; stack = file.image.stack; fields = sized.fields; sizes = sized.sizes; spelled = sized.spelled }
+    record { note = length (note file); code = length file.image.code; statics = length file.image.statics; heap = file.image.heap; stack = file.image.stack; sizes = sized.sizes; spelled = sized.spelled }
 
 -- ---- bytes with these parts
 

@@ -1,6 +1,5 @@
 -- Where bytes are no file: the first part that is not as a file has it.
 use Rattle.std.specs.Prelude.{◌≡◌, ◌≤◌, ◌<◌, ℕ, ◌+◌, ◌%◌, List, take, drop, length, ⊤}
-use Rattle.rv32_isa.specs.Words.{little}
 use Rattle.elf32.specs.declared.file.ElfFault.{ElfFault}
 use Rattle.elf32.specs.declared.file.ElfFault.TheVariants.{Short, Magic, Class, FileType, Machine, Header, Segment, Note}
 use Rattle.elf32.specs.declared.file.ElfStop.{ElfStop}
@@ -20,18 +19,6 @@ fault_number Note = 8
 
 -- ---- the program headers
 
--- the number in the four bytes from there on
-abbrev pub word_in : List ℕ → ℕ → ℕ
-word_in bytes at = little (take 4 (drop at bytes))
-
--- the fields of the program headers that tell the sizes
-pub record AreFields (bytes : List ℕ) (note code statics heap stack : ℕ) : Type 0 where
-  pub note_is : note ≡ word_in bytes 196
-  pub code_is : code ≡ word_in bytes 68
-  pub statics_is : statics ≡ word_in bytes 100
-  pub heap_is : heap ≡ word_in bytes 136
-  pub stack_is : stack ≡ word_in bytes 168
-
 -- the sizes are in their ranges, and a file that has them has so many bytes
 pub record AreSizes (note code statics heap stack bytes : ℕ) : Type 0 where
   pub code_whole : code % 4 ≡ 0
@@ -47,14 +34,13 @@ pub record AreSizes (note code statics heap stack bytes : ℕ) : Type 0 where
   pub note_most : note ≤ 2097152
   pub whole : bytes ≡ 212 + note + code + statics
 
--- the program headers are those of the sizes that they tell
+-- the program headers are those of some sizes, and the file is as long as they say
 pub record HasSegments (bytes : List ℕ) : Type 0 where
   pub note : ℕ
   pub code : ℕ
   pub statics : ℕ
   pub heap : ℕ
   pub stack : ℕ
-  pub fields : AreFields bytes note code statics heap stack
   pub sizes : AreSizes note code statics heap stack (length bytes)
   pub spelled : take 160 (drop 52 bytes) ≡ segments_of note code statics heap stack
 
@@ -80,6 +66,11 @@ Fits Note bytes = HasFile bytes
 pub record HasFault (bytes : List ℕ) (fault : ElfFault) : Type 0 where
   pub differs : Fits fault bytes → ⊥
   pub before : (other : ElfFault) → fault_number other < fault_number fault → Fits other bytes
+
+-- some fault is the first
+pub record IsFaulty (bytes : List ℕ) : Type 0 where
+  pub fault : ElfFault
+  pub first : HasFault bytes fault
 
 -- the fault that a reader stops with is the one that the bytes have
 abbrev pub StopsRightly : List ℕ → ElfStop → Type 0

@@ -1,11 +1,12 @@
--- What the parts of the reader say: lists in the bytes of a note, and tests of their order.
+-- What the parts of the reader say: lists in the bytes of a note, and tests of their order. No public contract speaks of it.
 use Rattle.std.specs.Prelude.{◌≡◌, ◌≤◌, ◌<◌, ◌^◌, ℕ, ◌⊎◌, ◌+◌, ◌-◌, ◌*◌, ◌%◌, Bool, true, false, ◌&&◌, ◌||◌, eqb, ltb, leb, List, [], ◌∷◌, ◌++◌, take, drop, length, Option, Some, None, ⊤, codes}
 use Rattle.std.specs.List.{AllByRecursion}
 use Rattle.nim_core.specs.declared.plan.SiteAct.{SiteAct}
 use Rattle.nim_core.specs.declared.plan.SkipAt.{SkipAt}
 use Rattle.rv32_isa.specs.declared.image.HookAt.{HookAt}
 use Rattle.rv32_isa.specs.Hooks.{code_at, HooksStand}
-use Rattle.rv32_isa.specs.Words.{word_bytes}
+use Rattle.rv32_isa.specs.Image.{Image}
+use Rattle.rv32_isa.specs.Words.{word_bytes, little}
 use Rattle.elf32.specs.declared.file.ElfStop.{ElfStop}
 use Rattle.elf32.specs.declared.file.ElfStop.TheVariants.{Bad, Memory}
 use Rattle.elf32.specs.declared.file.ElfFault.TheVariants.{Note}
@@ -33,6 +34,24 @@ ListsNone {A} words_of here = (items : List A) (behind : List ℕ) → length it
 -- no count stands there that has so many words behind it, where an item has that many
 abbrev pub CountsNone : (size : ℕ) → List ℕ → Type 0
 CountsNone size here = (count : ℕ) (behind : List ℕ) → count < 2 ^ 32 → here ≡ word_bytes count ++ behind → size * count ≤ length behind → ⊥
+
+-- ---- the sizes that the program headers tell
+
+-- the number in the four bytes from there on
+abbrev pub word_in : List ℕ → ℕ → ℕ
+word_in bytes at = little (take 4 (drop at bytes))
+
+-- the image of a file of those sizes, with its hooks
+abbrev pub image_in : List ℕ → (note code statics heap stack : ℕ) → List HookAt → Image
+image_in bytes note code statics heap stack hooks = record { code = take code (drop (212 + note) bytes); statics = take statics (drop (212 + note + code) bytes); heap = heap; stack = stack; hooks = hooks }
+
+-- the fields that tell the sizes
+pub record AreFields (bytes : List ℕ) (note code statics heap stack : ℕ) : Type 0 where
+  pub note_is : note ≡ word_in bytes 196
+  pub code_is : code ≡ word_in bytes 68
+  pub statics_is : statics ≡ word_in bytes 100
+  pub heap_is : heap ≡ word_in bytes 136
+  pub stack_is : stack ≡ word_in bytes 168
 
 -- ---- tests of order
 

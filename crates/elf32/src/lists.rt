@@ -20,7 +20,13 @@ pub struct Listed<T: Drop> {
     pub end: usize,
 }
 
-/// A note that no file has.
+// The bytes of an item.
+const HOOK_SIZE: usize = 12;
+const SITE_SIZE: usize = 8;
+const SINK_SIZE: usize = 4;
+const SKIP_SIZE: usize = 8;
+
+// A note that no file has.
 const BAD: ElfStop = ElfStop::Bad(ElfFault::Note);
 
 // The count of a list whose items have `size` bytes each. They are in the note.
@@ -84,15 +90,15 @@ pub fn read_hooks(alloc: Global, note: &[u8], at: usize) -> Result<Listed<HookAt
     ensures there { IfOk result (λ listed. Lists hook_words listed.items (drop at note.now) (drop listed.end note.now)) }
     ensures bad { IfErr result (λ stop. Because stop Note (ListsNone hook_words (drop at note.now))) }
 {
-    let count = count_at(note, at, 12)? as usize;
+    let count = count_at(note, at, HOOK_SIZE)? as usize;
     let start = at + 4;
     let mut items = Items::new(alloc);
     for index in 0..count {
-        items.push(hook_at(note, start + 12 * index))?;
+        items.push(hook_at(note, start + HOOK_SIZE * index))?;
     }
     Ok(Listed {
         items,
-        end: start + 12 * count,
+        end: start + HOOK_SIZE * count,
     })
 }
 
@@ -104,19 +110,19 @@ pub fn read_sites(alloc: Global, note: &[u8], at: usize) -> Result<Listed<SiteAc
     ensures there { IfOk result (λ listed. Lists site_words listed.items (drop at note.now) (drop listed.end note.now)) }
     ensures bad { IfErr result (λ stop. Because stop Note (ListsNone site_words (drop at note.now))) }
 {
-    let count = count_at(note, at, 8)? as usize;
+    let count = count_at(note, at, SITE_SIZE)? as usize;
     let start = at + 4;
     let mut items = Items::new(alloc);
     for index in 0..count {
-        let site = word_at(note, start + 8 * index);
-        let Some(act) = act_of(word_at(note, start + 8 * index + 4)) else {
+        let site = word_at(note, start + SITE_SIZE * index);
+        let Some(act) = act_of(word_at(note, start + SITE_SIZE * index + 4)) else {
             return Err(BAD);
         };
         items.push(SiteAct { site, act })?;
     }
     Ok(Listed {
         items,
-        end: start + 8 * count,
+        end: start + SITE_SIZE * count,
     })
 }
 
@@ -128,15 +134,15 @@ pub fn read_sinks(alloc: Global, note: &[u8], at: usize) -> Result<Listed<u32>, 
     ensures there { IfOk result (λ listed. Lists sink_words listed.items (drop at note.now) (drop listed.end note.now)) }
     ensures bad { IfErr result (λ stop. Because stop Note (ListsNone sink_words (drop at note.now))) }
 {
-    let count = count_at(note, at, 4)? as usize;
+    let count = count_at(note, at, SINK_SIZE)? as usize;
     let start = at + 4;
     let mut items = Items::new(alloc);
     for index in 0..count {
-        items.push(word_at(note, start + 4 * index))?;
+        items.push(word_at(note, start + SINK_SIZE * index))?;
     }
     Ok(Listed {
         items,
-        end: start + 4 * count,
+        end: start + SINK_SIZE * count,
     })
 }
 
@@ -148,14 +154,14 @@ pub fn read_skips(alloc: Global, note: &[u8], at: usize) -> Result<Listed<SkipAt
     ensures there { IfOk result (λ listed. Lists skip_words listed.items (drop at note.now) (drop listed.end note.now)) }
     ensures bad { IfErr result (λ stop. Because stop Note (ListsNone skip_words (drop at note.now))) }
 {
-    let count = count_at(note, at, 8)? as usize;
+    let count = count_at(note, at, SKIP_SIZE)? as usize;
     let start = at + 4;
     let mut items = Items::new(alloc);
     for index in 0..count {
-        items.push(skip_at(note, start + 8 * index))?;
+        items.push(skip_at(note, start + SKIP_SIZE * index))?;
     }
     Ok(Listed {
         items,
-        end: start + 8 * count,
+        end: start + SKIP_SIZE * count,
     })
 }

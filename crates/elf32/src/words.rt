@@ -2,7 +2,7 @@
 ghost use Rattle.std.specs.Prelude.{◌≡◌, ◌≤◌, ◌+◌, ◌++◌, drop, length, OnOk};
 ghost use Rattle.rv32_isa.specs.Words.{word_bytes};
 ghost use Rattle.elf32.specs.Elf.{words};
-ghost use Rattle.elf32.specs.Faults.{word_in};
+ghost use Rattle.elf32.specs.Reading.{word_in};
 
 use arc_base::{Bytes, Memory};
 use byteorder::{ByteOrder, LittleEndian};
