@@ -1,0 +1,3 @@
+pub mod Elf
+pub mod Faults
+pub mod Reading
