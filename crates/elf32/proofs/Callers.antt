@@ -1,24 +1,22 @@
 -- What makes a file: the size of its note, and that its numbers fit.
-use Rattle.std.proofs.Common.{◌≡◌, ◌<◌, ◌≤◌, ◌^◌, ℕ, ◌+◌, ◌*◌, List, [], ◌∷◌, ◌++◌, length, refl, sym, ap, ◌∙◌, arith}
+use Rattle.std.proofs.Common.{◌≡◌, ◌<◌, ◌^◌, ℕ, ◌+◌, ◌*◌, List, [], ◌∷◌, ◌++◌, length, refl, ap, ◌∙◌, arith}
 use Rattle.std.proofs.lemmas.List.{length-append}
 use Rattle.std.specs.List.{AllByRecursion, flat_map}
-use Rattle.nim_core.specs.declared.plan.SiteAct.{SiteAct}
-use Rattle.nim_core.specs.declared.plan.SkipAt.{SkipAt}
-use Rattle.rv32_isa.specs.declared.image.HookAt.{HookAt}
 use Rattle.rv32_isa.specs.declared.image.Image.{Image as RustImage}
 use Rattle.rv32_isa.specs.Image.{IsImage, image_of}
-use Rattle.elf32.specs.Elf.{File, words, counted, hook_words, act_number, site_words, sink_words, skip_words, description, note}
+use Rattle.elf32.specs.Elf.{File, words, counted, hook_words, site_words, sink_words, skip_words, description, note}
 use Rattle.elf32.proofs.ItemLists.{length_words, length_items}
 use Rattle.elf32.proofs.NoteLists.{Fitting, both_fit, length_note}
-use Rattle.elf32.proofs.Decided.{act_less}
 
 -- ---- the size of the note
 
-length_counted : {A : Type 0} (f : A → List ℕ) (size : ℕ) → ((x : A) → length (f x) ≡ size) → (items : List A) → length (counted f items) ≡ 1 + size * length items
+length_counted : {A : Type 0} (f : A → List ℕ) (size : ℕ) → ((x : A) → length (f x) ≡ size) → (items : List A)
+    → length (counted f items) ≡ 1 + size * length items
 length_counted f size sized items = omega (arith, length_items f size sized items)
 
 -- 40 bytes without lists, 12 for a hook, 8 for a site, 4 for an inferred sink and 8 for a skip
-pub length-note : (file : File) → length (note file) ≡ 40 + (12 * length file.image.hooks + (8 * length file.plan.sites + (4 * length file.plan.sinks + 8 * length file.plan.skips)))
+pub length-note : (file : File)
+    → length (note file) ≡ 40 + (12 * length file.image.hooks + (8 * length file.plan.sites + (4 * length file.plan.sinks + 8 * length file.plan.skips)))
 length-note file =
     let hooks = counted hook_words file.image.hooks in
     let sites = counted site_words file.plan.sites in
@@ -28,14 +26,20 @@ length-note file =
     let many_sites : length sites ≡ 1 + 2 * length file.plan.sites = length_counted site_words 2 (λ x. refl) file.plan.sites in
     let many_sinks : length sinks ≡ 1 + 1 * length file.plan.sinks = length_counted sink_words 1 (λ x. refl) file.plan.sinks in
     let many_skips : length skips ≡ 1 + 2 * length file.plan.skips = length_counted skip_words 2 (λ x. refl) file.plan.skips in
-    let all : length (hooks ++ (sites ++ (sinks ++ skips))) ≡ length hooks + (length sites + (length sinks + length skips)) = length-append hooks (sites ++ (sinks ++ skips)) ∙ ap (λ n. length hooks + n) (length-append sites (sinks ++ skips) ∙ ap (λ n. length sites + n) (length-append sinks skips)) in
-    by (length hooks) (length sites) (length sinks) (length skips) (length (hooks ++ (sites ++ (sinks ++ skips)))) (length (words (description file))) (length (note file)) (length file.image.hooks) (length file.plan.sites) (length file.plan.sinks) (length file.plan.skips)
-      many_hooks many_sites many_sinks many_skips all (length_words (description file) ∙ ap (λ n. 4 * n) (one_more_number file.version (hooks ++ (sites ++ (sinks ++ skips))))) (length_note (description file))
+    let all : length (hooks ++ (sites ++ (sinks ++ skips))) ≡ length hooks + (length sites + (length sinks + length skips)) =
+    length-append hooks (sites ++ (sinks ++ skips)) ∙ ap (λ n. length hooks + n)
+    (length-append sites (sinks ++ skips) ∙ ap (λ n. length sites + n) (length-append sinks skips)) in
+    by (length hooks) (length sites) (length sinks) (length skips) (length (hooks ++ (sites ++ (sinks ++ skips)))) (length (words (description file)))
+    (length (note file)) (length file.image.hooks) (length file.plan.sites) (length file.plan.sinks) (length file.plan.skips)
+    many_hooks many_sites many_sinks many_skips all (length_words (description file)
+    ∙ ap (λ n. 4 * n) (one_more_number file.version (hooks ++ (sites ++ (sinks ++ skips))))) (length_note (description file))
   where
-  one_more_number : (n : ℕ) (ns : List ℕ) → length (n ∷ ns) ≡ 1 + length ns
-  one_more_number n ns = omega arith
-  by : (a b c d all bytes long h s i k : ℕ) → a ≡ 1 + 3 * h → b ≡ 1 + 2 * s → c ≡ 1 + 1 * i → d ≡ 1 + 2 * k → all ≡ a + (b + (c + d)) → bytes ≡ 4 * (1 + all) → long ≡ 20 + bytes → long ≡ 40 + (12 * h + (8 * s + (4 * i + 8 * k)))
-  by a b c d all bytes long h s i k p q r t u v w = omega arith
+    one_more_number : (n : ℕ) (ns : List ℕ) → length (n ∷ ns) ≡ 1 + length ns
+    one_more_number n ns = omega arith
+
+    by : (a b c d all bytes long h s i k : ℕ) → a ≡ 1 + 3 * h → b ≡ 1 + 2 * s → c ≡ 1 + 1 * i → d ≡ 1 + 2 * k → all ≡ a + (b + (c + d)) → bytes ≡ 4 * (1 + all)
+        → long ≡ 20 + bytes → long ≡ 40 + (12 * h + (8 * s + (4 * i + 8 * k)))
+    by a b c d all bytes long h s i k p q r t u v w = omega arith
 
 -- ---- its numbers
 
@@ -63,10 +67,13 @@ pub record NumbersFit (file : File) : Type 0 where
   pub skips : ItemsFit skip_words file.plan.skips
 
 pub description_fits : (file : File) → NumbersFit file → AllByRecursion (λ n. n < 2 ^ 32) (description file)
-description_fits file fit =
-    (fit.version, both_fit (counted hook_words file.image.hooks) _ (counted_fit hook_words file.image.hooks fit.hooks_few fit.hooks)
+description_fits file fit = (
+  fit.version,
+  both_fit (counted hook_words file.image.hooks) _ (counted_fit hook_words file.image.hooks fit.hooks_few fit.hooks)
       (both_fit (counted site_words file.plan.sites) _ (counted_fit site_words file.plan.sites fit.sites_few fit.sites)
-        (both_fit (counted sink_words file.plan.sinks) _ (counted_fit sink_words file.plan.sinks fit.sinks_few fit.sinks) (counted_fit skip_words file.plan.skips fit.skips_few fit.skips))))
+      (both_fit (counted sink_words file.plan.sinks) _ (counted_fit sink_words file.plan.sinks fit.sinks_few fit.sinks)
+      (counted_fit skip_words file.plan.skips fit.skips_few fit.skips))),
+)
 
 -- what the type of an image keeps
 pub image_is : (image : RustImage) → IsImage (image_of image)
@@ -80,4 +87,5 @@ image_is image = record {
   stack_whole = image.stack_whole;
   stack_least = image.stack_least;
   stack_most = image.stack_most;
-  hooks_stand = image.hooks_stand }
+  hooks_stand = image.hooks_stand;
+}

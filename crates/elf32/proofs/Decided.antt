@@ -1,5 +1,6 @@
 -- Whether something holds, and whether bytes are words and words are the lists of a note.
-use Rattle.std.proofs.Common.{◌≡◌, ◌<◌, ◌≤◌, ◌^◌, ℕ, zero, suc, ◌+◌, ◌*◌, ◌/◌, ◌%◌, List, [], ◌∷◌, ◌++◌, length, refl, sym, ap, ◌∙◌, append_assoc, ◌⊎◌, inl, inr, subst, arith}
+use Rattle.std.proofs.Common.{◌≡◌, ◌<◌, ◌≤◌, ℕ, zero, suc, ◌+◌, ◌*◌, ◌/◌, ◌%◌, List, [], ◌∷◌, ◌++◌, length, refl, sym, ap, ◌∙◌, append_assoc, ◌⊎◌, inl}
+use Rattle.std.proofs.Common.{inr, subst, arith}
 use Rattle.std.proofs.lemmas.Bool.{cases_lt, cases_eq}
 use Rattle.std.proofs.lemmas.List.{length-append}
 use Rattle.std.specs.List.{flat_map}
@@ -49,13 +50,16 @@ pub same_list : (xs ys : List ℕ) → Decided (xs ≡ ys)
 same_list [] [] = holds refl
 same_list [] (y ∷ ys) = fails (λ (e : [] ≡ y ∷ ys). cc)
 same_list (x ∷ xs) [] = fails (λ (e : x ∷ xs ≡ []). cc)
-same_list (x ∷ xs) (y ∷ ys) = carried (both (same_number x y) (same_list xs ys)) (λ p. consed x y xs ys p.0 p.1) (λ e. (front x y xs ys e, rest x y xs ys e)) where
-  consed : (x y : ℕ) (xs ys : List ℕ) → x ≡ y → xs ≡ ys → x ∷ xs ≡ y ∷ ys
-  consed x y xs ys p q = cc
-  front : (x y : ℕ) (xs ys : List ℕ) → x ∷ xs ≡ y ∷ ys → x ≡ y
-  front x y xs ys e = cc
-  rest : (x y : ℕ) (xs ys : List ℕ) → x ∷ xs ≡ y ∷ ys → xs ≡ ys
-  rest x y xs ys e = cc
+same_list (x ∷ xs) (y ∷ ys) =
+    carried (both (same_number x y) (same_list xs ys)) (λ p. consed x y xs ys p.0 p.1) (λ e. (front x y xs ys e, rest x y xs ys e)) where
+      consed : (x y : ℕ) (xs ys : List ℕ) → x ≡ y → xs ≡ ys → x ∷ xs ≡ y ∷ ys
+      consed x y xs ys p q = cc
+
+      front : (x y : ℕ) (xs ys : List ℕ) → x ∷ xs ≡ y ∷ ys → x ≡ y
+      front x y xs ys e = cc
+
+      rest : (x y : ℕ) (xs ys : List ℕ) → x ∷ xs ≡ y ∷ ys → xs ≡ ys
+      rest x y xs ys e = cc
 
 -- ---- words
 
@@ -106,7 +110,9 @@ are_words [] = holds (record { numbers = []; fits = tt; there = refl })
 are_words (a ∷ []) = fails (too_short (a ∷ []) (omega arith) (omega arith))
 are_words (a ∷ b ∷ []) = fails (too_short (a ∷ b ∷ []) (omega arith) (omega arith))
 are_words (a ∷ b ∷ c ∷ []) = fails (too_short (a ∷ b ∷ c ∷ []) (omega arith) (omega arith))
-are_words (a ∷ b ∷ c ∷ d ∷ bytes) = carried (both (is_below a 256) (both (is_below b 256) (both (is_below c 256) (both (is_below d 256) (are_words bytes))))) (four_more a b c d bytes) (four_less a b c d bytes)
+are_words (a ∷ b ∷ c ∷ d ∷ bytes) =
+    carried (both (is_below a 256) (both (is_below b 256) (both (is_below c 256) (both (is_below d 256) (are_words bytes))))) (four_more a b c d bytes)
+    (four_less a b c d bytes)
 
 -- ---- items
 
@@ -146,9 +152,11 @@ act_of (suc (suc (suc (suc n)))) = fails (λ x. omega (arith, x.is, act_less x.a
 pub begins_site : (ns : List ℕ) → Decided (Begins site_words ns)
 begins_site [] = fails (begins_long site_words 2 (λ x. refl) [] (omega arith))
 begins_site (site ∷ []) = fails (begins_long site_words 2 (λ x. refl) (site ∷ []) (omega arith))
-begins_site (site ∷ number ∷ ns) = carried (act_of number) (λ known. record { item = record { site = site; act = known.act }; rest = ns; there = ap (λ n. site ∷ n ∷ ns) known.is }) (λ x. record { act = x.item.act; is = second x.item.site (act_number x.item.act) x.rest x.there }) where
-  second : (a b : ℕ) (rest : List ℕ) → site ∷ number ∷ ns ≡ a ∷ b ∷ rest → number ≡ b
-  second a b rest e = cc
+begins_site (site ∷ number ∷ ns) =
+    carried (act_of number) (λ known. record { item = record { site = site; act = known.act }; rest = ns; there = ap (λ n. site ∷ n ∷ ns) known.is })
+    (λ x. record { act = x.item.act; is = second x.item.site (act_number x.item.act) x.rest x.there }) where
+      second : (a b : ℕ) (rest : List ℕ) → site ∷ number ∷ ns ≡ a ∷ b ∷ rest → number ≡ b
+      second a b rest e = cc
 
 pub begins_sink : (ns : List ℕ) → Decided (Begins sink_words ns)
 begins_sink [] = fails (begins_long sink_words 1 (λ x. refl) [] (omega arith))
@@ -173,7 +181,8 @@ first_of_items {A = A} f count ns all = by all.items all.many all.there where
   by [] many there = absurd (omega (arith, many))
   by (x ∷ xs) many there = record { item = x; rest = flat_map f xs ++ all.rest; there = there ∙ append_assoc (f x) (flat_map f xs) all.rest }
 
-rest_of_items : {A : Type 0} (f : A → List ℕ) (size : ℕ) → ((x : A) → length (f x) ≡ size) → (count : ℕ) (ns : List ℕ) (one : Begins f ns) → Items f (suc count) ns → Items f count one.rest
+rest_of_items : {A : Type 0} (f : A → List ℕ) (size : ℕ) → ((x : A) → length (f x) ≡ size) → (count : ℕ) (ns : List ℕ) (one : Begins f ns)
+    → Items f (suc count) ns → Items f count one.rest
 rest_of_items {A = A} f size sized count ns one all = by all.items all.many all.there where
   by : (xs : List A) → length xs ≡ suc count → ns ≡ flat_map f xs ++ all.rest → Items f count one.rest
   by [] many there = absurd (omega (arith, many))
@@ -184,12 +193,14 @@ rest_of_items {A = A} f size sized count ns one all = by all.items all.many all.
 
 more_items : {A : Type 0} (f : A → List ℕ) (count : ℕ) (ns : List ℕ) (one : Begins f ns) → Items f count one.rest → Items f (suc count) ns
 more_items f count ns one more = record {
-    items = one.item ∷ more.items;
-    rest = more.rest;
-    many = omega (arith, more.many);
-    there = one.there ∙ ap (λ l. f one.item ++ l) more.there ∙ sym (append_assoc (f one.item) (flat_map f more.items) more.rest) }
+  items = one.item ∷ more.items;
+  rest = more.rest;
+  many = omega (arith, more.many);
+  there = one.there ∙ ap (λ l. f one.item ++ l) more.there ∙ sym (append_assoc (f one.item) (flat_map f more.items) more.rest);
+}
 
-items_there : {A : Type 0} (f : A → List ℕ) (size : ℕ) → ((x : A) → length (f x) ≡ size) → ((ns : List ℕ) → Decided (Begins f ns)) → (count : ℕ) (ns : List ℕ) → Decided (Items f count ns)
+items_there : {A : Type 0} (f : A → List ℕ) (size : ℕ) → ((x : A) → length (f x) ≡ size) → ((ns : List ℕ) → Decided (Begins f ns)) → (count : ℕ) (ns : List ℕ)
+    → Decided (Items f count ns)
 items_there f size sized begins zero ns = holds (record { items = []; rest = ns; many = refl; there = refl })
 items_there f size sized begins (suc count) ns = by (begins ns) (λ (rest : List ℕ). items_there f size sized begins count rest) where
   by : Decided (Begins f ns) → ((rest : List ℕ) → Decided (Items f count rest)) → Decided (Items f (suc count) ns)
@@ -203,17 +214,22 @@ record Counts {A : Type 0} (f : A → List ℕ) (ns : List ℕ) : Type 0 where
   rest : List ℕ
   there : ns ≡ counted f items ++ rest
 
-counts : {A : Type 0} (f : A → List ℕ) (size : ℕ) → ((x : A) → length (f x) ≡ size) → ((ns : List ℕ) → Decided (Begins f ns)) → (ns : List ℕ) → Decided (Counts f ns)
+counts : {A : Type 0} (f : A → List ℕ) (size : ℕ) → ((x : A) → length (f x) ≡ size) → ((ns : List ℕ) → Decided (Begins f ns)) → (ns : List ℕ)
+    → Decided (Counts f ns)
 counts f size sized begins [] = fails (λ x. nothing x.items x.rest x.there) where
   nothing : (items : List _) (rest : List ℕ) → [] ≡ counted f items ++ rest → ⊥
   nothing items rest e = cc
-counts {A = A} f size sized begins (n ∷ ns) = carried (items_there f size sized begins n ns) (λ i. record { items = i.items; rest = i.rest; there = joined i.items i.rest i.many i.there }) (λ c. record { items = c.items; rest = c.rest; many = count c.items c.rest c.there; there = behind c.items c.rest c.there }) where
-  joined : (items : List A) (rest : List ℕ) → length items ≡ n → ns ≡ flat_map f items ++ rest → n ∷ ns ≡ length items ∷ (flat_map f items ++ rest)
-  joined items rest many there = cc
-  count : (items : List A) (rest : List ℕ) → n ∷ ns ≡ length items ∷ (flat_map f items ++ rest) → length items ≡ n
-  count items rest e = cc
-  behind : (items : List A) (rest : List ℕ) → n ∷ ns ≡ length items ∷ (flat_map f items ++ rest) → ns ≡ flat_map f items ++ rest
-  behind items rest e = cc
+counts {A = A} f size sized begins (n ∷ ns) =
+    carried (items_there f size sized begins n ns) (λ i. record { items = i.items; rest = i.rest; there = joined i.items i.rest i.many i.there })
+    (λ c. record { items = c.items; rest = c.rest; many = count c.items c.rest c.there; there = behind c.items c.rest c.there }) where
+      joined : (items : List A) (rest : List ℕ) → length items ≡ n → ns ≡ flat_map f items ++ rest → n ∷ ns ≡ length items ∷ (flat_map f items ++ rest)
+      joined items rest many there = cc
+
+      count : (items : List A) (rest : List ℕ) → n ∷ ns ≡ length items ∷ (flat_map f items ++ rest) → length items ≡ n
+      count items rest e = cc
+
+      behind : (items : List A) (rest : List ℕ) → n ∷ ns ≡ length items ∷ (flat_map f items ++ rest) → ns ≡ flat_map f items ++ rest
+      behind items rest e = cc
 
 -- a counted list, and something holds of what stands behind it
 pub record Then {A : Type 0} (f : A → List ℕ) (Behind : List ℕ → Type 0) (ns : List ℕ) : Type 0 where
@@ -222,7 +238,8 @@ pub record Then {A : Type 0} (f : A → List ℕ) (Behind : List ℕ → Type 0)
   pub there : ns ≡ counted f items ++ rest
   pub behind : Behind rest
 
-pub list_then : {A : Type 0} (f : A → List ℕ) (size : ℕ) → ((x : A) → length (f x) ≡ size) → ((x y : A) → f x ≡ f y → x ≡ y) → ((ns : List ℕ) → Decided (Begins f ns)) → (Behind : List ℕ → Type 0) → ((ns : List ℕ) → Decided (Behind ns)) → (ns : List ℕ) → Decided (Then f Behind ns)
+pub list_then : {A : Type 0} (f : A → List ℕ) (size : ℕ) → ((x : A) → length (f x) ≡ size) → ((x y : A) → f x ≡ f y → x ≡ y)
+    → ((ns : List ℕ) → Decided (Begins f ns)) → (Behind : List ℕ → Type 0) → ((ns : List ℕ) → Decided (Behind ns)) → (ns : List ℕ) → Decided (Then f Behind ns)
 list_then f size sized tells begins Behind decide ns = by (counts f size sized begins ns) where
   by : Decided (Counts f ns) → Decided (Then f Behind ns)
   by (fails none) = fails (λ t. none (record { items = t.items; rest = t.rest; there = t.there }))
@@ -236,6 +253,6 @@ FourLists ns = Then hook_words (Then site_words (Then sink_words (Then skip_word
 pub four_lists : (ns : List ℕ) → Decided (FourLists ns)
 four_lists ns =
     list_then hook_words 3 (λ x. refl) hook_only begins_hook (Then site_words (Then sink_words (Then skip_words (λ rest. rest ≡ []))))
-      (list_then site_words 2 (λ x. refl) site_only begins_site (Then sink_words (Then skip_words (λ rest. rest ≡ [])))
-        (list_then sink_words 1 (λ x. refl) sink_only begins_sink (Then skip_words (λ rest. rest ≡ []))
-          (list_then skip_words 2 (λ x. refl) skip_only begins_skip (λ rest. rest ≡ []) (λ rest. same_list rest [])))) ns
+    (list_then site_words 2 (λ x. refl) site_only begins_site (Then sink_words (Then skip_words (λ rest. rest ≡ [])))
+    (list_then sink_words 1 (λ x. refl) sink_only begins_sink (Then skip_words (λ rest. rest ≡ []))
+    (list_then skip_words 2 (λ x. refl) skip_only begins_skip (λ rest. rest ≡ []) (λ rest. same_list rest [])))) ns

@@ -3,7 +3,7 @@ use Rattle.std.proofs.Common.{◌≡◌, ◌<◌, ◌≤◌, ℕ, List, take, le
 use Rattle.std.proofs.lemmas.List.{take-take}
 use Rattle.elf32.specs.declared.file.ElfFault.{ElfFault}
 use Rattle.elf32.specs.declared.file.ElfFault.TheVariants.{Short, Magic, Class, FileType, Machine, Header, Segment, Note}
-use Rattle.elf32.specs.Elf.{File, Elf, header}
+use Rattle.elf32.specs.Elf.{header}
 use Rattle.elf32.specs.declared.file.ElfStop.{ElfStop}
 use Rattle.elf32.specs.declared.file.ElfStop.TheVariants.{Bad, Memory}
 use Rattle.elf32.specs.Faults.{fault_number, Fits, HasFault, HasFile, HasSegments, StopsRightly}
@@ -71,7 +71,8 @@ fault_file_type bytes long magic class differs = record { differs = differs; bef
 
 -- ---- Machine
 
-before_machine : (bytes : List ℕ) → Fits Short bytes → Fits Magic bytes → Fits Class bytes → Fits FileType bytes → (other : ElfFault) → fault_number other < 5 → Fits other bytes
+before_machine : (bytes : List ℕ) → Fits Short bytes → Fits Magic bytes → Fits Class bytes → Fits FileType bytes → (other : ElfFault) → fault_number other < 5
+    → Fits other bytes
 before_machine bytes long magic class kind Short less = long
 before_machine bytes long magic class kind Magic less = magic
 before_machine bytes long magic class kind Class less = class
@@ -81,12 +82,14 @@ before_machine bytes long magic class kind Header less = absurd (omega arith)
 before_machine bytes long magic class kind Segment less = absurd (omega arith)
 before_machine bytes long magic class kind Note less = absurd (omega arith)
 
-pub fault_machine : (bytes : List ℕ) → Fits Short bytes → Fits Magic bytes → Fits Class bytes → Fits FileType bytes → (Fits Machine bytes → ⊥) → HasFault bytes Machine
+pub fault_machine : (bytes : List ℕ) → Fits Short bytes → Fits Magic bytes → Fits Class bytes → Fits FileType bytes → (Fits Machine bytes → ⊥)
+    → HasFault bytes Machine
 fault_machine bytes long magic class kind differs = record { differs = differs; before = before_machine bytes long magic class kind }
 
 -- ---- Header
 
-before_header : (bytes : List ℕ) → Fits Short bytes → Fits Magic bytes → Fits Class bytes → Fits FileType bytes → Fits Machine bytes → (other : ElfFault) → fault_number other < 6 → Fits other bytes
+before_header : (bytes : List ℕ) → Fits Short bytes → Fits Magic bytes → Fits Class bytes → Fits FileType bytes → Fits Machine bytes → (other : ElfFault)
+    → fault_number other < 6 → Fits other bytes
 before_header bytes long magic class kind machine Short less = long
 before_header bytes long magic class kind machine Magic less = magic
 before_header bytes long magic class kind machine Class less = class
@@ -96,12 +99,14 @@ before_header bytes long magic class kind machine Header less = absurd (omega ar
 before_header bytes long magic class kind machine Segment less = absurd (omega arith)
 before_header bytes long magic class kind machine Note less = absurd (omega arith)
 
-pub fault_header : (bytes : List ℕ) → Fits Short bytes → Fits Magic bytes → Fits Class bytes → Fits FileType bytes → Fits Machine bytes → (Fits Header bytes → ⊥) → HasFault bytes Header
+pub fault_header : (bytes : List ℕ) → Fits Short bytes → Fits Magic bytes → Fits Class bytes → Fits FileType bytes → Fits Machine bytes
+    → (Fits Header bytes → ⊥) → HasFault bytes Header
 fault_header bytes long magic class kind machine differs = record { differs = differs; before = before_header bytes long magic class kind machine }
 
 -- ---- Segment
 
-before_segment : (bytes : List ℕ) → Fits Short bytes → Fits Magic bytes → Fits Class bytes → Fits FileType bytes → Fits Machine bytes → Fits Header bytes → (other : ElfFault) → fault_number other < 7 → Fits other bytes
+before_segment : (bytes : List ℕ) → Fits Short bytes → Fits Magic bytes → Fits Class bytes → Fits FileType bytes → Fits Machine bytes → Fits Header bytes
+    → (other : ElfFault) → fault_number other < 7 → Fits other bytes
 before_segment bytes long magic class kind machine header_is Short less = long
 before_segment bytes long magic class kind machine header_is Magic less = magic
 before_segment bytes long magic class kind machine header_is Class less = class
@@ -111,12 +116,15 @@ before_segment bytes long magic class kind machine header_is Header less = heade
 before_segment bytes long magic class kind machine header_is Segment less = absurd (omega arith)
 before_segment bytes long magic class kind machine header_is Note less = absurd (omega arith)
 
-pub fault_segment : (bytes : List ℕ) → Fits Short bytes → Fits Magic bytes → Fits Class bytes → Fits FileType bytes → Fits Machine bytes → Fits Header bytes → (Fits Segment bytes → ⊥) → HasFault bytes Segment
-fault_segment bytes long magic class kind machine header_is differs = record { differs = differs; before = before_segment bytes long magic class kind machine header_is }
+pub fault_segment : (bytes : List ℕ) → Fits Short bytes → Fits Magic bytes → Fits Class bytes → Fits FileType bytes → Fits Machine bytes → Fits Header bytes
+    → (Fits Segment bytes → ⊥) → HasFault bytes Segment
+fault_segment bytes long magic class kind machine header_is differs =
+    record { differs = differs; before = before_segment bytes long magic class kind machine header_is }
 
 -- ---- Note
 
-before_note : (bytes : List ℕ) → Fits Short bytes → Fits Magic bytes → Fits Class bytes → Fits FileType bytes → Fits Machine bytes → Fits Header bytes → Fits Segment bytes → (other : ElfFault) → fault_number other < 8 → Fits other bytes
+before_note : (bytes : List ℕ) → Fits Short bytes → Fits Magic bytes → Fits Class bytes → Fits FileType bytes → Fits Machine bytes → Fits Header bytes
+    → Fits Segment bytes → (other : ElfFault) → fault_number other < 8 → Fits other bytes
 before_note bytes long magic class kind machine header_is segments Short less = long
 before_note bytes long magic class kind machine header_is segments Magic less = magic
 before_note bytes long magic class kind machine header_is segments Class less = class
@@ -126,8 +134,10 @@ before_note bytes long magic class kind machine header_is segments Header less =
 before_note bytes long magic class kind machine header_is segments Segment less = segments
 before_note bytes long magic class kind machine header_is segments Note less = absurd (omega arith)
 
-pub fault_note : (bytes : List ℕ) → Fits Short bytes → Fits Magic bytes → Fits Class bytes → Fits FileType bytes → Fits Machine bytes → Fits Header bytes → Fits Segment bytes → (Fits Note bytes → ⊥) → HasFault bytes Note
-fault_note bytes long magic class kind machine header_is segments differs = record { differs = differs; before = before_note bytes long magic class kind machine header_is segments }
+pub fault_note : (bytes : List ℕ) → Fits Short bytes → Fits Magic bytes → Fits Class bytes → Fits FileType bytes → Fits Machine bytes → Fits Header bytes
+    → Fits Segment bytes → (Fits Note bytes → ⊥) → HasFault bytes Note
+fault_note bytes long magic class kind machine header_is segments differs =
+    record { differs = differs; before = before_note bytes long magic class kind machine header_is segments }
 
 -- ---- where the reader stops behind the header
 
@@ -135,12 +145,16 @@ fault_note bytes long magic class kind machine header_is segments differs = reco
 pub part_there : (k : ℕ) (bytes : List ℕ) → k ≤ 52 → take 52 bytes ≡ header → take k bytes ≡ take k header
 part_there k bytes least whole = sym (take-take k 52 bytes least) ∙ ap (take k) whole
 
-pub segment_stops : (bytes : List ℕ) (stop : ElfStop) → 212 ≤ length bytes → take 52 bytes ≡ header → Because stop Segment (HasSegments bytes → ⊥) → StopsRightly bytes stop
+pub segment_stops : (bytes : List ℕ) (stop : ElfStop) → 212 ≤ length bytes → take 52 bytes ≡ header → Because stop Segment (HasSegments bytes → ⊥)
+    → StopsRightly bytes stop
 segment_stops bytes (Bad fault) long whole why =
-    rw why.0 (fault_segment bytes long (part_there 4 bytes (omega arith) whole) (part_there 16 bytes (omega arith) whole) (part_there 18 bytes (omega arith) whole) (part_there 20 bytes (omega arith) whole) whole why.1)
+    rw why.0 (fault_segment bytes long (part_there 4 bytes (omega arith) whole) (part_there 16 bytes (omega arith) whole)
+    (part_there 18 bytes (omega arith) whole) (part_there 20 bytes (omega arith) whole) whole why.1)
 segment_stops bytes Memory long whole why = why
 
-pub note_stops : (bytes : List ℕ) (stop : ElfStop) → 212 ≤ length bytes → take 52 bytes ≡ header → HasSegments bytes → Because stop Note (HasFile bytes → ⊥) → StopsRightly bytes stop
+pub note_stops : (bytes : List ℕ) (stop : ElfStop) → 212 ≤ length bytes → take 52 bytes ≡ header → HasSegments bytes → Because stop Note (HasFile bytes → ⊥)
+    → StopsRightly bytes stop
 note_stops bytes (Bad fault) long whole segments why =
-    rw why.0 (fault_note bytes long (part_there 4 bytes (omega arith) whole) (part_there 16 bytes (omega arith) whole) (part_there 18 bytes (omega arith) whole) (part_there 20 bytes (omega arith) whole) whole segments why.1)
+    rw why.0 (fault_note bytes long (part_there 4 bytes (omega arith) whole) (part_there 16 bytes (omega arith) whole)
+    (part_there 18 bytes (omega arith) whole) (part_there 20 bytes (omega arith) whole) whole segments why.1)
 note_stops bytes Memory long whole segments why = why

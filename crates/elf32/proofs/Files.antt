@@ -11,7 +11,8 @@ use Rattle.rv32_isa.specs.declared.image.HookAt.{HookAt}
 use Rattle.rv32_isa.specs.Words.{word_bytes}
 use Rattle.rv32_isa.specs.Hooks.{code_at}
 use Rattle.rv32_isa.specs.Image.{Image, IsImage, statics_at, heap_at, stack_at}
-use Rattle.elf32.specs.Elf.{File, words, header, segment, segments, hook_words, act_number, site_words, sink_words, skip_words, description, note, elf_bytes, IsFile, Elf}
+use Rattle.elf32.specs.Elf.{File, words, header, segment, segments, hook_words, act_number, site_words, sink_words, skip_words, description, note, elf_bytes}
+use Rattle.elf32.specs.Elf.{IsFile, Elf}
 use Rattle.elf32.proofs.FilesWords.{parts_only, past_word, past_words, word_only, words_only, counted_only}
 
 -- ---- values that are equal by their fields
@@ -22,7 +23,8 @@ same_two f a b c d p q = cc
 pub same_three : {A B C D : Type 0} (f : A → B → C → D) (a b : A) (c d : B) (g h : C) → a ≡ b → c ≡ d → g ≡ h → f a c g ≡ f b d h
 same_three f a b c d g h p q r = cc
 
-same_five : {A B C D E F : Type 0} (f : A → B → C → D → E → F) (a b : A) (c d : B) (g h : C) (i j : D) (k l : E) → a ≡ b → c ≡ d → g ≡ h → i ≡ j → k ≡ l → f a c g i k ≡ f b d h j l
+same_five : {A B C D E F : Type 0} (f : A → B → C → D → E → F) (a b : A) (c d : B) (g h : C) (i j : D) (k l : E) → a ≡ b → c ≡ d → g ≡ h → i ≡ j → k ≡ l
+    → f a c g i k ≡ f b d h j l
 same_five f a b c d g h i j k l p q r s t = cc
 
 -- ---- the counts of the description fit
@@ -54,7 +56,8 @@ counts_fit file is =
 -- ---- the program headers
 
 -- the size in the file and the size in memory, and what follows
-segment_only : (k o a i m f l p b j n g : ℕ) (x y : List ℕ) → i < 2 ^ 32 → j < 2 ^ 32 → m < 2 ^ 32 → n < 2 ^ 32 → segment k o a i m f ++ x ≡ segment l p b j n g ++ y → (i ≡ j) × (m ≡ n) × (x ≡ y)
+segment_only : (k o a i m f l p b j n g : ℕ) (x y : List ℕ) → i < 2 ^ 32 → j < 2 ^ 32 → m < 2 ^ 32 → n < 2 ^ 32
+    → segment k o a i m f ++ x ≡ segment l p b j n g ++ y → (i ≡ j) × (m ≡ n) × (x ≡ y)
 segment_only k o a i m f l p b j n g x y fits_i fits_j fits_m fits_n e =
     let sizes = past_word a b _ _ (past_word a b _ _ (past_word o p _ _ (past_word k l _ _ (simp append_assoc at e)))) in
     let in_file = word_only i j _ _ fits_i fits_j sizes in
@@ -74,8 +77,10 @@ record Sizes (m n : ℕ) (a b : Image) : Type 0 where
 
 segments_only : (m n : ℕ) (a b : Image) → IsImage a → IsImage b → m ≤ 2097152 → n ≤ 2097152 → segments m a ≡ segments n b → Sizes m n a b
 segments_only m n a b is_a is_b fits_m fits_n e =
-    let code = segment_only 1 (212 + m) code_at (length a.code) (length a.code) 5 1 (212 + n) code_at (length b.code) (length b.code) 5 _ _ (omega arith) (omega arith) (omega arith) (omega arith) e in
-    let statics = segment_only 1 (212 + m + length a.code) statics_at (length a.statics) (length a.statics) 6 1 (212 + n + length b.code) statics_at (length b.statics) (length b.statics) 6 _ _ (omega arith) (omega arith) (omega arith) (omega arith) code.2 in
+    let code = segment_only 1 (212 + m) code_at (length a.code) (length a.code) 5 1 (212 + n) code_at (length b.code) (length b.code) 5 _ _ (omega arith)
+    (omega arith) (omega arith) (omega arith) e in
+    let statics = segment_only 1 (212 + m + length a.code) statics_at (length a.statics) (length a.statics) 6 1 (212 + n + length b.code) statics_at
+    (length b.statics) (length b.statics) 6 _ _ (omega arith) (omega arith) (omega arith) (omega arith) code.2 in
     let heap = segment_only 1 0 heap_at 0 a.heap 6 1 0 heap_at 0 b.heap 6 _ _ (omega arith) (omega arith) (omega arith) (omega arith) statics.2 in
     let stack = segment_only 1 0 stack_at 0 a.stack 6 1 0 stack_at 0 b.stack 6 _ _ (omega arith) (omega arith) (omega arith) (omega arith) heap.2 in
     let note = segment_only 4 212 0 m 0 4 4 212 0 n 0 4 [] [] (omega arith) (omega arith) (omega arith) (omega arith) (ap (λ l. l ++ []) stack.2) in
@@ -119,7 +124,12 @@ description_only a b e =
     let sites = counted_only site_words 2 (λ x. refl) site_only a.plan.sites b.plan.sites _ _ hooks.1 in
     let sinks = counted_only sink_words 1 (λ x. refl) sink_only a.plan.sinks b.plan.sinks _ _ sites.1 in
     let skips = counted_only skip_words 2 (λ x. refl) skip_only a.plan.skips b.plan.skips [] [] (ap (λ l. l ++ []) sinks.1) in
-    record { version = version; hooks = hooks.0; plan = same_three (λ sites sinks skips. record { sites = sites; sinks = sinks; skips = skips }) _ _ _ _ _ _ sites.0 sinks.0 skips.0 }
+    record {
+      version = version;
+      hooks = hooks.0;
+      plan = same_three
+          (λ sites sinks skips. record { sites = sites; sinks = sinks; skips = skips }) _ _ _ _ _ _ sites.0 sinks.0 skips.0;
+    }
 
 note_only : (a b : File) → IsFile a → IsFile b → note a ≡ note b → Said a b
 note_only a b is_a is_b e =
@@ -136,10 +146,17 @@ elf_only bytes a b elf_a elf_b =
     let one : elf_bytes b ≡ elf_bytes a = sym elf_b.spelled ∙ elf_a.spelled in
     let n_a = length (note a) in
     let n_b = length (note b) in
-    let headers = parts_only (segments n_b b.image) (segments n_a a.image) _ _ (length-segments n_b b.image ∙ sym (length-segments n_a a.image)) (append_cancel_left header _ _ one) in
+    let headers = parts_only (segments n_b b.image) (segments n_a a.image) _ _ (length-segments n_b b.image ∙ sym (length-segments n_a a.image))
+    (append_cancel_left header _ _ one) in
     let sizes = segments_only n_b n_a b.image a.image elf_b.allowed.image elf_a.allowed.image elf_b.allowed.note_most elf_a.allowed.note_most headers.0 in
     let notes = parts_only (note b) (note a) _ _ sizes.note headers.1 in
     let said = note_only b a elf_b.allowed elf_a.allowed notes.0 in
     let regions = parts_only b.image.code a.image.code b.image.statics a.image.statics sizes.code notes.1 in
-    let image : b.image ≡ a.image = same_five (λ code statics heap stack hooks. record { code = code; statics = statics; heap = heap; stack = stack; hooks = hooks }) _ _ _ _ _ _ _ _ _ _ regions.0 regions.1 sizes.heap sizes.stack said.hooks in
+    let image : b.image ≡ a.image = same_five (λ code statics heap stack hooks. record {
+      code = code;
+      statics = statics;
+      heap = heap;
+      stack = stack;
+      hooks = hooks;
+    }) _ _ _ _ _ _ _ _ _ _ regions.0 regions.1 sizes.heap sizes.stack said.hooks in
     same_three (λ image version plan. record { image = image; version = version; plan = plan }) _ _ _ _ _ _ image said.version said.plan

@@ -68,12 +68,14 @@ words_only (m ∷ ms) (n ∷ ns) fit_ms fit_ns e =
 -- ---- counted lists
 
 -- as many items, each with as many numbers, which tell it from the others
-pub items_only : {A : Type 0} (f : A → List ℕ) (size : ℕ) → ((x : A) → length (f x) ≡ size) → ((x y : A) → f x ≡ f y → x ≡ y) → (xs ys : List A) (r s : List ℕ) → length xs ≡ length ys → flat_map f xs ++ r ≡ flat_map f ys ++ s → (xs ≡ ys) × (r ≡ s)
+pub items_only : {A : Type 0} (f : A → List ℕ) (size : ℕ) → ((x : A) → length (f x) ≡ size) → ((x y : A) → f x ≡ f y → x ≡ y) → (xs ys : List A) (r s : List ℕ)
+    → length xs ≡ length ys → flat_map f xs ++ r ≡ flat_map f ys ++ s → (xs ≡ ys) × (r ≡ s)
 items_only f size sized tells [] [] r s n e = (refl, e)
 items_only f size sized tells [] (y ∷ ys) r s n e = absurd (omega arith)
 items_only f size sized tells (x ∷ xs) [] r s n e = absurd (omega arith)
 items_only {A = A} f size sized tells (x ∷ xs) (y ∷ ys) r s n e =
-    let apart : f x ++ (flat_map f xs ++ r) ≡ f y ++ (flat_map f ys ++ s) = sym (append_assoc (f x) (flat_map f xs) r) ∙ e ∙ append_assoc (f y) (flat_map f ys) s in
+    let apart : f x ++ (flat_map f xs ++ r) ≡ f y ++ (flat_map f ys ++ s) = sym (append_assoc (f x) (flat_map f xs) r) ∙ e
+    ∙ append_assoc (f y) (flat_map f ys) s in
     let parts : (f x ≡ f y) × (flat_map f xs ++ r ≡ flat_map f ys ++ s) = parts_only (f x) (f y) _ _ (sized x ∙ sym (sized y)) apart in
     let first : x ≡ y = tells x y parts.0 in
     let rest : (xs ≡ ys) × (r ≡ s) = items_only f size sized tells xs ys r s (omega arith) parts.1 in
@@ -81,5 +83,6 @@ items_only {A = A} f size sized tells (x ∷ xs) (y ∷ ys) r s n e =
     (cc, rest.1)
 
 -- a counted list in front, and what follows it
-pub counted_only : {A : Type 0} (f : A → List ℕ) (size : ℕ) → ((x : A) → length (f x) ≡ size) → ((x y : A) → f x ≡ f y → x ≡ y) → (xs ys : List A) (r s : List ℕ) → counted f xs ++ r ≡ counted f ys ++ s → (xs ≡ ys) × (r ≡ s)
+pub counted_only : {A : Type 0} (f : A → List ℕ) (size : ℕ) → ((x : A) → length (f x) ≡ size) → ((x y : A) → f x ≡ f y → x ≡ y)
+    → (xs ys : List A) (r s : List ℕ) → counted f xs ++ r ≡ counted f ys ++ s → (xs ≡ ys) × (r ≡ s)
 counted_only f size sized tells xs ys r s e = items_only f size sized tells xs ys r s (cc) (cc)

@@ -1,5 +1,5 @@
 -- The word in four bytes.
-use Rattle.std.proofs.Common.{◌≡◌, ◌<◌, ◌≤◌, ℕ, zero, suc, ◌+◌, ◌*◌, ◌/◌, ◌%◌, List, [], ◌∷◌, ◌++◌, length, drop, get_or, refl, sym, ap, ◌∙◌, arith}
+use Rattle.std.proofs.Common.{◌≡◌, ◌<◌, ◌≤◌, ℕ, zero, suc, ◌+◌, ◌*◌, ◌/◌, ◌%◌, List, [], ◌∷◌, ◌++◌, length, drop, get_or, refl, ap, ◌∙◌, arith}
 use Rattle.std.proofs.lemmas.List.{drop-drop, get_or-drop, length-drop}
 use Rattle.rv32_isa.specs.Words.{word_bytes}
 use Rattle.byteorder.specs.Endian.{little_number}
@@ -29,10 +29,12 @@ word_front (a ∷ b ∷ c ∷ d ∷ bytes) fits long =
     let four : d ≡ n / 16777216 % 256 = omega arith in
     cc
 
-pub word_there : (bytes : List ℕ) (at : ℕ) → IsBytes bytes → at + 4 ≤ length bytes → drop at bytes ≡ word_bytes (little_number 4 (drop at bytes)) ++ drop (at + 4) bytes
+pub word_there : (bytes : List ℕ) (at : ℕ) → IsBytes bytes → at + 4 ≤ length bytes
+    → drop at bytes ≡ word_bytes (little_number 4 (drop at bytes)) ++ drop (at + 4) bytes
 word_there bytes at fits long =
     let room : 4 ≤ length (drop at bytes) = omega (arith, length-drop at bytes, long) in
-    word_front (drop at bytes) (λ i. rw (get_or-drop at bytes i 0) (fits (at + i))) room ∙ ap (λ l. word_bytes (little_number 4 (drop at bytes)) ++ l) (drop-drop 4 at bytes)
+    word_front (drop at bytes) (λ i. rw (get_or-drop at bytes i 0) (fits (at + i))) room
+    ∙ ap (λ l. word_bytes (little_number 4 (drop at bytes)) ++ l) (drop-drop 4 at bytes)
 
 pub word_number : (bytes : List ℕ) (at : ℕ) → at + 4 ≤ length bytes → little_number 4 (drop at bytes) ≡ word_in bytes at
 word_number [] at long = absurd (omega arith)

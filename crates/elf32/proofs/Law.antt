@@ -5,7 +5,7 @@ use Rattle.elf32.specs.declared.file.ElfFault.{ElfFault}
 use Rattle.elf32.specs.declared.file.ElfFault.TheVariants.{Short, Magic, Class, FileType, Machine, Header, Segment, Note}
 use Rattle.rv32_isa.specs.Words.{word_bytes}
 use Rattle.elf32.specs.Elf.{File, Elf, header}
-use Rattle.elf32.specs.Faults.{fault_number, Fits, HasFault, HasFile, HasSegments}
+use Rattle.elf32.specs.Faults.{fault_number, Fits, HasFault}
 use Rattle.elf32.proofs.Faulty.{part_there}
 use Rattle.elf32.proofs.Segments.{Sized, file_sized, file_segments}
 

@@ -1,5 +1,5 @@
 -- The tests of order say what the definition of a file says of its lists.
-use Rattle.std.proofs.Common.{◌≡◌, ◌<◌, ◌≤◌, ℕ, ◌+◌, ◌%◌, ◌⊎◌, inl, inr, Bool, true, false, ◌&&◌, ◌||◌, eqb, ltb, leb, List, [], ◌∷◌, refl, sym, ap, ◌∙◌, arith}
+use Rattle.std.proofs.Common.{◌≡◌, ◌<◌, ℕ, ◌+◌, ◌%◌, ◌⊎◌, inl, inr, Bool, true, false, ◌&&◌, ◌||◌, eqb, ltb, leb, List, [], ◌∷◌, refl}
 use Rattle.std.proofs.lemmas.Bool.{leb-true, le-leb, ltb-true, lt-ltb, eqb-true, eq-eqb}
 use Rattle.std.specs.Prelude.{Option, Some, None}
 use Rattle.nim_core.specs.declared.plan.SiteAct.{SiteAct}
@@ -19,7 +19,8 @@ true_both true b e f = f
 true_both false b e f = absurd (cc)
 
 -- a list rises where the test says so
-pub ordered_by : {A : Type 0} (before : A → A → Bool) (Before : A → A → Type 0) → ((a b : A) → before a b ≡ true → Before a b) → (last : Option A) (items : List A) → rises before last items ≡ true → Ordered Before items
+pub ordered_by : {A : Type 0} (before : A → A → Bool) (Before : A → A → Type 0) → ((a b : A) → before a b ≡ true → Before a b)
+    → (last : Option A) (items : List A) → rises before last items ≡ true → Ordered Before items
 ordered_by before Before says last [] e = tt
 ordered_by before Before says last (a ∷ []) e = tt
 ordered_by before Before says last (a ∷ b ∷ items) e =
@@ -28,11 +29,14 @@ ordered_by before Before says last (a ∷ b ∷ items) e =
     (says a b second.0, ordered_by before Before says (Some a) (b ∷ items) first.1)
 
 -- and the test says so where it rises
-rises_from : {A : Type 0} (before : A → A → Bool) (Before : A → A → Type 0) → ((a b : A) → Before a b → before a b ≡ true) → (a : A) (items : List A) → Ordered Before (a ∷ items) → rises before (Some a) items ≡ true
+rises_from : {A : Type 0} (before : A → A → Bool) (Before : A → A → Type 0) → ((a b : A) → Before a b → before a b ≡ true) → (a : A) (items : List A)
+    → Ordered Before (a ∷ items) → rises before (Some a) items ≡ true
 rises_from before Before tests a [] ordered = refl
-rises_from before Before tests a (b ∷ items) ordered = true_both (before a b) (rises before (Some b) items) (tests a b ordered.0) (rises_from before Before tests b items ordered.1)
+rises_from before Before tests a (b ∷ items) ordered =
+    true_both (before a b) (rises before (Some b) items) (tests a b ordered.0) (rises_from before Before tests b items ordered.1)
 
-pub rises_by : {A : Type 0} (before : A → A → Bool) (Before : A → A → Type 0) → ((a b : A) → Before a b → before a b ≡ true) → (items : List A) → Ordered Before items → rises before None items ≡ true
+pub rises_by : {A : Type 0} (before : A → A → Bool) (Before : A → A → Type 0) → ((a b : A) → Before a b → before a b ≡ true) → (items : List A)
+    → Ordered Before items → rises before None items ≡ true
 rises_by before Before tests [] ordered = refl
 rises_by before Before tests (a ∷ items) ordered = rises_from before Before tests a items ordered
 
@@ -54,7 +58,9 @@ stand_tests size least (hook ∷ hooks) s =
     let end_is : leb (hook.addr + 4) (code_at + size) ≡ true = le-leb _ _ s.1.0 in
     let whole_is : eqb (hook.addr % 4) 0 ≡ true = eq-eqb _ _ s.1.1.0 in
     let kind_is : ltb hook.kind 4 ≡ true = lt-ltb _ _ s.1.1.1.0 in
-    true_both (stands least (code_at + size) hook) (stand size (hook.addr + 1) hooks) (true_both (leb least hook.addr) _ least_is (true_both (leb (hook.addr + 4) (code_at + size)) _ end_is (true_both (eqb (hook.addr % 4) 0) (ltb hook.kind 4) whole_is kind_is))) (stand_tests size (hook.addr + 1) hooks s.1.1.1.1)
+    true_both (stands least (code_at + size) hook) (stand size (hook.addr + 1) hooks)
+    (true_both (leb least hook.addr) _ least_is (true_both (leb (hook.addr + 4) (code_at + size)) _ end_is
+    (true_both (eqb (hook.addr % 4) 0) (ltb hook.kind 4) whole_is kind_is))) (stand_tests size (hook.addr + 1) hooks s.1.1.1.1)
 
 -- ---- sites, sinks and skips
 

@@ -53,7 +53,8 @@ segment kind offset address in_file in_memory flags = words (kind ∷ offset ∷
 -- code, data, heap, stack and note, by their sizes in bytes; heap and stack aren't in the file
 abbrev pub segments_of : (note code statics heap stack : ℕ) → List ℕ
 segments_of n c d heap stack =
-    segment 1 (212 + n) code_at c c 5 ++ (segment 1 (212 + n + c) statics_at d d 6 ++ (segment 1 0 heap_at 0 heap 6 ++ (segment 1 0 stack_at 0 stack 6 ++ segment 4 212 0 n 0 4)))
+    segment 1 (212 + n) code_at c c 5 ++ (segment 1 (212 + n + c) statics_at d d 6
+    ++ (segment 1 0 heap_at 0 heap 6 ++ (segment 1 0 stack_at 0 stack 6 ++ segment 4 212 0 n 0 4)))
 
 -- those of an image, where the note has n bytes
 abbrev pub segments : (n : ℕ) → Image → List ℕ
@@ -85,7 +86,8 @@ skip_words skip = skip.place ∷ skip.exit ∷ []
 
 -- version, hooks, sites, inferred sinks and skips
 abbrev pub described : (version : ℕ) → List HookAt → Plan → List ℕ
-described version hooks plan = version ∷ (counted hook_words hooks ++ (counted site_words plan.sites ++ (counted sink_words plan.sinks ++ counted skip_words plan.skips)))
+described version hooks plan =
+    version ∷ (counted hook_words hooks ++ (counted site_words plan.sites ++ (counted sink_words plan.sinks ++ counted skip_words plan.skips)))
 
 abbrev pub description : File → List ℕ
 description file = described file.version file.image.hooks file.plan

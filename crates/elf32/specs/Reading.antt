@@ -1,5 +1,6 @@
 -- What the parts of the reader say: lists in the bytes of a note, and tests of their order. No public contract speaks of it.
-use Rattle.std.specs.Prelude.{◌≡◌, ◌≤◌, ◌<◌, ◌^◌, ℕ, ◌⊎◌, ◌+◌, ◌-◌, ◌*◌, ◌%◌, Bool, true, false, ◌&&◌, ◌||◌, eqb, ltb, leb, List, [], ◌∷◌, ◌++◌, take, drop, length, Option, Some, None, ⊤, codes}
+use Rattle.std.specs.Prelude.{◌≡◌, ◌≤◌, ◌<◌, ◌^◌, ℕ, ◌⊎◌, ◌+◌, ◌-◌, ◌*◌, ◌%◌, Bool, true, ◌&&◌, ◌||◌, eqb, ltb, leb, List, [], ◌∷◌, ◌++◌, take, drop}
+use Rattle.std.specs.Prelude.{length, Option, Some, None, ⊤, codes}
 use Rattle.std.specs.List.{AllByRecursion}
 use Rattle.nim_core.specs.declared.plan.SiteAct.{SiteAct}
 use Rattle.nim_core.specs.declared.plan.SkipAt.{SkipAt}
@@ -9,7 +10,6 @@ use Rattle.rv32_isa.specs.Image.{Image}
 use Rattle.rv32_isa.specs.Words.{word_bytes, little}
 use Rattle.elf32.specs.declared.file.ElfStop.{ElfStop}
 use Rattle.elf32.specs.declared.file.ElfStop.TheVariants.{Bad, Memory}
-use Rattle.elf32.specs.declared.file.ElfFault.TheVariants.{Note}
 use Rattle.elf32.specs.declared.file.ElfFault.{ElfFault}
 use Rattle.nim_core.specs.declared.plan.Plan.{Plan}
 use Rattle.elf32.specs.Elf.{File, IsFile, words, counted, described, note, note_of, Ordered}
@@ -43,7 +43,8 @@ word_in bytes at = little (take 4 (drop at bytes))
 
 -- the image of a file of those sizes, with its hooks
 abbrev pub image_in : List ℕ → (note code statics heap stack : ℕ) → List HookAt → Image
-image_in bytes note code statics heap stack hooks = record { code = take code (drop (212 + note) bytes); statics = take statics (drop (212 + note + code) bytes); heap = heap; stack = stack; hooks = hooks }
+image_in bytes note code statics heap stack hooks =
+    record { code = take code (drop (212 + note) bytes); statics = take statics (drop (212 + note + code) bytes); heap = heap; stack = stack; hooks = hooks }
 
 -- the fields that tell the sizes
 pub record AreFields (bytes : List ℕ) (note code statics heap stack : ℕ) : Type 0 where

@@ -22,8 +22,11 @@ pub struct Listed<T: Drop> {
 
 // The bytes of an item.
 const HOOK_SIZE: usize = 12;
+
 const SITE_SIZE: usize = 8;
+
 const SINK_SIZE: usize = 4;
+
 const SKIP_SIZE: usize = 8;
 
 // A note that no file has.

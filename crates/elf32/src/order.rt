@@ -80,7 +80,8 @@ fn skip_follows(last: Option<SkipAt>, skip: SkipAt) -> bool
     ensures { result ≡ follows skip_before last skip }
 {
     match last {
-        Some(before) => before.place < skip.place || before.place == skip.place && before.exit < skip.exit,
+        Some(before) => before.place < skip.place
+            || before.place == skip.place && before.exit < skip.exit,
         None => true,
     }
 }

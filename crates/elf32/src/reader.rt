@@ -11,7 +11,9 @@ use crate::file::{ElfFault, ElfFile, ElfStop};
 use crate::lists::{read_hooks, read_sinks, read_sites, read_skips};
 use crate::order::{hooks_stand, sinks_rise, sites_rise, skips_rise};
 use crate::words::{push_word, push_words, word_at};
-use crate::writer::{HEADER, NAME, NAME_SIZE, NOTE_OFFSET, NOTE_TYPE, Sizes, VERSION, push_segments};
+use crate::writer::{
+    HEADER, NAME, NAME_SIZE, NOTE_OFFSET, NOTE_TYPE, Sizes, VERSION, push_segments,
+};
 use arc_base::{Bytes, Items, Memory};
 use nim_core::Plan;
 use rv32_isa::{HookAt, Image};
@@ -19,23 +21,35 @@ use std::alloc::Global;
 
 // The ranges of the sizes, in bytes.
 const NOTE_MOST: u32 = 2_097_152;
+
 const CODE_LEAST: u32 = 4;
+
 const CODE_MOST: u32 = 524_288;
+
 const STATICS_MOST: u32 = 1_048_576;
+
 const HEAP_LEAST: u32 = 4_096;
+
 const HEAP_MOST: u32 = 16_777_216;
+
 const STACK_LEAST: u32 = 65_536;
+
 const STACK_MOST: u32 = 268_435_456;
 
 // Where the program headers tell the sizes: in the file, or in memory for what the file doesn't have.
 const CODE_SIZE_AT: usize = 68;
+
 const STATICS_SIZE_AT: usize = 100;
+
 const HEAP_SIZE_AT: usize = 136;
+
 const STACK_SIZE_AT: usize = 168;
+
 const NOTE_SIZE_AT: usize = 196;
 
 // Where the description stands in a note, and its lists, behind the version.
 const DESCRIPTION_AT: u32 = 20;
+
 const LISTS_AT: usize = 24;
 
 // What a note says.
@@ -99,7 +113,10 @@ fn are_sizes(sizes: &Sizes, len: usize) -> bool
     let statics = sizes.statics % 4 == 0 && sizes.statics <= STATICS_MOST;
     let heap = HEAP_LEAST <= sizes.heap && sizes.heap <= HEAP_MOST;
     let stack = sizes.stack % 16 == 0 && STACK_LEAST <= sizes.stack && sizes.stack <= STACK_MOST;
-    let stored = NOTE_OFFSET as usize + sizes.note as usize + sizes.code as usize + sizes.statics as usize;
+    let stored = NOTE_OFFSET as usize
+        + sizes.note as usize
+        + sizes.code as usize
+        + sizes.statics as usize;
     note && code && statics && heap && stack && len == stored
 }
 

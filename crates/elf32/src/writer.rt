@@ -1,7 +1,8 @@
 // The bytes of a file.
 ghost use Rattle.std.specs.Prelude.{◌≡◌, ◌≤◌, ◌<◌, ◌^◌, ◌++◌, length, IfOk, OnOk};
 ghost use Rattle.rv32_isa.specs.Image.{image_of};
-ghost use Rattle.elf32.specs.Elf.{words, header, segment, segments_of, segments, counted, hook_words, act_number, site_words, sink_words, skip_words, description, note, file_of, IsFile, Elf, File};
+ghost use Rattle.elf32.specs.Elf.{words, header, segment, segments_of, segments, counted, hook_words, act_number};
+ghost use Rattle.elf32.specs.Elf.{site_words, sink_words, skip_words, description, note, file_of, IsFile, Elf, File};
 
 use crate::file::ElfFile;
 use crate::words::{push_word, push_words};
@@ -74,19 +75,19 @@ pub fn push_header(file: &mut Bytes) -> Result<(), Memory>
     file.append(&HEADER)
 }
 
-fn push_segment(file: &mut Bytes, entry: &Segment) -> Result<(), Memory>
-    ensures { OnOk result (file.new ≡ file.old ++ segment entry.now.kind entry.now.offset entry.now.address entry.now.in_file entry.now.in_memory entry.now.flags) }
+fn push_segment(file: &mut Bytes, head: &Segment) -> Result<(), Memory>
+    ensures { OnOk result (file.new ≡ file.old ++ segment head.now.kind head.now.offset head.now.address head.now.in_file head.now.in_memory head.now.flags) }
 {
     push_words(
         file,
         &[
-            entry.kind,
-            entry.offset,
-            entry.address,
-            entry.address,
-            entry.in_file,
-            entry.in_memory,
-            entry.flags,
+            head.kind,
+            head.offset,
+            head.address,
+            head.address,
+            head.in_file,
+            head.in_memory,
+            head.flags,
             ALIGNMENT,
         ],
     )

@@ -12,5 +12,8 @@ pub returns-then-count-left-clause-bad : goal.returns-then-count-left-clause-bad
 returns-then-count-left-clause-bad c =
     let n = c.word_at-count.result in
     let long = length-drop (c.args.at + 4) c.args.note.now in
-    let more = over (length c.args.note.now - c.args.at - 4) c.args.size n c.requires.size in
-    (refl, counts_crowded c.args.size n (drop c.args.at c.args.note.now) (drop (c.args.at + 4) c.args.note.now) (grind (arith)) c.word_at-count.ensures.there (grind (arith, long, more)))
+    let more = over (length c.args.note.now - c.args.at - 4) c.args.size n c.requires.size in (
+      refl,
+      counts_crowded c.args.size n (drop c.args.at c.args.note.now) (drop (c.args.at + 4) c.args.note.now) (grind (arith)) c.word_at-count.ensures.there
+          (grind (arith, long, more)),
+    )

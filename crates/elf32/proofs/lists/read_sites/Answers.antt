@@ -12,7 +12,11 @@ returns-in_err-count-clause-bad c =
 pub returns-in_default-clause-bad : goal.returns-in_default-clause-bad
 returns-in_default-clause-bad c =
     let place = c.args.at + 4 + 8 * c.loop-index.index in
-    let note = c.args.note.now in
-    (refl, sites_stuck (drop c.args.at note) (drop (c.args.at + 4) note) (drop place note) (drop (place + 4) note) (drop (place + 4 + 4) note)
-      c.in_ok-count.field-0 c.word_at-site.result c.word_at.result c.loop-index.items
-      (grind (arith)) (grind (arith)) c.in_ok-count.ensures.there c.loop-index.invariant.2 (grind (arith, c.loop-index.invariant.0, c.loop-index-test.true)) c.word_at-site.ensures.there c.word_at.ensures.there (grind (arith, c.act_of.ensures.none, c.in_default.ensures.none)))
+    let note = c.args.note.now in (
+      refl,
+      sites_stuck (drop c.args.at note) (drop (c.args.at + 4) note) (drop place note) (drop (place + 4) note) (drop (place + 4 + 4) note)
+          c.in_ok-count.field-0 c.word_at-site.result c.word_at.result c.loop-index.items
+          (grind (arith)) (grind (arith)) c.in_ok-count.ensures.there c.loop-index.invariant.2
+          (grind (arith, c.loop-index.invariant.0, c.loop-index-test.true)) c.word_at-site.ensures.there c.word_at.ensures.there
+          (grind (arith, c.act_of.ensures.none, c.in_default.ensures.none)),
+    )

@@ -5,4 +5,6 @@ use Rattle.elf32.proofs.lists.read_skips.Given as goal
 
 -- there are as many, and their words stand before what is left
 abbrev pub invariant-loop-index : goal.invariant-loop-index
-invariant-loop-index l = (length l.items ≡ l.index) × AllByRecursion (λ n. n < 2 ^ 32) (flat_map skip_words l.items) × (drop l.start l.note ≡ words (flat_map skip_words l.items) ++ drop (l.start + 8 * l.index) l.note)
+invariant-loop-index l =
+    (length l.items ≡ l.index) × AllByRecursion (λ n. n < 2 ^ 32) (flat_map skip_words l.items) ×
+    (drop l.start l.note ≡ words (flat_map skip_words l.items) ++ drop (l.start + 8 * l.index) l.note)

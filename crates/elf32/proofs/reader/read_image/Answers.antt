@@ -20,4 +20,5 @@ invariant_of-result c =
       stack_whole = sizes.stack_whole;
       stack_least = sizes.stack_least;
       stack_most = sizes.stack_most;
-      hooks_stand = subst (λ k. HooksStand k code_at c.args.hooks) (sym code) c.requires.hooks }
+      hooks_stand = subst (λ k. HooksStand k code_at c.args.hooks) (sym code) c.requires.hooks;
+    }
