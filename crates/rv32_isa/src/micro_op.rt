@@ -49,6 +49,7 @@ pub enum MicroOp {
 }
 
 // Twelve bits with their sign.
+#[inline(always)]
 fn signed12(imm: u32) -> u32
     requires { imm < 2 ^ 12 }
     ensures { result ≡ signed12 imm }
@@ -57,6 +58,7 @@ fn signed12(imm: u32) -> u32
 }
 
 // Whether one register is less than the other, as signed numbers.
+#[inline(always)]
 fn is_below(m: &Machine, rs1: u32, rs2: u32) -> bool
     requires rs1 { rs1 < 32 }
     requires rs2 { rs2 < 32 }
@@ -66,6 +68,7 @@ fn is_below(m: &Machine, rs1: u32, rs2: u32) -> bool
 }
 
 // The address of a load or a store.
+#[inline(always)]
 fn address(m: &Machine, rs1: u32, offset: u32) -> u32
     requires rs1 { rs1 < 32 }
     requires offset { offset < 2 ^ 12 }
@@ -75,6 +78,7 @@ fn address(m: &Machine, rs1: u32, offset: u32) -> u32
 }
 
 // The address that is so far from the instruction.
+#[inline(always)]
 fn ahead(m: &Machine, offset: u32) -> u32
     ensures { result ≡ ahead m.now offset }
 {
@@ -82,6 +86,7 @@ fn ahead(m: &Machine, offset: u32) -> u32
 }
 
 // A branch that is taken, or is not.
+#[inline(always)]
 fn branch(m: &Machine, taken: bool, offset: u32) -> MicroOp
     requires { offset < 2 ^ 13 }
     ensures { result ≡ branch m.now taken offset }
@@ -93,6 +98,7 @@ fn branch(m: &Machine, taken: bool, offset: u32) -> MicroOp
 }
 
 // 1 where one word is less than the other as signed numbers, else 0.
+#[inline(always)]
 fn less_signed(a: u32, b: u32) -> u32
     ensures { result ≡ one_if (is_less_signed a b) }
 {
@@ -100,6 +106,7 @@ fn less_signed(a: u32, b: u32) -> u32
 }
 
 // The same as unsigned numbers.
+#[inline(always)]
 fn less(a: u32, b: u32) -> u32
     ensures { result ≡ one_if (nat_lt a b) }
 {
@@ -107,6 +114,7 @@ fn less(a: u32, b: u32) -> u32
 }
 
 // Writes a register.
+#[inline(always)]
 fn write(rd: u32, value: u32) -> MicroOp
     requires { rd < 32 }
     ensures op { result ≡ Write rd value }
@@ -116,6 +124,7 @@ fn write(rd: u32, value: u32) -> MicroOp
 }
 
 // Loads from an address that is so far from a register.
+#[inline(always)]
 fn load(m: &Machine, rd: u32, rs1: u32, offset: u32, size: Size) -> MicroOp
     requires rd { rd < 32 }
     requires rs1 { rs1 < 32 }
@@ -131,6 +140,7 @@ fn load(m: &Machine, rd: u32, rs1: u32, offset: u32, size: Size) -> MicroOp
 }
 
 // The same with the sign.
+#[inline(always)]
 fn load_signed(m: &Machine, rd: u32, rs1: u32, offset: u32, size: Size) -> MicroOp
     requires rd { rd < 32 }
     requires rs1 { rs1 < 32 }
@@ -146,6 +156,7 @@ fn load_signed(m: &Machine, rd: u32, rs1: u32, offset: u32, size: Size) -> Micro
 }
 
 // Stores a register to an address that is so far from another one.
+#[inline(always)]
 fn store(m: &Machine, rs1: u32, rs2: u32, offset: u32, size: Size) -> MicroOp
     requires rs1 { rs1 < 32 }
     requires rs2 { rs2 < 32 }
@@ -161,6 +172,7 @@ fn store(m: &Machine, rs1: u32, rs2: u32, offset: u32, size: Size) -> MicroOp
 }
 
 // Jumps.
+#[inline(always)]
 fn jump(rd: u32, at: u32) -> MicroOp
     requires { rd < 32 }
     ensures op { result ≡ Jump rd at }
@@ -172,6 +184,7 @@ fn jump(rd: u32, at: u32) -> MicroOp
 /// What an instruction, whose fields fit, is to do in a state of the machine.
 ///
 /// RISC-V unprivileged specification, "RV32I Base Integer Instruction Set" and the "M" extension.
+#[inline(always)]
 pub fn micro_op_of(m: &Machine, i: &Instr) -> MicroOp
     requires { IsInRange i.now }
     ensures op { result ≡ micro_op_of m.now i.now }

@@ -1,35 +1,35 @@
 -- What an instruction comes to that is a call of the environment, and what the runner does of it.
-use Rattle.std.proofs.Common.{◌≡◌, ◌≢◌, ℕ, zero, suc, ◌+◌, ◌-◌, ◌%◌, ◌<◌, ◌≤◌, List, [], ◌∷◌, ◌++◌, length, take, drop, Option, Some, None, Bool, true, false, refl, sym, ap, ap₂, subst, ◌∙◌, arith, append-nil, add-zero, length-append, ◌⊎◌, inl, inr}
+use Rattle.std.proofs.Common.{◌≡◌, ◌≢◌, ℕ, ◌+◌, ◌-◌, ◌%◌, ◌<◌, ◌≤◌, List, [], ◌∷◌, ◌++◌, length, take, drop, Some, None, Bool, true, false, refl, sym, ap, ap₂, subst, ◌∙◌, arith, append-nil, add-zero, length-append, ◌⊎◌, inl, inr}
 use Rattle.std.specs.Prelude.{min, ◌==◌, if◌then◌else◌}
 use Rattle.std.proofs.lemmas.Bool.{cond-true, cond-false, ne_eqb, eqb-true, eq-eqb, true≢false}
 use Rattle.std.proofs.Math.Seq.{take-append_seam, drop-append-add}
 use Rattle.arc_base.specs.declared.outside.Stream.{Stream}
 use Rattle.arc_base.specs.declared.outside.Stream.TheVariants.{Out, Err}
-use Rattle.arc_base.specs.Event.{Event, Write, writes}
+use Rattle.arc_base.specs.Event.{writes}
 use Rattle.rv32_isa.specs.declared.machine.FaultKind.{FaultKind}
 use Rattle.rv32_isa.specs.declared.machine.FaultKind.TheVariants.{BadCall, OutOfRange}
 use Rattle.rv32_isa.specs.State.{State, reg, readable, writable, filled}
 use Rattle.rv32_isa.specs.Steps.{Calls, outcome}
 use Rattle.rv32_isa.specs.Steps as leads
-use Rattle.rv32_isa.specs.Machine.{Reply, Answers, Exits, Fails, Run, On, answered, stream_of, write_bytes, write_call, read_bytes, read_call, call, called, led, advance}
+use Rattle.rv32_isa.specs.Machine.{Reply, Answers, Exits, Fails, On, answered, stream_of, write_bytes, write_call, read_bytes, read_call, call, called, led, advance}
 use Rattle.rv32_runner.specs.declared.runner.RunEnd.{RunEnd}
 use Rattle.rv32_runner.specs.declared.runner.RunEnd.TheVariants.{Exited, Spent, Fault, ReadFault, WriteFault}
-use Rattle.rv32_runner.specs.Streams.{Feed, Tally, Streams, streams, MayGive, Gave, Got, Lost, bytes_on}
-use Rattle.rv32_runner.specs.Calls.{Wrote, Read, Part, Filled}
-use Rattle.rv32_runner.specs.Runs.{Carried, Halts, Ends, Ran, IsWrite, on}
-use Rattle.rv32_runner.proofs.Carrying.{carried_none, carried_then, carried_on, stands_one, got_none}
+use Rattle.rv32_runner.specs.Streams.{Feed, Tally, Streams, streams, MayGive, Got, bytes_on}
+use Rattle.rv32_runner.specs.Calls.{Wrote, Read, NoMore}
+use Rattle.rv32_runner.specs.Runs.{Carried, ReadFails, Ends, Ran, on}
+use Rattle.rv32_runner.proofs.Carrying.{got_none, gave_none, carried_none, carried_then, carried_one, carried_on}
 
 -- ---- one instruction
 
-pub ran_on : (b c : Streams) (s t : State) (shown : List Event) → Carried 1 b s shown t c → Ran 1 b s Spent t c
-ran_on b c s t shown h = record { done = 1; left = 0; all = refl; shown = shown; at = t; mid = c; carried = h; ends = (refl, (refl, refl)) }
+pub ran_on : (b c : Streams) (s t : State) → Carried 1 b s t c → Ran 1 b s Spent t c
+ran_on b c s t h = record { done = 1; left = 0; all = refl; at = t; mid = c; carried = h; ends = (refl, (refl, refl)) }
 
 -- the run ends here: the answer is not Spent
 pub ran_end : (b : Streams) (s : State) (answer : RunEnd) (t : State) (c : Streams) → Ends 1 s b answer t c → Ran 1 b s answer t c
-ran_end b s answer t c h = record { done = 0; left = 1; all = refl; shown = []; at = s; mid = b; carried = carried_none b s; ends = h }
+ran_end b s answer t c h = record { done = 0; left = 1; all = refl; at = s; mid = b; carried = carried_none b s; ends = h }
 
 pub ran_goes : (b : Streams) (s t : State) → outcome s ≡ leads.Goes t → Ran 1 b s Spent t b
-ran_goes b s t e = ran_on b b s t [] (carried_on b s t e)
+ran_goes b s t e = ran_on b b s t (carried_on b s t e)
 
 pub ran_faults : (b : Streams) (s : State) (kind : FaultKind) (pc word : ℕ) → outcome s ≡ leads.Faults kind pc word → Ran 1 b s (Fault kind pc word) s b
 ran_faults b s kind pc word e = ran_end b s (Fault kind pc word) s b (omega arith, ((refl, refl), λ input. ap (led (on s input)) e))
@@ -150,17 +150,13 @@ none_err (b ∷ bs) = none_err bs
 pub ran_out : (s : State) (input : Feed) (out err new : Tally) (answer : RunEnd) (t : State) → outcome s ≡ Calls → reg s 17 ≡ 64 → reg s 10 ≡ 1 → Wrote s Out out answer t new → Ran 1 (streams input out err) s answer t (streams input new err)
 ran_out s input out err new Spent t due number first (bytes, (found, (next, got))) =
     let e = writes_on s due Out bytes number (ap stream_of first) found in
-    ran_on (streams input out err) (streams input new err) s t (writes Out bytes) (record {
-      given = [];
-      gave = λ rest h. h;
-      stands = λ rest h. stands_one (on s rest) (on t rest) (writes Out bytes) (e rest ∙ ap (λ u. On (on u rest) (writes Out bytes)) (sym next));
-      input = refl;
-      out = subst (Got out new) (sym (bytes_of_writes Out bytes)) got;
-      err = subst (Got err err) (sym (none_err bytes)) (got_none err);
-    })
-ran_out s input out err new (WriteFault other) t due number first (bytes, (found, (same, lost))) =
+    let next_run : (rest : List ℕ) → advance (on s rest) ≡ On (on t rest) (writes Out bytes) = λ rest. e rest ∙ ap (λ u. On (on u rest) (writes Out bytes)) (sym next) in
+    let to_out : Got (streams input out err).out (streams input new err).out (bytes_on Out (writes Out bytes)) = subst (Got out new) (sym (bytes_of_writes Out bytes)) got in
+    let to_err : Got (streams input out err).err (streams input new err).err (bytes_on Err (writes Out bytes)) = subst (Got err err) (sym (none_err bytes)) (got_none err) in
+    ran_on (streams input out err) (streams input new err) s t (carried_one (streams input out err) (streams input new err) s t [] (writes Out bytes) (gave_none input) refl (λ rest h. next_run rest) to_out to_err)
+ran_out s input out err new (WriteFault other) t due number first (bytes, (found, (same, (kept, lost)))) =
     subst (λ x. Ran 1 (streams input out err) s (WriteFault x) t (streams input new err)) (sym same)
-    (ran_end (streams input out err) s (WriteFault Out) t (streams input new err) (omega arith, (bytes, ((answered s (reg s 12), writes_on s due Out bytes number (ap stream_of first) found), (lost, (refl, refl))))))
+    (ran_end (streams input out err) s (WriteFault Out) t (streams input new err) (omega arith, (bytes, ((answered s (reg s 12), writes_on s due Out bytes number (ap stream_of first) found), (lost, (kept, (refl, refl)))))))
 ran_out s input out err new (Fault kind pc word) t due number first (none, (k, (p, (w, (same, kept))))) =
     subst (λ x. Ran 1 (streams input out err) s (Fault x pc word) t (streams input new err)) (sym k)
     (subst (λ x. Ran 1 (streams input out err) s (Fault OutOfRange x word) t (streams input new err)) (sym p)
@@ -175,17 +171,13 @@ ran_out s input out err new ReadFault t due number first w = absurd w
 pub ran_err : (s : State) (input : Feed) (out err new : Tally) (answer : RunEnd) (t : State) → outcome s ≡ Calls → reg s 17 ≡ 64 → reg s 10 ≡ 2 → Wrote s Err err answer t new → Ran 1 (streams input out err) s answer t (streams input out new)
 ran_err s input out err new Spent t due number first (bytes, (found, (next, got))) =
     let e = writes_on s due Err bytes number (ap stream_of first) found in
-    ran_on (streams input out err) (streams input out new) s t (writes Err bytes) (record {
-      given = [];
-      gave = λ rest h. h;
-      stands = λ rest h. stands_one (on s rest) (on t rest) (writes Err bytes) (e rest ∙ ap (λ u. On (on u rest) (writes Err bytes)) (sym next));
-      input = refl;
-      out = subst (Got out out) (sym (none_out bytes)) (got_none out);
-      err = subst (Got err new) (sym (bytes_of_writes Err bytes)) got;
-    })
-ran_err s input out err new (WriteFault other) t due number first (bytes, (found, (same, lost))) =
+    let next_run : (rest : List ℕ) → advance (on s rest) ≡ On (on t rest) (writes Err bytes) = λ rest. e rest ∙ ap (λ u. On (on u rest) (writes Err bytes)) (sym next) in
+    let to_out : Got (streams input out err).out (streams input out new).out (bytes_on Out (writes Err bytes)) = subst (Got out out) (sym (none_out bytes)) (got_none out) in
+    let to_err : Got (streams input out err).err (streams input out new).err (bytes_on Err (writes Err bytes)) = subst (Got err new) (sym (bytes_of_writes Err bytes)) got in
+    ran_on (streams input out err) (streams input out new) s t (carried_one (streams input out err) (streams input out new) s t [] (writes Err bytes) (gave_none input) refl (λ rest h. next_run rest) to_out to_err)
+ran_err s input out err new (WriteFault other) t due number first (bytes, (found, (same, (kept, lost)))) =
     subst (λ x. Ran 1 (streams input out err) s (WriteFault x) t (streams input out new)) (sym same)
-    (ran_end (streams input out err) s (WriteFault Err) t (streams input out new) (omega arith, (bytes, ((answered s (reg s 12), writes_on s due Err bytes number (ap stream_of first) found), (lost, (refl, refl))))))
+    (ran_end (streams input out err) s (WriteFault Err) t (streams input out new) (omega arith, (bytes, ((answered s (reg s 12), writes_on s due Err bytes number (ap stream_of first) found), (lost, (kept, (refl, refl)))))))
 ran_err s input out err new (Fault kind pc word) t due number first (none, (k, (p, (w, (same, kept))))) =
     subst (λ x. Ran 1 (streams input out err) s (Fault x pc word) t (streams input out new)) (sym k)
     (subst (λ x. Ran 1 (streams input out err) s (Fault OutOfRange x word) t (streams input out new)) (sym p)
@@ -201,18 +193,24 @@ pub ran_read : (s : State) (input new : Feed) (out err : Tally) (answer : RunEnd
 ran_read s input new out err Spent t due number first (may, (count, (m, (h, next)))) =
     let p = h.part in
     let fits : length p.given ≤ reg s 12 = subst (λ k. k ≤ reg s 12) (sym p.counted) h.bound in
-    let full : (length p.given ≡ reg s 12) ⊎ ((rest : List ℕ) → MayGive new.left new.ended rest → rest ≡ []) = subst (λ k. (k ≡ reg s 12) ⊎ ((rest : List ℕ) → MayGive new.left new.ended rest → rest ≡ [])) (sym p.counted) h.all in
+    let full : (length p.given ≡ reg s 12) ⊎ NoMore new = subst (λ k. (k ≡ reg s 12) ⊎ NoMore new) (sym p.counted) h.all in
     let is : answered (filled s (reg s 11) p.given) (length p.given) ≡ t = ap (answered (filled s (reg s 11) p.given)) p.counted ∙ ap (λ u. answered u count) (sym p.state) ∙ sym next in
-    ran_on (streams input out err) (streams new out err) s t [] (record {
+    let reads : (rest : List ℕ) → MayGive new.left new.ended rest → advance (on s (p.given ++ rest)) ≡ On (on t rest) [] =
+    λ rest h. reads_on s due p.given rest number first may (count_all (reg s 12) p.given rest fits (at_rest {P = MayGive new.left new.ended} rest h full)) ∙ ap (λ u. On (on u rest) []) is in
+    ran_on (streams input out err) (streams new out err) s t (carried_one (streams input out err) (streams new out err) s t p.given [] p.gave h.faults reads (got_none out) (got_none err))
+ran_read s input new out err ReadFault t due number first (may, f) =
+    let p = f.part in
+    let fails : ReadFails s (streams input out err) t (streams new out err) = record {
+      asks = record { due = due; number = number; from_input = first; to = may };
       given = p.given;
+      fewer = subst (λ k. k < reg s 12) (sym p.counted) f.fewer;
       gave = p.gave;
-      stands = λ rest h. stands_one (on s (p.given ++ rest)) (on t rest) [] (reads_on s due p.given rest number first may (count_all (reg s 12) p.given rest fits (at_rest {P = MayGive new.left new.ended} rest h full)) ∙ ap (λ u. On (on u rest) []) is);
-      input = p.faults;
-      out = got_none out;
-      err = got_none err;
-    })
-ran_read s input new out err ReadFault t due number first (may, rose) =
-    ran_end (streams input out err) s ReadFault t (streams new out err) (omega arith, (record { due = due; number = number; from_input = first; to = may }, (rose, (refl, refl))))
+      state = p.state;
+      rose = f.rose;
+      out = refl;
+      err = refl;
+    } in
+    ran_end (streams input out err) s ReadFault t (streams new out err) (omega arith, fails)
 ran_read s input new out err (Fault kind pc word) t due number first (bad, (k, (p, (w, (same, kept))))) =
     subst (λ x. Ran 1 (streams input out err) s (Fault x pc word) t (streams new out err)) (sym k)
     (subst (λ x. Ran 1 (streams input out err) s (Fault OutOfRange x word) t (streams new out err)) (sym p)
@@ -226,12 +224,12 @@ ran_read s input new out err (WriteFault stream) t due number first w = absurd w
 -- ---- many instructions
 
 -- an instruction that didn't end the run
-pub ran_spent : (b : Streams) (s t : State) (c : Streams) → Ran 1 b s Spent t c → (shown : List Event) × Carried 1 b s shown t c
+pub ran_spent : (b : Streams) (s t : State) (c : Streams) → Ran 1 b s Spent t c → Carried 1 b s t c
 ran_spent b s t c h =
     let all = h.all in
     let none : h.left ≡ 0 = h.ends.0 in
     let one : h.done ≡ 1 = omega arith in
-    (h.shown, subst (λ k. Carried k b s h.shown t c) one (subst (λ x. Carried h.done b s h.shown x c) (sym h.ends.1.0) (subst (λ x. Carried h.done b s h.shown h.at x) (sym h.ends.1.1) h.carried)))
+    subst (λ k. Carried k b s t c) one (subst (λ x. Carried h.done b s x c) (sym h.ends.1.0) (subst (λ x. Carried h.done b s h.at x) (sym h.ends.1.1) h.carried))
 
 -- more instructions could be left
 ends_more : (answer : RunEnd) (l k : ℕ) (s : State) (b : Streams) (t : State) (c : Streams) → answer ≢ Spent → l ≤ k → Ends l s b answer t c → Ends k s b answer t c
@@ -242,31 +240,29 @@ ends_more ReadFault l k s b t c other le h = let some = h.0 in (omega arith, h.1
 ends_more (WriteFault stream) l k s b t c other le h = let some = h.0 in (omega arith, h.1)
 
 -- behind some instructions one ended the run
-pub ran_over : (n m : ℕ) (b c d : Streams) (s t u : State) (xs : List Event) (answer : RunEnd) → m < n → answer ≢ Spent → Carried m b s xs t c → Ran 1 c t answer u d → Ran n b s answer u d
-ran_over n m b c d s t u xs answer lt other p h =
+pub ran_over : (n m : ℕ) (b c d : Streams) (s t u : State) (answer : RunEnd) → m < n → answer ≢ Spent → Carried m b s t c → Ran 1 c t answer u d → Ran n b s answer u d
+ran_over n m b c d s t u answer lt other p h =
     let all = h.all in
     record {
       done = m + h.done;
       left = n - (m + h.done);
       all = omega arith;
-      shown = xs ++ h.shown;
       at = h.at;
       mid = h.mid;
-      carried = carried_then m h.done b c h.mid s t h.at xs h.shown p h.carried;
+      carried = carried_then m h.done b c h.mid s t h.at p h.carried;
       ends = ends_more answer h.left (n - (m + h.done)) h.at h.mid u d other (omega arith) h.ends;
     }
 
 -- no instruction is left
-pub ran_all : (n m : ℕ) (b : Streams) (s t : State) (c : Streams) (xs : List Event) → m ≡ n → Carried m b s xs t c → Ran n b s Spent t c
-ran_all n m b s t c xs e h = record { done = m; left = 0; all = omega arith; shown = xs; at = t; mid = c; carried = h; ends = (refl, (refl, refl)) }
+pub ran_all : (n m : ℕ) (b : Streams) (s t : State) (c : Streams) → m ≡ n → Carried m b s t c → Ran n b s Spent t c
+ran_all n m b s t c e h = record { done = m; left = 0; all = omega arith; at = t; mid = c; carried = h; ends = (refl, (refl, refl)) }
 
 -- an instruction more
-pub carried_more : (n left rest : ℕ) (b c d : Streams) (s t u : State) (xs : List Event) → left ≤ n → rest + 1 ≡ left → Carried (n - left) b s xs t c → Ran 1 c t Spent u d → (shown : List Event) × Carried (n - rest) b s shown u d
-carried_more n left rest b c d s t u xs le e p h =
-    let one = ran_spent c t u d h in
+pub carried_more : (n left rest : ℕ) (b c d : Streams) (s t u : State) → left ≤ n → rest + 1 ≡ left → Carried (n - left) b s t c → Ran 1 c t Spent u d → Carried (n - rest) b s u d
+carried_more n left rest b c d s t u le e p h =
     let count : n - left + 1 ≡ n - rest = omega arith in
-    (xs ++ one.0, subst (λ k. Carried k b s (xs ++ one.0) u d) count (carried_then (n - left) 1 b c d s t u xs one.0 p one.1))
+    subst (λ k. Carried k b s u d) count (carried_then (n - left) 1 b c d s t u p (ran_spent c t u d h))
 
 -- no instruction yet
-pub carried_start : (n : ℕ) (b : Streams) (s : State) → (shown : List Event) × Carried (n - n) b s shown s b
-carried_start n b s = let none : 0 ≡ n - n = omega arith in ([], subst (λ k. Carried k b s [] s b) none (carried_none b s))
+pub carried_start : (n : ℕ) (b : Streams) (s : State) → Carried (n - n) b s s b
+carried_start n b s = let none : 0 ≡ n - n = omega arith in subst (λ k. Carried k b s s b) none (carried_none b s)

@@ -1,17 +1,18 @@
 -- Runs of the machine, one after another.
-use Rattle.std.proofs.Common.{◌≡◌, ℕ, zero, suc, ◌+◌, ◌<◌, List, [], ◌∷◌, ◌++◌, Option, Some, None, refl, sym, ap, subst, ◌∙◌, arith, append_assoc, append-nil, suc-add, zero-add}
+use Rattle.std.proofs.Common.{◌≡◌, ℕ, zero, suc, ◌+◌, List, [], ◌∷◌, ◌++◌, Option, Some, None, Bool, true, false, refl, sym, ap, subst, ◌∙◌, append_assoc, append-nil, suc-add, zero-add}
+use Rattle.std.specs.Prelude.{◌==◌, if◌then◌else◌}
 use Rattle.arc_base.specs.declared.outside.Stream.{Stream}
 use Rattle.arc_base.specs.declared.outside.Stream.TheVariants.{Out, Err}
-use Rattle.arc_base.specs.Event.{Event, Write, Hook, writes}
+use Rattle.arc_base.specs.Event.{Event, Write, Hook}
 use Rattle.arc_base.specs.Outside.{Grown}
 use Rattle.arc_base.proofs.ForCallers.{grown_more}
 use Rattle.rv32_isa.specs.declared.image.HookAt.{HookAt}
 use Rattle.rv32_isa.specs.State.{State}
 use Rattle.rv32_isa.specs.Steps.{outcome}
 use Rattle.rv32_isa.specs.Steps as leads
-use Rattle.rv32_isa.specs.Machine.{Run, Advance, On, Exited, Faulted, Standing, Runs, HasExited, HasFaulted, advance, led, all_shown, stood, standing}
-use Rattle.rv32_runner.specs.Streams.{Streams, Tally, Gave, MayGive, Got, bytes_on}
-use Rattle.rv32_runner.specs.Runs.{Carried, on}
+use Rattle.rv32_isa.specs.Machine.{Run, Advance, On, Exited, Faulted, Standing, Runs, HasExited, HasFaulted, advance, led, arrival, all_shown, stood, standing}
+use Rattle.rv32_runner.specs.Streams.{Streams, Feed, Tally, Gave, MayGive, Got, bytes_on}
+use Rattle.rv32_runner.specs.Runs.{Leads, Carried, on}
 
 -- ---- sinks
 
@@ -71,39 +72,95 @@ module _ (hooks : List HookAt) where
   standing_then zero n r out = ap (λ k. standing hooks k r out) (zero-add n)
   standing_then (suc m) n r out = ap (λ k. standing hooks k r out) (suc-add m n) ∙ stood_then m n r (advance r) out (standing_then m n)
 
+-- ---- what a source gave
+
+pub gave_none : (a : Feed) → Gave a a []
+gave_none a = record { gave = sym (append-nil a.gave); before = λ rest h. h }
+
+pub gave_then : (a b c : Feed) (xs ys : List ℕ) → Gave a b xs → Gave b c ys → Gave a c (xs ++ ys)
+gave_then a b c xs ys p q = record {
+  gave = q.gave ∙ ap (λ l. l ++ ys) p.gave ∙ append_assoc a.gave xs ys;
+  before = λ rest h. subst (MayGive a.left a.ended) (sym (append_assoc xs ys rest)) (p.before (ys ++ rest) (q.before rest h));
+}
+
+-- ---- hooks write nothing
+
+arrival_out : (hooks : List HookAt) (pc : ℕ) → bytes_on Out (arrival hooks pc) ≡ []
+arrival_out [] pc = refl
+arrival_out (hook ∷ hooks) pc = by_test (hook.addr == pc) (arrival hooks pc) (arrival_out hooks pc)
+  where
+    by_test : (b : Bool) (es : List Event) → bytes_on Out es ≡ [] → bytes_on Out (if b then Hook hook.kind hook.of ∷ [] else es) ≡ []
+    by_test true es h = refl
+    by_test false es h = h
+
+arrival_err : (hooks : List HookAt) (pc : ℕ) → bytes_on Err (arrival hooks pc) ≡ []
+arrival_err [] pc = refl
+arrival_err (hook ∷ hooks) pc = by_test (hook.addr == pc) (arrival hooks pc) (arrival_err hooks pc)
+  where
+    by_test : (b : Bool) (es : List Event) → bytes_on Err es ≡ [] → bytes_on Err (if b then Hook hook.kind hook.of ∷ [] else es) ≡ []
+    by_test true es h = refl
+    by_test false es h = h
+
+arrival_none : (stream : Stream) (hooks : List HookAt) (pc : ℕ) → bytes_on stream (arrival hooks pc) ≡ []
+arrival_none Out hooks pc = arrival_out hooks pc
+arrival_none Err hooks pc = arrival_err hooks pc
+
+all_bytes : (stream : Stream) (hooks : List HookAt) (shown : List Event) (next : Run) → bytes_on stream (all_shown hooks shown next) ≡ bytes_on stream shown
+all_bytes stream hooks shown next =
+    let late = arrival hooks next.state.pc in
+    bytes_append stream shown late ∙ ap (λ l. bytes_on stream shown ++ l) (arrival_none stream hooks next.state.pc) ∙ append-nil (bytes_on stream shown)
+
 -- ---- carried further
 
-pub carried_none : (b : Streams) (s : State) → Carried 0 b s [] s b
-carried_none b s = record { given = []; gave = λ rest h. h; stands = λ rest h. refl; input = refl; out = got_none b.out; err = got_none b.err }
+module _ (hooks : List HookAt) where
+  pub leads_none : (b : Streams) (r : Run) → Leads hooks 0 b r r b
+  leads_none b r = record { shown = []; stands = refl; out = got_none b.out; err = got_none b.err }
 
-pub carried_then : (m n : ℕ) (b c d : Streams) (s t u : State) (xs ys : List Event) → Carried m b s xs t c → Carried n c t ys u d → Carried (m + n) b s (xs ++ ys) u d
-carried_then m n b c d s t u xs ys p q = record {
+  pub leads_then : (m n : ℕ) (b c d : Streams) (r u v : Run) → Leads hooks m b r u c → Leads hooks n c u v d → Leads hooks (m + n) b r v d
+  leads_then m n b c d r u v p q = record {
+    shown = p.shown ++ q.shown;
+    stands =
+        standing_then hooks m n r []
+        ∙ ap (λ x. go_on x (standing hooks n)) p.stands
+        ∙ ap (standing hooks n u) (sym (append-nil p.shown))
+        ∙ standing_before hooks n u p.shown []
+        ∙ ap (before p.shown) q.stands;
+    out = got_both Out b.out c.out d.out p.shown q.shown p.out q.out;
+    err = got_both Err b.err c.err d.err p.shown q.shown p.err q.err;
+  }
+
+  -- one instruction that shows these events
+  pub leads_one : (b c : Streams) (r t : Run) (shown : List Event) → advance r ≡ On t shown → Got b.out c.out (bytes_on Out shown) → Got b.err c.err (bytes_on Err shown) → Leads hooks 1 b r t c
+  leads_one b c r t shown e out err = record {
+    shown = all_shown hooks shown t;
+    stands = ap (stood hooks (standing hooks 0) r []) e;
+    out = subst (Got b.out c.out) (sym (all_bytes Out hooks shown t)) out;
+    err = subst (Got b.err c.err) (sym (all_bytes Err hooks shown t)) err;
+  }
+
+pub carried_none : (b : Streams) (s : State) → Carried 0 b s s b
+carried_none b s = record { given = []; gave = gave_none b.input; faults = refl; leads = λ hooks rest h. leads_none hooks b (on s rest) }
+
+pub carried_then : (m n : ℕ) (b c d : Streams) (s t u : State) → Carried m b s t c → Carried n c t u d → Carried (m + n) b s u d
+carried_then m n b c d s t u p q = record {
   given = p.given ++ q.given;
-  gave = λ rest h. subst (MayGive b.input.left b.input.ended) (sym (append_assoc p.given q.given rest)) (p.gave (q.given ++ rest) (q.gave rest h));
-  stands = λ rest h.
-      let late = on t (q.given ++ rest) in
-      ap (λ input. standing [] (m + n) (on s input) []) (append_assoc p.given q.given rest)
-      ∙ standing_then [] m n (on s (p.given ++ (q.given ++ rest))) []
-      ∙ ap (λ x. go_on x (standing [] n)) (p.stands (q.given ++ rest) (q.gave rest h))
-      ∙ ap (standing [] n late) (sym (append-nil xs))
-      ∙ standing_before [] n late xs []
-      ∙ ap (before xs) (q.stands rest h);
-  input = q.input ∙ p.input;
-  out = got_both Out b.out c.out d.out xs ys p.out q.out;
-  err = got_both Err b.err c.err d.err xs ys p.err q.err;
+  gave = gave_then b.input c.input d.input p.given q.given p.gave q.gave;
+  faults = q.faults ∙ p.faults;
+  leads = λ hooks rest h.
+      let first = p.leads hooks (q.given ++ rest) (q.gave.before rest h) in
+      let both = leads_then hooks m n b c d (on s (p.given ++ (q.given ++ rest))) (on t (q.given ++ rest)) (on u rest) first (q.leads hooks rest h) in
+      subst (λ input. Leads hooks (m + n) b (on s input) (on u rest) d) (sym (append_assoc p.given q.given rest)) both;
 }
 
--- one instruction that shows these events
-pub stands_one : (r t : Run) (shown : List Event) → advance r ≡ On t shown → standing [] 1 r [] ≡ Runs shown t
-stands_one r t shown e = ap (stood [] (standing [] 0) r []) e ∙ ap (λ es. Runs es t) (append-nil shown)
+-- an instruction that is given these bytes and shows these events
+pub carried_one : (b c : Streams) (s t : State) (given : List ℕ) (shown : List Event) → Gave b.input c.input given → c.input.faults ≡ b.input.faults → ((rest : List ℕ) → MayGive c.input.left c.input.ended rest → advance (on s (given ++ rest)) ≡ On (on t rest) shown) → Got b.out c.out (bytes_on Out shown) → Got b.err c.err (bytes_on Err shown) → Carried 1 b s t c
+carried_one b c s t given shown gave faults e out err = record {
+  given = given;
+  gave = gave;
+  faults = faults;
+  leads = λ hooks rest h. leads_one hooks b c (on s (given ++ rest)) (on t rest) shown (e rest h) out err;
+}
 
 -- an instruction that needs no call
-pub carried_on : (b : Streams) (s t : State) → outcome s ≡ leads.Goes t → Carried 1 b s [] t b
-carried_on b s t e = record {
-  given = [];
-  gave = λ rest h. h;
-  stands = λ rest h. stands_one (on s rest) (on t rest) [] (ap (led (on s rest)) e);
-  input = refl;
-  out = got_none b.out;
-  err = got_none b.err;
-}
+pub carried_on : (b : Streams) (s t : State) → outcome s ≡ leads.Goes t → Carried 1 b s t b
+carried_on b s t e = carried_one b b s t [] [] (gave_none b.input) refl (λ rest h. ap (led (on s rest)) e) (got_none b.out) (got_none b.err)

@@ -1,6 +1,6 @@
 -- Bytes that are put into a range piece by piece.
-use Rattle.std.proofs.Common.{◌≡◌, ℕ, zero, suc, ◌+◌, ◌-◌, ◌<◌, ◌≤◌, ◌^◌, List, [], ◌∷◌, ◌++◌, length, take, drop, Bool, true, false, refl, sym, ap, ap₂, subst, ◌∙◌, arith, append_assoc, append-nil, add-zero, length-append, length-drop}
-use Rattle.std.specs.Prelude.{nat_le, ◌==◌, ◌&&◌, ◌||◌, if◌then◌else◌}
+use Rattle.std.proofs.Common.{◌≡◌, ℕ, zero, suc, ◌+◌, ◌-◌, ◌<◌, ◌≤◌, ◌^◌, List, [], ◌∷◌, ◌++◌, length, take, drop, Bool, true, false, refl, sym, ap, ap₂, subst, ◌∙◌, arith, append_assoc, append-nil, add-zero, length-append, length-drop, inr}
+use Rattle.std.specs.Prelude.{◌==◌, ◌||◌, if◌then◌else◌}
 use Rattle.std.proofs.lemmas.Bool.{le-leb, leb-true, lt-leb, ne_eqb, and_from, and_parts, and_right, cond-true, cond-false, true≢false}
 use Rattle.std.proofs.lemmas.List.{length-take-le, take-append-le, drop-drop}
 use Rattle.std.proofs.Math.Seq.{drop-append-add, take-append-add, take-append_seam}
@@ -8,11 +8,12 @@ use Rattle.rv32_isa.specs.Image.{statics_at, heap_at, stack_at}
 use Rattle.rv32_isa.specs.State.{State, lies_in, writable, put_bytes, filled}
 use Rattle.rv32_isa.specs.Regions.{HasRegions, KeepsSizes}
 use Rattle.rv32_isa.specs.Machine.{answered}
-use Rattle.std.specs.Prelude.{Option, Some, None, Ok, IsTrue}
+use Rattle.std.specs.Prelude.{Option, Some, None, Ok, Err, IsTrue}
 use Rattle.arc_base.specs.declared.outside.Failed.{Failed}
-use Rattle.arc_base.specs.Outside.{Takes}
+use Rattle.arc_base.specs.Outside.{Takes, Rose}
 use Rattle.rv32_runner.specs.Streams.{Feed, feed, Gave, MayGive}
-use Rattle.rv32_runner.specs.Calls.{Part}
+use Rattle.rv32_runner.specs.Calls.{Part, NoMore, Filled, Failing}
+use Rattle.rv32_runner.proofs.Carrying.{gave_none, gave_then}
 
 -- ---- bytes in a list
 
@@ -203,15 +204,26 @@ filled_more s at (suc n) (x ∷ xs) (y ∷ ys) r kept e le = more s at x y xs ys
 
 -- ---- bytes that a source gives
 
-gave_none : (a : Feed) → Gave a a []
-gave_none a = λ rest h. h
+module _ (a b : Option (List ℕ)) (x y : Bool) (i j : ℕ) (g k : List ℕ) (into : List ℕ) (stays : IsTrue x → IsTrue y) where
+  -- what a take puts in front of a place
+  pub gave_take : (n : ℕ) → Takes {E = Failed} a b (Ok n) into → (IsTrue x → n ≡ 0) → k ≡ g ++ take n into → Gave (feed a x i g) (feed b y j k) (take n into)
+  gave_take n t at_end e = record { gave = e; before = before_take a b t }
+    where
+      before_take : (a b : Option (List ℕ)) → Takes {E = Failed} a b (Ok n) into → (rest : List ℕ) → MayGive b y rest → MayGive a x (take n into ++ rest)
+      before_take None None t rest h = λ ended. ap (λ k. take k into ++ rest) (at_end ended) ∙ h (stays ended)
+      before_take None (Some now) t rest h = absurd t
+      before_take (Some left) None t rest h = absurd t
+      before_take (Some left) (Some now) t rest h = ap (λ l. take n into ++ l) h ∙ sym t.0
 
--- what a take puts in front of a place
-pub gave_take : (a b : Option (List ℕ)) (x y : Bool) (i j n : ℕ) (into : List ℕ) → Takes {E = Failed} a b (Ok n) into → (IsTrue x → n ≡ 0) → (IsTrue x → IsTrue y) → Gave (feed a x i) (feed b y j) (take n into)
-gave_take None None x y i j n into t at_end stays = λ rest h ended. ap (λ k. take k into ++ rest) (at_end ended) ∙ h (stays ended)
-gave_take None (Some now) x y i j n into t at_end stays = absurd t
-gave_take (Some left) None x y i j n into t at_end stays = absurd t
-gave_take (Some left) (Some now) x y i j n into t at_end stays = λ rest h. ap (λ l. take n into ++ l) h ∙ sym t.0
+  -- a take that failed gave nothing
+  pub gave_failed : (e : Failed) → Takes {E = Failed} a b (Err e) into → k ≡ g ++ [] → Gave (feed a x i g) (feed b y j k) []
+  gave_failed e t same = record { gave = same; before = before_take a b t }
+    where
+      before_take : (a b : Option (List ℕ)) → Takes {E = Failed} a b (Err e) into → (rest : List ℕ) → MayGive b y rest → MayGive a x rest
+      before_take None None t rest h = λ ended. h (stays ended)
+      before_take None (Some now) t rest h = absurd t
+      before_take (Some left) None t rest h = absurd t
+      before_take (Some left) (Some now) t rest h = h ∙ t
 
 -- nothing comes after the end
 pub end_take : (a b : Option (List ℕ)) (y : Bool) (n : ℕ) (into : List ℕ) → Takes {E = Failed} a b (Ok n) into → n ≡ 0 → 0 < length into → IsTrue y → (rest : List ℕ) → MayGive b y rest → rest ≡ []
@@ -221,23 +233,43 @@ end_take (Some left) None y n into t none some ended rest h = absurd t
 end_take (Some left) (Some now) y n into t none some ended rest h = h ∙ sym (ap (λ k. take k into ++ now) none) ∙ sym t.0 ∙ t.1 none some
 
 pub part_none : (s : State) (at : ℕ) (b : Feed) → Part s at b 0 s b
-part_none s at b = record { given = []; counted = refl; gave = gave_none b; state = refl; faults = refl }
+part_none s at b = record { given = []; counted = refl; gave = gave_none b; state = refl }
+
+pub part_same : (s t : State) (at : ℕ) (b c : Feed) → t ≡ s → Gave b c [] → Part s at b 0 t c
+part_same s t at b c e gave = record { given = []; counted = refl; gave = gave; state = e }
 
 -- a piece more
-pub part_more : (s t : State) (at size done count : ℕ) (b c d : Feed) (bytes : List ℕ) → HasRegions s → HasRegions t → writable s at size ≡ true → length bytes ≡ count → done + count ≤ size → Gave c d bytes → d.faults ≡ c.faults → Part s at b done t c → Part s at b (done + count) (filled t (at + done) bytes) d
-part_more s t at size done count b c d bytes r kept may long fits gave faults p =
+pub part_more : (s t : State) (at size done count : ℕ) (b c d : Feed) (bytes : List ℕ) → HasRegions s → HasRegions t → writable s at size ≡ true → length bytes ≡ count → done + count ≤ size → Gave c d bytes → Part s at b done t c → Part s at b (done + count) (filled t (at + done) bytes) d
+part_more s t at size done count b c d bytes r kept may long fits gave p =
     let counted = p.counted in
     let all = length-append p.given bytes in
     record {
       given = p.given ++ bytes;
       counted = omega arith;
-      gave = λ rest h. subst (MayGive b.left b.ended) (sym (append_assoc p.given bytes rest)) (p.gave (bytes ++ rest) (gave rest h));
+      gave = gave_then b c d p.given bytes p.gave gave;
       state = ap₂ (λ u k. filled u (at + k) bytes) p.state (sym counted) ∙ filled_more s at size p.given bytes r (subst HasRegions p.state kept) may (omega arith);
-      faults = faults ∙ p.faults;
     }
 
 pub part_then : (s t u : State) (at size done count : ℕ) (b c d : Feed) → HasRegions s → HasRegions t → writable s at size ≡ true → done + count ≤ size → Part s at b done t c → Part t (at + done) c count u d → Part s at b (done + count) u d
-part_then s t u at size done count b c d r kept may fits p q = subst (λ x. Part s at b (done + count) x d) (sym q.state) (part_more s t at size done count b c d q.given r kept may q.counted fits q.gave q.faults p)
+part_then s t u at size done count b c d r kept may fits p q = subst (λ x. Part s at b (done + count) x d) (sym q.state) (part_more s t at size done count b c d q.given r kept may q.counted fits q.gave p)
+
+-- nothing came behind a piece
+pub filled_end : (s t u : State) (at size done count : ℕ) (b c d : Feed) → HasRegions s → HasRegions t → writable s at size ≡ true → done ≤ size → count ≡ 0 → Part s at b done t c → c.faults ≡ b.faults → Part t (at + done) c count u d → d.faults ≡ c.faults → NoMore d → Filled s at size b done u d
+filled_end s t u at size done count b c d r kept may le none p same q still over = record {
+  part = subst (λ k. Part s at b k u d) (omega arith) (part_then s t u at size done count b c d r kept may (omega arith) p q);
+  faults = still ∙ same;
+  bound = le;
+  all = inr over;
+}
+
+-- the source failed behind a piece
+pub failing_then : (s t u : State) (at size done : ℕ) (b c d : Feed) → HasRegions s → HasRegions t → writable s at size ≡ true → done < size → Part s at b done t c → c.faults ≡ b.faults → Part t (at + done) c 0 u d → Rose c.faults d.faults → Failing s at size b u d
+failing_then s t u at size done b c d r kept may lt p same q rose = record {
+  count = done + 0;
+  part = part_then s t u at size done 0 b c d r kept may (omega arith) p q;
+  fewer = omega arith;
+  rose = subst (λ k. Rose k d.faults) same rose;
+}
 
 -- registers and the program counter are no matter of the regions
 pub answered_regions : (s : State) (value : ℕ) → HasRegions s → HasRegions (answered s value)
@@ -255,8 +287,8 @@ pub front_may : (s : State) (at size count : ℕ) (into rest : List ℕ) → wri
 front_may s at size count into rest may le fits =
     subst (λ k. writable s at k ≡ true) (sym (front_long count into rest le)) (subst (λ a. writable s a count ≡ true) (add-zero at) (writable_part s at size 0 count may (omega arith)))
 
-pub front_part : (s t : State) (at count : ℕ) (b c : Feed) (into rest : List ℕ) → count ≤ length into → Gave b c (take count into) → c.faults ≡ b.faults → t ≡ filled s at (take count (into ++ rest)) → Part s at b count t c
-front_part s t at count b c into rest le gave faults e = record { given = take count into; counted = length-take-le count into le; gave = gave; state = e ∙ ap (filled s at) (take-append-le count into rest le); faults = faults }
+pub front_part : (s t : State) (at count : ℕ) (b c : Feed) (into rest : List ℕ) → count ≤ length into → Gave b c (take count into) → t ≡ filled s at (take count (into ++ rest)) → Part s at b count t c
+front_part s t at count b c into rest le gave e = record { given = take count into; counted = length-take-le count into le; gave = gave; state = e ∙ ap (filled s at) (take-append-le count into rest le) }
 
 pub front_sizes : (s t : State) (at size count : ℕ) (into rest : List ℕ) → ((s : State) (at : ℕ) (bytes : List ℕ) → writable s at (length bytes) ≡ true → KeepsSizes s (filled s at bytes)) → writable s at size ≡ true → count ≤ length into → count ≤ size → t ≡ filled s at (take count (into ++ rest)) → KeepsSizes s t
 front_sizes s t at size count into rest sizes may le fits e = subst (KeepsSizes s) (sym e) (sizes s at (take count (into ++ rest)) (front_may s at size count into rest may le fits))

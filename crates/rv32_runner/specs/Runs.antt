@@ -1,10 +1,11 @@
 -- How far a runner brings its machine, with what it takes from a source and what it gives to two sinks.
-use Rattle.std.specs.Prelude.{◌≡◌, ◌<◌, ℕ, ◌+◌, List, [], ◌++◌, true}
+use Rattle.std.specs.Prelude.{◌≡◌, ◌<◌, ℕ, ◌+◌, List, [], ◌++◌, length, true}
 use Rattle.arc_base.specs.declared.outside.Stream.{Stream}
 use Rattle.arc_base.specs.declared.outside.Stream.TheVariants.{Out, Err}
 use Rattle.arc_base.specs.Event.{Event, writes}
 use Rattle.arc_base.specs.Outside.{Rose}
-use Rattle.rv32_isa.specs.State.{State, reg, writable}
+use Rattle.rv32_isa.specs.declared.image.HookAt.{HookAt}
+use Rattle.rv32_isa.specs.State.{State, reg, writable, filled}
 use Rattle.rv32_isa.specs.Steps.{Calls, outcome}
 use Rattle.rv32_isa.specs.Machine.{Run, On, Runs, advance, standing}
 use Rattle.rv32_isa.specs.Machine as comes
@@ -21,15 +22,20 @@ pub record RunnerState : Type 0 where
 abbrev pub on : State → List ℕ → Run
 on s input = record { state = s; input = input }
 
--- The machine came so many instructions further and showed these events. Its input is what the source gave, and whatever it
--- may still give; the sinks got what the machine wrote; and no call of them failed.
-pub record Carried (count : ℕ) (old : Streams) (s : State) (shown : List Event) (t : State) (new : Streams) : Type 0 where
-  pub given : List ℕ
-  pub gave : Gave old.input new.input given
-  pub stands : (rest : List ℕ) → MayGive new.input.left new.input.ended rest → standing [] count (on s (given ++ rest)) [] ≡ Runs shown (on t rest)
-  pub input : new.input.faults ≡ old.input.faults
+-- With these hooks a run of so many instructions leads from one state to another, and the sinks got what it wrote.
+pub record Leads (hooks : List HookAt) (count : ℕ) (old : Streams) (first last : Run) (new : Streams) : Type 0 where
+  pub shown : List Event
+  pub stands : standing hooks count first [] ≡ Runs shown last
   pub out : Got old.out new.out (bytes_on Out shown)
   pub err : Got old.err new.err (bytes_on Err shown)
+
+-- The machine came so many instructions further, whatever hooks its image has. Its input is what the source gave, and whatever
+-- it may still give; the sinks got what the machine wrote; and no call of them failed.
+pub record Carried (count : ℕ) (old : Streams) (s : State) (t : State) (new : Streams) : Type 0 where
+  pub given : List ℕ
+  pub gave : Gave old.input new.input given
+  pub faults : new.input.faults ≡ old.input.faults
+  pub leads : (hooks : List HookAt) (rest : List ℕ) → MayGive new.input.left new.input.ended rest → Leads hooks count old (on s (given ++ rest)) (on t rest) new
 
 -- machine and streams are as they were
 abbrev pub Same : State → Streams → State → Streams → Type 0
@@ -42,6 +48,17 @@ pub record IsRead (s : State) : Type 0 where
   pub from_input : reg s 10 ≡ 0
   pub to : writable s (reg s 11) (reg s 12) ≡ true
 
+-- It asks for more bytes than the source gave before it failed; these were put into the memory.
+pub record ReadFails (s : State) (old : Streams) (t : State) (new : Streams) : Type 0 where
+  pub asks : IsRead s
+  pub given : List ℕ
+  pub fewer : length given < reg s 12
+  pub gave : Gave old.input new.input given
+  pub state : t ≡ filled s (reg s 11) given
+  pub rose : Rose old.input.faults new.input.faults
+  pub out : new.out ≡ old.out
+  pub err : new.err ≡ old.err
+
 -- the machine is about to write these bytes to a stream
 abbrev pub IsWrite : State → Stream → List ℕ → Type 0
 IsWrite s stream bytes = (t : State) × ((input : List ℕ) → advance (on s input) ≡ On (on t input) (writes stream bytes))
@@ -51,9 +68,9 @@ abbrev pub Halts : State → Streams → RunEnd → State → Streams → Type 0
 Halts s old Spent t new = ⊥
 Halts s old (Exited status) t new = Same s old t new × ((input : List ℕ) → advance (on s input) ≡ comes.Exited status)
 Halts s old (Fault kind pc word) t new = Same s old t new × ((input : List ℕ) → advance (on s input) ≡ comes.Faulted kind pc word)
-Halts s old ReadFault t new = IsRead s × (Rose old.input.faults new.input.faults × ((new.out ≡ old.out) × (new.err ≡ old.err)))
-Halts s old (WriteFault Out) t new = (bytes : List ℕ) × (IsWrite s Out bytes × (Lost old.out new.out bytes × ((new.input ≡ old.input) × (new.err ≡ old.err))))
-Halts s old (WriteFault Err) t new = (bytes : List ℕ) × (IsWrite s Err bytes × (Lost old.err new.err bytes × ((new.input ≡ old.input) × (new.out ≡ old.out))))
+Halts s old ReadFault t new = ReadFails s old t new
+Halts s old (WriteFault Out) t new = (bytes : List ℕ) × (IsWrite s Out bytes × (Lost old.out new.out bytes × ((t ≡ s) × ((new.input ≡ old.input) × (new.err ≡ old.err)))))
+Halts s old (WriteFault Err) t new = (bytes : List ℕ) × (IsWrite s Err bytes × (Lost old.err new.err bytes × ((t ≡ s) × ((new.input ≡ old.input) × (new.out ≡ old.out)))))
 
 -- where the answer is Spent, no instruction is left; else there is one that ends the run
 abbrev pub Ends : (left : ℕ) → State → Streams → RunEnd → State → Streams → Type 0
@@ -65,8 +82,7 @@ pub record Ran (n : ℕ) (old : Streams) (s : State) (answer : RunEnd) (t : Stat
   pub done : ℕ
   pub left : ℕ
   pub all : n ≡ done + left
-  pub shown : List Event
   pub at : State
   pub mid : Streams
-  pub carried : Carried done old s shown at mid
+  pub carried : Carried done old s at mid
   pub ends : Ends left at mid answer t new

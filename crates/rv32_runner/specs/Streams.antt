@@ -5,11 +5,12 @@ use Rattle.arc_base.specs.declared.outside.Stream.TheVariants.{Out, Err}
 use Rattle.arc_base.specs.Event.{Event, Write, Hook}
 use Rattle.arc_base.specs.Outside.{Grown, Rose}
 
--- what a source tells
+-- what a source tells: the bytes that are left, whether it has answered the end, how often it failed, and what its takes gave
 pub record Feed : Type 0 where
   pub left : Option (List ℕ)
   pub ended : Bool
   pub faults : ℕ
+  pub gave : List ℕ
 
 -- what a sink tells
 pub record Tally : Type 0 where
@@ -21,8 +22,8 @@ pub record Streams : Type 0 where
   pub out : Tally
   pub err : Tally
 
-abbrev pub feed : Option (List ℕ) → Bool → ℕ → Feed
-feed left ended faults = record { left = left; ended = ended; faults = faults }
+abbrev pub feed : Option (List ℕ) → Bool → ℕ → List ℕ → Feed
+feed left ended faults gave = record { left = left; ended = ended; faults = faults; gave = gave }
 
 abbrev pub tally : Option (List ℕ) → ℕ → Tally
 tally written faults = record { written = written; faults = faults }
@@ -38,9 +39,10 @@ abbrev pub MayGive : Option (List ℕ) → Bool → List ℕ → Type 0
 MayGive None ended rest = IsTrue ended → rest ≡ []
 MayGive (Some left) ended rest = rest ≡ left
 
--- it gave these bytes: whatever it may still give, it might have given them and that before
-abbrev pub Gave : Feed → Feed → List ℕ → Type 0
-Gave old new given = (rest : List ℕ) → MayGive new.left new.ended rest → MayGive old.left old.ended (given ++ rest)
+-- Its takes gave these bytes; and whatever it may still give, it might have given them and that before.
+pub record Gave (old new : Feed) (given : List ℕ) : Type 0 where
+  pub gave : new.gave ≡ old.gave ++ given
+  pub before : (rest : List ℕ) → MayGive new.left new.ended rest → MayGive old.left old.ended (given ++ rest)
 
 -- ---- sinks
 

@@ -29,7 +29,16 @@ pub(crate) fn call<I: Source, O: Sink, E: Sink>(
     requires due { outcome machine.old ≡ Calls }
     requires regions { HasRegions machine.old }
     ensures regions { HasRegions machine.new }
-    ensures ran { Ran 1 (streams (feed (I.left input.old) (I.ended input.old) (I.faults input.old)) (tally (O.written out.old) (O.faults out.old)) (tally (E.written err.old) (E.faults err.old))) machine.old result machine.new (streams (feed (I.left input.new) (I.ended input.new) (I.faults input.new)) (tally (O.written out.new) (O.faults out.new)) (tally (E.written err.new) (E.faults err.new))) }
+    ensures ran { Ran 1
+        (streams
+        (feed (I.left input.old) (I.ended input.old) (I.faults input.old) (I.gave input.old))
+        (tally (O.written out.old) (O.faults out.old))
+        (tally (E.written err.old) (E.faults err.old)))
+        machine.old result machine.new
+        (streams
+        (feed (I.left input.new) (I.ended input.new) (I.faults input.new) (I.gave input.new))
+        (tally (O.written out.new) (O.faults out.new))
+        (tally (E.written err.new) (E.faults err.new))) }
 {
     let number = machine.reg(17);
     let first = machine.reg(10);
@@ -71,7 +80,9 @@ fn answer(machine: &mut Machine, value: u32)
 fn write<K: Sink>(machine: &mut Machine, sink: &mut K, stream: Stream) -> RunEnd
     requires regions { HasRegions machine.old }
     ensures regions { HasRegions machine.new }
-    ensures wrote { Wrote machine.old stream (tally (K.written sink.old) (K.faults sink.old)) result machine.new (tally (K.written sink.new) (K.faults sink.new)) }
+    ensures wrote { Wrote machine.old stream
+        (tally (K.written sink.old) (K.faults sink.old)) result machine.new
+        (tally (K.written sink.new) (K.faults sink.new)) }
 {
     let (at, len) = (machine.reg(11), machine.reg(12));
     let Some(bytes) = machine.readable(at, len) else {
@@ -90,7 +101,10 @@ fn write<K: Sink>(machine: &mut Machine, sink: &mut K, stream: Stream) -> RunEnd
 fn read<I: Source>(machine: &mut Machine, input: &mut I) -> RunEnd
     requires regions { HasRegions machine.old }
     ensures regions { HasRegions machine.new }
-    ensures did { Read machine.old (feed (I.left input.old) (I.ended input.old) (I.faults input.old)) result machine.new (feed (I.left input.new) (I.ended input.new) (I.faults input.new)) }
+    ensures did { Read machine.old
+        (feed (I.left input.old) (I.ended input.old) (I.faults input.old) (I.gave input.old))
+        result machine.new
+        (feed (I.left input.new) (I.ended input.new) (I.faults input.new) (I.gave input.new)) }
 {
     let (at, len) = (machine.reg(11), machine.reg(12));
     if !machine.is_writable(at, len) {
@@ -110,16 +124,19 @@ fn fill<I: Source>(machine: &mut Machine, at: u32, len: u32, input: &mut I) -> R
     requires regions { HasRegions machine.old }
     requires to { writable machine.old at len ≡ true }
     ensures regions { HasRegions machine.new }
-    ensures fills { Fills machine.old at len (feed (I.left input.old) (I.ended input.old) (I.faults input.old)) result machine.new (feed (I.left input.new) (I.ended input.new) (I.faults input.new)) }
+    ensures fills { Fills machine.old at len
+        (feed (I.left input.old) (I.ended input.old) (I.faults input.old) (I.gave input.old))
+        result machine.new
+        (feed (I.left input.new) (I.ended input.new) (I.faults input.new) (I.gave input.new)) }
 {
     memories();
     let mut done = 0;
     while done < len {
-        let count = fill_front(machine, at + done, len - done, input)?;
-        if count == 0 {
-            return Ok(done);
+        match fill_front(machine, at + done, len - done, input) {
+            Ok(0) => return Ok(done),
+            Ok(count) => done += count,
+            Err(failed) => return Err(failed),
         }
-        done += count;
     }
     Ok(done)
 }
@@ -134,7 +151,10 @@ fn fill_front<I: Source>(
     requires to { writable machine.old at len ≡ true }
     requires some { 0 < len }
     ensures sizes { KeepsSizes machine.old machine.new }
-    ensures fronts { Fronts machine.old at len (feed (I.left input.old) (I.ended input.old) (I.faults input.old)) result machine.new (feed (I.left input.new) (I.ended input.new) (I.faults input.new)) }
+    ensures fronts { Fronts machine.old at len
+        (feed (I.left input.old) (I.ended input.old) (I.faults input.old) (I.gave input.old))
+        result machine.new
+        (feed (I.left input.new) (I.ended input.new) (I.faults input.new) (I.gave input.new)) }
 {
     memories();
     let mut piece = [0; PIECE];

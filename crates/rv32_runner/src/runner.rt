@@ -50,7 +50,8 @@ impl Model for Runner {
 
 /// A runner at the first state of an image. The only error is that no memory was found for its regions.
 pub fn load(alloc: Global, image: &Image) -> Result<Runner, Memory>
-    ensures { IfOk result (λ r. r ≡ record { machine = first_state (image_of image.now); last = Spent }) }
+    ensures { IfOk result (λ r.
+        r ≡ record { machine = first_state (image_of image.now); last = Spent }) }
 {
     Ok(Runner {
         machine: Machine::start(alloc, image)?,
@@ -71,10 +72,20 @@ impl Runner {
         out: &mut O,
         err: &mut E,
     ) -> RunEnd
-        ensures ran { self.old.last ≡ Spent → Ran n (streams (feed (I.left input.old) (I.ended input.old) (I.faults input.old)) (tally (O.written out.old) (O.faults out.old)) (tally (E.written err.old) (E.faults err.old))) self.old.machine result self.new.machine (streams (feed (I.left input.new) (I.ended input.new) (I.faults input.new)) (tally (O.written out.new) (O.faults out.new)) (tally (E.written err.new) (E.faults err.new))) }
+        ensures ran { self.old.last ≡ Spent → Ran n
+            (streams
+            (feed (I.left input.old) (I.ended input.old) (I.faults input.old) (I.gave input.old))
+            (tally (O.written out.old) (O.faults out.old))
+            (tally (E.written err.old) (E.faults err.old)))
+            self.old.machine result self.new.machine
+            (streams
+            (feed (I.left input.new) (I.ended input.new) (I.faults input.new) (I.gave input.new))
+            (tally (O.written out.new) (O.faults out.new))
+            (tally (E.written err.new) (E.faults err.new))) }
         ensures last { self.new.last ≡ result }
         ensures over { self.old.last ≢ Spent → (result ≡ self.old.last) × (self.new ≡ self.old) }
-        ensures streams { self.old.last ≢ Spent → (input.new ≡ input.old) × (out.new ≡ out.old) × (err.new ≡ err.old) }
+        ensures streams { self.old.last ≢ Spent →
+            (input.new ≡ input.old) × (out.new ≡ out.old) × (err.new ≡ err.old) }
     {
         let RunEnd::Spent = self.last else {
             return self.last;
@@ -95,7 +106,16 @@ fn go<I: Source, O: Sink, E: Sink>(
 ) -> RunEnd
     requires regions { HasRegions machine.old }
     ensures regions { HasRegions machine.new }
-    ensures ran { Ran n (streams (feed (I.left input.old) (I.ended input.old) (I.faults input.old)) (tally (O.written out.old) (O.faults out.old)) (tally (E.written err.old) (E.faults err.old))) machine.old result machine.new (streams (feed (I.left input.new) (I.ended input.new) (I.faults input.new)) (tally (O.written out.new) (O.faults out.new)) (tally (E.written err.new) (E.faults err.new))) }
+    ensures ran { Ran n
+        (streams
+        (feed (I.left input.old) (I.ended input.old) (I.faults input.old) (I.gave input.old))
+        (tally (O.written out.old) (O.faults out.old))
+        (tally (E.written err.old) (E.faults err.old)))
+        machine.old result machine.new
+        (streams
+        (feed (I.left input.new) (I.ended input.new) (I.faults input.new) (I.gave input.new))
+        (tally (O.written out.new) (O.faults out.new))
+        (tally (E.written err.new) (E.faults err.new))) }
 {
     let mut left = n;
     while left > 0 {
@@ -108,6 +128,7 @@ fn go<I: Source, O: Sink, E: Sink>(
 }
 
 // One instruction: Spent where the machine can go on.
+#[inline(always)]
 fn instruct<I: Source, O: Sink, E: Sink>(
     machine: &mut Machine,
     input: &mut I,
@@ -116,7 +137,16 @@ fn instruct<I: Source, O: Sink, E: Sink>(
 ) -> RunEnd
     requires regions { HasRegions machine.old }
     ensures regions { HasRegions machine.new }
-    ensures ran { Ran 1 (streams (feed (I.left input.old) (I.ended input.old) (I.faults input.old)) (tally (O.written out.old) (O.faults out.old)) (tally (E.written err.old) (E.faults err.old))) machine.old result machine.new (streams (feed (I.left input.new) (I.ended input.new) (I.faults input.new)) (tally (O.written out.new) (O.faults out.new)) (tally (E.written err.new) (E.faults err.new))) }
+    ensures ran { Ran 1
+        (streams
+        (feed (I.left input.old) (I.ended input.old) (I.faults input.old) (I.gave input.old))
+        (tally (O.written out.old) (O.faults out.old))
+        (tally (E.written err.old) (E.faults err.old)))
+        machine.old result machine.new
+        (streams
+        (feed (I.left input.new) (I.ended input.new) (I.faults input.new) (I.gave input.new))
+        (tally (O.written out.new) (O.faults out.new))
+        (tally (E.written err.new) (E.faults err.new))) }
 {
     memories();
     match step(machine) {

@@ -1,9 +1,9 @@
-// What no clause says: that memory is found, and what small programs do.
+// What no clause says: that memory is found, and that a stream that fails ends the run there.
 ghost use Rattle.std.specs.Prelude.{◌≡◌, ◌≤◌, ◌%◌, length, IfOk};
 
 use crate::*;
 use arc_base::{Bytes, Faults, Items, MemSink, MemSource, Memory, Stream, SureSink, SureSource};
-use rv32_isa::{FaultKind, Image};
+use rv32_isa::Image;
 use std::alloc::Global;
 use std::test::Fail;
 
@@ -81,23 +81,6 @@ fn streams_fail(rt: HostRuntime) -> Result<(), Fail> {
         for _ in 0..2 {
             assert_eq!(rt; runner.run(100, &mut input, &mut out, &mut err), end);
         }
-    }
-    Ok(())
-}
-
-#[test]
-fn faults(rt: HostRuntime) -> Result<(), Fail> {
-    let mut runner = loaded(rt.alloc(), &[0; 4])?;
-    let mut input = SureSource::new(Bytes::new(rt.alloc()));
-    let mut out = SureSink::new(rt.alloc(), 16)?;
-    let mut err = SureSink::new(rt.alloc(), 16)?;
-    let end = RunEnd::Fault {
-        kind: FaultKind::UnknownWord,
-        pc: 0x10000,
-        word: 0,
-    };
-    for _ in 0..2 {
-        assert_eq!(rt; runner.run(100, &mut input, &mut out, &mut err), end);
     }
     Ok(())
 }

@@ -1,4 +1,4 @@
-use Rattle.std.proofs.Common.{rules, ◌≡◌, ◌≤◌, ◌<◌, length, arith}
+use Rattle.std.proofs.Common.{rules, ◌≡◌, ◌<◌, length, arith}
 use Rattle.rv32_runner.proofs.Filling.{front_may, front_sizes, front_part, gave_take, end_take}
 use Rattle.rv32_runner.proofs.calls.fill_front.Goals as goal
 
@@ -24,4 +24,4 @@ returns-clause-fronts g c =
     let h = c.in_ok-count.ensures in
     let bound = h.bound in
     let long : 0 < length c.take.new.into = omega arith in
-    (front_part _ _ _ _ _ _ c.take.new.into _ bound (gave_take _ _ _ _ 0 0 _ c.take.new.into h.bytes h.after_end h.stays) h.cause.stays c.fill.ensures, (omega arith, λ none rest may. end_take _ _ _ _ c.take.new.into h.bytes none long (h.end none long) rest may))
+    (front_part _ _ _ _ _ _ c.take.new.into _ bound (gave_take _ _ _ _ _ _ _ _ c.take.new.into h.stays _ h.bytes h.after_end h.gave) c.fill.ensures, (h.cause.stays, (omega arith, λ none rest may. end_take _ _ _ _ c.take.new.into h.bytes none long (h.end none long) rest may)))

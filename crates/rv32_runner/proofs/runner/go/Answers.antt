@@ -1,4 +1,4 @@
-use Rattle.std.proofs.Common.{◌-◌, arith}
+use Rattle.std.proofs.Common.{arith}
 use Rattle.rv32_runner.proofs.Calling.{ran_over, ran_all, carried_more, carried_start}
 use Rattle.rv32_runner.proofs.runner.go.Goals as goal
 
@@ -13,7 +13,7 @@ loop-left-preserved g c =
     record {
       within = omega (arith, h.within);
       regions = next.regions;
-      carried = carried_more c.args.n c.loop-left.left _ _ _ _ _ _ _ h.carried.0 h.within (omega arith) h.carried.1 next.ran;
+      carried = carried_more c.args.n c.loop-left.left _ _ _ _ _ _ _ h.within (omega arith) h.carried next.ran;
     }
 
 pub returns-in_default : goal.returns-in_default
@@ -24,11 +24,11 @@ returns-in_default g c =
     let next = c.instruct.ensures in
     record {
       regions = next.regions;
-      ran = ran_over c.args.n _ _ _ _ _ _ _ h.carried.0 _ (omega arith) c.in_default.not-Spent h.carried.1 next.ran;
+      ran = ran_over c.args.n _ _ _ _ _ _ _ _ (omega arith) c.in_default.not-Spent h.carried next.ran;
     }
 
 pub returns : goal.returns
 returns g c =
     let h = c.loop-left.invariant in
     let over = c.loop-left-test.false in
-    record { regions = h.regions; ran = ran_all c.args.n _ _ _ _ _ h.carried.0 (omega arith) h.carried.1 }
+    record { regions = h.regions; ran = ran_all c.args.n _ _ _ _ _ (omega arith) h.carried }

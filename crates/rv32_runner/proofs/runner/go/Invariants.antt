@@ -1,7 +1,5 @@
-use Rattle.std.specs.Prelude.{◌≡◌, ◌≤◌, ℕ, ◌-◌, List}
+use Rattle.std.specs.Prelude.{◌≤◌, ◌-◌}
 use Rattle.rv32_isa.specs.Regions.{HasRegions}
-use Rattle.rv32_isa.specs.State.{State}
-use Rattle.arc_base.specs.Event.{Event}
 use Rattle.rv32_runner.specs.Streams.{feed, tally, streams}
 use Rattle.rv32_runner.specs.Runs.{Carried}
 use Rattle.rv32_runner.proofs.runner.go.Given as goal
@@ -14,7 +12,16 @@ invariant-loop-left g l =
     record {
       within : l.left ≤ l.n;
       regions : HasRegions l.machine;
-      carried : (shown : List Event) × Carried (l.n - l.left) (streams (feed (I.left l.initial.input) (I.ended l.initial.input) (I.faults l.initial.input)) (tally (O.written l.initial.out) (O.faults l.initial.out)) (tally (E.written l.initial.err) (E.faults l.initial.err))) l.initial.machine shown l.machine (streams (feed (I.left l.input) (I.ended l.input) (I.faults l.input)) (tally (O.written l.out) (O.faults l.out)) (tally (E.written l.err) (E.faults l.err)));
+      carried : Carried (l.n - l.left)
+          (streams
+          (feed (I.left l.initial.input) (I.ended l.initial.input) (I.faults l.initial.input) (I.gave l.initial.input))
+          (tally (O.written l.initial.out) (O.faults l.initial.out))
+          (tally (E.written l.initial.err) (E.faults l.initial.err)))
+          l.initial.machine l.machine
+          (streams
+          (feed (I.left l.input) (I.ended l.input) (I.faults l.input) (I.gave l.input))
+          (tally (O.written l.out) (O.faults l.out))
+          (tally (E.written l.err) (E.faults l.err)));
     }
 
 abbrev pub decreases-loop-left : goal.decreases-loop-left

@@ -1,5 +1,3 @@
-use Rattle.std.proofs.Common.{sym, subst}
-use Rattle.rv32_isa.specs.Regions.{HasRegions}
 use Rattle.rv32_runner.proofs.Calling.{ran_goes, ran_faults}
 use Rattle.rv32_runner.proofs.runner.instruct.Goals as goal
 
