@@ -18,7 +18,7 @@ const RIGHTS: u32 = 0o777;
 /// Writes bytes to a new file beside a name, and renames it to that name where all went well.
 ///
 /// A name that stands for a device, a pipe or a socket is written to as it is. One whose file may not be written to, or
-/// that is a folder, is an error. Of a link, the file that it points to is replaced, or made where there is none.
+/// that is a folder, is an error, and so is one in whose folder no file can be made. Of a link, the file that it points to is replaced, or made where there is none.
 pub fn replace<R: rt::Files>(files: &R, alloc: Global, name: &str, bytes: &[u8]) -> io::Result<()> {
     match OpenOptions::new().write(true).open(files, name) {
         Ok(mut older) => {
@@ -26,6 +26,7 @@ pub fn replace<R: rt::Files>(files: &R, alloc: Global, name: &str, bytes: &[u8])
             if !about.is_file() {
                 return older.write_all(bytes);
             }
+            drop(older);
             let rights = about.permissions().mode() & RIGHTS;
             let place = place_of(files, alloc, name)?;
             put_new(files, alloc, &place, bytes, Some(rights))
@@ -107,9 +108,10 @@ fn fill<F: Write + OpenFile + Drop>(
     bytes: &[u8],
     rights: Option<u32>,
 ) -> io::Result<()> {
-    file.write_all(bytes)?;
+    // Whom the older file was closed to can't read the new one either, at no moment.
     if let Some(mode) = rights {
         file.set_permissions(Permissions::from_mode(mode))?;
     }
+    file.write_all(bytes)?;
     file.sync_all()
 }
