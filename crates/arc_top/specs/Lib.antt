@@ -1,4 +1,6 @@
-pub mod Command
 pub mod Answer
+pub mod Loads
+pub mod Runs
 pub mod Report
 pub mod Top
+pub mod Stages
