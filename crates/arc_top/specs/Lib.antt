@@ -3,4 +3,5 @@ pub mod Loads
 pub mod Runs
 pub mod Report
 pub mod Top
+pub mod Due
 pub mod Stages

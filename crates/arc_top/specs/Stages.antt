@@ -1,13 +1,13 @@
 -- What stops a stage of a command. No public contract speaks of it.
-use Rattle.std.specs.Prelude.{◌≡◌, ℕ, List, ⊤}
-use Rattle.arc_top.specs.declared.answer.Answer.{Answer}
-use Rattle.arc_top.specs.declared.answer.Answer.TheVariants.{NoFile, TooLong, Refused, ReadFault, Memory}
+use Rattle.std.specs.Prelude.{◌≡◌, ◌⊎◌, ℕ, List}
 use Rattle.source_compiler.specs.declared.compiler.NotCompiled.{NotCompiled}
 use Rattle.source_compiler.specs.declared.compiler.NotCompiled.TheVariants as why
 use Rattle.rv32_isa.specs.Image.{Image}
 use Rattle.rv32_runner.specs.Streams.{Streams}
-use Rattle.arc_top.specs.Runs.{HasRun}
+use Rattle.arc_top.specs.declared.answer.Answer.{Answer}
+use Rattle.arc_top.specs.declared.answer.Answer.TheVariants.{NoFile, TooLong, Refused, ReadFault, Memory}
 use Rattle.arc_top.specs.Loads.{FilesState, Kept, Lacks, IsLong, LoadFails}
+use Rattle.arc_top.specs.Runs.{HasRun}
 use Rattle.arc_top.specs.Top.{Stops}
 
 -- a file can't be loaded
@@ -20,8 +20,7 @@ StopsLoad name most _ old new = ⊥
 
 -- a main module can't be loaded or compiled
 abbrev pub StopsCompiling : (main : List ℕ) → Answer → (old new : FilesState) → Type 0
-StopsCompiling main Memory old new = Kept old new
-StopsCompiling main answer old new = Stops main answer old new
+StopsCompiling main answer old new = ((answer ≡ Memory) × Kept old new) ⊎ Stops main answer old new
 
 -- the answer for a source that was not compiled
 abbrev pub IsRefusal : NotCompiled → Answer → Type 0
@@ -29,7 +28,6 @@ IsRefusal why.TooLong answer = ⊥
 IsRefusal (why.Refused code at) answer = answer ≡ Refused code at
 IsRefusal why.Memory answer = answer ≡ Memory
 
--- a machine ran, or there was no memory for it
+-- there was no memory for a machine, or it ran
 abbrev pub RunsOrWants : (steps : ℕ) → Image → Answer → (old new : Streams) → Type 0
-RunsOrWants steps image Memory old new = new ≡ old
-RunsOrWants steps image answer old new = HasRun steps image answer old new
+RunsOrWants steps image answer old new = ((answer ≡ Memory) × (new ≡ old)) ⊎ HasRun steps image answer old new

@@ -3,7 +3,7 @@
 --     MAIN ──load──> source ──compile──> file ──write──> bytes ──store──> OUT
 --                       └── Reads: a program ─┐   └─ Elf ─┘
 --                                  meaning  ──┴── Agrees ── the machine on the file's image
-use Rattle.std.specs.Prelude.{◌≡◌, ℕ, List, [], ◌∷◌, ◌++◌, ⊤, ◌⊎◌, Option, Some, None}
+use Rattle.std.specs.Prelude.{◌≡◌, ℕ, List, [], ◌∷◌, ◌++◌, ⊤, ◌⊎◌, Some}
 use Rattle.arc_base.specs.FileCalls.{load, store}
 use Rattle.arc_base.specs.Outside.{Rose, KeepsOthers, Stores, Writes}
 use Rattle.arc_base.specs.declared.outside.Loaded.TheVariants as loaded

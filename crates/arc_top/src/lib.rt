@@ -2,9 +2,11 @@
 #![tactic(auto)]
 
 mod answer;
+mod laws;
 mod report;
 mod top;
 
 pub use answer::{Answer, FileName};
+pub use laws::complete;
 pub use report::put_report;
 pub use top::nimarc;

@@ -4,7 +4,7 @@ ghost use Rattle.arc_base.specs.Outside.{Writes};
 ghost use Rattle.elf32.specs.Elf.{file_of};
 ghost use Rattle.rv32_isa.specs.Image.{image_of};
 ghost use Rattle.rv32_runner.specs.Streams.{feed, tally, streams};
-ghost use Rattle.command_words.specs.Command.{Command, command_of, IsCommand, IsNoCommand};
+ghost use Rattle.command_words.specs.Command.{Command as TheCommand, command_of, IsCommand, IsNoCommand, IsInRange};
 ghost use Rattle.source_compiler.specs.Source.{alone};
 ghost use Rattle.source_compiler.specs.Compile.{Compiled, IsProgram, source_most, OnTooLong};
 ghost use Rattle.arc_top.specs.Answer.{OnQuiet, OnUsage, OnCommand};
@@ -16,10 +16,10 @@ ghost use Rattle.arc_top.specs.Top.{IsFileOf, Checks, Builds, Runs, Executes, An
 use crate::answer::{Answer, FileName};
 use crate::report::put_report;
 use arc_base::{Bytes, FileFault, Files, Loaded, Sink, Source};
-use command_words::{Command, read_words};
+use command_words::{Command, one_command, read_words};
 use elf32::{ElfFile, ElfStop, read, write};
-use rv32_isa::Image;
-use rv32_runner::{RunEnd, load};
+use rv32_isa::{Image, machines};
+use rv32_runner::{RunEnd, load, runs};
 use source_compiler::{NotCompiled, SOURCE_MOST, compile};
 use std::alloc::Global;
 
@@ -119,8 +119,10 @@ fn run_image<I: Source, O: Sink, E: Sink>(
     err: &mut E,
 ) -> Answer
     ensures ran { RunsOrWants steps (image_of image.now) result
-        (streams (feed (I.left input.old) (I.ended input.old) (I.gave input.old) (I.faults input.old)) (tally (O.written out.old) (O.faults out.old)) (tally (E.written err.old) (E.faults err.old)))
-        (streams (feed (I.left input.new) (I.ended input.new) (I.gave input.new) (I.faults input.new)) (tally (O.written out.new) (O.faults out.new)) (tally (E.written err.new) (E.faults err.new))) }
+        (streams (feed (I.left input.old) (I.ended input.old) (I.faults input.old) (I.gave input.old))
+        (tally (O.written out.old) (O.faults out.old)) (tally (E.written err.old) (E.faults err.old)))
+        (streams (feed (I.left input.new) (I.ended input.new) (I.faults input.new) (I.gave input.new))
+        (tally (O.written out.new) (O.faults out.new)) (tally (E.written err.new) (E.faults err.new))) }
 {
     let mut runner = match load(alloc, image) {
         Ok(runner) => runner,
@@ -183,12 +185,18 @@ fn run<F: Files, I: Source, O: Sink, E: Sink>(
     requires heap_most { heap ≤ 16777216 }
     ensures runs { Runs main.now heap steps result
         (world (files_state (F.held files.old) (F.load_faults files.old) (F.store_faults files.old) (F.calls files.old))
-        (streams (feed (I.left input.old) (I.ended input.old) (I.gave input.old) (I.faults input.old)) (tally (O.written out.old) (O.faults out.old)) (tally (E.written err.old) (E.faults err.old))))
+        (streams (feed (I.left input.old) (I.ended input.old) (I.faults input.old) (I.gave input.old))
+        (tally (O.written out.old) (O.faults out.old)) (tally (E.written err.old) (E.faults err.old))))
         (world (files_state (F.held files.new) (F.load_faults files.new) (F.store_faults files.new) (F.calls files.new))
-        (streams (feed (I.left input.new) (I.ended input.new) (I.gave input.new) (I.faults input.new)) (tally (O.written out.new) (O.faults out.new)) (tally (E.written err.new) (E.faults err.new)))) }
+        (streams (feed (I.left input.new) (I.ended input.new) (I.faults input.new) (I.gave input.new))
+        (tally (O.written out.new) (O.faults out.new)) (tally (E.written err.new) (E.faults err.new)))) }
 {
     match compile_main(alloc, main, heap, files) {
-        Ok(file) => run_image(alloc, &file.image, steps, input, out, err),
+        Ok(file) => {
+            runs();
+            machines();
+            run_image(alloc, &file.image, steps, input, out, err)
+        }
         Err(answer) => answer,
     }
 }
@@ -205,9 +213,11 @@ fn exec<F: Files, I: Source, O: Sink, E: Sink>(
 ) -> Answer
     ensures executes { Executes name.now steps result
         (world (files_state (F.held files.old) (F.load_faults files.old) (F.store_faults files.old) (F.calls files.old))
-        (streams (feed (I.left input.old) (I.ended input.old) (I.gave input.old) (I.faults input.old)) (tally (O.written out.old) (O.faults out.old)) (tally (E.written err.old) (E.faults err.old))))
+        (streams (feed (I.left input.old) (I.ended input.old) (I.faults input.old) (I.gave input.old))
+        (tally (O.written out.old) (O.faults out.old)) (tally (E.written err.old) (E.faults err.old))))
         (world (files_state (F.held files.new) (F.load_faults files.new) (F.store_faults files.new) (F.calls files.new))
-        (streams (feed (I.left input.new) (I.ended input.new) (I.gave input.new) (I.faults input.new)) (tally (O.written out.new) (O.faults out.new)) (tally (E.written err.new) (E.faults err.new)))) }
+        (streams (feed (I.left input.new) (I.ended input.new) (I.faults input.new) (I.gave input.new))
+        (tally (O.written out.new) (O.faults out.new)) (tally (E.written err.new) (E.faults err.new)))) }
 {
     let bytes = match load_file(alloc, name, FILE_MOST, files) {
         Ok(bytes) => bytes,
@@ -229,11 +239,14 @@ fn carry_out<F: Files, I: Source, O: Sink, E: Sink>(
     out: &mut O,
     err: &mut E,
 ) -> Answer
+    requires range { IsInRange (command_of command.now) }
     ensures answered { Answered (command_of command.now) result
         (world (files_state (F.held files.old) (F.load_faults files.old) (F.store_faults files.old) (F.calls files.old))
-        (streams (feed (I.left input.old) (I.ended input.old) (I.gave input.old) (I.faults input.old)) (tally (O.written out.old) (O.faults out.old)) (tally (E.written err.old) (E.faults err.old))))
+        (streams (feed (I.left input.old) (I.ended input.old) (I.faults input.old) (I.gave input.old))
+        (tally (O.written out.old) (O.faults out.old)) (tally (E.written err.old) (E.faults err.old))))
         (world (files_state (F.held files.new) (F.load_faults files.new) (F.store_faults files.new) (F.calls files.new))
-        (streams (feed (I.left input.new) (I.ended input.new) (I.gave input.new) (I.faults input.new)) (tally (O.written out.new) (O.faults out.new)) (tally (E.written err.new) (E.faults err.new)))) }
+        (streams (feed (I.left input.new) (I.ended input.new) (I.faults input.new) (I.gave input.new))
+        (tally (O.written out.new) (O.faults out.new)) (tally (E.written err.new) (E.faults err.new)))) }
     ensures streams { WithoutStreams (command_of command.now) ((input.new ≡ input.old) × (out.new ≡ out.old)) }
     ensures command { OnUsage result ⊥ }
 {
@@ -279,13 +292,15 @@ pub fn nimarc<F: Files, I: Source, O: Sink, E: Sink>(
     err: &mut E,
 ) -> Answer
     // What each answer to a command says of the outside.
-    ensures carries { (command : Command) → IsCommand (map string_bytes words.now) command → Carries command result
+    ensures carries { (command : TheCommand) → IsCommand (map string_bytes words.now) command → Carries command result
         (world (files_state (F.held files.old) (F.load_faults files.old) (F.store_faults files.old) (F.calls files.old))
-        (streams (feed (I.left input.old) (I.ended input.old) (I.gave input.old) (I.faults input.old)) (tally (O.written out.old) (O.faults out.old)) (tally (E.written err.old) (E.faults err.old))))
+        (streams (feed (I.left input.old) (I.ended input.old) (I.faults input.old) (I.gave input.old))
+        (tally (O.written out.old) (O.faults out.old)) (tally (E.written err.old) (E.faults err.old))))
         (world (files_state (F.held files.new) (F.load_faults files.new) (F.store_faults files.new) (F.calls files.new))
-        (streams (feed (I.left input.new) (I.ended input.new) (I.gave input.new) (I.faults input.new)) (tally (O.written out.new) (O.faults out.new)) (tally (E.written err.new) (E.faults err.new)))) }
-    ensures command { OnCommand result ((command : Command) × IsCommand (map string_bytes words.now) command) }
-    ensures streams { (command : Command) → IsCommand (map string_bytes words.now) command
+        (streams (feed (I.left input.new) (I.ended input.new) (I.faults input.new) (I.gave input.new))
+        (tally (O.written out.new) (O.faults out.new)) (tally (E.written err.new) (E.faults err.new)))) }
+    ensures command { OnCommand result ((command : TheCommand) × IsCommand (map string_bytes words.now) command) }
+    ensures streams { (command : TheCommand) → IsCommand (map string_bytes words.now) command
         → WithoutStreams command ((input.new ≡ input.old) × (out.new ≡ out.old)) }
 
     // Words that are no command.
@@ -294,6 +309,7 @@ pub fn nimarc<F: Files, I: Source, O: Sink, E: Sink>(
     ensures said_usage { OnUsage result
         (Writes (E.written err.old) (E.written err.new) (E.faults err.old) (E.faults err.new) (report_of [] result)) }
 {
+    one_command();
     match read_words(words) {
         Some(command) => {
             let answer = carry_out(alloc, &command, files, input, out, err);
