@@ -1,4 +1,6 @@
 mod Pieces
-mod WordLists
-mod Verdicts
-mod CommandLemmas
+mod Further
+mod Meaning
+mod Commands
+mod Entries
+mod Remaining

@@ -27,20 +27,24 @@ module _ {A : Type 0} (now : A → List ℕ) where
       }
 
   -- one more piece was written
-  pub piece_written : (a b c : Option (List ℕ)) (xs : List A) (i : ℕ) (d : A) → i < length xs → Grown a b (joined (take i (map now xs))) → Grown b c (now (get_or xs i d)) → Grown a c (joined (take (i + 1) (map now xs)))
+  pub piece_written : (a b c : Option (List ℕ)) (xs : List A) (i : ℕ) (d : A) → i < length xs → Grown a b (joined (take i (map now xs)))
+      → Grown b c (now (get_or xs i d)) → Grown a c (joined (take (i + 1) (map now xs)))
   piece_written a b c xs i d lt p q =
-      let e : joined (take (i + 1) (map now xs)) ≡ joined (take i (map now xs)) ++ now (get_or xs i d) = ap (λ n. joined (take n (map now xs))) (add-one i) ∙ (cut xs i d lt).more in
+      let e : joined (take (i + 1) (map now xs)) ≡ joined (take i (map now xs)) ++ now (get_or xs i d) = ap (λ n. joined (take n (map now xs)))
+          (add-one i) ∙ (cut xs i d lt).more in
       subst (Grown a c) (sym e) (grown_more a b c (joined (take i (map now xs))) (now (get_or xs i d)) p q)
 
   -- a front of one more piece was written, and so a front of all
-  pub front_written : (a b c : Option (List ℕ)) (xs : List A) (i n : ℕ) (d : A) → i < length xs → Grown a b (joined (take i (map now xs))) → Grown b c (take n (now (get_or xs i d))) → (m : ℕ) × Grown a c (take m (joined (map now xs)))
+  pub front_written : (a b c : Option (List ℕ)) (xs : List A) (i n : ℕ) (d : A) → i < length xs → Grown a b (joined (take i (map now xs)))
+      → Grown b c (take n (now (get_or xs i d))) → (m : ℕ) × Grown a c (take m (joined (map now xs)))
   front_written a b c xs i n d lt p q =
       let k = cut xs i d lt in
       let front = joined (take i (map now xs)) in
       let here = now (get_or xs i d) in
       let m = min n (length here) in
       let e : take (length front + m) (joined (map now xs)) ≡ front ++ take n here =
-      ap (take (length front + m)) k.all ∙ take-append-add front (here ++ k.rest) m ∙ ap (λ l. front ++ l) (take-append-le m here k.rest (omega arith) ∙ take_min n here) in
+      ap (take (length front + m)) k.all ∙ take-append-add front (here ++ k.rest) m
+          ∙ ap (λ l. front ++ l) (take-append-le m here k.rest (omega arith) ∙ take_min n here) in
       (length front + m, subst (Grown a c) (sym e) (grown_more a b c front (take n here) p q))
 
 -- what was written whole was written up to its end
@@ -48,5 +52,6 @@ pub whole_written : (a b : Option (List ℕ)) (bytes : List ℕ) → Grown a b b
 whole_written a b bytes p = (length bytes, subst (Grown a b) (sym (take_all (length bytes) bytes (omega arith))) p)
 
 -- all pieces were written
-pub all_pieces : {A : Type 0} (now : A → List ℕ) (a b : Option (List ℕ)) (xs : List A) (i : ℕ) → length xs ≤ i → Grown a b (joined (take i (map now xs))) → Grown a b (joined (map now xs))
+pub all_pieces : {A : Type 0} (now : A → List ℕ) (a b : Option (List ℕ)) (xs : List A) (i : ℕ) → length xs ≤ i
+    → Grown a b (joined (take i (map now xs))) → Grown a b (joined (map now xs))
 all_pieces now a b xs i le p = subst (λ l. Grown a b (joined l)) (take_all i (map now xs) (omega (arith, length-map xs now))) p

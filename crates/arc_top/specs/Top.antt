@@ -1,126 +1,179 @@
--- What the top call promises.
-use Rattle.std.specs.Prelude.{◌≡◌, ◌≢◌, ◌<◌, ◌≤◌, ℕ, List, [], ◌∷◌, ◌++◌, length, ⊤, Option, Some, None}
-use Rattle.arc_base.specs.FileCalls.{FileCall, load, store}
-use Rattle.arc_base.specs.Outside.{Held, Rose, KeepsOthers}
+-- What the top call promises, command by command.
+--
+--     MAIN ──load──> source ──compile──> file ──write──> bytes ──store──> OUT
+--                       └── Reads: a program ─┐   └─ Elf ─┘
+--                                  meaning  ──┴── Agrees ── the machine on the file's image
+use Rattle.std.specs.Prelude.{◌≡◌, ℕ, List, [], ◌∷◌, ◌++◌, ⊤, ◌⊎◌, Some}
+use Rattle.arc_base.specs.FileCalls.{load, store}
+use Rattle.arc_base.specs.Outside.{Rose, KeepsOthers, Stores, Writes}
 use Rattle.arc_base.specs.declared.outside.Loaded.TheVariants as loaded
-use Rattle.arc_base.specs.declared.place.Place.{Place}
-use Rattle.arc_base.specs.declared.place.Code.{Code}
+use Rattle.elf32.specs.declared.file.ElfFault.{ElfFault}
 use Rattle.elf32.specs.Elf.{File, Elf}
+use Rattle.elf32.specs.Faults.{HasFault}
+use Rattle.nim_core.specs.Meaning.{meaning}
+use Rattle.rv32_runner.specs.Streams.{Streams, Tally}
+use Rattle.command_words.specs.Command.{Command, check, build, run, exec}
 use Rattle.source_compiler.specs.Source.{Module, alone}
 use Rattle.source_compiler.specs.Compile.{Compiled, IsProgram, IsNoProgram, source_most}
 use Rattle.arc_top.specs.declared.answer.Answer.{Answer}
-use Rattle.arc_top.specs.declared.answer.Answer.TheVariants.{Done, Usage, NoFile, TooLong, Refused, ReadFault, StoreFault, Memory}
-use Rattle.arc_top.specs.Answer.{OnDone, IfNoFile, IfTooLong, IfRefused, OnReadFault, OnStoreFault, OnKept, OnLoaded, OnStored, IsDoneOrMemory}
-use Rattle.arc_top.specs.Command.{Command, build, main_of}
+use Rattle.arc_top.specs.declared.answer.Answer.TheVariants.{Done, Ended, NoFile, TooLong, Refused, BadElf, MachineFault, StepsSpent, ReadFault, WriteFault, StoreFault, Memory}
+use Rattle.arc_top.specs.Answer.{OnQuiet}
+use Rattle.arc_top.specs.Loads.{FilesState, Kept, OnEntry, Gives, Lacks, IsLong, LoadFails}
+use Rattle.arc_top.specs.Report.{report_of}
+use Rattle.arc_top.specs.Runs.{HasRun, Does}
 
--- the bytes of heap that a program has
-abbrev pub heap_bytes : ℕ
-heap_bytes = 16777216
-
--- The bytes are one file, and it is what the modules are compiled into.
+-- THE HEADLINE. The bytes are one file, and that is the modules compiled: they are one program, and for every input and every
+-- number of steps the machine on the file's image agrees with the meaning of the program under the file's plan and heap.
 pub record IsFileOf (modules : List Module) (heap : ℕ) (bytes : List ℕ) : Type 0 where
   pub file : File
   pub elf : Elf bytes file
   pub elf_only : (other : File) → Elf bytes other → other ≡ file
   pub compiled : Compiled modules heap file
 
--- ---- what the files hold, where they tell it
+-- the longest file that is executed, in bytes
+abbrev pub file_most : ℕ
+file_most = 4194304
 
--- the entry OUT is the file of the entry MAIN, and every other entry is as before
-pub record Built (old new : Held) (main out : List ℕ) : Type 0 where
+-- ---- what stops a command that compiles
+
+-- the main module can't be loaded, or is no program
+abbrev pub Stops : (main : List ℕ) → Answer → (old new : FilesState) → Type 0
+Stops main (NoFile name) old new = (name ≡ main) × Lacks old new main
+Stops main (TooLong name) old new = (name ≡ main) × IsLong old new main source_most
+Stops main (Refused code at) old new = (source : List ℕ) × Gives old new main source_most source × IsNoProgram main source code at
+Stops main ReadFault old new = LoadFails old new
+Stops main _ old new = ⊥
+
+-- ---- `check MAIN`
+
+abbrev pub Checks : (main : List ℕ) → Answer → (old new : FilesState) → Type 0
+Checks main Done old new = (source : List ℕ) × Gives old new main source_most source × IsProgram main source
+Checks main Memory old new = Kept old new
+Checks main answer old new = Stops main answer old new
+
+-- ---- `build MAIN OUT`
+
+-- A load of MAIN gave bytes, and the bytes of their file were handed over, to be stored as OUT. No other call was made, and no
+-- other entry changed.
+pub record HandsOver (main out : List ℕ) (heap : ℕ) (old new : FilesState) : Type 0 where
   pub source : List ℕ
   pub bytes : List ℕ
-  pub main_is : old main ≡ Some source
-  pub within : length source ≤ source_most
-  pub out_is : new out ≡ Some bytes
-  pub is_file : IsFileOf (alone main source) heap_bytes bytes
-  pub others : (name : List ℕ) → name ≢ out → new name ≡ old name
+  pub calls : new.calls ≡ old.calls ++ load main loaded.Whole source ∷ store out bytes ∷ []
+  pub told : OnEntry old.held main (λ entry. entry ≡ Some source)
+  pub program : IsProgram main source
+  pub file : IsFileOf (alone main source) heap bytes
+  pub others : KeepsOthers old.held new.held out
+  pub loads : new.load_faults ≡ old.load_faults
 
--- a build did all of it
-abbrev pub Builds : Option Held → Option Held → (main out : List ℕ) → Type 0
-Builds None new main out = ⊤
-Builds (Some old) None main out = ⊥
-Builds (Some old) (Some new) main out = Built old new main out
+-- they were stored
+abbrev pub Stored : (out bytes : List ℕ) → (old new : FilesState) → Type 0
+Stored out bytes old new = Stores new.held out bytes × (new.store_faults ≡ old.store_faults)
 
--- there is no such file
-abbrev pub LacksFile : Option Held → List ℕ → Type 0
-LacksFile None name = ⊤
-LacksFile (Some held) name = held name ≡ None
+-- memory was wanting, before or in the store
+pub record WantsMemory (out : List ℕ) (old new : FilesState) : Type 0 where
+  pub others : KeepsOthers old.held new.held out
+  pub loads : new.load_faults ≡ old.load_faults
+  pub stores : new.store_faults ≡ old.store_faults
 
--- the file has more bytes than a source may have
-abbrev pub HasLongFile : Option Held → List ℕ → Type 0
-HasLongFile None name = ⊤
-HasLongFile (Some held) name = (bytes : List ℕ) × (held name ≡ Some bytes) × (source_most < length bytes)
+abbrev pub Builds : (main out : List ℕ) (heap : ℕ) → Answer → (old new : FilesState) → Type 0
+Builds main out heap Done old new = (over : HandsOver main out heap old new) × Stored out over.bytes old new
+Builds main out heap StoreFault old new = HandsOver main out heap old new × Rose old.store_faults new.store_faults
+Builds main out heap Memory old new = WantsMemory out old new
+Builds main out heap answer old new = Stops main answer old new
 
--- the source in the file is refused with this code at this place
-abbrev pub HasRefused : Option Held → List ℕ → Code → Place → Type 0
-HasRefused None name code at = ⊤
-HasRefused (Some held) name code at = (source : List ℕ) × (held name ≡ Some source) × IsNoProgram name source code at
+-- ---- what the outside tells
 
--- the file has the bytes of a program
-abbrev pub HasProgram : Option Held → List ℕ → Type 0
-HasProgram None name = ⊤
-HasProgram (Some held) name = (source : List ℕ) × (held name ≡ Some source) × IsProgram name source
+pub record World : Type 0 where
+  pub files : FilesState
+  pub streams : Streams
 
--- these are the bytes of the file
-abbrev pub HasSource : Option Held → List ℕ → List ℕ → Type 0
-HasSource None name source = ⊤
-HasSource (Some held) name source = held name ≡ Some source
+abbrev pub world : FilesState → Streams → World
+world files streams = record { files = files; streams = streams }
 
--- it is told that the file has the bytes of a program
-abbrev pub TellsProgram : Option Held → List ℕ → Type 0
-TellsProgram None name = ⊥
-TellsProgram (Some held) name = HasProgram (Some held) name
+-- a fact of files, where the streams are as they were
+abbrev pub OfFiles : (FilesState → FilesState → Type 0) → (old new : World) → Type 0
+OfFiles P old new = P old.files new.files × (new.streams ≡ old.streams)
 
--- ---- what the files were asked, whether they tell what they hold or not
+-- ---- `run MAIN`
 
--- a load of MAIN gave these bytes, and no other call was made
-abbrev pub Gave : (before after : List FileCall) → (main source : List ℕ) → Type 0
-Gave before after main source = after ≡ before ++ load main loaded.Whole source ∷ []
-
--- A load of MAIN gave bytes, and bytes were handed over, to be stored as OUT. These are the file of those. No other call was
--- made.
-pub record HandsOver (before after : List FileCall) (main out : List ℕ) : Type 0 where
+-- A load of MAIN gave a source, and the machine of its file has run: what it wrote is what the source means.
+pub record RunsProgram (main : List ℕ) (heap steps : ℕ) (answer : Answer) (old new : World) : Type 0 where
   pub source : List ℕ
+  pub gives : Gives old.files new.files main source_most source
+  pub file : File
+  pub compiled : Compiled (alone main source) heap file
+  pub ran : HasRun steps file.image answer old.streams new.streams
+  pub means : Does (meaning compiled.program file.plan heap) answer old.streams new.streams
+
+-- (the machine of a compiled file has no fault)
+abbrev pub Runs : (main : List ℕ) (heap steps : ℕ) → Answer → (old new : World) → Type 0
+Runs main heap steps (Ended status) old new = RunsProgram main heap steps (Ended status) old new
+Runs main heap steps (StepsSpent n) old new = RunsProgram main heap steps (StepsSpent n) old new
+Runs main heap steps (WriteFault stream) old new = RunsProgram main heap steps (WriteFault stream) old new
+Runs main heap steps ReadFault old new = OfFiles LoadFails old new ⊎ RunsProgram main heap steps ReadFault old new
+Runs main heap steps Memory old new = OfFiles Kept old new
+Runs main heap steps answer old new = OfFiles (Stops main answer) old new
+
+-- ---- `exec ELF`
+
+-- a load of the file gave the bytes of one, and the machine of that has run
+pub record RunsFile (name : List ℕ) (steps : ℕ) (answer : Answer) (old new : World) : Type 0 where
   pub bytes : List ℕ
-  pub calls : after ≡ before ++ load main loaded.Whole source ∷ store out bytes ∷ []
-  pub within : length source ≤ source_most
-  pub is_file : IsFileOf (alone main source) heap_bytes bytes
+  pub gives : Gives old.files new.files name file_most bytes
+  pub file : File
+  pub elf : Elf bytes file
+  pub ran : HasRun steps file.image answer old.streams new.streams
 
--- the calls that led to the answer
-abbrev pub Asks : Command → Answer → (before after : List FileCall) → Type 0
-Asks (build main out) Done before after = HandsOver before after main out
-Asks (build main out) StoreFault before after = HandsOver before after main out
-Asks (build main out) (Refused code at) before after = (source : List ℕ) × Gave before after main source × IsNoProgram main source code at
-Asks (build main out) (NoFile name) before after = (rest : List ℕ) × (after ≡ before ++ load main loaded.Absent rest ∷ [])
-Asks (build main out) (TooLong name) before after = (rest : List ℕ) × (after ≡ before ++ load main loaded.TooLong rest ∷ [])
-Asks (build main out) ReadFault before after = after ≡ before
-Asks (build main out) Usage before after = ⊥
-Asks (build main out) Memory before after = ⊤
+-- a load gave bytes that are no file, since this part is not as in one
+abbrev pub IsBad : (name : List ℕ) → ElfFault → (old new : FilesState) → Type 0
+IsBad name fault old new = (bytes : List ℕ) × Gives old new name file_most bytes × HasFault bytes fault
 
--- ---- answers
+abbrev pub Executes : (name : List ℕ) (steps : ℕ) → Answer → (old new : World) → Type 0
+Executes name steps (Ended status) old new = RunsFile name steps (Ended status) old new
+Executes name steps (MachineFault kind pc word) old new = RunsFile name steps (MachineFault kind pc word) old new
+Executes name steps (StepsSpent n) old new = RunsFile name steps (StepsSpent n) old new
+Executes name steps (WriteFault stream) old new = RunsFile name steps (WriteFault stream) old new
+Executes name steps ReadFault old new = OfFiles LoadFails old new ⊎ RunsFile name steps ReadFault old new
+Executes name steps (NoFile lacking) old new = (lacking ≡ name) × OfFiles (λ before after. Lacks before after name) old new
+Executes name steps (TooLong long) old new = (long ≡ name) × OfFiles (λ before after. IsLong before after name file_most) old new
+Executes name steps (BadElf fault) old new = OfFiles (IsBad name fault) old new
+Executes name steps Memory old new = OfFiles Kept old new
+Executes name steps _ old new = ⊥
 
--- all that the command asks for was done
-abbrev pub Does : Command → Option Held → Option Held → Type 0
-Does (build main out) old new = Builds old new main out
+-- ---- commands
 
--- no entry was changed but the one that the command names
-abbrev pub ChangesNoOther : Command → Option Held → Option Held → Type 0
-ChangesNoOther (build main out) old new = KeepsOthers old new out
+-- the names of the modules that the command compiles, by their numbers
+abbrev pub modules_of : Command → List (List ℕ)
+modules_of (check main) = main ∷ []
+modules_of (build main out heap) = main ∷ []
+modules_of (run main heap steps) = main ∷ []
+modules_of (exec name steps) = []
 
--- What an answer to a command says: of what the files held and hold, of their counts of failed loads and stores, and of the
--- calls that they got.
-pub record Answered (command : Command) (answer : Answer) (old new : Option Held) (loads_before loads_after stores_before stores_after : ℕ) (before after : List FileCall) : Type 0 where
-  pub done : OnDone answer (Does command old new)
-  pub no_file : IfNoFile answer (λ name. (name ≡ main_of command) × LacksFile old name)
-  pub too_long : IfTooLong answer (λ name. (name ≡ main_of command) × HasLongFile old name)
-  pub refused : IfRefused answer (λ code at. HasRefused old (main_of command) code at)
-  pub read_fault : OnReadFault answer (Rose loads_before loads_after)
-  pub store_fault : OnStoreFault answer (Rose stores_before stores_after × HasProgram old (main_of command))
-  pub asked : Asks command answer before after
-  pub kept : OnKept answer (new ≡ old)
-  pub others : ChangesNoOther command old new
-  pub loads : OnLoaded answer (loads_after ≡ loads_before)
-  pub stores : OnStored answer (stores_after ≡ stores_before)
-  -- a program is built where no file fails and memory is found
-  pub complete : TellsProgram old (main_of command) → (Rose loads_before loads_after → ⊥) → (Rose stores_before stores_after → ⊥) → IsDoneOrMemory answer
+-- what an answer to a command says of the outside before the command, and after it but for the line of the answer
+abbrev pub Answered : Command → Answer → (old new : World) → Type 0
+Answered (check main) answer old new = OfFiles (Checks main answer) old new
+Answered (build main out heap) answer old new = OfFiles (Builds main out heap answer) old new
+Answered (run main heap steps) answer old new = Runs main heap steps answer old new
+Answered (exec name steps) answer old new = Executes name steps answer old new
+
+-- the outside, with standard error as it was before the line
+abbrev pub before_line : World → Tally → World
+before_line w err = world w.files (record { input = w.streams.input; out = w.streams.out; err = err })
+
+-- standard error got the line of the answer, or a front of it and its count of faults rose; an answer without a line leaves it
+abbrev pub Reports : (names : List (List ℕ)) → Answer → (old new : Tally) → Type 0
+Reports names answer old new = Writes old.written new.written old.faults new.faults (report_of names answer)
+
+-- the command was answered, and then the answer was said
+pub record Carries (command : Command) (answer : Answer) (old new : World) : Type 0 where
+  pub err : Tally
+  pub answered : Answered command answer old (before_line new err)
+  pub said : Reports (modules_of command) answer err new.streams.err
+  pub quiet : OnQuiet answer (new.streams.err ≡ err)
+
+-- `check` and `build` leave the input and standard output alone
+abbrev pub WithoutStreams : Command → Type 0 → Type 0
+WithoutStreams (check main) P = P
+WithoutStreams (build main out heap) P = P
+WithoutStreams (run main heap steps) P = ⊤
+WithoutStreams (exec name steps) P = ⊤

@@ -2,7 +2,9 @@
 ghost use Rattle.std.specs.Prelude.{◌≡◌, IfOk};
 ghost use Rattle.arc_top.specs.Answer.{status_of};
 
-use arc_base::{Bytes, Code, Memory, Place};
+use arc_base::{Bytes, Code, Memory, Place, Stream};
+use elf32::ElfFault;
+use rv32_isa::FaultKind;
 use std::alloc::Global;
 use std::marker::Model;
 
@@ -42,16 +44,27 @@ impl FileName {
 pub enum Answer {
     /// The command did all of it.
     Done,
+    /// The program that the command ran exited with this status.
+    Ended(u8),
     /// The words are no command.
     Usage,
     /// There is no file of that name.
     NoFile(FileName),
-    /// The file of that name is longer than a source may be.
+    /// The file of that name is longer than a source may be, or a file that is executed.
     TooLong(FileName),
     /// The source is refused, with a code and a place in the main module.
     Refused { code: Code, at: Place },
-    /// A file could not be read.
+    /// The file isn't one that `build` writes: the first part that differs.
+    BadElf(ElfFault),
+    /// The machine of the file can't go on. `pc` is the address of the instruction, and `word` its word,
+    /// or 0 where it could not be fetched.
+    MachineFault { kind: FaultKind, pc: u32, word: u32 },
+    /// So many instructions ran, as many as were asked for, and the program hasn't ended.
+    StepsSpent(u32),
+    /// A file or the input could not be read.
     ReadFault,
+    /// A stream could not be written.
+    WriteFault(Stream),
     /// A file could not be stored.
     StoreFault,
     /// No memory was found.
@@ -59,17 +72,21 @@ pub enum Answer {
 }
 
 impl Answer {
-    /// The status with which the command ends: 0 where all was done, and else one of BSD's `sysexits`.
+    /// The status with which the command ends: 0 where all was done, the program's own where it ended, 124
+    /// where its steps are spent, and else one of BSD's `sysexits`.
     pub fn status(&self) -> u8
         ensures { result ≡ status_of self.now }
     {
         match self {
             Answer::Done => 0,
+            Answer::Ended(status) => *status,
             Answer::Usage => 64,
-            Answer::Refused { .. } => 65,
+            Answer::Refused { .. } | Answer::BadElf(_) => 65,
             Answer::NoFile(_) | Answer::TooLong(_) => 66,
             Answer::Memory => 69,
-            Answer::ReadFault | Answer::StoreFault => 74,
+            Answer::MachineFault { .. } => 70,
+            Answer::ReadFault | Answer::WriteFault(_) | Answer::StoreFault => 74,
+            Answer::StepsSpent(_) => 124,
         }
     }
 }

@@ -1,14 +1,12 @@
-//! The compiler: from the words of a command to what is stored and said.
+//! The top call: from the words of a command to what is stored, run and said.
 #![tactic(auto)]
 
 mod answer;
-mod command;
+mod laws;
 mod report;
 mod top;
 
 pub use answer::{Answer, FileName};
+pub use laws::complete;
 pub use report::put_report;
 pub use top::nimarc;
-
-#[cfg(test)]
-mod tests;

@@ -1,44 +1,50 @@
 // The top call.
-ghost use Rattle.std.specs.Prelude.{◌≡◌, ◌≤◌, [], List, ℕ, OnOk, IfOk, IfErr, length, map, string_bytes};
-ghost use Rattle.arc_base.specs.Outside.{Rose, KeepsOthers, Writes};
-ghost use Rattle.arc_top.specs.Answer.{OnDone, OnUsage, OnCommand, IfNoFile, IfTooLong, IfRefused, OnReadFault, OnStoreFault, OnKept, OnLoaded, OnStored, IsLoadAnswer, IsRefusal};
-ghost use Rattle.source_compiler.specs.Compile.{OnTooLong, source_most};
-ghost use Rattle.arc_top.specs.Command.{Command, build, modules_of, IsCommand, IsNoCommand};
+ghost use Rattle.std.specs.Prelude.{◌≡◌, ◌≤◌, [], ◌∷◌, List, ℕ, IfOk, IfErr, map, string_bytes};
+ghost use Rattle.arc_base.specs.Outside.{Writes};
+ghost use Rattle.elf32.specs.Elf.{file_of};
+ghost use Rattle.rv32_isa.specs.Image.{image_of};
+ghost use Rattle.rv32_runner.specs.Streams.{feed, tally, streams};
+ghost use Rattle.command_words.specs.Command.{Command as TheCommand, command_of, IsCommand, IsNoCommand, IsInRange};
+ghost use Rattle.source_compiler.specs.Source.{alone};
+ghost use Rattle.source_compiler.specs.Compile.{Compiled, IsProgram, source_most, OnTooLong};
+ghost use Rattle.arc_top.specs.Answer.{OnQuiet, OnUsage, OnCommand};
+ghost use Rattle.arc_top.specs.Loads.{Kept, Gives, files_state};
 ghost use Rattle.arc_top.specs.Report.{report_of};
-ghost use Rattle.arc_top.specs.Top.{Builds, LacksFile, HasLongFile, HasRefused, HasProgram, HasSource, Gave, Asks, Answered};
+ghost use Rattle.arc_top.specs.Stages.{StopsLoad, StopsCompiling, IsRefusal, RunsOrWants};
+ghost use Rattle.arc_top.specs.Top.{IsFileOf, Checks, Builds, Runs, Executes, Answered, Carries, modules_of, WithoutStreams, world, file_most};
 
 use crate::answer::{Answer, FileName};
-use crate::command::read_words;
 use crate::report::put_report;
-use arc_base::{Bytes, FileFault, Files, Loaded, Memory, Sink, Source};
-use elf32::write;
+use arc_base::{Bytes, FileFault, Files, Loaded, Sink, Source};
+use command_words::{Command, one_command, read_words};
+use elf32::{ElfFile, ElfStop, read, write};
+use rv32_isa::{Image, machines};
+use rv32_runner::{RunEnd, load, runs};
 use source_compiler::{NotCompiled, SOURCE_MOST, compile};
 use std::alloc::Global;
 
-/// The bytes of heap that a compiled program has.
+/// The longest file that is executed, in bytes.
+const FILE_MOST: u32 = 4_194_304;
+
+/// The heap of a program that is only checked, in bytes.
 const HEAP: u32 = 16_777_216;
 
-// Loads a source, or says why not.
-fn load_source<F: Files>(alloc: Global, main: &str, files: &mut F) -> Result<Bytes, Answer>
-    ensures whole { IfOk result (λ source. HasSource (F.held files.old) main.now source) }
-    ensures within { IfOk result (λ source. length source ≤ source_most) }
-    ensures held { F.held files.new ≡ F.held files.old }
-    ensures stores { F.store_faults files.new ≡ F.store_faults files.old }
-    ensures loads_ok { OnOk result (F.load_faults files.new ≡ F.load_faults files.old) }
-    ensures loads { IfErr result (λ a. OnLoaded a (F.load_faults files.new ≡ F.load_faults files.old)) }
-    ensures no_file { IfErr result (λ a. IfNoFile a (λ name. (name ≡ main.now) × LacksFile (F.held files.old) name)) }
-    ensures too_long { IfErr result (λ a. IfTooLong a (λ name. (name ≡ main.now) × HasLongFile (F.held files.old) name)) }
-    ensures read_fault { IfErr result (λ a. OnReadFault a (Rose (F.load_faults files.old) (F.load_faults files.new))) }
-    ensures others { IfErr result (λ a. IsLoadAnswer a) }
-    ensures gave { IfOk result (λ source. Gave (F.calls files.old) (F.calls files.new) main.now source) }
-    ensures asked { IfErr result
-        (λ a. (out : List ℕ) → Asks (build main.now out) a (F.calls files.old) (F.calls files.new)) }
+// ---- stages
+
+// Loads a file of at most so many bytes, or says why not.
+fn load_file<F: Files>(alloc: Global, name: &str, most: u32, files: &mut F) -> Result<Bytes, Answer>
+    ensures gives { IfOk result (λ bytes. Gives
+        (files_state (F.held files.old) (F.load_faults files.old) (F.store_faults files.old) (F.calls files.old))
+        (files_state (F.held files.new) (F.load_faults files.new) (F.store_faults files.new) (F.calls files.new)) name.now most bytes) }
+    ensures stops { IfErr result (λ answer. StopsLoad name.now most answer
+        (files_state (F.held files.old) (F.load_faults files.old) (F.store_faults files.old) (F.calls files.old))
+        (files_state (F.held files.new) (F.load_faults files.new) (F.store_faults files.new) (F.calls files.new))) }
 {
-    let mut source = Bytes::new(alloc);
-    match files.load(alloc, main, SOURCE_MOST as u32, &mut source) {
-        Ok(Loaded::Whole) => Ok(source),
-        Ok(Loaded::Absent) => Err(Answer::NoFile(FileName::new(alloc, main)?)),
-        Ok(Loaded::TooLong) => Err(Answer::TooLong(FileName::new(alloc, main)?)),
+    let mut bytes = Bytes::new(alloc);
+    match files.load(alloc, name, most, &mut bytes) {
+        Ok(Loaded::Whole) => Ok(bytes),
+        Ok(Loaded::Absent) => Err(Answer::NoFile(FileName::new(alloc, name)?)),
+        Ok(Loaded::TooLong) => Err(Answer::TooLong(FileName::new(alloc, name)?)),
         Err(FileFault::Failed) => Err(Answer::ReadFault),
         Err(FileFault::Memory) => Err(Answer::Memory),
     }
@@ -56,33 +62,106 @@ fn refuse(why: NotCompiled) -> Answer
     }
 }
 
-// Loads a source, compiles it and stores its file.
-fn build<F: Files>(alloc: Global, main: &str, out: &str, files: &mut F) -> Answer
-    ensures done { OnDone result (Builds (F.held files.old) (F.held files.new) main.now out.now) }
-    ensures no_usage { OnUsage result ⊥ }
-    ensures no_file { IfNoFile result (λ name. (name ≡ main.now) × LacksFile (F.held files.old) name) }
-    ensures too_long { IfTooLong result (λ name. (name ≡ main.now) × HasLongFile (F.held files.old) name) }
-    ensures refused { IfRefused result (λ code at. HasRefused (F.held files.old) main.now code at) }
-    ensures read_fault { OnReadFault result (Rose (F.load_faults files.old) (F.load_faults files.new)) }
-    ensures store_fault { OnStoreFault result
-        (Rose (F.store_faults files.old) (F.store_faults files.new) × HasProgram (F.held files.old) main.now) }
-    ensures asked { Asks (build main.now out.now) result (F.calls files.old) (F.calls files.new) }
-    ensures kept { OnKept result (F.held files.new ≡ F.held files.old) }
-    ensures others { KeepsOthers (F.held files.old) (F.held files.new) out.now }
-    ensures loads { OnLoaded result (F.load_faults files.new ≡ F.load_faults files.old) }
-    ensures stores { OnStored result (F.store_faults files.new ≡ F.store_faults files.old) }
+// Loads the main module and compiles it.
+fn compile_main<F: Files>(
+    alloc: Global,
+    main: &str,
+    heap: u32,
+    files: &mut F,
+) -> Result<ElfFile, Answer>
+    requires heap_least { 4096 ≤ heap }
+    requires heap_most { heap ≤ 16777216 }
+    ensures compiled { IfOk result (λ file. (source : List ℕ)
+        × Gives
+        (files_state (F.held files.old) (F.load_faults files.old) (F.store_faults files.old) (F.calls files.old))
+        (files_state (F.held files.new) (F.load_faults files.new) (F.store_faults files.new) (F.calls files.new)) main.now source_most source
+        × IsProgram main.now source × Compiled (alone main.now source) heap (file_of file)) }
+    ensures stops { IfErr result (λ answer. StopsCompiling main.now answer
+        (files_state (F.held files.old) (F.load_faults files.old) (F.store_faults files.old) (F.calls files.old))
+        (files_state (F.held files.new) (F.load_faults files.new) (F.store_faults files.new) (F.calls files.new))) }
 {
-    let source = match load_source(alloc, main, files) {
-        Ok(source) => source,
-        Err(answer) => return answer,
+    let source = load_file(alloc, main, SOURCE_MOST as u32, files)?;
+    match compile(alloc, source.as_slice(), heap) {
+        Ok(file) => Ok(file),
+        Err(why) => Err(refuse(why)),
+    }
+}
+
+// Loads the main module and gives the bytes of its file.
+fn file_bytes<F: Files>(
+    alloc: Global,
+    main: &str,
+    heap: u32,
+    files: &mut F,
+) -> Result<Bytes, Answer>
+    requires heap_least { 4096 ≤ heap }
+    requires heap_most { heap ≤ 16777216 }
+    ensures compiled { IfOk result (λ bytes. (source : List ℕ)
+        × Gives
+        (files_state (F.held files.old) (F.load_faults files.old) (F.store_faults files.old) (F.calls files.old))
+        (files_state (F.held files.new) (F.load_faults files.new) (F.store_faults files.new) (F.calls files.new)) main.now source_most source
+        × IsProgram main.now source × IsFileOf (alone main.now source) heap bytes) }
+    ensures stops { IfErr result (λ answer. StopsCompiling main.now answer
+        (files_state (F.held files.old) (F.load_faults files.old) (F.store_faults files.old) (F.calls files.old))
+        (files_state (F.held files.new) (F.load_faults files.new) (F.store_faults files.new) (F.calls files.new))) }
+{
+    let file = compile_main(alloc, main, heap, files)?;
+    Ok(write(alloc, &file)?)
+}
+
+// Runs the machine of an image, and answers as it ends.
+fn run_image<I: Source, O: Sink, E: Sink>(
+    alloc: Global,
+    image: &Image,
+    steps: u32,
+    input: &mut I,
+    out: &mut O,
+    err: &mut E,
+) -> Answer
+    ensures ran { RunsOrWants steps (image_of image.now) result
+        (streams (feed (I.left input.old) (I.ended input.old) (I.faults input.old) (I.gave input.old))
+        (tally (O.written out.old) (O.faults out.old)) (tally (E.written err.old) (E.faults err.old)))
+        (streams (feed (I.left input.new) (I.ended input.new) (I.faults input.new) (I.gave input.new))
+        (tally (O.written out.new) (O.faults out.new)) (tally (E.written err.new) (E.faults err.new))) }
+{
+    let mut runner = match load(alloc, image) {
+        Ok(runner) => runner,
+        Err(_) => return Answer::Memory,
     };
-    let file = match compile(alloc, source.as_slice(), HEAP) {
-        Ok(file) => file,
-        Err(why) => return refuse(why),
-    };
-    let bytes = match write(alloc, &file) {
+    match runner.run(u64::from(steps), input, out, err) {
+        RunEnd::Exited(status) => Answer::Ended(status),
+        RunEnd::Spent => Answer::StepsSpent(steps),
+        RunEnd::Fault { kind, pc, word } => Answer::MachineFault { kind, pc, word },
+        RunEnd::ReadFault => Answer::ReadFault,
+        RunEnd::WriteFault(stream) => Answer::WriteFault(stream),
+    }
+}
+
+// ---- commands
+
+// Says whether a main module is a program.
+fn check<F: Files>(alloc: Global, main: &str, files: &mut F) -> Answer
+    ensures checks { Checks main.now result
+        (files_state (F.held files.old) (F.load_faults files.old) (F.store_faults files.old) (F.calls files.old))
+        (files_state (F.held files.new) (F.load_faults files.new) (F.store_faults files.new) (F.calls files.new)) }
+{
+    match compile_main(alloc, main, HEAP, files) {
+        Ok(_) => Answer::Done,
+        Err(answer) => answer,
+    }
+}
+
+// Compiles a main module and stores its file.
+fn build<F: Files>(alloc: Global, main: &str, out: &str, heap: u32, files: &mut F) -> Answer
+    requires heap_least { 4096 ≤ heap }
+    requires heap_most { heap ≤ 16777216 }
+    ensures builds { Builds main.now out.now heap result
+        (files_state (F.held files.old) (F.load_faults files.old) (F.store_faults files.old) (F.calls files.old))
+        (files_state (F.held files.new) (F.load_faults files.new) (F.store_faults files.new) (F.calls files.new)) }
+{
+    let bytes = match file_bytes(alloc, main, heap, files) {
         Ok(bytes) => bytes,
-        Err(Memory) => return Answer::Memory,
+        Err(answer) => return answer,
     };
     match files.store(alloc, out, bytes.as_slice()) {
         Ok(()) => Answer::Done,
@@ -91,12 +170,119 @@ fn build<F: Files>(alloc: Global, main: &str, out: &str, files: &mut F) -> Answe
     }
 }
 
-/// Does what the words say: `build MAIN OUT` compiles the source in the file MAIN and stores the ELF
-/// file under the name OUT.
+// Compiles a main module and runs the machine of its image.
+fn run<F: Files, I: Source, O: Sink, E: Sink>(
+    alloc: Global,
+    main: &str,
+    heap: u32,
+    steps: u32,
+    files: &mut F,
+    input: &mut I,
+    out: &mut O,
+    err: &mut E,
+) -> Answer
+    requires heap_least { 4096 ≤ heap }
+    requires heap_most { heap ≤ 16777216 }
+    ensures runs { Runs main.now heap steps result
+        (world (files_state (F.held files.old) (F.load_faults files.old) (F.store_faults files.old) (F.calls files.old))
+        (streams (feed (I.left input.old) (I.ended input.old) (I.faults input.old) (I.gave input.old))
+        (tally (O.written out.old) (O.faults out.old)) (tally (E.written err.old) (E.faults err.old))))
+        (world (files_state (F.held files.new) (F.load_faults files.new) (F.store_faults files.new) (F.calls files.new))
+        (streams (feed (I.left input.new) (I.ended input.new) (I.faults input.new) (I.gave input.new))
+        (tally (O.written out.new) (O.faults out.new)) (tally (E.written err.new) (E.faults err.new)))) }
+{
+    match compile_main(alloc, main, heap, files) {
+        Ok(file) => {
+            runs();
+            machines();
+            run_image(alloc, &file.image, steps, input, out, err)
+        }
+        Err(answer) => answer,
+    }
+}
+
+// Reads a file and runs the machine of its image.
+fn exec<F: Files, I: Source, O: Sink, E: Sink>(
+    alloc: Global,
+    name: &str,
+    steps: u32,
+    files: &mut F,
+    input: &mut I,
+    out: &mut O,
+    err: &mut E,
+) -> Answer
+    ensures executes { Executes name.now steps result
+        (world (files_state (F.held files.old) (F.load_faults files.old) (F.store_faults files.old) (F.calls files.old))
+        (streams (feed (I.left input.old) (I.ended input.old) (I.faults input.old) (I.gave input.old))
+        (tally (O.written out.old) (O.faults out.old)) (tally (E.written err.old) (E.faults err.old))))
+        (world (files_state (F.held files.new) (F.load_faults files.new) (F.store_faults files.new) (F.calls files.new))
+        (streams (feed (I.left input.new) (I.ended input.new) (I.faults input.new) (I.gave input.new))
+        (tally (O.written out.new) (O.faults out.new)) (tally (E.written err.new) (E.faults err.new)))) }
+{
+    let bytes = match load_file(alloc, name, FILE_MOST, files) {
+        Ok(bytes) => bytes,
+        Err(answer) => return answer,
+    };
+    match read(alloc, bytes.as_slice()) {
+        Ok(file) => run_image(alloc, &file.image, steps, input, out, err),
+        Err(ElfStop::Bad(fault)) => Answer::BadElf(fault),
+        Err(ElfStop::Memory) => Answer::Memory,
+    }
+}
+
+// Does what a command says, but for the line of its answer.
+fn carry_out<F: Files, I: Source, O: Sink, E: Sink>(
+    alloc: Global,
+    command: &Command<'_>,
+    files: &mut F,
+    input: &mut I,
+    out: &mut O,
+    err: &mut E,
+) -> Answer
+    requires range { IsInRange (command_of command.now) }
+    ensures answered { Answered (command_of command.now) result
+        (world (files_state (F.held files.old) (F.load_faults files.old) (F.store_faults files.old) (F.calls files.old))
+        (streams (feed (I.left input.old) (I.ended input.old) (I.faults input.old) (I.gave input.old))
+        (tally (O.written out.old) (O.faults out.old)) (tally (E.written err.old) (E.faults err.old))))
+        (world (files_state (F.held files.new) (F.load_faults files.new) (F.store_faults files.new) (F.calls files.new))
+        (streams (feed (I.left input.new) (I.ended input.new) (I.faults input.new) (I.gave input.new))
+        (tally (O.written out.new) (O.faults out.new)) (tally (E.written err.new) (E.faults err.new)))) }
+    ensures streams { WithoutStreams (command_of command.now) ((input.new ≡ input.old) × (out.new ≡ out.old)) }
+    ensures command { OnUsage result ⊥ }
+{
+    match command {
+        Command::Check { main } => check(alloc, main, files),
+        Command::Build { main, out: to, heap } => build(alloc, main, to, *heap, files),
+        Command::Run { main, heap, steps } => run(alloc, main, *heap, *steps, files, input, out, err),
+        Command::Exec { file, steps } => exec(alloc, file, *steps, files, input, out, err),
+    }
+}
+
+// Says the answer to a command.
+fn say<E: Sink>(err: &mut E, command: &Command<'_>, answer: &Answer)
+    ensures said { Writes (E.written err.old) (E.written err.new) (E.faults err.old) (E.faults err.new)
+        (report_of (modules_of (command_of command.now)) answer.now) }
+    ensures quiet { OnQuiet answer.now (err.new ≡ err.old) }
+{
+    match command {
+        Command::Check { main } | Command::Build { main, .. } | Command::Run { main, .. } => {
+            put_report(err, &[main], answer)
+        }
+        Command::Exec { .. } => put_report(err, &[], answer),
+    }
+}
+
+/// Does what the words say.
 ///
-/// `words` are those after the program's name. Each answer but `Done` is said on `err` in one line, or
-/// in a front of it where `err` fails; the answer stays. Only `build` changes `files`, and there only
-/// the entry OUT; `input` and `out` stay as they were.
+/// `check MAIN` says whether the source in the file MAIN is a program; `build MAIN OUT` compiles it and
+/// stores the ELF file under the name OUT; `run MAIN` compiles it and runs the machine on it, on `input`,
+/// `out` and `err`; `exec ELF` does that with a file that `build` stored. `--heap=N` gives the bytes of
+/// heap of what `build` and `run` compile, `--steps=N` the most instructions that `run` and `exec` carry
+/// out.
+///
+/// `words` are those after the program's name. An answer but `Done`, `Ended` and `WriteFault` is said on
+/// `err` in one line, or in a front of it where `err` fails; the answer stays. Only `build` changes
+/// `files`, and there only the entry OUT; only `run` and `exec` use `input` and `out`.
 pub fn nimarc<F: Files, I: Source, O: Sink, E: Sink>(
     alloc: Global,
     words: &[String],
@@ -105,33 +291,29 @@ pub fn nimarc<F: Files, I: Source, O: Sink, E: Sink>(
     out: &mut O,
     err: &mut E,
 ) -> Answer
-    // What each answer to a command says of the files.
-    ensures answered { (command : Command) → IsCommand (map string_bytes words.now) command
-        → Answered command result (F.held files.old) (F.held files.new)
-        (F.load_faults files.old) (F.load_faults files.new)
-        (F.store_faults files.old) (F.store_faults files.new) (F.calls files.old) (F.calls files.new) }
-    ensures command { OnCommand result ((command : Command) × IsCommand (map string_bytes words.now) command) }
+    // What each answer to a command says of the outside.
+    ensures carries { (command : TheCommand) → IsCommand (map string_bytes words.now) command → Carries command result
+        (world (files_state (F.held files.old) (F.load_faults files.old) (F.store_faults files.old) (F.calls files.old))
+        (streams (feed (I.left input.old) (I.ended input.old) (I.faults input.old) (I.gave input.old))
+        (tally (O.written out.old) (O.faults out.old)) (tally (E.written err.old) (E.faults err.old))))
+        (world (files_state (F.held files.new) (F.load_faults files.new) (F.store_faults files.new) (F.calls files.new))
+        (streams (feed (I.left input.new) (I.ended input.new) (I.faults input.new) (I.gave input.new))
+        (tally (O.written out.new) (O.faults out.new)) (tally (E.written err.new) (E.faults err.new)))) }
+    ensures command { OnCommand result ((command : TheCommand) × IsCommand (map string_bytes words.now) command) }
+    ensures streams { (command : TheCommand) → IsCommand (map string_bytes words.now) command
+        → WithoutStreams command ((input.new ≡ input.old) × (out.new ≡ out.old)) }
 
     // Words that are no command.
     ensures usage { OnUsage result (IsNoCommand (map string_bytes words.now)) }
-    ensures untouched { OnUsage result (files.new ≡ files.old) }
-
-    // What stays.
-    ensures input { input.new ≡ input.old }
-    ensures out { out.new ≡ out.old }
-
-    // What is said.
-    ensures said { (command : Command) → IsCommand (map string_bytes words.now) command
-        → Writes (E.written err.old) (E.written err.new) (E.faults err.old) (E.faults err.new)
-        (report_of (modules_of command) result) }
+    ensures untouched { OnUsage result ((files.new ≡ files.old) × (input.new ≡ input.old) × (out.new ≡ out.old)) }
     ensures said_usage { OnUsage result
         (Writes (E.written err.old) (E.written err.new) (E.faults err.old) (E.faults err.new) (report_of [] result)) }
-    ensures quiet { OnDone result (err.new ≡ err.old) }
 {
+    one_command();
     match read_words(words) {
         Some(command) => {
-            let answer = build(alloc, command.main(), command.out(), files);
-            put_report(err, &[command.main()], &answer);
+            let answer = carry_out(alloc, &command, files, input, out, err);
+            say(err, &command, &answer);
             answer
         }
         None => {

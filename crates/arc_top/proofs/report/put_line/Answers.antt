@@ -17,3 +17,6 @@ returns-in-StoreFault-clause-said g c = rw c.in-StoreFault.is c.put_pieces-in-St
 
 pub returns-in-Memory-clause-said : goal.returns-in-Memory-clause-said
 returns-in-Memory-clause-said g c = rw c.in-Memory.is c.put_pieces-in-Memory.ensures.said
+
+pub returns-in-StepsSpent-clause-said : goal.returns-in-StepsSpent-clause-said
+returns-in-StepsSpent-clause-said g c = rw c.in-StepsSpent.is c.put_pieces-in-StepsSpent.ensures.said

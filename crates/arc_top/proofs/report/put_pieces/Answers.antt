@@ -8,14 +8,16 @@ returns-in_err-put_all g c =
       said = record {
         whole = search rules;
         same = search rules;
-        front = front_written (λ piece. piece.now) _ _ _ c.args.pieces.now c.loop-piece.piece-index h.0 _ c.loop-piece-test.true c.loop-piece.invariant.grown h.1;
+        front = front_written (λ piece. piece.now) _ _ _ c.args.pieces.now c.loop-piece.piece-index h.0 _ c.loop-piece-test.true
+            c.loop-piece.invariant.grown h.1;
         rose = search rules;
       };
     }
 
 pub loop-piece-preserved : goal.loop-piece-preserved
 loop-piece-preserved g c = record {
-  grown = piece_written (λ piece. piece.now) _ _ _ c.args.pieces.now c.loop-piece.piece-index _ c.loop-piece-test.true c.loop-piece.invariant.grown c.in_ok-put_all.ensures.bytes;
+  grown = piece_written (λ piece. piece.now) _ _ _ c.args.pieces.now c.loop-piece.piece-index _ c.loop-piece-test.true
+      c.loop-piece.invariant.grown c.in_ok-put_all.ensures.bytes;
   faults = c.in_ok-put_all.ensures.cause.stays ∙ c.loop-piece.invariant.faults;
 }
 

@@ -1,13 +1,22 @@
-use Rattle.std.proofs.Common.{rules, sym, subst}
-use Rattle.arc_top.specs.Top.{HasSource}
-use Rattle.arc_top.proofs.Verdicts.{has_program}
+use Rattle.std.proofs.Common.{sym, subst}
+use Rattle.source_compiler.specs.Source.{alone}
+use Rattle.arc_top.specs.Loads.{files_state}
+use Rattle.arc_top.specs.Top.{IsFileOf}
+use Rattle.arc_top.proofs.Commands.{built}
 use Rattle.arc_top.proofs.top.build.Goals as goal
 
-pub returns-in-Err-Failed-clause-store_fault : goal.returns-in-Err-Failed-clause-store_fault
-returns-in-Err-Failed-clause-store_fault g c =
-    let held = g.F.Files.held c.args.files.now in
-    let main = c.args.main.now in
-    let compiled = c.in-Ok-compile.ensures.compiled main in (
-      search rules,
-      has_program held main c.as_slice.result.now (subst (HasSource held main) (sym c.as_slice.ensures) c.in-Ok.ensures.whole) (c.in-Ok-compile.ensures.within, (compiled.program, compiled.reads)),
-    )
+pub returns-in-Ok-store : goal.returns-in-Ok-store
+returns-in-Ok-store g c =
+    let F = g.F.Files in
+    let given = c.in-Ok.ensures.compiled in
+    let old = c.args.files.now in
+    let mid = c.file_bytes.new.files in
+    let new = c.store.new.self in
+    let file = subst (IsFileOf (alone c.args.main.now given.0) c.args.heap) (sym c.as_slice.ensures) given.3 in
+    record {
+      builds = built c.args.main.now c.args.out.now given.0 c.as_slice.result.now c.args.heap
+          (files_state (F.held old) (F.load_faults old) (F.store_faults old) (F.calls old))
+          (files_state (F.held mid) (F.load_faults mid) (F.store_faults mid) (F.calls mid))
+          (files_state (F.held new) (F.load_faults new) (F.store_faults new) (F.calls new))
+          given.1 given.2 file c.store.ensures.calls c.store.ensures.others c.store.ensures.loads c.in-Ok-store.ensures.entry c.in-Ok-store.ensures.cause;
+    }

@@ -1,48 +1,44 @@
-use Rattle.std.proofs.Common.{[], ◌∷◌, map, subst, ◌∙◌}
+use Rattle.std.proofs.Common.{◌≡◌, map, ap, subst}
 use Rattle.std.specs.Prelude.{string_bytes}
-use Rattle.arc_base.specs.Outside.{Writes}
-use Rattle.arc_top.specs.Command.{modules_of, command_of}
-use Rattle.arc_top.specs.Report.{report_of}
-use Rattle.arc_top.specs.Top.{Answered}
-use Rattle.arc_top.proofs.CommandLemmas.{one_command, build_of}
-use Rattle.arc_top.proofs.Verdicts.{answered}
+use Rattle.rv32_runner.specs.Streams.{feed, tally, streams}
+use Rattle.command_words.specs.Command.{command_of}
+use Rattle.arc_top.specs.Loads.{files_state}
+use Rattle.arc_top.specs.Top.{Carries, WithoutStreams, world}
+use Rattle.arc_top.proofs.Commands.{quiet_so}
 use Rattle.arc_top.proofs.top.nimarc.Goals as goal
 
-pub returns-in-Some-clause-answered : goal.returns-in-Some-clause-answered
-returns-in-Some-clause-answered g c =
-    let files = c.args.files.now in
-    let after = c.build-answer.new.files in
-    let said = c.build-answer.ensures in
-    let all =
-    answered c.build-answer.result c.main.result.now c.out.result.now (g.F.Files.held files) (g.F.Files.held after) (g.F.Files.load_faults files) (g.F.Files.load_faults after)
-    (g.F.Files.store_faults files) (g.F.Files.store_faults after) (g.F.Files.calls files) (g.F.Files.calls after)
-    (record {
-      done = said.done;
-      no_usage = said.no_usage;
-      no_file = said.no_file;
-      too_long = said.too_long;
-      refused = said.refused;
-      read_fault = said.read_fault;
-      store_fault = said.store_fault;
-      asked = said.asked;
-      kept = said.kept;
-      others = said.others;
-      loads = said.loads;
-      stores = said.stores;
-    }) in
+pub returns-in-Some-clause-carries : goal.returns-in-Some-clause-carries
+returns-in-Some-clause-carries g c =
+    let F = g.F.Files in
+    let I = g.I.Source in
+    let O = g.O.Sink in
+    let E = g.E.Sink in
+    let old = c.args in
+    let mid = c.carry_out-answer.new in
+    let new = c.say.new in
+    let answer = c.carry_out-answer.result in
+    let before = world (files_state (F.held old.files.now) (F.load_faults old.files.now) (F.store_faults old.files.now) (F.calls old.files.now))
+            (streams (feed (I.left old.input.now) (I.ended old.input.now) (I.faults old.input.now) (I.gave old.input.now))
+            (tally (O.written old.out.now) (O.faults old.out.now)) (tally (E.written old.err.now) (E.faults old.err.now))) in
+    let after = world (files_state (F.held mid.files) (F.load_faults mid.files) (F.store_faults mid.files) (F.calls mid.files))
+            (streams (feed (I.left mid.input) (I.ended mid.input) (I.faults mid.input) (I.gave mid.input))
+            (tally (O.written mid.out) (O.faults mid.out)) (tally (E.written new.err) (E.faults new.err))) in
+    let carries : Carries (command_of c.in-Some.command) answer before after = record {
+      err = tally (E.written mid.err) (E.faults mid.err);
+      answered = c.carry_out-answer.ensures.answered;
+      said = c.say.ensures.said;
+      quiet = quiet_so answer (new.err ≡ mid.err) (tally (E.written new.err) (E.faults new.err) ≡ tally (E.written mid.err) (E.faults mid.err))
+          (ap (λ err. tally (E.written err) (E.faults err))) c.say.ensures.quiet;
+    } in
     λ command is.
-    subst
-    (λ k. Answered k c.build-answer.result (g.F.Files.held files) (g.F.Files.held after) (g.F.Files.load_faults files) (g.F.Files.load_faults after) (g.F.Files.store_faults files) (g.F.Files.store_faults after) (g.F.Files.calls files) (g.F.Files.calls after))
-    (build_of (command_of c.in-Some.command) c.main.result.now c.out.result.now c.main.ensures c.out.ensures ∙ one_command (map string_bytes c.args.words.now) (command_of c.in-Some.command) command c.in-Some.ensures.some is)
-    all
+    subst (λ k. Carries k answer before after)
+    (c.one_command.ensures.one (map string_bytes c.args.words.now) (command_of c.in-Some.command) command c.in-Some.ensures.some is) carries
 
-pub returns-in-Some-clause-said : goal.returns-in-Some-clause-said
-returns-in-Some-clause-said g c =
-    let written = g.E.Sink.written c.args.err.now in
-    let after = g.E.Sink.written c.put_report.new.err in
-    let faults = g.E.Sink.faults c.args.err.now in
-    let faults_after = g.E.Sink.faults c.put_report.new.err in
+pub returns-in-Some-clause-streams : goal.returns-in-Some-clause-streams
+returns-in-Some-clause-streams g c =
+    let old = c.args in
+    let new = c.carry_out-answer.new in
     λ command is.
-    subst (λ k. Writes written after faults faults_after (report_of (modules_of k) c.build-answer.result))
-    (one_command (map string_bytes c.args.words.now) (command_of c.in-Some.command) command c.in-Some.ensures.some is)
-    (subst (λ name. Writes written after faults faults_after (report_of (name ∷ []) c.build-answer.result)) c.main-in-Some.ensures c.put_report.ensures.said)
+    subst (λ k. WithoutStreams k ((new.input ≡ old.input.now) × (new.out ≡ old.out.now)))
+    (c.one_command.ensures.one (map string_bytes c.args.words.now) (command_of c.in-Some.command) command c.in-Some.ensures.some is)
+    c.carry_out-answer.ensures.streams

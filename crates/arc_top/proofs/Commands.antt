@@ -1,0 +1,98 @@
+-- From the stages of a command to what is said of its answer.
+use Rattle.std.proofs.Common.{◌≡◌, ℕ, List, [], ◌∷◌, ◌++◌, inl, inr, refl, sym, ap, subst, ◌∙◌, append_assoc}
+use Rattle.arc_base.specs.FileCalls.{load, store}
+use Rattle.arc_base.specs.Outside.{KeepsOthers, Stores}
+use Rattle.arc_base.specs.declared.outside.Loaded.TheVariants as loaded
+use Rattle.arc_base.specs.declared.outside.Stream.TheVariants.{Out, Err}
+use Rattle.elf32.specs.Elf.{File}
+use Rattle.nim_core.specs.Meaning.{meaning}
+use Rattle.rv32_isa.specs.Image.{Image}
+use Rattle.rv32_isa.specs.State.{State, first_state}
+use Rattle.rv32_runner.specs.declared.runner.RunEnd.{RunEnd}
+use Rattle.rv32_runner.specs.declared.runner.RunEnd.TheVariants as end
+use Rattle.rv32_runner.specs.Streams.{Streams}
+use Rattle.rv32_runner.specs.Runs.{Ran}
+use Rattle.source_compiler.specs.Objects.{live_objects}
+use Rattle.source_compiler.specs.Source.{alone}
+use Rattle.source_compiler.specs.Compile.{Compiled, IsProgram, source_most}
+use Rattle.arc_top.specs.declared.answer.Answer.{Answer}
+use Rattle.arc_top.specs.declared.answer.Answer.TheVariants.{Done, Ended, Usage, NoFile, TooLong, Refused, BadElf, MachineFault, StepsSpent, ReadFault, WriteFault, StoreFault, Memory}
+use Rattle.arc_top.specs.Answer.{OnQuiet}
+use Rattle.arc_top.specs.Loads.{FilesState, Gives}
+use Rattle.arc_top.specs.Runs.{HasRun, Does, answer_of}
+use Rattle.arc_top.specs.Stages.{RunsOrWants}
+use Rattle.arc_top.specs.Top.{IsFileOf, HandsOver, Builds, world, RunsProgram, Runs}
+use Rattle.arc_top.proofs.Meaning.{Shows, Sees, exited, spent, no_fault, read_failed, out_failed, err_failed}
+
+-- ---- stores
+
+pub built : (main out source bytes : List ℕ) (heap : ℕ) (old mid new : FilesState) → Gives old mid main source_most source → IsProgram main source
+    → IsFileOf (alone main source) heap bytes → new.calls ≡ mid.calls ++ store out bytes ∷ [] → KeepsOthers mid.held new.held out
+    → new.load_faults ≡ mid.load_faults → Stores new.held out bytes → new.store_faults ≡ mid.store_faults → Builds main out heap Done old new
+built main out source bytes heap old mid new gives program file calls others loads stores faults =
+    let kept = gives.asked.kept in
+    let over : HandsOver main out heap old new = record {
+      source = source;
+      bytes = bytes;
+      calls = calls ∙ ap (λ l. l ++ store out bytes ∷ []) gives.asked.calls ∙ append_assoc old.calls (load main loaded.Whole source ∷ []) (store out bytes ∷ []);
+      told = gives.told;
+      program = program;
+      file = file;
+      others = subst (λ held. KeepsOthers held new.held out) kept.held others;
+      loads = loads ∙ kept.loads;
+    } in
+    (over, (stores, faults ∙ kept.stores))
+
+-- ---- runs
+
+abbrev has_run : (steps : ℕ) (image : Image) (e : RunEnd) (last : State) (before after : Streams) → Ran steps before (first_state image) e last after
+    → HasRun steps image (answer_of steps e) before after
+has_run steps image e last before after ran = record { end = e; last = last; ran = ran; answers = refl }
+
+module _ (sees : Sees) (shows : Shows) (main source : List ℕ) (heap steps : ℕ) (file : File) (old new : FilesState) (before after : Streams)
+  (gives : Gives old new main source_most source) (compiled : Compiled (alone main source) heap file) where
+  programs : (e : RunEnd) (last : State) → Ran steps before (first_state file.image) e last after
+      → Does (meaning compiled.program file.plan heap) (answer_of steps e) before after
+      → RunsProgram main heap steps (answer_of steps e) (world old before) (world new after)
+  programs e last ran does =
+      record { source = source; gives = gives; file = file; compiled = compiled; ran = has_run steps file.image e last before after ran; means = does }
+
+  run_ended : (e : RunEnd) (last : State) → Ran steps before (first_state file.image) e last after
+      → Runs main heap steps (answer_of steps e) (world old before) (world new after)
+  run_ended (end.Exited status) last ran =
+      programs (end.Exited status) last ran (exited live_objects file.image
+          (meaning compiled.program file.plan heap) compiled.agrees steps before after sees status last ran)
+  run_ended end.Spent last ran =
+      programs end.Spent last ran (spent live_objects file.image (meaning compiled.program file.plan heap) compiled.agrees steps before after sees last ran)
+  run_ended (end.Fault kind pc word) last ran =
+      absurd (no_fault live_objects file.image (meaning compiled.program file.plan heap) compiled.agrees steps before after sees kind pc word last ran)
+  run_ended end.ReadFault last ran =
+      inr (programs end.ReadFault last ran (read_failed live_objects file.image
+          (meaning compiled.program file.plan heap) compiled.agrees steps before after shows last ran))
+  run_ended (end.WriteFault Out) last ran =
+      programs (end.WriteFault Out) last ran (out_failed live_objects file.image
+          (meaning compiled.program file.plan heap) compiled.agrees steps before after shows last ran)
+  run_ended (end.WriteFault Err) last ran =
+      programs (end.WriteFault Err) last ran (err_failed live_objects file.image
+          (meaning compiled.program file.plan heap) compiled.agrees steps before after shows last ran)
+
+  pub run_told : (answer : Answer) → RunsOrWants steps file.image answer before after → Runs main heap steps answer (world old before) (world new after)
+  run_told answer (inl wanting) = subst (λ a. Runs main heap steps a (world old before) (world new after)) (sym wanting.0) (gives.asked.kept, wanting.1)
+  run_told answer (inr ran) = subst (λ a. Runs main heap steps a (world old before) (world new after)) (sym ran.answers) (run_ended ran.end ran.last ran.ran)
+
+-- ---- lines
+
+pub quiet_so : (answer : Answer) (P Q : Type 0) → (P → Q) → OnQuiet answer P → OnQuiet answer Q
+quiet_so Done P Q so quiet = so quiet
+quiet_so (Ended status) P Q so quiet = so quiet
+quiet_so (WriteFault stream) P Q so quiet = so quiet
+quiet_so Usage P Q so quiet = tt
+quiet_so (NoFile name) P Q so quiet = tt
+quiet_so (TooLong name) P Q so quiet = tt
+quiet_so (Refused code at) P Q so quiet = tt
+quiet_so (BadElf fault) P Q so quiet = tt
+quiet_so (MachineFault kind pc word) P Q so quiet = tt
+quiet_so (StepsSpent n) P Q so quiet = tt
+quiet_so ReadFault P Q so quiet = tt
+quiet_so StoreFault P Q so quiet = tt
+quiet_so Memory P Q so quiet = tt

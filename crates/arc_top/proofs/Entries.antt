@@ -1,0 +1,195 @@
+-- What an answer says of the entry that the command read.
+use Rattle.std.proofs.Common.{◌≡◌, ℕ, ◌<◌, List, length, Option, Some, None, ◌⊎◌, inl, inr, refl, sym, subst, arith}
+use Rattle.arc_base.specs.Outside.{Held, Rose, Writes}
+use Rattle.arc_base.specs.declared.outside.Stream.TheVariants.{Out, Err}
+use Rattle.command_words.specs.Command.{Command, check, build, run, exec, file_of}
+use Rattle.source_compiler.specs.Compile.{IsProgram, source_most}
+use Rattle.rv32_isa.specs.State.{State, first_state}
+use Rattle.rv32_runner.specs.declared.runner.RunEnd.{RunEnd}
+use Rattle.rv32_runner.specs.declared.runner.RunEnd.TheVariants as end
+use Rattle.rv32_runner.specs.Streams.{Streams}
+use Rattle.rv32_runner.specs.Runs.{Ran}
+use Rattle.rv32_runner.specs.Told.{Causes}
+use Rattle.arc_top.specs.declared.answer.Answer.{Answer}
+use Rattle.arc_top.specs.declared.answer.Answer.TheVariants.{Done, Ended, Usage, NoFile, TooLong, Refused, BadElf, MachineFault, StepsSpent, ReadFault, WriteFault, StoreFault, Memory}
+use Rattle.arc_top.specs.Loads.{FilesState, OnEntry, Gives}
+use Rattle.arc_top.specs.Report.{report_of}
+use Rattle.arc_top.specs.Runs.{HasRun, answer_of}
+use Rattle.arc_top.specs.Top.{Stops, World, RunsProgram, Runs, RunsFile, Executes, Answered, Carries, before_line, modules_of, file_most}
+use Rattle.arc_top.specs.Due.{NothingFails, TellsEntry, WasAnswered, Compiles, IsCarriedOut, most_of, IsDue, lacks, long, refused, compiled, bad, executed, wanting}
+
+-- ---- counts
+
+-- what rose before the line of the answer has risen after it
+rose_later : (a b c : ℕ) → Rose a b → (c ≡ b) ⊎ Rose b c → Rose a c
+rose_later a b c rose (inl same) = subst (Rose a) (sym same) rose
+rose_later a b c rose (inr more) = omega (arith, rose, more)
+
+later : (a b : Option (List ℕ)) (before now : ℕ) (bytes : List ℕ) → Writes a b before now bytes → (now ≡ before) ⊎ Rose before now
+later a b before now bytes (inl whole) = inl whole.1
+later a b before now bytes (inr front) = inr front.0
+
+before_fine : (command : Command) (answer : Answer) (old new : World) (carries : Carries command answer old new) → NothingFails old new
+    → NothingFails old (before_line new carries.err)
+before_fine command answer old new carries fine = record {
+  loads = fine.loads;
+  stores = fine.stores;
+  streams = record {
+    input = fine.streams.input;
+    out = fine.streams.out;
+    err = λ rose. fine.streams.err
+        (rose_later old.streams.err.faults carries.err.faults new.streams.err.faults rose
+        (later carries.err.written new.streams.err.written carries.err.faults new.streams.err.faults (report_of (modules_of command) answer) carries.said));
+  };
+}
+
+-- the count that an answer names
+abbrev Named : Answer → Streams → Streams → Type 0
+Named ReadFault old new = Rose old.input.faults new.input.faults
+Named (WriteFault Out) old new = Rose old.out.faults new.out.faults
+Named (WriteFault Err) old new = Rose old.err.faults new.err.faults
+Named _ old new = Unit {0}
+
+named_by : (steps : ℕ) (e : RunEnd) (old new : Streams) → Causes e old new → Named (answer_of steps e) old new
+named_by steps (end.Exited status) old new causes = tt
+named_by steps end.Spent old new causes = tt
+named_by steps (end.Fault kind pc word) old new causes = tt
+named_by steps end.ReadFault old new causes = causes.0
+named_by steps (end.WriteFault Out) old new causes = causes.0
+named_by steps (end.WriteFault Err) old new causes = causes.0
+
+abbrev pub CausesLaw : Type 0
+CausesLaw = (n : ℕ) (old : Streams) (s : State) (answer : RunEnd) (t : State) (new : Streams) → Ran n old s answer t new → Causes answer old new
+
+named : CausesLaw → (steps : ℕ) (image : _) (answer : Answer) (old new : Streams) → HasRun steps image answer old new → Named answer old new
+named causes steps image answer old new ran =
+    subst (λ a. Named a old new) (sym ran.answers) (named_by steps ran.end old new (causes steps old (first_state image) ran.end ran.last new ran.ran))
+
+-- ---- entries
+
+on_entry : (held : Option Held) (name : List ℕ) (entry : Option (List ℕ)) (P : Option (List ℕ) → Type 0) → TellsEntry held name entry
+    → OnEntry held name P → P entry
+on_entry None name entry P told h = absurd told
+on_entry (Some held) name entry P told h = subst P told h
+
+module _ (entry : Option (List ℕ)) (old new : FilesState) where
+  given : (name : List ℕ) (most : ℕ) (bytes : List ℕ) → TellsEntry old.held name entry → Gives old new name most bytes → entry ≡ Some bytes
+  given name most bytes told gives = on_entry old.held name entry (λ e. e ≡ Some bytes) told gives.told
+
+  due_stop : (command : Command) → Compiles command → most_of command ≡ source_most → TellsEntry old.held (file_of command) entry
+      → (Rose old.load_faults new.load_faults → ⊥)
+      → (answer : Answer) → Stops (file_of command) answer old new → IsDue command entry answer
+  due_stop command compiles most told fine Done stops = absurd stops
+  due_stop command compiles most told fine (Ended status) stops = absurd stops
+  due_stop command compiles most told fine Usage stops = absurd stops
+  due_stop command compiles most told fine (NoFile name) stops = 
+      subst (λ n. IsDue command entry (NoFile n)) (sym stops.0) (lacks (on_entry old.held (file_of command) entry (λ e. e ≡ None) told stops.1.told))
+  due_stop command compiles most told fine (TooLong name) stops = 
+      let is = on_entry old.held (file_of command) entry (λ e. (bytes : List ℕ) × (e ≡ Some bytes) × (source_most < length bytes)) told stops.1.told in
+      subst (λ n. IsDue command entry (TooLong n)) (sym stops.0) (long is.0 is.1 (subst (λ n. n < length is.0) (sym most) is.2))
+  due_stop command compiles most told fine (Refused code at) stops = refused stops.0 code at compiles
+      (given (file_of command) source_most stops.0 told stops.1) stops.2
+  due_stop command compiles most told fine (BadElf fault) stops = absurd stops
+  due_stop command compiles most told fine (MachineFault kind pc word) stops = absurd stops
+  due_stop command compiles most told fine (StepsSpent n) stops = absurd stops
+  due_stop command compiles most told fine ReadFault stops = absurd (fine stops.loads)
+  due_stop command compiles most told fine (WriteFault Out) stops = absurd stops
+  due_stop command compiles most told fine (WriteFault Err) stops = absurd stops
+  due_stop command compiles most told fine StoreFault stops = absurd stops
+  due_stop command compiles most told fine Memory stops = absurd stops
+
+is_program : (main : List ℕ) (heap steps : ℕ) (answer : Answer) (old new : World) (ran : RunsProgram main heap steps answer old new) → IsProgram main ran.source
+is_program main heap steps answer old new ran = (ran.gives.within, (ran.compiled.program, ran.compiled.reads))
+
+module _ (causes : CausesLaw) (entry : Option (List ℕ)) (old new : World) (fine : NothingFails old new) where
+  due_program : (main : List ℕ) (heap steps : ℕ) (answer : Answer) → TellsEntry old.files.held main entry → IsCarriedOut (run main heap steps) answer
+      → RunsProgram main heap steps answer old new → IsDue (run main heap steps) entry answer
+  due_program main heap steps answer told done ran =
+      compiled ran.source answer tt (given entry old.files new.files main source_most ran.source told ran.gives)
+          (is_program main heap steps answer old new ran) done
+
+  due_file : (name : List ℕ) (steps : ℕ) (answer : Answer) → TellsEntry old.files.held name entry → IsCarriedOut (exec name steps) answer
+      → RunsFile name steps answer old new → IsDue (exec name steps) entry answer
+  due_file name steps answer told done ran =
+      executed ran.bytes ran.file answer tt (given entry old.files new.files name file_most ran.bytes told ran.gives) ran.gives.within ran.elf done
+
+  due_read : (main : List ℕ) (heap steps : ℕ) → Runs main heap steps ReadFault old new → IsDue (run main heap steps) entry ReadFault
+  due_read main heap steps (inl fails) = absurd (fine.loads fails.0.loads)
+  due_read main heap steps (inr ran) = absurd (fine.streams.input (named causes steps ran.file.image ReadFault old.streams new.streams ran.ran))
+
+  due_exec_read : (name : List ℕ) (steps : ℕ) → Executes name steps ReadFault old new → IsDue (exec name steps) entry ReadFault
+  due_exec_read name steps (inl fails) = absurd (fine.loads fails.0.loads)
+  due_exec_read name steps (inr ran) = absurd (fine.streams.input (named causes steps ran.file.image ReadFault old.streams new.streams ran.ran))
+
+  pub due : (command : Command) (answer : Answer) → TellsEntry old.files.held (file_of command) entry → Answered command answer old new
+      → IsDue command entry answer
+  due (check main) Done told is = compiled is.0.0 Done tt (given entry old.files new.files main source_most is.0.0 told is.0.1) is.0.2 tt
+  due (check main) (Ended status) told is = due_stop entry old.files new.files (check main) tt refl told fine.loads (Ended status) is.0
+  due (check main) Usage told is = due_stop entry old.files new.files (check main) tt refl told fine.loads Usage is.0
+  due (check main) (NoFile name) told is = due_stop entry old.files new.files (check main) tt refl told fine.loads (NoFile name) is.0
+  due (check main) (TooLong name) told is = due_stop entry old.files new.files (check main) tt refl told fine.loads (TooLong name) is.0
+  due (check main) (Refused code at) told is = due_stop entry old.files new.files (check main) tt refl told fine.loads (Refused code at) is.0
+  due (check main) (BadElf fault) told is = due_stop entry old.files new.files (check main) tt refl told fine.loads (BadElf fault) is.0
+  due (check main) (MachineFault kind pc word) told is = due_stop entry old.files new.files (check main) tt refl told fine.loads
+      (MachineFault kind pc word) is.0
+  due (check main) (StepsSpent n) told is = due_stop entry old.files new.files (check main) tt refl told fine.loads (StepsSpent n) is.0
+  due (check main) ReadFault told is = due_stop entry old.files new.files (check main) tt refl told fine.loads ReadFault is.0
+  due (check main) (WriteFault Out) told is = due_stop entry old.files new.files (check main) tt refl told fine.loads (WriteFault Out) is.0
+  due (check main) (WriteFault Err) told is = due_stop entry old.files new.files (check main) tt refl told fine.loads (WriteFault Err) is.0
+  due (check main) StoreFault told is = due_stop entry old.files new.files (check main) tt refl told fine.loads StoreFault is.0
+  due (check main) Memory told is = wanting
+  due (build main out heap) Done told is = compiled is.0.0.source Done tt
+      (on_entry old.files.held main entry (λ e. e ≡ Some is.0.0.source) told is.0.0.told) is.0.0.program tt
+  due (build main out heap) (Ended status) told is = due_stop entry old.files new.files (build main out heap) tt refl told fine.loads (Ended status) is.0
+  due (build main out heap) Usage told is = due_stop entry old.files new.files (build main out heap) tt refl told fine.loads Usage is.0
+  due (build main out heap) (NoFile name) told is = due_stop entry old.files new.files (build main out heap) tt refl told fine.loads (NoFile name) is.0
+  due (build main out heap) (TooLong name) told is = due_stop entry old.files new.files (build main out heap) tt refl told fine.loads (TooLong name) is.0
+  due (build main out heap) (Refused code at) told is = due_stop entry old.files new.files (build main out heap) tt refl told fine.loads (Refused code at) is.0
+  due (build main out heap) (BadElf fault) told is = due_stop entry old.files new.files (build main out heap) tt refl told fine.loads (BadElf fault) is.0
+  due (build main out heap) (MachineFault kind pc word) told is = due_stop entry old.files new.files (build main out heap) tt refl told fine.loads
+      (MachineFault kind pc word) is.0
+  due (build main out heap) (StepsSpent n) told is = due_stop entry old.files new.files (build main out heap) tt refl told fine.loads (StepsSpent n) is.0
+  due (build main out heap) ReadFault told is = due_stop entry old.files new.files (build main out heap) tt refl told fine.loads ReadFault is.0
+  due (build main out heap) (WriteFault Out) told is = due_stop entry old.files new.files (build main out heap) tt refl told fine.loads (WriteFault Out) is.0
+  due (build main out heap) (WriteFault Err) told is = due_stop entry old.files new.files (build main out heap) tt refl told fine.loads (WriteFault Err) is.0
+  due (build main out heap) StoreFault told is = absurd (fine.stores is.0.1)
+  due (build main out heap) Memory told is = wanting
+  due (run main heap steps) Done told is = due_stop entry old.files new.files (run main heap steps) tt refl told fine.loads Done is.0
+  due (run main heap steps) (Ended status) told is = due_program main heap steps (Ended status) told tt is
+  due (run main heap steps) Usage told is = due_stop entry old.files new.files (run main heap steps) tt refl told fine.loads Usage is.0
+  due (run main heap steps) (NoFile name) told is = due_stop entry old.files new.files (run main heap steps) tt refl told fine.loads (NoFile name) is.0
+  due (run main heap steps) (TooLong name) told is = due_stop entry old.files new.files (run main heap steps) tt refl told fine.loads (TooLong name) is.0
+  due (run main heap steps) (Refused code at) told is = due_stop entry old.files new.files (run main heap steps) tt refl told fine.loads (Refused code at) is.0
+  due (run main heap steps) (BadElf fault) told is = due_stop entry old.files new.files (run main heap steps) tt refl told fine.loads (BadElf fault) is.0
+  due (run main heap steps) (MachineFault kind pc word) told is = due_stop entry old.files new.files (run main heap steps) tt refl told fine.loads
+      (MachineFault kind pc word) is.0
+  due (run main heap steps) (StepsSpent n) told is = due_program main heap steps (StepsSpent n) told tt is
+  due (run main heap steps) ReadFault told is = due_read main heap steps is
+  due (run main heap steps) (WriteFault Out) told is = absurd
+      (fine.streams.out (named causes steps is.file.image (WriteFault Out) old.streams new.streams is.ran))
+  due (run main heap steps) (WriteFault Err) told is = absurd
+      (fine.streams.err (named causes steps is.file.image (WriteFault Err) old.streams new.streams is.ran))
+  due (run main heap steps) StoreFault told is = due_stop entry old.files new.files (run main heap steps) tt refl told fine.loads StoreFault is.0
+  due (run main heap steps) Memory told is = wanting
+  due (exec name steps) Done told is = absurd is
+  due (exec name steps) (Ended status) told is = due_file name steps (Ended status) told tt is
+  due (exec name steps) Usage told is = absurd is
+  due (exec name steps) (NoFile lacking) told is = 
+      subst (λ n. IsDue (exec name steps) entry (NoFile n)) (sym is.0) (lacks (on_entry old.files.held name entry (λ e. e ≡ None) told is.1.0.told))
+  due (exec name steps) (TooLong far) told is = 
+      let long_is = on_entry old.files.held name entry (λ e. (bytes : List ℕ) × (e ≡ Some bytes) × (file_most < length bytes)) told is.1.0.told in
+      subst (λ n. IsDue (exec name steps) entry (TooLong n)) (sym is.0) (long long_is.0 long_is.1 long_is.2)
+  due (exec name steps) (Refused code at) told is = absurd is
+  due (exec name steps) (BadElf fault) told is = bad is.0.0 fault tt (given entry old.files new.files name file_most is.0.0 told is.0.1) is.0.1.within is.0.2
+  due (exec name steps) (MachineFault kind pc word) told is = due_file name steps (MachineFault kind pc word) told tt is
+  due (exec name steps) (StepsSpent n) told is = due_file name steps (StepsSpent n) told tt is
+  due (exec name steps) ReadFault told is = due_exec_read name steps is
+  due (exec name steps) (WriteFault Out) told is = absurd (fine.streams.out (named causes steps is.file.image (WriteFault Out) old.streams new.streams is.ran))
+  due (exec name steps) (WriteFault Err) told is = absurd (fine.streams.err (named causes steps is.file.image (WriteFault Err) old.streams new.streams is.ran))
+  due (exec name steps) StoreFault told is = absurd is
+  due (exec name steps) Memory told is = wanting
+
+pub answer_due : CausesLaw → (command : Command) (entry : Option (List ℕ)) (answer : Answer) → WasAnswered command entry answer → IsDue command entry answer
+answer_due causes command entry answer was =
+    due causes entry was.old (before_line was.new was.carries.err)
+        (before_fine command answer was.old was.new was.carries was.fine) command answer was.told was.carries.answered

@@ -1,0 +1,137 @@
+-- Which answers remain where a source is a program, or bytes are a file, and where the machine stands.
+use Rattle.std.proofs.Common.{◌≡◌, ℕ, ◌<◌, ◌≤◌, List, [], ◌++◌, length, Some, None, refl, sym, ap, subst, ◌∙◌, arith}
+use Rattle.arc_base.specs.declared.outside.Stream.TheVariants.{Out, Err}
+use Rattle.arc_base.specs.declared.place.Place.{Place}
+use Rattle.arc_base.specs.declared.place.Code.{Code}
+use Rattle.elf32.specs.declared.file.ElfFault.{ElfFault}
+use Rattle.elf32.specs.Elf.{File, Elf}
+use Rattle.elf32.specs.Faults.{HasFault}
+use Rattle.nim_core.specs.Program.{Program}
+use Rattle.command_words.specs.Command.{Command, check, build, run, exec, file_of}
+use Rattle.source_compiler.specs.Source.{Module, Reads, Refuses, alone}
+use Rattle.source_compiler.specs.Compile.{IsProgram, source_most}
+use Rattle.rv32_isa.specs.declared.image.HookAt.{HookAt}
+use Rattle.rv32_isa.specs.Image.{Image}
+use Rattle.rv32_isa.specs.State.{State, first_state}
+use Rattle.rv32_isa.specs.Machine.{Standing, start, standing, shown_by}
+use Rattle.rv32_runner.specs.declared.runner.RunEnd.{RunEnd}
+use Rattle.rv32_runner.specs.declared.runner.RunEnd.TheVariants as end
+use Rattle.rv32_runner.specs.Streams.{Streams, MayGive, Got, bytes_on}
+use Rattle.rv32_runner.specs.Runs.{Ran, on}
+use Rattle.rv32_runner.specs.Told.{IsOfMachine, Tells, Told}
+use Rattle.arc_top.specs.declared.answer.Answer.{Answer}
+use Rattle.arc_top.specs.declared.answer.Answer.TheVariants.{Done, Ended, Usage, NoFile, TooLong, Refused, BadElf, MachineFault, StepsSpent, ReadFault, WriteFault, StoreFault, Memory}
+use Rattle.arc_top.specs.Runs.{HasRun, answer_of}
+use Rattle.arc_top.specs.Top.{file_most}
+use Rattle.arc_top.specs.Due.{NoStreamFails, Compiles, Executes, most_of, IsCarriedOut, IsDue, lacks, long, refused, compiled, bad, executed, wanting, IsComplete, answer_at, IsAnswerAt}
+use Rattle.arc_top.proofs.Meaning.{some_rest}
+use Rattle.arc_top.proofs.Entries.{CausesLaw}
+
+-- ---- commands
+
+never_both : (command : Command) → Compiles command → Executes command → ⊥
+never_both (check main) compiles executes = absurd executes
+never_both (build main out heap) compiles executes = absurd executes
+never_both (run main heap steps) compiles executes = absurd executes
+never_both (exec name steps) compiles executes = absurd compiles
+
+most_is : (command : Command) → Compiles command → most_of command ≡ source_most
+most_is (check main) compiles = refl
+most_is (build main out heap) compiles = refl
+most_is (run main heap steps) compiles = refl
+most_is (exec name steps) compiles = absurd compiles
+
+carried : (command : Command) (answer : Answer) → IsCarriedOut command answer → IsComplete command answer
+carried command Done done = done
+carried command (Ended status) done = done
+carried command Usage done = done
+carried command (NoFile name) done = done
+carried command (TooLong name) done = done
+carried command (Refused code at) done = done
+carried command (BadElf fault) done = done
+carried command (MachineFault kind pc word) done = done
+carried command (StepsSpent n) done = done
+carried command ReadFault done = done
+carried command (WriteFault stream) done = done
+carried command StoreFault done = done
+carried command Memory done = tt
+
+one_entry : (xs ys : List ℕ) → Some xs ≡ Some ys → xs ≡ ys
+one_entry xs ys e = cc
+
+no_entry : (xs : List ℕ) → Some xs ≡ None → ⊥
+no_entry xs e = cc
+
+-- ---- programs and files
+
+abbrev EitherLaw : Type 0
+EitherLaw = (modules : List Module) (program : Program) (c : Code) (at : Place) → Reads modules program → Refuses modules c at → ⊥
+
+pub program_due : EitherLaw → (command : Command) (source : List ℕ) (answer : Answer) → Compiles command → IsProgram (file_of command) source
+    → IsDue command (Some source) answer → IsComplete command answer
+program_due either command source _ c is (lacks e) = absurd (no_entry source e)
+program_due either command source _ c is (long bytes e far) =
+    absurd (omega (arith, is.0, subst (λ n. n < length bytes) (most_is command c) far, ap length (one_entry source bytes e)))
+program_due either command source _ c is (refused other code at d e refusal) =
+    absurd (either (alone (file_of command) source) is.1.0 code at is.1.1
+        (subst (λ bytes. Refuses (alone (file_of command) bytes) code at) (sym (one_entry source other e)) refusal.1))
+program_due either command source _ c is (compiled other answer d e p done) = carried command answer done
+program_due either command source _ c is (bad bytes fault d e within has) = absurd (never_both command c d)
+program_due either command source _ c is (executed bytes file answer d e within elf done) = absurd (never_both command c d)
+program_due either command source _ c is wanting = tt
+
+abbrev ApartLaw : Type 0
+ApartLaw = (bytes : List ℕ) (file : File) (fault : ElfFault) → Elf bytes file → HasFault bytes fault → ⊥
+
+pub file_due : ApartLaw → (name bytes : List ℕ) (file : File) (steps : ℕ) (answer : Answer) → length bytes ≤ file_most → Elf bytes file
+    → IsDue (exec name steps) (Some bytes) answer
+    → IsComplete (exec name steps) answer
+file_due apart name bytes file steps _ within elf (lacks e) = absurd (no_entry bytes e)
+file_due apart name bytes file steps _ within elf (long other e far) = absurd (omega (arith, within, far, ap length (one_entry bytes other e)))
+file_due apart name bytes file steps _ within elf (refused other code at d e refusal) = absurd d
+file_due apart name bytes file steps _ within elf (compiled other answer d e p done) = absurd d
+file_due apart name bytes file steps _ within elf (bad other fault d e short has) =
+    absurd (apart bytes file fault elf (subst (λ b. HasFault b fault) (sym (one_entry bytes other e)) has))
+file_due apart name bytes file steps _ within elf (executed other f answer d e short elf2 done) = carried (exec name steps) answer done
+file_due apart name bytes file steps _ within elf wanting = tt
+
+-- ---- machines
+
+abbrev ToldLaw : Type 0
+ToldLaw =
+    (hooks : List HookAt) (n : ℕ) (old : Streams) (s : State) (answer : RunEnd) (t : State) (new : Streams) → Ran n old s answer t new → IsOfMachine answer
+    → (rest : List ℕ) → MayGive new.input.left new.input.ended rest → Told hooks n old s answer t new rest
+
+-- the answer, and what was shown, where the machine stands as was told
+stood : (steps : ℕ) (e : RunEnd) (t : State) (rest : List ℕ) (shown : List _) (x : Standing) → Tells e t rest shown x
+    → (answer_of steps e ≡ answer_at steps x) × (shown ≡ shown_by x)
+stood steps (end.Exited status) t rest shown x tells = (sym (ap (answer_at steps) tells), sym (ap shown_by tells))
+stood steps end.Spent t rest shown x tells = (sym (ap (answer_at steps) tells), sym (ap shown_by tells))
+stood steps (end.Fault kind pc word) t rest shown x tells = (sym (ap (answer_at steps) tells), sym (ap shown_by tells))
+stood steps end.ReadFault t rest shown x tells = absurd tells
+stood steps (end.WriteFault stream) t rest shown x tells = absurd tells
+
+of_machine : (e : RunEnd) (n : ℕ) (old new : Streams) (s t : State) → CausesLaw → NoStreamFails old new → Ran n old s e t new → IsOfMachine e
+of_machine (end.Exited status) n old new s t causes fine ran = tt
+of_machine end.Spent n old new s t causes fine ran = tt
+of_machine (end.Fault kind pc word) n old new s t causes fine ran = tt
+of_machine end.ReadFault n old new s t causes fine ran = absurd (fine.input (causes n old s end.ReadFault t new ran).0)
+of_machine (end.WriteFault Out) n old new s t causes fine ran = absurd (fine.out (causes n old s (end.WriteFault Out) t new ran).0)
+of_machine (end.WriteFault Err) n old new s t causes fine ran = absurd (fine.err (causes n old s (end.WriteFault Err) t new ran).0)
+
+pub stands : ToldLaw → CausesLaw → (steps : ℕ) (image : Image) (answer : Answer) (old new : Streams) (input : List ℕ)
+    → HasRun steps image answer old new → NoStreamFails old new
+    → old.input.left ≡ Some input → IsAnswerAt steps (standing image.hooks steps (start image input) []) answer old new
+stands told causes steps image answer old new input ran fine left =
+    let first = first_state image in
+    let some = some_rest new.input.left new.input.ended in
+    let own = of_machine ran.end steps old new first ran.last causes fine ran.ran in
+    let t = told image.hooks steps old first ran.end ran.last new ran.ran own some.0 some.1 in
+    let all : t.given ++ some.0 ≡ input = subst (λ l. MayGive l old.input.ended (t.given ++ some.0)) left t.input in
+    let tells = subst (λ bytes. Tells ran.end ran.last some.0 t.shown (standing image.hooks steps (on first bytes) [])) all t.stands in
+    let is = stood steps ran.end ran.last some.0 t.shown (standing image.hooks steps (start image input) []) tells in
+    record {
+      answers = ran.answers ∙ is.0;
+      out = subst (λ events. Got old.out new.out (bytes_on Out events)) is.1 t.out;
+      err = subst (λ events. Got old.err new.err (bytes_on Err events)) is.1 t.err;
+    }

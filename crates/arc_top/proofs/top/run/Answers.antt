@@ -1,0 +1,28 @@
+use Rattle.elf32.specs.Elf.{file_of}
+use Rattle.rv32_runner.specs.Streams.{feed, tally, streams}
+use Rattle.arc_top.specs.Loads.{files_state}
+use Rattle.arc_top.proofs.Commands.{run_told}
+use Rattle.arc_top.proofs.top.run.Goals as goal
+
+pub returns-in-Ok : goal.returns-in-Ok
+returns-in-Ok g c =
+    let F = g.F.Files in
+    let I = g.I.Source in
+    let O = g.O.Sink in
+    let E = g.E.Sink in
+    let given = c.in-Ok.ensures.compiled in
+    let old = c.args.files.now in
+    let new = c.compile_main.new.files in
+    let input = c.args.input.now in
+    let out = c.args.out.now in
+    let err = c.args.err.now in
+    let after = c.run_image.new in
+    record {
+      runs = run_told c.runs.ensures.saw c.machines.ensures.shows c.args.main.now given.0 c.args.heap c.args.steps (file_of c.in-Ok.file)
+          (files_state (F.held old) (F.load_faults old) (F.store_faults old) (F.calls old))
+          (files_state (F.held new) (F.load_faults new) (F.store_faults new) (F.calls new))
+          (streams (feed (I.left input) (I.ended input) (I.faults input) (I.gave input)) (tally (O.written out) (O.faults out)) (tally (E.written err) (E.faults err)))
+          (streams (feed (I.left after.input) (I.ended after.input) (I.faults after.input) (I.gave after.input))
+          (tally (O.written after.out) (O.faults after.out)) (tally (E.written after.err) (E.faults after.err)))
+          given.1 given.3 c.run_image.result c.run_image.ensures.ran;
+    }

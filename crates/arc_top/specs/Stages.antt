@@ -1,0 +1,33 @@
+-- What stops a stage of a command. No public contract speaks of it.
+use Rattle.std.specs.Prelude.{◌≡◌, ◌⊎◌, ℕ, List}
+use Rattle.source_compiler.specs.declared.compiler.NotCompiled.{NotCompiled}
+use Rattle.source_compiler.specs.declared.compiler.NotCompiled.TheVariants as why
+use Rattle.rv32_isa.specs.Image.{Image}
+use Rattle.rv32_runner.specs.Streams.{Streams}
+use Rattle.arc_top.specs.declared.answer.Answer.{Answer}
+use Rattle.arc_top.specs.declared.answer.Answer.TheVariants.{NoFile, TooLong, Refused, ReadFault, Memory}
+use Rattle.arc_top.specs.Loads.{FilesState, Kept, Lacks, IsLong, LoadFails}
+use Rattle.arc_top.specs.Runs.{HasRun}
+use Rattle.arc_top.specs.Top.{Stops}
+
+-- a file can't be loaded
+abbrev pub StopsLoad : (name : List ℕ) (most : ℕ) → Answer → (old new : FilesState) → Type 0
+StopsLoad name most (NoFile lacking) old new = (lacking ≡ name) × Lacks old new name
+StopsLoad name most (TooLong long) old new = (long ≡ name) × IsLong old new name most
+StopsLoad name most ReadFault old new = LoadFails old new
+StopsLoad name most Memory old new = Kept old new
+StopsLoad name most _ old new = ⊥
+
+-- a main module can't be loaded or compiled
+abbrev pub StopsCompiling : (main : List ℕ) → Answer → (old new : FilesState) → Type 0
+StopsCompiling main answer old new = ((answer ≡ Memory) × Kept old new) ⊎ Stops main answer old new
+
+-- the answer for a source that was not compiled
+abbrev pub IsRefusal : NotCompiled → Answer → Type 0
+IsRefusal why.TooLong answer = ⊥
+IsRefusal (why.Refused code at) answer = answer ≡ Refused code at
+IsRefusal why.Memory answer = answer ≡ Memory
+
+-- there was no memory for a machine, or it ran
+abbrev pub RunsOrWants : (steps : ℕ) → Image → Answer → (old new : Streams) → Type 0
+RunsOrWants steps image answer old new = ((answer ≡ Memory) × (new ≡ old)) ⊎ HasRun steps image answer old new
