@@ -1,18 +1,21 @@
 // Rows against what the calls give.
 ghost use Rattle.std.specs.Prelude.{◌<◌, ◌^◌, length};
 
+use crate::calls::{check_call, check_commands};
 use crate::commands::command_of;
 use crate::declarations::{Declaration, show_declaration};
+use crate::given::is_of_files;
 use crate::instructions::show_decoded;
 use crate::parsed::{
     show_callee, show_counts, show_end, show_first_expr, show_imports, show_refusal, show_tree,
 };
 use crate::printed::Printed;
+use crate::report::Report;
 use crate::rows::Row;
 use crate::runs::{Ran, run_of};
 use crate::scanned::{show_characters, show_places, show_text, show_tokens};
 use crate::steps::step_of;
-use arc_base::Memory;
+use arc_base::{Memory, Stream};
 use std::alloc::Global;
 
 /// The most bytes of a source that is scanned.
@@ -27,42 +30,6 @@ enum Found {
     Given,
     /// Nothing that is known.
     Unknown,
-}
-
-/// What differs in a file of rows.
-#[derive(Drop)]
-pub struct Report<'a> {
-    pub file: &'a str,
-    pub lines: Printed,
-    pub differs: bool,
-}
-
-impl Report<'_> {
-    fn begin(&mut self, line: u32, what: &str) -> Result<(), Memory> {
-        self.differs = true;
-        self.lines.text(self.file)?;
-        self.lines.text(":")?;
-        self.lines.number(i64::from(line))?;
-        self.lines.text(": ")?;
-        self.lines.text(what)
-    }
-
-    // That a row can't be read, and why.
-    fn say(&mut self, line: u32, what: &str, why: &str) -> Result<(), Memory> {
-        self.begin(line, what)?;
-        self.lines.text(why)?;
-        self.lines.text("\n")
-    }
-
-    // That a part differs.
-    fn differ(&mut self, line: u32, name: &str, wanted: &[u8], found: &[u8]) -> Result<(), Memory> {
-        self.begin(line, name)?;
-        self.lines.text(": wanted ")?;
-        self.lines.raw(wanted)?;
-        self.lines.text(", found ")?;
-        self.lines.raw(found)?;
-        self.lines.text("\n")
-    }
 }
 
 // What the scanner and the parsers give.
@@ -163,14 +130,21 @@ fn show_bytes(alloc: Global, row: &Row, range: &str, out: &mut Printed) -> Resul
 fn show_found(alloc: Global, row: &Row, name: &str, out: &mut Printed) -> Result<Found, Memory> {
     match name {
         "source" | "words" | "input" | "word" | "x1" | "x2" | "steps" => return Ok(Found::Given),
-        "out" | "out begins" | "err" | "status" => return Ok(Found::Given),
+        "failing files" | "failing input" | "failing out" | "failing err" => {
+            return Ok(Found::Given);
+        }
+        // compared elsewhere
+        "call" | "stored" | "left" | "status" => return Ok(Found::Given),
+        "out" | "out begins" | "out within" | "err" | "err begins" | "err within" => {
+            return Ok(Found::Given);
+        }
         "answer" => {
-            command_of(alloc, row)?.show(row, out)?;
+            command_of(alloc, row)?.show(alloc, row, out)?;
             return Ok(Found::Shown);
         }
         _ => {}
     }
-    if name.starts_with("module ") {
+    if is_of_files(name) {
         return Ok(Found::Given);
     }
     if let Some(range) = name.strip_prefix("bytes ") {
@@ -222,22 +196,8 @@ fn check_part(
 
 // Compares what a program did with what is wanted. It is to write nothing and to end with status 0 where nothing is said.
 fn check_run(alloc: Global, row: &Row, ran: &Ran, report: &mut Report) -> Result<(), Memory> {
-    let out = ran.out.as_slice();
-    match row.part("out begins") {
-        Some(wanted) if out.starts_with(wanted) => {}
-        Some(wanted) => report.differ(row.line, "out begins", wanted, out)?,
-        None => {
-            let wanted = row.part("out").unwrap_or(b"");
-            if wanted != out {
-                report.differ(row.line, "out", wanted, out)?;
-            }
-        }
-    }
-    let err = ran.err.as_slice();
-    let wanted = row.part("err").unwrap_or(b"");
-    if wanted != err {
-        report.differ(row.line, "err", wanted, err)?;
-    }
+    report.compare(row, Stream::Out, ran.out.as_slice())?;
+    report.compare(row, Stream::Err, ran.err.as_slice())?;
     let mut status = Printed::new(alloc);
     ran.show_status(&mut status)?;
     let wanted = row.part("status").unwrap_or(b"0").trim_ascii();
@@ -270,10 +230,16 @@ pub fn check_row(alloc: Global, row: &Row, report: &mut Report) -> Result<(), Me
             report,
         )?;
     }
+    if row.part("call").is_some() {
+        return check_call(alloc, row, report);
+    }
     if has_run(row) {
         let done = command_of(alloc, row)?;
         let ran = run_of(alloc, row, &done)?;
         check_run(alloc, row, &ran, report)?;
+        if ran.has_file() && row.part("words").is_none() {
+            check_commands(alloc, row, report)?;
+        }
     }
     Ok(())
 }

@@ -1,34 +1,36 @@
-// Commands of the compiler, over files in memory.
+// Commands of the compiler, over files, a source and sinks in memory.
+use crate::given::{MAIN, TARGET, are_same_but, faults_of, files_of};
 use crate::printed::Printed;
 use crate::rows::Row;
-use arc_base::{Bytes, Memory, SureFiles, SureSink, SureSource};
+use arc_base::{
+    Bytes, MemFiles, MemSink, MemSource, Memory, Source, Stop, SureFiles, SureSink,
+    SureSource,
+};
 use arc_top::{Answer, nimarc};
 use std::alloc::Global;
-
-/// The name of the main module.
-const MAIN: &str = "t.nim";
-
-/// The name of the file that is built.
-const TARGET: &str = "o";
 
 /// The words of a command, where a row gives none.
 const BUILD: &[u8] = b"build\nt.nim\no\n";
 
-/// What stands under the name of the file that is built, before.
-const OLDER: &[u8] = b"older";
+/// The words that build a file with the least heap, which takes less time to run.
+const BUILD_LEAST: &[u8] = b"build\nt.nim\no\n--heap=4096\n";
 
-/// What begins the name of a part with another module.
-const MODULE: &str = "module ";
+/// The most bytes that standard output takes, and standard error.
+const OUT_ROOM: usize = 16_384;
 
-/// The most bytes of a line of errors.
-const LINE_MOST: usize = 1000;
+const ERR_ROOM: usize = 512;
 
-/// What a command answered, said and left.
+/// The most bytes of input that may be left.
+const LEFT_MOST: usize = 1024;
+
+/// What a command answered, wrote and left.
 #[derive(Drop)]
 pub struct Done {
     pub answer: Answer,
-    err: SureSink,
-    files: SureFiles,
+    pub files: MemFiles,
+    input: MemSource,
+    out: MemSink,
+    err: MemSink,
 }
 
 // The words, each on a line.
@@ -43,36 +45,20 @@ fn words_of(alloc: Global, lines: &[u8]) -> Result<Vec<String>, Memory> {
     Ok(words)
 }
 
-// The files before the command: the source, other modules, and an older file under the name of the new one.
-fn files_of(alloc: Global, row: &Row) -> Result<SureFiles, Memory> {
-    let mut files = SureFiles::new(alloc);
-    files.add(MAIN, row.part("source").unwrap_or(b""))?;
-    files.add(TARGET, OLDER)?;
-    for part in &row.parts {
-        if let Some(name) = part.name.as_str().strip_prefix(MODULE) {
-            files.add(name, part.content.as_slice())?;
-        }
-    }
-    Ok(files)
-}
-
-// Whether a file has these bytes.
-fn holds(files: &SureFiles, name: &str, bytes: &[u8]) -> bool {
-    match files.entry(name) {
-        Some(now) => now == bytes,
-        None => false,
-    }
-}
-
-/// Carries out the command of a row.
-pub fn command_of(alloc: Global, row: &Row) -> Result<Done, Memory> {
-    let words = words_of(alloc, row.part("words").unwrap_or(BUILD))?;
-    let mut files = files_of(alloc, row)?;
+/// Carries out a command over files, with the input and the faults of a row.
+pub fn carried_out(
+    alloc: Global,
+    row: &Row,
+    words: &[u8],
+    files: MemFiles,
+) -> Result<Done, Memory> {
+    let words = words_of(alloc, words)?;
+    let mut files = files;
     let mut given = Bytes::new(alloc);
     given.append(row.part("input").unwrap_or(b""))?;
-    let mut input = SureSource::new(given);
-    let mut out = SureSink::new(alloc, 0)?;
-    let mut err = SureSink::new(alloc, LINE_MOST)?;
+    let mut input = MemSource::new(given, faults_of(alloc, row, "failing input")?);
+    let mut out = MemSink::new(alloc, OUT_ROOM, faults_of(alloc, row, "failing out")?)?;
+    let mut err = MemSink::new(alloc, ERR_ROOM, faults_of(alloc, row, "failing err")?)?;
     let answer = nimarc(
         alloc,
         words.as_slice(),
@@ -84,7 +70,43 @@ pub fn command_of(alloc: Global, row: &Row) -> Result<Done, Memory> {
     if matches!(answer, Answer::Memory) {
         return Err(Memory);
     }
-    Ok(Done { answer, err, files })
+    Ok(Done {
+        answer,
+        files,
+        input,
+        out,
+        err,
+    })
+}
+
+/// Carries out the command of a row.
+pub fn command_of(alloc: Global, row: &Row) -> Result<Done, Memory> {
+    let words = row.part("words").unwrap_or(BUILD);
+    carried_out(alloc, row, words, files_of(alloc, row)?)
+}
+
+/// The file that is built from a source, with the least heap; an empty one where it isn't built.
+pub fn built_file(alloc: Global, source: &[u8]) -> Result<Bytes, Memory> {
+    let mut files = SureFiles::new(alloc);
+    files.add(MAIN, source)?;
+    let words = words_of(alloc, BUILD_LEAST)?;
+    let mut input = SureSource::new(Bytes::new(alloc));
+    let mut out = SureSink::new(alloc, 0)?;
+    let mut err = SureSink::new(alloc, 0)?;
+    let answer = nimarc(
+        alloc,
+        words.as_slice(),
+        &mut files,
+        &mut input,
+        &mut out,
+        &mut err,
+    );
+    if matches!(answer, Answer::Memory) {
+        return Err(Memory);
+    }
+    let mut built = Bytes::new(alloc);
+    built.append(files.entry(TARGET).unwrap_or(b""))?;
+    Ok(built)
 }
 
 impl Done {
@@ -96,22 +118,89 @@ impl Done {
         }
     }
 
-    // Whether the files are as before the command, but for a file that was built.
-    fn kept_files(&self, row: &Row) -> bool {
-        let source = row.part("source").unwrap_or(b"");
-        let built = matches!(self.answer, Answer::Done);
-        holds(&self.files, MAIN, source) && (built || holds(&self.files, TARGET, OLDER))
+    /// What it wrote to standard output.
+    pub fn out(&self) -> &[u8] {
+        self.out.written()
+    }
+
+    /// What it wrote to standard error.
+    pub fn err(&self) -> &[u8] {
+        self.err.written()
+    }
+
+    /// Takes the input that is left.
+    pub fn show_left(&mut self, out: &mut Printed) -> Result<(), Memory> {
+        let mut piece = [0u8; LEFT_MOST];
+        match self.input.take(&mut piece) {
+            Ok(count) => out.raw(piece.get(..count).unwrap_or(b"")),
+            Err(_) => out.text("a fault"),
+        }
     }
 
     /// The status and the line of errors, and that files changed that should not.
-    pub fn show(&self, row: &Row, out: &mut Printed) -> Result<(), Memory> {
+    pub fn show(&self, alloc: Global, row: &Row, out: &mut Printed) -> Result<(), Memory> {
         out.number(i64::from(self.answer.status()))?;
         out.text(" ")?;
-        out.raw(self.err.written().trim_ascii_end())?;
-        out.text(if self.kept_files(row) {
+        out.raw(self.err().trim_ascii_end())?;
+        let built = if self.file().is_some() { TARGET } else { "" };
+        let before = files_of(alloc, row)?;
+        out.text(if are_same_but(row, &before, &self.files, built) {
             ""
         } else {
             ", and files changed"
         })
+    }
+
+    /// The status and the answer, with what it holds.
+    pub fn show_answer(&self, alloc: Global, out: &mut Printed) -> Result<(), Memory> {
+        out.number(i64::from(self.answer.status()))?;
+        out.text(" ")?;
+        show_answer(alloc, &self.answer, out)
+    }
+}
+
+// A name, and what an answer holds, in Rust's form.
+fn show_answer(alloc: Global, answer: &Answer, out: &mut Printed) -> Result<(), Memory> {
+    match answer {
+        Answer::Done => out.text("Done"),
+        Answer::Ended(_) => out.text("Ended"),
+        Answer::Usage => out.text("Usage"),
+        Answer::NoFile(name) => {
+            out.text("NoFile ")?;
+            out.raw(name.as_bytes())
+        }
+        Answer::TooLong(name) => {
+            out.text("TooLong ")?;
+            out.raw(name.as_bytes())
+        }
+        Answer::Refused { code, at } => {
+            out.text("Refused ")?;
+            out.stop(Stop::Refused {
+                code: *code,
+                at: *at,
+            })
+        }
+        Answer::BadElf(fault) => {
+            let text = format!(in alloc; "BadElf {fault:?}")?;
+            out.text(text.as_str())
+        }
+        Answer::MachineFault { kind, pc, word } => {
+            let text = format!(in alloc; "MachineFault {kind:?} ")?;
+            out.text(text.as_str())?;
+            out.hex(*pc)?;
+            out.text(" ")?;
+            out.hex(*word)
+        }
+        Answer::StepsSpent(steps) => {
+            out.text("StepsSpent ")?;
+            out.number(i64::from(*steps))
+        }
+        Answer::ReadFault => out.text("ReadFault"),
+        Answer::WriteFault(stream) => {
+            let text = format!(in alloc; "WriteFault {stream:?}")?;
+            out.text(text.as_str())
+        }
+        Answer::StoreFault => out.text("StoreFault"),
+        Answer::Memory => out.text("Memory"),
     }
 }

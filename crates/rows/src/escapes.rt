@@ -154,8 +154,8 @@ enum State {
     Bad,
 }
 
-// The value of a digit to base 16.
-fn digit_of(b: u8) -> Option<u8> {
+/// The value of a digit to base 16.
+pub fn digit_of(b: u8) -> Option<u8> {
     match b {
         b'0'..=b'9' => Some(b - b'0'),
         b'a'..=b'f' => Some(b - b'a' + 10),

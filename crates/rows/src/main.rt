@@ -3,21 +3,26 @@
 //! The words are the names of files of rows. docs/ROWS.md has their form. What differs is said, and is status 1.
 #![tactic(auto)]
 
+mod calls;
 mod check;
 mod commands;
 mod declarations;
 mod escapes;
+mod given;
 mod instructions;
 mod parsed;
 mod printed;
+mod programs;
+mod report;
 mod rows;
 mod runs;
 mod scanned;
 mod steps;
 mod trees;
 
-use crate::check::{Report, check_row};
+use crate::check::check_row;
 use crate::printed::Printed;
+use crate::report::Report;
 use crate::rows::rows_of;
 use arc_base::{HostSink, Memory, put_all};
 use std::alloc::Global;

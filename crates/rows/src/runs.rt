@@ -135,6 +135,11 @@ impl Ran {
         Ok(())
     }
 
+    /// Whether there was a file to run.
+    pub fn has_file(&self) -> bool {
+        !matches!(self.end, End::NoFile)
+    }
+
     /// The status, or how the run ended otherwise.
     pub fn show_status(&self, out: &mut Printed) -> Result<(), Memory> {
         match self.end {
@@ -146,8 +151,8 @@ impl Ran {
     }
 }
 
-// The most instructions that a row asks for.
-fn steps_of(row: &Row) -> u32 {
+/// The most instructions that a row asks for.
+pub fn steps_of(row: &Row) -> u32 {
     let Some(digits) = row.part("steps") else {
         return STEPS;
     };

@@ -1,0 +1,183 @@
+// The files before a command.
+use crate::commands::built_file;
+use crate::escapes::digit_of;
+use crate::programs::program_file;
+use crate::rows::{Part, Row};
+use arc_base::{Bytes, Faults, MemFiles, Memory};
+use std::alloc::Global;
+
+/// The name of the main module.
+pub const MAIN: &str = "t.nim";
+
+/// The name of the file that is built.
+pub const TARGET: &str = "o";
+
+/// What stands under the name of the file that is built, before.
+const OLDER: &[u8] = b"older";
+
+/// How the bytes of a file are given.
+#[derive(Clone, Copy, PartialEq, Eq)]
+enum Form {
+    /// As they are.
+    Module,
+    /// To base 16.
+    Hex,
+    /// As a program of words.
+    Program,
+    /// As the source that it is built from.
+    Built,
+}
+
+// How a part gives a file, and the file's name.
+fn form_of(part: &Part) -> Option<(Form, &str)> {
+    let (form, name) = part.name.as_str().split_once(' ')?;
+    match form {
+        "module" => Some((Form::Module, name)),
+        "hex" => Some((Form::Hex, name)),
+        "program" => Some((Form::Program, name)),
+        "built" => Some((Form::Built, name)),
+        _ => None,
+    }
+}
+
+// The text of a part; an empty one where it is no text.
+fn text_in(bytes: &[u8]) -> &str {
+    std::str::from_utf8(bytes).unwrap_or("")
+}
+
+// What stands in the part of this kind for a file.
+fn part_for<'a>(row: &'a Row, kind: &str, name: &str) -> Option<&'a [u8]> {
+    for part in &row.parts {
+        if let Some((first, rest)) = part.name.as_str().split_once(' ') {
+            if first == kind && rest == name {
+                return Some(part.content.as_slice());
+            }
+        }
+    }
+    None
+}
+
+/// The bytes of a text to base 16, where only digits count.
+pub fn hex_of(alloc: Global, text: &[u8]) -> Result<Bytes, Memory> {
+    let mut bytes = Bytes::new(alloc);
+    let mut high = None;
+    for b in text {
+        if let Some(digit) = digit_of(*b) {
+            match high {
+                None => high = Some(digit),
+                Some(first) => {
+                    bytes.push((first << 4) | digit)?;
+                    high = None;
+                }
+            }
+        }
+    }
+    Ok(bytes)
+}
+
+// The bytes with others in their place from an offset on, or, where there are no others, with one more in that place.
+fn put_at(alloc: Global, old: &[u8], at: usize, new: &[u8]) -> Result<Bytes, Memory> {
+    let mut bytes = Bytes::new(alloc);
+    for (i, b) in old.iter().enumerate() {
+        let there = match i.checked_sub(at) {
+            Some(0) if new.is_empty() => b.wrapping_add(1),
+            Some(behind) => new.get(behind).copied().unwrap_or(*b),
+            None => *b,
+        };
+        bytes.push(there)?;
+    }
+    Ok(bytes)
+}
+
+// The bytes with all changes that a text has, as `18:3e` or `18:`.
+fn changed(alloc: Global, bytes: Bytes, text: &str) -> Result<Bytes, Memory> {
+    let mut bytes = bytes;
+    for change in text.split_whitespace() {
+        if let Some((at, new)) = change.split_once(':') {
+            if let Ok(at) = at.parse::<usize>() {
+                let new = hex_of(alloc, new.as_bytes())?;
+                bytes = put_at(alloc, bytes.as_slice(), at, new.as_slice())?;
+            }
+        }
+    }
+    Ok(bytes)
+}
+
+// The first bytes, as many as a text says.
+fn cut(alloc: Global, bytes: &Bytes, text: &str) -> Result<Bytes, Memory> {
+    let most = text.trim().parse::<usize>().unwrap_or(0);
+    let bytes = bytes.as_slice();
+    let mut front = Bytes::new(alloc);
+    front.append(bytes.get(..most).unwrap_or(bytes))?;
+    Ok(front)
+}
+
+// The bytes of a file that a part gives, with what the row changes in them.
+fn file_of(alloc: Global, row: &Row, form: Form, name: &str, given: &[u8]) -> Result<Bytes, Memory> {
+    let mut bytes = Bytes::new(alloc);
+    match form {
+        Form::Module => bytes.append(given)?,
+        Form::Hex => bytes = hex_of(alloc, given)?,
+        Form::Program => bytes = program_file(alloc, text_in(given))?,
+        Form::Built => bytes = built_file(alloc, given)?,
+    }
+    if let Some(text) = part_for(row, "changed", name) {
+        bytes = changed(alloc, bytes, text_in(text))?;
+    }
+    if let Some(text) = part_for(row, "cut", name) {
+        bytes = cut(alloc, &bytes, text_in(text))?;
+    }
+    Ok(bytes)
+}
+
+/// The calls of an object that fail, whose numbers stand in a part.
+pub fn faults_of(alloc: Global, row: &Row, name: &str) -> Result<Faults, Memory> {
+    let mut calls = Vec::new(alloc);
+    for number in text_in(row.part(name).unwrap_or(b"")).split_whitespace() {
+        if let Ok(number) = number.parse::<u64>() {
+            calls.push(number)?;
+        }
+    }
+    Ok(Faults { calls })
+}
+
+/// The files before a command: the source, an older file under the name of the new one, and those that parts give.
+pub fn files_of(alloc: Global, row: &Row) -> Result<MemFiles, Memory> {
+    let mut files = MemFiles::new(alloc, faults_of(alloc, row, "failing files")?);
+    files.add(MAIN, row.part("source").unwrap_or(b""))?;
+    files.add(TARGET, OLDER)?;
+    for part in &row.parts {
+        if let Some((form, name)) = form_of(part) {
+            let bytes = file_of(alloc, row, form, name, part.content.as_slice())?;
+            files.add(name, bytes.as_slice())?;
+        }
+    }
+    Ok(files)
+}
+
+/// Whether a part gives a file, or says what is changed in one.
+pub fn is_of_files(part: &str) -> bool {
+    match part.split_once(' ') {
+        Some((form, _)) => matches!(form, "module" | "hex" | "program" | "built" | "changed" | "cut"),
+        None => false,
+    }
+}
+
+// Whether both hold the same under a name.
+fn is_same(before: &MemFiles, after: &MemFiles, name: &str) -> bool {
+    before.entry(name) == after.entry(name)
+}
+
+/// Whether the files of a row, but for that of a name, are in both the same.
+pub fn are_same_but(row: &Row, before: &MemFiles, after: &MemFiles, but: &str) -> bool {
+    let mut same = true;
+    for name in [MAIN, TARGET] {
+        same = same && (name == but || is_same(before, after, name));
+    }
+    for part in &row.parts {
+        if let Some((_, name)) = form_of(part) {
+            same = same && (name == but || is_same(before, after, name));
+        }
+    }
+    same
+}
