@@ -11,6 +11,7 @@ use Rattle.elf32.specs.Elf.{words, counted, hook_words, site_words, sink_words, 
 use Rattle.elf32.proofs.FilesWords.{parts_only, counted_only}
 use Rattle.elf32.proofs.Files.{hook_only, site_only, sink_only, skip_only}
 use Rattle.elf32.proofs.ItemLists.{length_words}
+use Rattle.elf32.proofs.Missing.{act_small}
 use Rattle.elf32.proofs.NoteLists.{Fitting}
 
 -- it holds, or it doesn't
@@ -136,18 +137,12 @@ record IsAct (number : ℕ) : Type 0 where
   act : Act
   is : number ≡ act_number act
 
-pub act_less : (act : Act) → act_number act < 4
-act_less Copy = omega arith
-act_less Move = omega arith
-act_less Final = omega arith
-act_less Borrow = omega arith
-
 act_of : (number : ℕ) → Decided (IsAct number)
 act_of zero = holds (record { act = Copy; is = refl })
 act_of (suc zero) = holds (record { act = Move; is = refl })
 act_of (suc (suc zero)) = holds (record { act = Final; is = refl })
 act_of (suc (suc (suc zero))) = holds (record { act = Borrow; is = refl })
-act_of (suc (suc (suc (suc n)))) = fails (λ x. omega (arith, x.is, act_less x.act))
+act_of (suc (suc (suc (suc n)))) = fails (λ x. omega (arith, x.is, act_small x.act))
 
 pub begins_site : (ns : List ℕ) → Decided (Begins site_words ns)
 begins_site [] = fails (begins_long site_words 2 (λ x. refl) [] (omega arith))

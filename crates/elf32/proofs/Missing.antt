@@ -40,7 +40,7 @@ pub because_lists : {A : Type 0} (f : A → List ℕ) (size bytes : ℕ) (here :
 because_lists f size bytes here (Bad fault) sized four why = (why.0, lists_none f size bytes here sized four why.1)
 because_lists f size bytes here Memory sized four why = why
 
-act_small : (act : Act) → act_number act < 4
+pub act_small : (act : Act) → act_number act < 4
 act_small Copy = omega arith
 act_small Move = omega arith
 act_small Final = omega arith

@@ -7,7 +7,8 @@ use nim_core::Plan;
 use rv32_isa::Image;
 use thiserror::Error;
 
-/// What a file says: an image, the version of its note, and the plan that the image was made under.
+/// What a file says: an image, the version of its note, and the plan that the image was made under. A file that can be written
+/// has version 1, a heap of at least 4,096 bytes, and lists in strictly increasing order in its plan.
 #[derive(Debug, Drop)]
 pub struct ElfFile {
     pub image: Image,

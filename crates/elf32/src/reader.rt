@@ -19,7 +19,7 @@ use nim_core::Plan;
 use rv32_isa::{HookAt, Image};
 use std::alloc::Global;
 
-// The ranges of the sizes, in bytes.
+// The ranges of the sizes that program headers tell, in bytes.
 const NOTE_MOST: u32 = 2_097_152;
 
 const CODE_LEAST: u32 = 4;
@@ -59,6 +59,7 @@ struct Said {
     plan: Plan,
 }
 
+// Whether two lists of bytes are equal.
 fn is_same(one: &[u8], other: &[u8]) -> bool
     ensures yes { IsTrue result → one.now ≡ other.now }
     ensures no { IsFalse result → one.now ≡ other.now → ⊥ }
@@ -77,6 +78,7 @@ fn is_front(bytes: &[u8], len: usize) -> bool
     is_same(&bytes[..len], &HEADER[..len])
 }
 
+// The header, and that the program headers are there.
 fn check_header(bytes: &[u8]) -> Result<(), ElfStop>
     ensures long { OnOk result (212 ≤ length bytes.now) }
     ensures header { OnOk result (take 52 bytes.now ≡ header) }
@@ -155,6 +157,7 @@ fn push_front(front: &mut Bytes, size: u32) -> Result<(), Memory>
     push_word(front, VERSION)
 }
 
+// That a note begins as one does, up to its version.
 fn check_front(alloc: Global, note: &[u8]) -> Result<(), ElfStop>
     requires { length note.now < 2 ^ 32 }
     ensures long { OnOk result (24 ≤ length note.now) }
@@ -203,6 +206,7 @@ fn read_note(alloc: Global, note: &[u8], size: u32) -> Result<Said, ElfStop>
     })
 }
 
+// So many bytes from a place on.
 fn part(bytes: &[u8], start: usize, len: usize) -> &[u8]
     requires { start + len ≤ length bytes.now }
     ensures { result.now ≡ take len (drop start bytes.now) }
@@ -234,7 +238,8 @@ fn read_image(
     })
 }
 
-/// The file that has these bytes, or the first part that is not as in a file.
+/// The file that has these bytes. Where there is none, `Bad` says the first part that is not as in a file; the bytes of a file
+/// are never answered so (`one_file`). `Memory` where no memory is found.
 pub fn read(alloc: Global, bytes: &[u8]) -> Result<ElfFile, ElfStop>
     ensures ok { IfOk result (λ file. Elf bytes.now (file_of file)) }
     ensures bad { IfErr result (λ stop. StopsRightly bytes.now stop) }

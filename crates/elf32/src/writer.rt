@@ -252,7 +252,8 @@ fn note_of(alloc: Global, file: &ElfFile) -> Result<Bytes, Memory>
     Ok(bytes)
 }
 
-/// The bytes of a file. There are none that stand for two files.
+/// The bytes of a file, which are those of no other file. Its version is 1, its heap has at least 4,096 bytes, each list of its
+/// plan is in strictly increasing order, and its note has at most 2,097,152 bytes. `Memory` where no memory is found.
 pub fn write(alloc: Global, file: &ElfFile) -> Result<Bytes, Memory>
     requires { IsFile (file_of file.now) }
     ensures elf { IfOk result (λ bytes. Elf bytes (file_of file.now)) }
