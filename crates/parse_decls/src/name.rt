@@ -15,22 +15,12 @@ use nim_tree::{Declared, Name};
 use parse_exprs::{Bracket, Input, Layout};
 use std::alloc::Global;
 
-/// The bytes of a name.
-pub(crate) fn bytes_of(alloc: Global, spelling: &[u8]) -> Result<Bytes, Stop>
-    ensures ok { IfOk result (λ bytes. bytes ≡ spelling.now) }
-    ensures err { IfErr result (λ stop. stop ≡ Memory) }
-{
-    let mut bytes = Bytes::new(alloc);
-    bytes.append(spelling)?;
-    Ok(bytes)
-}
-
 // The name that a token is.
 fn name_of(alloc: Global, input: &Input, token: Token) -> Result<Name, Stop>
     ensures ok { IfOk result (λ name. name ≡ name_of (origin_of input.now) token) }
     ensures err { IfErr result (λ stop. stop ≡ Memory) }
 {
-    let text = bytes_of(alloc, input.spelling(token))?;
+    let text = Bytes::from_slice(alloc, input.spelling(token))?;
     Ok(Name {
         at: input.place_at(token),
         text,
@@ -80,7 +70,7 @@ fn declared_of(alloc: Global, input: &Input, token: Token, shown: bool) -> Resul
     ensures ok { IfOk result (λ name. name ≡ declared_of (origin_of input.now) token (is_quoted token.kind) shown) }
     ensures err { IfErr result (λ stop. stop ≡ Memory) }
 {
-    let text = bytes_of(alloc, input.spelling(token))?;
+    let text = Bytes::from_slice(alloc, input.spelling(token))?;
     Ok(Declared {
         at: input.place_at(token),
         text,

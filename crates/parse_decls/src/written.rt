@@ -14,10 +14,10 @@ ghost use Rattle.parse_decls.specs.Gives.{Comes, Told, typed_of};
 use crate::array_form::read_length;
 use crate::look::{TypeLead, opens_at, type_at, type_lead};
 use crate::make::{make_array, make_named, make_ref, make_tuple};
-use crate::name::{bytes_of, read_declareds};
+use crate::name::read_declareds;
 use crate::reading::{Reading, and_one, stuck, too_deep};
 use crate::values::MOST_LEVELS;
-use arc_base::Stop;
+use arc_base::{Bytes, Stop};
 use indent_scanner::Token;
 use nim_tree::{Expr, Field, TypeTree};
 use parse_exprs::{Bracket, Input, Layout};
@@ -82,7 +82,7 @@ fn read_named(
     if opens_at(input, behind, layout, Bracket::Square) {
         return read_inside(alloc, input, behind + 1, token, whole, left);
     }
-    let text = bytes_of(alloc, input.spelling(token))?;
+    let text = Bytes::from_slice(alloc, input.spelling(token))?;
     Ok(Reading {
         value: make_named(input.place_at(token), text, Vec::new(alloc)),
         next: behind,
@@ -103,7 +103,7 @@ fn read_inside(
     requires few { length input.now.tokens.now < 2 ^ 32 }
     ensures { Comes written_of (λ k. run_inside k None (origin_of input.now) (from_at input.now whole) left token (from_at input.now at)) input.now (suc at) result }
 {
-    let text = bytes_of(alloc, input.spelling(token))?;
+    let text = Bytes::from_slice(alloc, input.spelling(token))?;
     let first = read_type(alloc, input, at, Layout::Brackets, whole, left)?;
     let arguments = read_arguments(alloc, input, first, whole, left)?;
     if !input.closes_at(Bracket::Square, arguments.next) {

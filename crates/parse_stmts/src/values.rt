@@ -67,8 +67,5 @@ pub(crate) fn boxed(alloc: Global, tree: Expr) -> Result<Box<Expr>, Stop>
     ensures ok { IfOk result (λ boxed. boxed.value ≡ tree) }
     ensures err { IfErr result (λ stop. stop ≡ Memory) }
 {
-    match Box::new(alloc, tree) {
-        Ok(boxed) => Ok(boxed),
-        Err(_) => Err(Stop::Memory),
-    }
+    Ok(Box::new(alloc, tree)?)
 }

@@ -59,7 +59,7 @@ read_named-returns-then-opens_at t c =
 
 pub read_named-returns : goal.read_named-returns
 read_named-returns t c =
-    found_is (c.make_named.ensures ∙ named_value (origin_of c.args.input.now) c.args.token c.place_at.ensures (c.in_ok-text.ensures.ok ∙ c.spelling.ensures) (ap arguments_of c.new.ensures.items))
+    found_is (c.make_named.ensures ∙ named_value (origin_of c.args.input.now) c.args.token c.place_at.ensures (c.in_ok-text.ensures ∙ c.spelling.ensures) (ap arguments_of c.new.ensures.items))
     (bare_found c.args.input.now c.args.layout (from_at c.args.input.now c.args.whole) c.args.left c.args.token c.args.at (sym c.opens_at.ensures ∙ c.if-opens_at.false) c.requires.within)
 
 pub read_inside-returns-in_err-first : goal.read_inside-returns-in_err-first
@@ -84,7 +84,7 @@ read_inside-returns t c =
     let l = inside_leads c.args.input.now (from_at c.args.input.now c.args.whole) c.args.left c.args.token (from_at c.args.input.now c.args.at) in
     let g = c.in_ok-first.ensures.goes in
     let h = c.in_ok-arguments.ensures.goes in
-    found_is (c.make_named.ensures ∙ named_value (origin_of c.args.input.now) c.args.token c.place_at.ensures (c.in_ok-text.ensures.ok ∙ c.spelling.ensures) refl)
+    found_is (c.make_named.ensures ∙ named_value (origin_of c.args.input.now) c.args.token c.place_at.ensures (c.in_ok-text.ensures ∙ c.spelling.ensures) refl)
     (close_found c.args.input.now (closes_at Square) _ _ refl (leads_on (leads_then _ c.in_ok-arguments.ensures.runs) (leads_on (leads_then _ c.in_ok-first.ensures.runs) l)) (sym c.closes_at.ensures ∙ c.if-not-closes_at.false) (omega (arith, g, h)))
 
 pub read_arguments-loop-alloc-init : goal.read_arguments-loop-alloc-init
