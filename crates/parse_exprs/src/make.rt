@@ -1,6 +1,7 @@
 // Trees on the heap.
 ghost use Rattle.std.specs.Prelude.{◌≡◌, [], max, IfOk, IfErr};
-ghost use Rattle.nim_tree.specs.Terms.{term_of, parts_of, choices_of, and_part, and_choice, place_of, sequence, named, field, paren, unary, binary, if_term, case_term, case_else, range};
+ghost use Rattle.nim_tree.specs.Terms.{term_of, parts_of, choices_of, and_part, and_choice, place_of, sequence, named};
+ghost use Rattle.nim_tree.specs.Terms.{field, paren, unary, binary, if_term, case_term, case_else, range};
 ghost use Rattle.parse_exprs.specs.Look.{single_of, some_tuple, grouped, as_name, object, applied};
 ghost use Rattle.parse_exprs.specs.Gives.{tree_in};
 ghost use Rattle.parse_exprs.specs.declared.make.Stuck.TheVariants.{Memory};
@@ -161,7 +162,9 @@ pub(crate) fn with_value(tests: Several, value: Reading) -> Tail
 
 // One more branch.
 pub(crate) fn and_branch(some: Branches, at: Place, last: Tail) -> Result<Branches, Stuck>
-    ensures branches { IfOk result (λ all. choices_of all.branches.items ≡ and_choice (choices_of some.branches.items) at (parts_of last.tests.items) (term_of last.value)) }
+    ensures branches { IfOk result
+        (λ all. choices_of all.branches.items ≡ and_choice (choices_of some.branches.items) at
+            (parts_of last.tests.items) (term_of last.value)) }
     ensures next { IfOk result (λ all. all.next ≡ last.next) }
     ensures depth { IfOk result (λ all. all.depth ≡ max some.depth last.depth) }
     ensures err { IfErr result (λ e. e ≡ Memory) }

@@ -28,7 +28,9 @@ pub(crate) fn read_labels(
 ) -> Result<Reading<Vec<Expr>>, Stop>
     requires few { length input.now.tokens.now < 2 ^ 32 }
     requires within { first.next ≤ length input.now.tokens.now }
-    ensures { Comes (λ labels. parts_of labels.items) (λ k. run_labels k (origin_of input.now) spaces (part (term_of first.value) no_parts) (from_at input.now first.next)) input.now first.next result }
+    ensures { Comes (λ labels. parts_of labels.items)
+        (λ k. run_labels k (origin_of input.now) spaces (part (term_of first.value) no_parts)
+            (from_at input.now first.next)) input.now first.next result }
 {
     let mut labels = and_one(Vec::new(alloc), first.value)?;
     let mut next = first.next;

@@ -11,4 +11,5 @@ returns-clause-inner c =
 
 pub returns-clause-short : goal.returns-clause-short
 returns-clause-short c =
-    IfOk-weaker c.text_in.result _ (λ text. length text ≤ length c.args.name.now) (λ text is. subst (λ t. length t ≤ length c.args.name.now) (sym is) (meaning_short T.Quoted c.args.name.now)) c.text_in.ensures
+    IfOk-weaker c.text_in.result _ (λ text. length text ≤ length c.args.name.now)
+        (λ text is. subst (λ t. length t ≤ length c.args.name.now) (sym is) (meaning_short T.Quoted c.args.name.now)) c.text_in.ensures

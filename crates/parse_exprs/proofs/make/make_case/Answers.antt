@@ -4,4 +4,5 @@ use Rattle.nim_tree.proofs.ForCallers.{selected}
 use Rattle.parse_exprs.proofs.make.make_case.Goals as goal
 
 pub returns-in-Ok-clause-ok : goal.returns-in-Ok-clause-ok
-returns-in-Ok-clause-ok c = selected c.args.at c.in-Ok.selector c.args.branches ∙ ap (λ a. case_term c.args.at (term_of a) (choices_of c.args.branches.items)) c.in-Ok.ensures.ok
+returns-in-Ok-clause-ok c = selected c.args.at c.in-Ok.selector c.args.branches ∙ ap (λ a. case_term c.args.at (term_of a) (choices_of c.args.branches.items))
+    c.in-Ok.ensures.ok

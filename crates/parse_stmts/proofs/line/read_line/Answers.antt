@@ -23,18 +23,23 @@ loop-behind-init c =
 
 pub returns-then-not-stays : goal.returns-then-not-stays
 returns-then-not-stays c =
-    let input = c.args.input.now in let x = origin_of input in let h = c.in-Some.ensures in let ts = from_at input c.loop-behind.next in let some = statements_of c.loop-behind.all.items in
+    let input = c.args.input.now in let x = origin_of input in let h = c.in-Some.ensures in let ts = from_at input c.loop-behind.next in let some =
+        statements_of c.loop-behind.all.items in
     line_stuck x c.args.spaces some ts _ _ c.loop-behind.invariant.leads h.is h.behind (sym c.stays.ensures ∙ c.if-not-stays.true) _ c.stuck.ensures
 
 pub returns-in_err-one : goal.returns-in_err-one
 returns-in_err-one c =
     let p = err_from_is_err_and c.from_residual-in_err-one.result c.from_residual-in_err-one.ensures.1 in
-    let input = c.args.input.now in let x = origin_of input in let h = c.in-Some.ensures in let ts = from_at input c.loop-behind.next in let some = statements_of c.loop-behind.all.items in
-    rw (p.1, p.2) (fails_leads _ _ _ (leads_on (line_on x c.args.spaces some ts _ h.is h.behind (sym c.stays.ensures ∙ c.if-not-stays.false)) c.loop-behind.invariant.leads) _ (line_fails x c.args.spaces _ _ _ c.in_err-one.ensures))
+    let input = c.args.input.now in let x = origin_of input in let h = c.in-Some.ensures in let ts = from_at input c.loop-behind.next in let some =
+        statements_of c.loop-behind.all.items in
+    rw (p.1, p.2)
+        (fails_leads _ _ _ (leads_on (line_on x c.args.spaces some ts _ h.is h.behind (sym c.stays.ensures ∙ c.if-not-stays.false))
+                c.loop-behind.invariant.leads) _ (line_fails x c.args.spaces _ _ _ c.in_err-one.ensures))
 
 pub loop-behind-preserved : goal.loop-behind-preserved
 loop-behind-preserved c =
-    let input = c.args.input.now in let x = origin_of input in let h = c.in-Some.ensures in let ts = from_at input c.loop-behind.next in let some = statements_of c.loop-behind.all.items in let one = c.in_ok-one.ensures in let so = c.loop-behind.invariant in
+    let input = c.args.input.now in let x = origin_of input in let h = c.in-Some.ensures in let ts = from_at input c.loop-behind.next in let some =
+        statements_of c.loop-behind.all.items in let one = c.in_ok-one.ensures in let so = c.loop-behind.invariant in
     record {
       leads = leads_on (line_more x c.args.spaces some _ _ _ _ (ap statements_of c.in_ok-all-2.ensures.ok ∙ one_more_statement _ _) one.runs)
           (leads_on (line_on x c.args.spaces some ts _ h.is h.behind (sym c.stays.ensures ∙ c.if-not-stays.false)) so.leads);

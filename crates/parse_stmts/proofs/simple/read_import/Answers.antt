@@ -16,4 +16,5 @@ returns-in_err-names c =
 pub returns : goal.returns
 returns c =
     let h = c.in_ok-names.ensures in
-    rw c.place_at.ensures (found _ _ (leads_on (leads_then _ h.runs) (leads_then _ c.in_ok-first.ensures.runs)) (omega (arith, h.goes, c.in_ok-first.ensures.goes)) h.within)
+    rw c.place_at.ensures (found _ _ (leads_on (leads_then _ h.runs) (leads_then _ c.in_ok-first.ensures.runs))
+            (omega (arith, h.goes, c.in_ok-first.ensures.goes)) h.within)

@@ -19,4 +19,5 @@ returns-then-end_at c = let input = c.args.input.now in let h = c.in_ok-all.ensu
 
 pub returns-else-end_at : goal.returns-else-end_at
 returns-else-end_at c = let input = c.args.input.now in
-    module_is_stuck (origin_of input) _ (from_at input 0) _ _ c.level_at-spaces.ensures c.in_ok-all.ensures.runs (sym c.end_at.ensures ∙ c.if-end_at.false) _ c.stuck.ensures
+    module_is_stuck (origin_of input) _ (from_at input 0) _ _ c.level_at-spaces.ensures c.in_ok-all.ensures.runs (sym c.end_at.ensures ∙ c.if-end_at.false)
+        _ c.stuck.ensures
