@@ -76,7 +76,7 @@ digit_sound bytes b = if_sound bytes (b == 48) (Shaped Zero) (Shaped (Number 10 
 mark_sound : (b : ℕ) (bytes : List ℕ) → IsSound (b ∷ bytes) (open_mark b)
 mark_sound b bytes = if_sound (b ∷ bytes) (is_bracket b) (Known (Found (T.Punct b) 1)) (if is_operator b then Shaped (Single b) else Known (Refused BadByte 0))
     (λ e. (one_there 0, one_there (length bytes), no_end (T.Punct b) tt)) (if_sound (b ∷ bytes) (is_operator b) (Shaped (Single b)) (Known (Refused BadByte 0))
-        (λ e. refl) (none_there (suc (length bytes))))
+    (λ e. refl) (none_there (suc (length bytes))))
 
 pub opening_sound : (b : ℕ) (bytes : List ℕ) → IsSound (b ∷ bytes) (opening_of b bytes)
 opening_sound b bytes =
@@ -91,7 +91,7 @@ opening_sound b bytes =
     (if_sound all (b == 96) (Shaped (Quoted false)) _ (λ e. refl)
     (if_sound all (b == 123) (open_brace (byte_at bytes 0) (byte_at bytes 1)) _ (λ e. brace_sound b bytes (byte_at bytes 1))
     (if_sound all (b == 46 && byte_at bytes 0 == 125) (Known (Found T.PragmaClose 2)) (open_mark b)
-            (λ e. (one_there 1, some_more bytes 124 (both_true _ _ e).1, no_end T.PragmaClose tt))
+    (λ e. (one_there 1, some_more bytes 124 (both_true _ _ e).1, no_end T.PragmaClose tt))
     (mark_sound b bytes))))))))))
 
 -- ---- forms
@@ -124,9 +124,9 @@ clean_within bytes n (Some k) p le h x = omega arith
 
 int_within : (value n : ℕ) (bytes : List ℕ) → 1 ≤ n → n ≤ length bytes → IsWithin bytes (int_piece value n bytes)
 int_within value n bytes one le = if_within bytes _ (Refused BadLiteral 0) (if nat_lt 2147483647 value then Refused IntTooLarge 0
-        else Found (T.Int (pos value)) n) (none_there (length bytes))
+    else Found (T.Int (pos value)) n) (none_there (length bytes))
     (if_within bytes (nat_lt 2147483647 value) (Refused IntTooLarge 0) (Found (T.Int (pos value)) n) (none_there (length bytes))
-        (one, le, no_end (T.Int (pos value)) tt))
+    (one, le, no_end (T.Int (pos value)) tt))
 
 pub piece_within : (t : Shape) (n : ℕ) (bytes : List ℕ) → 1 ≤ n → n ≤ length bytes → IsWithin bytes (piece_of t n bytes)
 piece_within Word n bytes one le = if_within bytes _ (Refused BadLiteral n) (Found (word_kind (key_of (take n bytes))) n) le

@@ -83,14 +83,14 @@ pub reads_char : (b value n : ℕ) (rest : List ℕ) → (b == 39) ≡ true → 
 reads_char b value n rest quote e =
     let le = form_inside n rest (Inside Q.Char None) (CharWhole value) e in
     subst (λ x. IsChar (x ∷ take n rest) value) (sym (eqb-true b 39 quote))
-        (a_char value (take n rest) (char_from value (take n rest) (drop n rest) (split_form (Inside Q.Char None) n rest le ∙ e)))
+    (a_char value (take n rest) (char_from value (take n rest) (drop n rest) (split_form (Inside Q.Char None) n rest le ∙ e)))
 
 pub char_matches : (b : ℕ) (rest : List ℕ) → (b == 39) ≡ true → Matches (Front SomeChar (b ∷ rest)) (Inside Q.Char None) rest
 char_matches b rest quote = record {
   none = λ f. (let w = f.whole in no_char w.0 [] refl w.1);
   to = λ n f. (let w = f.whole in let i = f.inside in (CharWhole w.0, char_reads b w.0 n rest (omega (arith, i)) w.1, refl));
   from = λ n t e w. (let i = form_inside n rest (Inside Q.Char None) t e in let v = char_form n rest t e w in
-          record { inside = omega (arith, i); whole = (v.0, reads_char b v.0 n rest quote (e ∙ ap (λ x. Some x) v.1)) });
+      record { inside = omega (arith, i); whole = (v.0, reads_char b v.0 n rest quote (e ∙ ap (λ x. Some x) v.1)) });
 }
   where
     no_char : (value : ℕ) (whole : List ℕ) → whole ≡ [] → IsChar whole value → ⊥
@@ -111,7 +111,7 @@ text_matches b rest quote = record {
   none = λ f. (let w = f.whole in no_text w.0 [] refl w.1);
   to = λ n f. (let w = f.whole in let i = f.inside in (TextWhole, text_reads b n rest w.0 (omega (arith, i)) w.1, refl));
   from = λ n t e w. (let i = form_inside n rest (Inside Q.Text None) t e in
-          record { inside = omega (arith, i); whole = reads_text b n rest quote (e ∙ ap (λ x. Some x) (text_form n rest t e w)) });
+      record { inside = omega (arith, i); whole = reads_text b n rest quote (e ∙ ap (λ x. Some x) (text_form n rest t e w)) });
 }
   where
     no_text : (values whole : List ℕ) → whole ≡ [] → IsText whole values → ⊥
@@ -194,7 +194,7 @@ quoted_reads : (b n : ℕ) (rest : List ℕ) → n ≤ length rest → IsQuoted 
 quoted_reads b n rest le q =
     let same : take n rest ≡ q.inner ++ 96 ∷ [] = (let e = q.is in cc) in
     sym (split_form (Quoted false) n rest le) ∙ ap (λ x. form (Quoted false) (length x) (x ++ drop n rest)) same
-        ∙ quoted_to q.inner (drop n rest) q.some q.visible
+    ∙ quoted_to q.inner (drop n rest) q.some q.visible
 
 reads_quoted : (b n : ℕ) (rest : List ℕ) → (b == 96) ≡ true → form (Quoted false) n rest ≡ Some QuotedWhole → IsQuoted (b ∷ take n rest)
 reads_quoted b n rest quote e =
@@ -206,7 +206,7 @@ quoted_matches b rest quote = record {
   none = λ f. (let w = f.whole in let e = w.is in let g : ⊥ = cc in g);
   to = λ n f. (let i = f.inside in (QuotedWhole, quoted_reads b n rest (omega (arith, i)) f.whole, refl));
   from = λ n t e w. (let i = form_inside n rest (Quoted false) t e in
-          record { inside = omega (arith, i); whole = reads_quoted b n rest quote (e ∙ ap (λ x. Some x) (quoted_form n rest t e w)) });
+      record { inside = omega (arith, i); whole = reads_quoted b n rest quote (e ∙ ap (λ x. Some x) (quoted_form n rest t e w)) });
 }
 
 -- ---- comments that nest
@@ -258,14 +258,14 @@ reads_comment b zero rest hash e = (let f : ⊥ = cc in absurd f)
 reads_comment b (suc n) rest hash e =
     let le = form_inside n rest (Nested 1 L.Other) NestedWhole e in
     subst (λ x. IsNestedComment (x ∷ 91 ∷ take n rest)) (sym (eqb-true b 35 hash))
-        (nested_comment (take n rest) (nested_from 0 (take n rest) (drop n rest) (split_form (Nested 1 L.Other) n rest le ∙ e)))
+    (nested_comment (take n rest) (nested_from 0 (take n rest) (drop n rest) (split_form (Nested 1 L.Other) n rest le ∙ e)))
 
 nested_matches_at : (b : ℕ) (rest : List ℕ) → (b == 35) ≡ true → Matches (Front IsNestedComment (b ∷ 91 ∷ rest)) (Nested 0 L.Hash) (91 ∷ rest)
 nested_matches_at b rest hash = record {
   none = λ f. nothing_nested [] refl f.whole;
   to = λ n f. (let i = f.inside in (NestedWhole, comment_reads b n rest (omega (arith, i)) f.whole, refl));
   from = λ n t e w. (let i = form_inside n (91 ∷ rest) (Nested 0 L.Hash) t e in
-          record { inside = omega (arith, i); whole = reads_comment b n rest hash (e ∙ ap (λ x. Some x) (nested_form n (91 ∷ rest) t e w)) });
+      record { inside = omega (arith, i); whole = reads_comment b n rest hash (e ∙ ap (λ x. Some x) (nested_form n (91 ∷ rest) t e w)) });
 }
 
 pub nested_matches : (b : ℕ) (rest : List ℕ) → (b == 35) ≡ true → (get_or rest 0 0 == 91) ≡ true → Matches (Front IsNestedComment (b ∷ rest))

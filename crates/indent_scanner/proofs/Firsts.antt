@@ -47,7 +47,7 @@ not_apart : (test : ℕ → Bool) (b : ℕ) (rest : List ℕ) → test 32 ≡ fa
     → is_apart (b ∷ rest) ≡ false
 not_apart test b rest s f r h passes =
     are_false (b == 32) _ (differs test b 32 s passes)
-        (are_false (b == 10) _ (differs test b 10 f passes) (are_false (b == 13) (b == 35) (differs test b 13 r passes) (differs test b 35 h passes)))
+    (are_false (b == 10) _ (differs test b 10 f passes) (are_false (b == 13) (b == 35) (differs test b 13 r passes) (differs test b 35 h passes)))
 
 word_tells : (n b : ℕ) (rest : List ℕ) → is_apart (b ∷ rest) ≡ false → Tells (word_piece n (b ∷ rest)) (b ∷ rest)
 word_tells n b rest e = if_tells (b ∷ rest) _ (Refused BadLiteral n) (Found (word_kind (key_of (take n (b ∷ rest)))) n) tt e

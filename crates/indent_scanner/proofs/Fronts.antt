@@ -39,7 +39,7 @@ module _ (P : Shape → Type 0) where
   pub digit_each : (base value b : ℕ) → ((v : ℕ) → P (Number base v)) → ((v : ℕ) → P (NumberUnder base v)) → P BrokenNumber → Each P (digit_step base value b)
   digit_each base value b n under broken =
       if_each (is_word b) _ None (if_each (b == 95) (Some (NumberUnder base value)) (Some (with_digit base value (digit_value base b))) (under value)
-          (with_digit_each base value (digit_value base b) n broken)) tt
+      (with_digit_each base value (digit_value base b) n broken)) tt
 
   pub digit_due_each : (base value b : ℕ) → ((v : ℕ) → P (Number base v)) → P BrokenNumber → Each P (digit_due_step base value b)
   digit_due_each base value b n broken = if_each (is_word b) (Some (with_digit base value (digit_value base b))) None
@@ -62,7 +62,7 @@ module _ (P : Shape → Type 0) where
   decimal_each q value b next inside decimal =
       let w = value * 10 + (b - 48) in
       if_each (is_digit next) (if nat_le w 255 then Some (Decimal q w) else None) (character q w)
-          (if_each (nat_le w 255) (Some (Decimal q w)) None (decimal w) tt) (character_each q w inside)
+      (if_each (nat_le w 255) (Some (Decimal q w)) None (decimal w) tt) (character_each q w inside)
 
   pub simple_each : (q : Quote) (o : Option ℕ) → ((r : Option ℕ) → P (Inside q r)) → Each P (simple_step q o)
   simple_each q None inside = tt
@@ -72,7 +72,7 @@ module _ (P : Shape → Type 0) where
       → Each P (escaped_step q b next)
   escaped_each q b next inside decimal hex =
       if_each (is_digit b) (decimal_step q 0 b next) (if b == 120 then Some (Hex q None) else simple_step q (simple_escape b))
-          (decimal_each q 0 b next inside decimal)
+      (decimal_each q 0 b next inside decimal)
       (if_each (b == 120) (Some (Hex q None)) (simple_step q (simple_escape b)) (hex None) (simple_each q (simple_escape b) inside))
 
   pub hex_each : (q : Quote) (h d : Option ℕ) → ((r : Option ℕ) → P (Inside q r)) → ((o : Option ℕ) → P (Hex q o)) → Each P (hex_step q h d)
@@ -99,7 +99,7 @@ nested_deep depth L.Hash b =
 nested_deep depth L.Bracket b =
     let less : depth - 1 ≤ suc depth = omega arith in let none : 0 ≤ suc depth = omega arith in let same : depth ≤ suc depth = omega arith in
     if_shape (AtMost (suc depth)) (b == 35) (if nat_le depth 1 then NestedWhole else Nested (depth - 1) L.Other) (nested_on depth b)
-        (if_shape (AtMost (suc depth)) (nat_le depth 1) NestedWhole (Nested (depth - 1) L.Other) none less) (nested_on_deep depth (suc depth) b same)
+    (if_shape (AtMost (suc depth)) (nat_le depth 1) NestedWhole (Nested (depth - 1) L.Other) none less) (nested_on_deep depth (suc depth) b same)
 nested_deep depth L.Other b = let same : depth ≤ suc depth = omega arith in nested_on_deep depth (suc depth) b same
 
 deeper : (s : Shape) (b next : ℕ) → Each (AtMost (suc (depth_of s))) (step s b next)
@@ -114,8 +114,8 @@ deeper s b next = by_shape s
     by_shape Zero =
         let z : 0 ≤ 1 = omega arith in
         if_each (AtMost 1) (b == 120) (Some (NumberUnder 16 0)) _ z
-            (if_each (AtMost 1) (b == 111) (Some (NumberUnder 8 0)) _ z
-                (if_each (AtMost 1) (b == 98) (Some (NumberUnder 2 0)) (digit_step 10 0 b) z (digit_each (AtMost 1) 10 0 b (λ v. z) (λ v. z) z)))
+        (if_each (AtMost 1) (b == 111) (Some (NumberUnder 8 0)) _ z
+        (if_each (AtMost 1) (b == 98) (Some (NumberUnder 2 0)) (digit_step 10 0 b) z (digit_each (AtMost 1) 10 0 b (λ v. z) (λ v. z) z)))
     by_shape (Number base value) = let z : 0 ≤ 1 = omega arith in digit_each (AtMost 1) base value b (λ v. z) (λ v. z) z
     by_shape (NumberUnder base value) = let z : 0 ≤ 1 = omega arith in digit_due_each (AtMost 1) base value b (λ v. z) z
     by_shape BrokenNumber = let z : 0 ≤ 1 = omega arith in if_each (AtMost 1) (is_word b) (Some BrokenNumber) None z tt
@@ -128,7 +128,7 @@ deeper s b next = by_shape s
     by_shape (Quoted some) =
         let z : 0 ≤ 1 = omega arith in
         if_each (AtMost 1) (is_quotable b) (Some (Quoted true)) (if b == 96 && some then Some QuotedWhole else None) z
-            (if_each (AtMost 1) (b == 96 && some) (Some QuotedWhole) None z tt)
+        (if_each (AtMost 1) (b == 96 && some) (Some QuotedWhole) None z tt)
     by_shape QuotedWhole = tt
     by_shape Line = let z : 0 ≤ 1 = omega arith in if_each (AtMost 1) _ (Some Line) None z tt
     by_shape (Nested depth last) = nested_deep depth last b
@@ -153,7 +153,7 @@ stays WordUnder b next w = if_each IsWhole (is_word b) _ None (if_each IsWhole (
 stays BrokenWord b next w = if_each IsWhole (is_word b) (Some BrokenWord) None refl tt
 stays Zero b next w = if_each IsWhole (b == 120) (Some (NumberUnder 16 0)) _ refl
     (if_each IsWhole (b == 111) (Some (NumberUnder 8 0)) _ refl
-        (if_each IsWhole (b == 98) (Some (NumberUnder 2 0)) (digit_step 10 0 b) refl (digit_each IsWhole 10 0 b (λ v. refl) (λ v. refl) refl)))
+    (if_each IsWhole (b == 98) (Some (NumberUnder 2 0)) (digit_step 10 0 b) refl (digit_each IsWhole 10 0 b (λ v. refl) (λ v. refl) refl)))
 stays (Number base value) b next w = digit_each IsWhole base value b (λ v. refl) (λ v. refl) refl
 stays (NumberUnder base value) b next w = digit_due_each IsWhole base value b (λ v. refl) refl
 stays BrokenNumber b next w = if_each IsWhole (is_word b) (Some BrokenNumber) None refl tt

@@ -68,34 +68,34 @@ hash_from : (d b : ℕ) (text rest : List ℕ) → FromText text rest → Closes
 hash_from d b text rest h closes =
     by_test _ (b == 91)
     (λ e. let next : nested_step (suc d) L.Hash b ≡ Nested (suc (suc d)) L.Other = ap (λ v. cond v (Nested (suc d + 1) L.Other) (nested_on (suc d) b)) e
-            ∙ ap (λ k. Nested k L.Other) (add-one (suc d)) in
+    ∙ ap (λ k. Nested k L.Other) (add-one (suc d)) in
     subst (λ x. NestedRest (suc d) (35 ∷ x ∷ text)) (sym (eqb-true b 91 e))
-        (nested_opens d text (h.plain (suc d) (moved (nested_step (suc d) L.Hash b) (Nested (suc (suc d)) L.Other) text rest next closes))))
+    (nested_opens d text (h.plain (suc d) (moved (nested_step (suc d) L.Hash b) (Nested (suc (suc d)) L.Other) text rest next closes))))
     (λ e. nested_other d 35 b text (ap (λ v. v || false) e)
-            (on_from d b text rest h (comment_byte b)
-                (moved (nested_step (suc d) L.Hash b) (nested_on (suc d) b) text rest
-                    (ap (λ v. cond v (Nested (suc d + 1) L.Other) (nested_on (suc d) b)) e) closes)))
+    (on_from d b text rest h (comment_byte b)
+    (moved (nested_step (suc d) L.Hash b) (nested_on (suc d) b) text rest
+    (ap (λ v. cond v (Nested (suc d + 1) L.Other) (nested_on (suc d) b)) e) closes)))
 
 closing_from : (d : ℕ) (text rest : List ℕ) → FromText text rest → Closes (cond (nat_le (suc d) 1) NestedWhole (Nested (suc d - 1) L.Other)) text rest
     → NestedRest d text
 closing_from zero text rest h closes = subst (NestedRest 0) (sym (closed_once text rest closes)) nested_done
 closing_from (suc d) text rest h closes =
     let more : nat_le (suc (suc d)) 1 ≡ false = by_test _ (nat_le (suc (suc d)) 1) (λ e. let f = leb-true (suc (suc d)) 1 e in absurd (omega (arith, f)))
-        (λ e. e) in
+    (λ e. e) in
     let less : suc (suc d) - 1 ≡ suc d = omega arith in
     h.plain d (moved _ (Nested (suc d) L.Other) text rest (ap (λ v. cond v NestedWhole (Nested (suc (suc d) - 1) L.Other)) more
-                ∙ ap (λ k. Nested k L.Other) less) closes)
+    ∙ ap (λ k. Nested k L.Other) less) closes)
 
 bracket_from : (d b : ℕ) (text rest : List ℕ) → FromText text rest → Closes (nested_step (suc d) L.Bracket b) text rest → NestedRest (suc d) (93 ∷ b ∷ text)
 bracket_from d b text rest h closes =
     let next = cond (nat_le (suc d) 1) NestedWhole (Nested (suc d - 1) L.Other) in
     by_test _ (b == 35)
     (λ e. subst (λ x. NestedRest (suc d) (93 ∷ x ∷ text)) (sym (eqb-true b 35 e))
-            (nested_closes d text
-                (closing_from d text rest h (moved (nested_step (suc d) L.Bracket b) next text rest (ap (λ v. cond v next (nested_on (suc d) b)) e) closes))))
+    (nested_closes d text
+    (closing_from d text rest h (moved (nested_step (suc d) L.Bracket b) next text rest (ap (λ v. cond v next (nested_on (suc d) b)) e) closes))))
     (λ e. nested_other d 93 b text (ap (λ v. v) e)
-            (on_from d b text rest h (comment_byte b)
-                (moved (nested_step (suc d) L.Bracket b) (nested_on (suc d) b) text rest (ap (λ v. cond v next (nested_on (suc d) b)) e) closes)))
+    (on_from d b text rest h (comment_byte b)
+    (moved (nested_step (suc d) L.Bracket b) (nested_on (suc d) b) text rest (ap (λ v. cond v next (nested_on (suc d) b)) e) closes)))
 
 from_text : (text rest : List ℕ) → FromText text rest
 from_text [] rest = record { plain = λ d e. cc; hash = λ d e. cc; bracket = λ d e. cc }
@@ -138,17 +138,17 @@ closing_to : (d : ℕ) (text rest : List ℕ) → NestedRest d text → ((k : �
 closing_to zero _ rest nested_done h = refl
 closing_to (suc d) text rest n h =
     let more : nat_le (suc (suc d)) 1 ≡ false = by_test _ (nat_le (suc (suc d)) 1) (λ e. let f = leb-true (suc (suc d)) 1 e in absurd (omega (arith, f)))
-        (λ e. e) in
+    (λ e. e) in
     let less : suc (suc d) - 1 ≡ suc d = omega arith in
     moved (Nested (suc d) L.Other) _ text rest (sym (ap (λ v. cond v NestedWhole (Nested (suc (suc d) - 1) L.Other)) more ∙ ap (λ k. Nested k L.Other) less))
-        (h d refl)
+    (h d refl)
 
 to_text : (depth : ℕ) (text rest : List ℕ) → NestedRest depth text → (d : ℕ) → depth ≡ suc d → Closes (Nested (suc d) L.Other) text rest
 to_text _ _ rest nested_done d e = cc
 to_text _ _ rest (nested_opens depth text n) d e =
     let same : depth ≡ d = cc in
     subst (λ k. Closes (Nested (suc k) L.Other) (35 ∷ 91 ∷ text) rest) same (moved (Nested (suc (suc depth)) L.Other) (Nested (suc depth + 1) L.Other) text rest
-            (ap (λ k. Nested k L.Other) (sym (add-one (suc depth)))) (to_text (suc (suc depth)) text rest n (suc depth) refl))
+    (ap (λ k. Nested k L.Other) (sym (add-one (suc depth)))) (to_text (suc (suc depth)) text rest n (suc depth) refl))
 to_text _ _ rest (nested_closes depth text n) d e =
     let same : depth ≡ d = cc in
     subst (λ k. Closes (Nested (suc k) L.Other) (93 ∷ 35 ∷ text) rest) same (closing_to depth text rest n (to_text depth text rest n))
@@ -157,7 +157,7 @@ to_text _ _ rest (nested_other depth b c text turn n) d e =
     subst (λ k. Closes (Nested (suc k) L.Other) (b ∷ c ∷ text) rest) same
     (moved (Nested (suc depth) w.0) (nested_on (suc depth) b) (c ∷ text) rest (sym w.1)
     (moved (nested_on (suc depth) c) (nested_step (suc depth) w.0 c) text rest (sym (same_on depth b c turn (comment_byte b) w.0 w.1))
-            (to_text (suc depth) (c ∷ text) rest n depth refl)))
+    (to_text (suc depth) (c ∷ text) rest n depth refl)))
 
 pub nested_to : (depth : ℕ) (text rest : List ℕ) → NestedRest (suc depth) text → form (Nested (suc depth) L.Other) (length text) (text ++ rest)
     ≡ Some NestedWhole

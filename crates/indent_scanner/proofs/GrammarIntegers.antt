@@ -53,13 +53,15 @@ hex_plain b d e = by_tests (is_digit b) (is_in 97 102 b) (is_in 65 70 b) refl re
         let r = in_range 48 57 b e in
         (or_right (is_letter b) (is_digit b || b == 95) (or_left (is_digit b) (b == 95) e), ne_eqb b 95 (λ n. omega (arith, n, r.1)))
     by_tests false true w e f g h =
-        let r = in_range 97 102 b f in
-        (or_left (is_letter b) _ (or_right (is_in 65 90 b) (is_in 97 122 b) (is_within 97 122 b r.0 (omega (arith, r.1)))),
-                ne_eqb b 95 (λ n. omega (arith, n, r.0)))
+        let r = in_range 97 102 b f in (
+          or_left (is_letter b) _ (or_right (is_in 65 90 b) (is_in 97 122 b) (is_within 97 122 b r.0 (omega (arith, r.1)))),
+          ne_eqb b 95 (λ n. omega (arith, n, r.0)),
+        )
     by_tests false false true e f g h =
-        let r = in_range 65 70 b g in
-        (or_left (is_letter b) _ (or_left (is_in 65 90 b) (is_in 97 122 b) (is_within 65 90 b r.0 (omega (arith, r.1)))),
-                ne_eqb b 95 (λ n. omega (arith, n, r.1)))
+        let r = in_range 65 70 b g in (
+          or_left (is_letter b) _ (or_left (is_in 65 90 b) (is_in 97 122 b) (is_within 65 90 b r.0 (omega (arith, r.1)))),
+          ne_eqb b 95 (λ n. omega (arith, n, r.1)),
+        )
     by_tests false false false e f g h = cc
 
 below_from : (base d : ℕ) (o : Option ℕ) → below base o ≡ Some d → o ≡ Some d

@@ -89,7 +89,7 @@ simple_is : (q : Quote) (b v next : ℕ) → simple_escape b ≡ Some v → esca
 simple_is q b v next g =
     let a = simple_apart b v g in let third = simple_step q (simple_escape b) in
     ap (λ x. cond x (decimal_step q 0 b next) (cond (b == 120) (Some (Hex q None)) third)) a.0 ∙ ap (λ x. cond x (Some (Hex q None)) third) a.1
-        ∙ ap (simple_step q) g
+    ∙ ap (simple_step q) g
 
 digit_is : (q : Quote) (b next : ℕ) → is_digit b ≡ true → escaped_step q b next ≡ decimal_step q 0 b next
 digit_is q b next e = ap (λ x. cond x (decimal_step q 0 b next) (cond (b == 120) (Some (Hex q None)) (simple_step q (simple_escape b)))) e
@@ -137,10 +137,10 @@ module _ (q : Quote) (rest : List ℕ) where
   decimal_to : (v w : ℕ) (bytes behind : List ℕ) → Decimals v bytes w behind → w ≤ 255 → 0 < length behind → form (Decimal q v) (length bytes) (bytes ++ rest)
       ≡ form (Inside q (Some w)) (length behind) (behind ++ rest)
   decimal_to v _ _ bytes (last_digit _ b _ e f) le some = ap (λ o. after o (length bytes) (bytes ++ rest)) (ap (decimal_step q v b) (head_same bytes rest some)
-          ∙ last_is q v b (get_or bytes 0 0) f le)
+      ∙ last_is q v b (get_or bytes 0 0) f le)
   decimal_to v w _ behind (more_digits _ b _ bytes _ e f d) le some =
       ap (λ o. after o (length bytes) (bytes ++ rest)) (ap (decimal_step q v b) (head_same bytes rest (digits_some _ w bytes behind d))
-              ∙ more_is q v b (get_or bytes 0 0) f (small _ w bytes behind d le))
+      ∙ more_is q v b (get_or bytes 0 0) f (small _ w bytes behind d le))
       ∙ decimal_to (v * 10 + (b - 48)) w bytes behind d le some
 
   escape_to : (w : ℕ) (bytes behind : List ℕ) → Decimals 0 bytes w behind → form (Escaped q) (length bytes) (bytes ++ rest) ≡ form (Decimal q 0) (length bytes)
@@ -257,12 +257,16 @@ module _ (q : Quote) (whole : Shape) (is : is_whole whole ≡ true) (Behind : �
       let step = moved (inside_step q o b) (plain_step q b) text (opens b e) h in
       by_test _ (b == 92)
       (λ g. subst (SomeCharacter q Behind) (ap (λ x. x ∷ text) (sym (eqb-true b 92 g)))
-              (f.escaped (moved (plain_step q b) (Some (Escaped q)) text (ap (λ x. cond x (Some (Escaped q)) (cond (b == 10) None last)) g) step)))
+      (f.escaped (moved (plain_step q b) (Some (Escaped q)) text (ap (λ x. cond x (Some (Escaped q)) (cond (b == 10) None last)) g) step)))
       (λ g. let other = moved (plain_step q b) (cond (b == 10) None last) text (ap (λ x. cond x (Some (Escaped q)) (cond (b == 10) None last)) g) step in
       by_test _ (b == 10)
       (λ k. absurd (no_form text (moved (cond (b == 10) None last) None text (ap (λ x. cond x None last) k) other)))
-      (λ k. record { value = b; behind = text; one = plain b text e g k;
-                  goes = f.inside b (moved (cond (b == 10) None last) last text (ap (λ x. cond x None last) k) other) }))
+      (λ k. record {
+        value = b;
+        behind = text;
+        one = plain b text e g k;
+        goes = f.inside b (moved (cond (b == 10) None last) last text (ap (λ x. cond x None last) k) other);
+      }))
 
   simple_from : (b : ℕ) (text : List ℕ) (o : Option ℕ) → simple_escape b ≡ o → FromText q whole Behind text rest → AfterStep whole (simple_step q o) text rest
       → SomeCharacter q Behind (92 ∷ b ∷ text)
@@ -278,13 +282,24 @@ module _ (q : Quote) (whole : Shape) (is : is_whole whole ≡ true) (Behind : �
       by_test _ (nat_le w 255)
       (λ g. let closes = moved (more q w) (Some (Decimal q w)) text (ap (λ x. cond x (Some (Decimal q w)) None) g) go in
       let d = f.decimal w e closes in let some = not_empty (Decimal q w) text refl closes in
-      record { value = d.value; behind = d.behind; digits = more_digits v b d.value text d.behind digit (ap is_digit (sym (head_same text rest some)) ∙ e)
-              d.digits; fits = d.fits; goes = d.goes })
+      record {
+        value = d.value;
+        behind = d.behind;
+        digits = more_digits v b d.value text d.behind digit (ap is_digit (sym (head_same text rest some)) ∙ e)
+            d.digits;
+        fits = d.fits;
+        goes = d.goes;
+      })
       (λ g. absurd (no_form text (moved (more q w) None text (ap (λ x. cond x (Some (Decimal q w)) None) g) go))))
       (λ e. let c = character_from w text (moved (decimal_step q v b next) (character q w) text (ap (λ x. cond x (more q w) (character q w)) e) h) in
       let some = not_empty (Inside q (Some w)) text refl c.1 in
-      record { value = w; behind = text; digits = last_digit v b text digit (ap is_digit (sym (head_same text rest some)) ∙ e); fits = c.0;
-              goes = f.inside w c.1 })
+      record {
+        value = w;
+        behind = text;
+        digits = last_digit v b text digit (ap is_digit (sym (head_same text rest some)) ∙ e);
+        fits = c.0;
+        goes = f.inside w c.1;
+      })
 
   escaped_from : (b : ℕ) (text : List ℕ) → FromText q whole Behind text rest → AfterStep whole (escaped_step q b (get_or (text ++ rest) 0 0)) text rest
       → SomeCharacter q Behind (92 ∷ b ∷ text)
@@ -298,7 +313,7 @@ module _ (q : Quote) (whole : Shape) (is : is_whole whole ≡ true) (Behind : �
       (λ e. let go = moved (escaped_step q b next) second text (ap (λ x. cond x (decimal_step q 0 b next) second) e) h in
       by_test _ (b == 120)
       (λ g. subst (λ x. SomeCharacter q Behind (92 ∷ x ∷ text)) (sym (eqb-true b 120 g))
-              (f.hex (moved second (Some (Hex q None)) text (ap (λ x. cond x (Some (Hex q None)) third) g) go)))
+      (f.hex (moved second (Some (Hex q None)) text (ap (λ x. cond x (Some (Hex q None)) third) g) go)))
       (λ g. simple_from b text (simple_escape b) refl f (moved second third text (ap (λ x. cond x (Some (Hex q None)) third) g) go)))
 
   hex_from : (b : ℕ) (text : List ℕ) (o : Option ℕ) → hex_value b ≡ o → FromText q whole Behind text rest → AfterStep whole (hex_step q None o) text rest
@@ -346,10 +361,10 @@ text_inside : (o : Option ℕ) (v b : ℕ) (text rest : List ℕ) → FromText Q
     → AfterStep TextWhole (inside_step Q.Text o b) text rest → SomeRest v (b ∷ text)
 text_inside o v b text rest f h = by_test _ (b == 34)
     (λ e. let gone = closed_once text rest (moved Q.Text TextWhole refl SomeRest rest (inside_step Q.Text o b) (Some TextWhole) text
-                (ap (λ x. cond x (Some TextWhole) (plain_step Q.Text b)) e) h) in
+    (ap (λ x. cond x (Some TextWhole) (plain_step Q.Text b)) e) h) in
     subst (SomeRest v) (ap (λ x. x ∷ text) (sym (eqb-true b 34 e))) (subst (λ x. SomeRest v (34 ∷ x)) (sym gone) ([], text_closes)))
     (λ e. let c = opened_from Q.Text TextWhole refl SomeRest rest o b text (text_opens o) e f h in
-            (c.value ∷ c.goes.0, text_goes c.value (b ∷ text) c.behind c.goes.0 c.one c.goes.1))
+    (c.value ∷ c.goes.0, text_goes c.value (b ∷ text) c.behind c.goes.0 c.one c.goes.1))
 
 from_text : (text rest : List ℕ) → FromText Q.Text TextWhole SomeRest text rest
 from_text [] rest = from_nothing Q.Text TextWhole refl SomeRest rest
@@ -374,11 +389,11 @@ char_closed v w (b ∷ text) rest e = (let f : ⊥ = cc in absurd f)
 char_inside : (w v b : ℕ) (text rest : List ℕ) → AfterStep (CharWhole w) (inside_step Q.Char (Some v) b) text rest → Ends w v (b ∷ text)
 char_inside w v b text rest h = by_test _ (b == 39)
     (λ e. let c = char_closed v w text rest (moved Q.Char (CharWhole w) refl (Ends w) rest (inside_step Q.Char (Some v) b) (Some (CharWhole v)) text
-                (ap (λ x. cond x (Some (CharWhole v)) None) e) h) in
+    (ap (λ x. cond x (Some (CharWhole v)) None) e) h) in
     (c.0, ap (λ x. x ∷ text) (eqb-true b 39 e) ∙ ap (λ x. 39 ∷ x) c.1))
     (λ e. absurd
-            (no_form Q.Char (CharWhole w) refl (Ends w) rest text (moved Q.Char (CharWhole w) refl (Ends w) rest (inside_step Q.Char (Some v) b) None text
-                    (ap (λ x. cond x (Some (CharWhole v)) None) e) h)))
+    (no_form Q.Char (CharWhole w) refl (Ends w) rest text (moved Q.Char (CharWhole w) refl (Ends w) rest (inside_step Q.Char (Some v) b) None text
+    (ap (λ x. cond x (Some (CharWhole v)) None) e) h)))
 
 from_char : (w : ℕ) (text rest : List ℕ) → FromText Q.Char (CharWhole w) (Ends w) text rest
 from_char w [] rest = from_nothing Q.Char (CharWhole w) refl (Ends w) rest
@@ -388,7 +403,7 @@ pub char_from : (w : ℕ) (text rest : List ℕ) → form (Inside Q.Char None) (
 char_from w [] rest e = (let f : ⊥ = cc in absurd f)
 char_from w (b ∷ text) rest e = by_test _ (b == 39)
     (λ f. absurd
-            (no_form Q.Char (CharWhole w) refl (Ends w) rest text (moved Q.Char (CharWhole w) refl (Ends w) rest (inside_step Q.Char None b) None text
-                    (ap (λ x. cond x None (plain_step Q.Char b)) f) e)))
+    (no_form Q.Char (CharWhole w) refl (Ends w) rest text (moved Q.Char (CharWhole w) refl (Ends w) rest (inside_step Q.Char None b) None text
+    (ap (λ x. cond x None (plain_step Q.Char b)) f) e)))
     (λ f. let c = opened_from Q.Char (CharWhole w) refl (Ends w) rest None b text char_opens f (from_char w text rest) e in
     subst (λ x. Character 39 (b ∷ text) x (39 ∷ [])) c.goes.0 (subst (λ x. Character 39 (b ∷ text) c.value x) c.goes.1 c.one))

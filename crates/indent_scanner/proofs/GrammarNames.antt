@@ -37,10 +37,12 @@ sound_is b e = either _ (is_letter b) (is_digit b) e
       or_left (is_letter b) (is_digit b || b == 95) f,
       either _ (is_in 65 90 b) (is_in 97 122 b) f
           (λ g. ne_eqb b 95 (λ n. (let r = in_range 65 90 b g in omega (arith, n, r.1))))
-              (λ g. ne_eqb b 95 (λ n. (let r = in_range 97 122 b g in omega (arith, n, r.0)))),
+          (λ g. ne_eqb b 95 (λ n. (let r = in_range 97 122 b g in omega (arith, n, r.0)))),
     ))
-    (λ f. (or_right (is_letter b) (is_digit b || b == 95) (or_left (is_digit b) (b == 95) f),
-                ne_eqb b 95 (λ n. (let r = in_range 48 57 b f in omega (arith, n, r.1)))))
+    (λ f. (
+      or_right (is_letter b) (is_digit b || b == 95) (or_left (is_digit b) (b == 95) f),
+      ne_eqb b 95 (λ n. (let r = in_range 48 57 b f in omega (arith, n, r.1))),
+    ))
 
 sound_so : (b : ℕ) → is_word b ≡ true → (b == 95) ≡ false → is_alphanumeric b ≡ true
 sound_so b e f = either _ (is_letter b) (is_digit b || b == 95) e (λ g. or_left (is_letter b) (is_digit b) g)
@@ -96,9 +98,11 @@ behind_under b n text bytes sound (is_letter_or_digit f u) e = name_under b text
 names_from : (text rest : List ℕ) → (form Word (length text) (text ++ rest) ≡ Some Word → NameRest text)
     × (form WordUnder (length text) (text ++ rest) ≡ Some Word → NameRest (95 ∷ text))
 names_from [] rest = (λ e. name_done, λ e. (let h : ⊥ = cc in absurd h))
-names_from (b ∷ text) rest = let before = names_from text rest in
-    (λ e. name_byte b (length text) text (text ++ rest) before.0 before.1 (word_byte b) e, λ e. behind_under b (length text) text (text ++ rest) before.0
-            (word_byte b) e)
+names_from (b ∷ text) rest = let before = names_from text rest in (
+  λ e. name_byte b (length text) text (text ++ rest) before.0 before.1 (word_byte b) e,
+  λ e. behind_under b (length text) text (text ++ rest) before.0
+      (word_byte b) e,
+)
 
 pub name_from : (text rest : List ℕ) → form Word (length text) (text ++ rest) ≡ Some Word → NameRest text
 name_from text rest e = (names_from text rest).0 e

@@ -86,7 +86,7 @@ module _ (cs : List (ℕ × ℕ)) where
       let m = spaces_outside cs (here.start - length last) last in
       space_more (b == 32 && not comment) here.spaces m k h f
       ∙ sym (ap (λ x. spaces_outside cs (here.start + 1 - length x) x) more ∙ ap (λ x. spaces_outside cs x (last ++ b ∷ [])) same
-          ∙ count_more cs (here.start - length last) here.start b last place ∙ ap (λ v. cond (b == 32 && not v) (suc m) m) inside))
+      ∙ count_more cs (here.start - length last) here.start b last place ∙ ap (λ v. cond (b == 32 && not v) (suc m) m) inside))
 
   last_at : (comment : Bool) (done : List ℕ) (here : Here) (b : ℕ) → length (last_bytes done) ≤ here.start → length (last_bytes (done ++ b ∷ []))
       ≤ (over_byte comment here b).start
@@ -104,7 +104,7 @@ module _ (cs : List (ℕ × ℕ)) where
       let start = start_one comment here b in
       subst (λ x. Counts x (over_gap comment here (b ∷ text))) (append_assoc done (b ∷ []) text)
       (count_gap comment text (done ++ b ∷ []) (over_byte comment here b) (last_at comment done here b le)
-              (λ k low high. inside k (omega (arith, low, start)) (omega (arith, high, start)))
+      (λ k low high. inside k (omega (arith, low, start)) (omega (arith, high, start)))
       (count_one comment done here b le (inside here.start (omega arith) (omega arith)) h))
 
 -- ---- comments from here on
@@ -122,7 +122,7 @@ none_before here _ _ ends k lt = refl
 none_before here bytes tokens (gap true n b r) k lt =
     let e = gap_start true (take n bytes) here in
     are_false _ _ (not_within here.start n k (λ low high. omega (arith, low, lt)))
-        (none_before (over_gap true here (take n bytes)) (drop n bytes) tokens r k (omega (arith, e, lt)))
+    (none_before (over_gap true here (take n bytes)) (drop n bytes) tokens r k (omega (arith, e, lt)))
 none_before here bytes tokens (gap false n b r) k lt =
     let e = gap_start false (take n bytes) here in
     none_before (over_gap false here (take n bytes)) (drop n bytes) tokens r k (omega (arith, e, lt))
@@ -147,24 +147,24 @@ module _ (source mark : List ℕ) (is_mark : length mark ≡ mark_length source)
       let w = begins_within bytes (Gap true n) b in let long = length-take-le n bytes w.1 in let start = gap_start true (take n bytes) here in
       all_indented (done ++ take n bytes) (drop n bytes) (over_gap true here (take n bytes)) tokens (over_the_gap source mark is_mark true n done bytes here h)
       (count_gap cs true (take n bytes) done here (short done bytes here h)
-              (λ k low high. same k low ∙ ap (λ v. v || is_inside (comments r) k) (is_within here.start n k low (omega (arith, high, long)))) counts)
+      (λ k low high. same k low ∙ ap (λ v. v || is_inside (comments r) k) (is_within here.start n k low (omega (arith, high, long)))) counts)
       r (λ k low. same k (omega (arith, low, start)) ∙ ap (λ v. v || is_inside (comments r) k)
-              (not_within here.start n k (λ l high. omega (arith, low, start, long, high))))
+      (not_within here.start n k (λ l high. omega (arith, low, start, long, high))))
   all_indented done bytes here tokens h counts (gap false n b r) same =
       let w = begins_within bytes (Gap false n) b in let long = length-take-le n bytes w.1 in let start = gap_start false (take n bytes) here in
       all_indented (done ++ take n bytes) (drop n bytes) (over_gap false here (take n bytes)) tokens
-          (over_the_gap source mark is_mark false n done bytes here h)
+      (over_the_gap source mark is_mark false n done bytes here h)
       (count_gap cs false (take n bytes) done here (short done bytes here h)
-              (λ k low high. same k low ∙ none_before (over_gap false here (take n bytes)) (drop n bytes) tokens r k (omega (arith, high, start))) counts)
+      (λ k low high. same k low ∙ none_before (over_gap false here (take n bytes)) (drop n bytes) tokens r k (omega (arith, high, start))) counts)
       r (λ k low. same k (omega (arith, low, start)))
   all_indented done bytes here _ h counts (token {tokens = tail} kind n b r) same =
       All-cons (IsIndented source cs) (token_at here kind n (drop n bytes)) tail (counts_here done bytes here h counts)
       (all_indented (done ++ take n bytes) (drop n bytes) (over_token here n) tail
-              (over_the_token source mark is_mark kind n done bytes here (begins_holds bytes (Found kind n) b) h)
+      (over_the_token source mark is_mark kind n done bytes here (begins_holds bytes (Found kind n) b) h)
       (λ k e. cc) r (λ k low. same k (omega (arith, low))))
 
 pub tokens_indented : (source : List ℕ) (tokens : List Token) (r : Tokens source tokens) → All (IsIndented source (comments r)) tokens
 tokens_indented source tokens r =
     all_indented source (take (mark_length source) source) (mark_is source) (comments r) [] (drop (mark_length source) source)
-        (first_place (mark_length source)) tokens (begun source)
+    (first_place (mark_length source)) tokens (begun source)
     (λ k e. let f : 0 ≡ k = cc in sym f) r (λ k low. refl)

@@ -73,10 +73,20 @@ behind_byte comment t here b h =
     let before = h.start in let line = h.line in
     let apart : true ≡ not (here.start + 1 == t.start + t.len) = sym (ap not (beyond (here.start + 1) (t.start + t.len) (omega (arith, before)))) in
     by_cond (Behind t) (b == 10) _ _
-    (λ e. record { start = omega (arith, before); apart = apart; line = omega (arith, line); same = λ f. (let g : ⊥ = omega (arith, f, line) in absurd g);
-                new = λ f. some_zero })
-    (λ e. record { start = omega (arith, before); apart = apart; line = line; same = λ f. spaces_none comment b here.spaces (h.same f);
-                new = λ f. spaces_some comment b here.spaces (h.new f) })
+    (λ e. record {
+      start = omega (arith, before);
+      apart = apart;
+      line = omega (arith, line);
+      same = λ f. (let g : ⊥ = omega (arith, f, line) in absurd g);
+      new = λ f. some_zero;
+    })
+    (λ e. record {
+      start = omega (arith, before);
+      apart = apart;
+      line = line;
+      same = λ f. spaces_none comment b here.spaces (h.same f);
+      new = λ f. spaces_some comment b here.spaces (h.new f);
+    })
 
 behind_gap : (comment : Bool) (t : Token) (bytes : List ℕ) (here : Here) → Behind t here → Behind t (over_gap comment here bytes)
 behind_gap comment t [] here h = h
@@ -180,7 +190,7 @@ last_is here _ _ ends = refl
 last_is here bytes tokens (gap comment n b r) = last_is (over_gap comment here (take n bytes)) (drop n bytes) tokens r
 last_is here bytes _ (token {tokens = tail} kind n b r) =
     last_cons (token_at here kind n (drop n bytes)) tail (not_empty (over_token here n) (drop n bytes) tail r)
-        (last_is (over_token here n) (drop n bytes) tail r)
+    (last_is (over_token here n) (drop n bytes) tail r)
 
 last_at : (left : List Token) (t : Token) → LastIs (left ++ t ∷ []) → t.space_after ≡ true
 last_at [] t l = l

@@ -52,7 +52,7 @@ stops_gap here at bytes code comment n b (behind_gap other m d s) =
     let e = begins_once bytes (Gap other m) (Gap comment n) d b in
     let comments : other ≡ comment = cc in let lengths : m ≡ n = cc in
     subst (λ x. RefusedFrom (over_gap x here (take n bytes)) (drop n bytes) code at) comments
-        (subst (λ x. RefusedFrom (over_gap other here (take x bytes)) (drop x bytes) code at) lengths s)
+    (subst (λ x. RefusedFrom (over_gap other here (take x bytes)) (drop x bytes) code at) lengths s)
 stops_gap here at bytes code comment n b (behind_token kind m d s) =
     let e = begins_once bytes (Gap comment n) (Found kind m) b d in
     (let f : ⊥ = cc in absurd f)
@@ -90,6 +90,8 @@ same_place p q a b c =
 pub refused_once : (source : List ℕ) (number : ℕ) (code other : Code) (at elsewhere : Place) → IsRefused source number code at
     → IsRefused source number other elsewhere → (code ≡ other) × (at ≡ elsewhere)
 refused_once source number code other at elsewhere x y =
-    let e = stops_unique _ x.here y.here _ code other x.stops y.stops in
-    (e.0, same_place at elsewhere (x.in_module ∙ sym y.in_module) (x.on_line ∙ ap (λ h. h.line) e.1 ∙ sym y.on_line)
-            (x.at_column ∙ ap (λ h. h.column) e.1 ∙ sym y.at_column))
+    let e = stops_unique _ x.here y.here _ code other x.stops y.stops in (
+      e.0,
+      same_place at elsewhere (x.in_module ∙ sym y.in_module) (x.on_line ∙ ap (λ h. h.line) e.1 ∙ sym y.on_line)
+          (x.at_column ∙ ap (λ h. h.column) e.1 ∙ sym y.at_column),
+    )

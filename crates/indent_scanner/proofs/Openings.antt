@@ -51,7 +51,7 @@ opens_letter b rest e = ap (λ v. cond v (Shaped Word) (behind_letters b rest)) 
 no_letter : (b : ℕ) → is_digit b ≡ true → is_letter b ≡ false
 no_letter b e = let d = in_range 48 57 b e in by_test _ (is_letter b)
     (λ f. absurd (either _ (is_in 65 90 b) (is_in 97 122 b) f (λ g. (let r = in_range 65 90 b g in omega (arith, r.0, d.1)))
-                (λ g. (let r = in_range 97 122 b g in omega (arith, r.0, d.1)))))
+    (λ g. (let r = in_range 97 122 b g in omega (arith, r.0, d.1)))))
     (λ f. f)
 
 pub opens_digit : (b : ℕ) (rest : List ℕ) → is_digit b ≡ true → opening_of b rest ≡ open_digit b
@@ -90,7 +90,7 @@ pub pragma_opening : (b : ℕ) (rest : List ℕ) → opens_pragma b rest ≡ tru
 pragma_opening b rest e =
     let f = both_true (b == 123) (byte_at rest 0 == 46 && not (byte_at rest 1 == 46)) e in
     at_byte (λ x. opening_of x rest ≡ Known (Found T.PragmaOpen 2)) b 123
-        (ap (λ v. cond v (Known (Found T.PragmaOpen 2)) (Known (Found (T.Punct 123) 1))) f.1) f.0
+    (ap (λ v. cond v (Known (Found T.PragmaOpen 2)) (Known (Found (T.Punct 123) 1))) f.1) f.0
 
 pub pragma_closing : (b : ℕ) (rest : List ℕ) → (b == 46 && byte_at rest 0 == 125) ≡ true → opening_of b rest ≡ Known (Found T.PragmaClose 2)
 pragma_closing b rest e =
@@ -107,7 +107,7 @@ opens_bracket b rest e =
     (λ e. either _ (b == 91) _ e (at_byte (AsBracket rest) b 91 (λ p. refl)) (λ e. either _ (b == 93) _ e (at_byte (AsBracket rest) b 93 (λ p. refl))
     (λ e. either _ (b == 123) _ e (at_byte (AsBracket rest) b 123 (λ p. ap (λ v. cond v (Known (Found T.PragmaOpen 2)) (Known (Found (T.Punct 123) 1))) p))
     (λ e. either _ (b == 125) _ e (at_byte (AsBracket rest) b 125 (λ p. refl))
-            (λ e. either _ (b == 44) (b == 59) e (at_byte (AsBracket rest) b 44 (λ p. refl)) (at_byte (AsBracket rest) b 59 (λ p. refl))))))))
+    (λ e. either _ (b == 44) (b == 59) e (at_byte (AsBracket rest) b 44 (λ p. refl)) (at_byte (AsBracket rest) b 59 (λ p. refl))))))))
 
 not_true : (v : Bool) → not v ≡ true → v ≡ false
 not_true true e = cc
@@ -130,12 +130,12 @@ opens_run b rest e =
     (λ e. either _ (b == 42) _ e (plain 42 (λ p. refl)) (λ e. either _ (b == 47) _ e (plain 47 (λ p. refl)) (λ e. either _ (b == 60) _ e (plain 60 (λ p. refl))
     (λ e. either _ (b == 62) _ e (plain 62 (λ p. refl)) (λ e. either _ (b == 64) _ e (plain 64 (λ p. refl)) (λ e. either _ (b == 36) _ e (plain 36 (λ p. refl))
     (λ e. either _ (b == 126) _ e (plain 126 (λ p. refl))
-            (λ e. either _ (b == 38) _ e (plain 38 (λ p. refl)) (λ e. either _ (b == 37) _ e (plain 37 (λ p. refl))
+    (λ e. either _ (b == 38) _ e (plain 38 (λ p. refl)) (λ e. either _ (b == 37) _ e (plain 37 (λ p. refl))
     (λ e. either _ (b == 124) _ e (plain 124 (λ p. refl))
-            (λ e. either _ (b == 33) _ e (plain 33 (λ p. refl)) (λ e. either _ (b == 63) _ e (plain 63 (λ p. refl))
+    (λ e. either _ (b == 33) _ e (plain 33 (λ p. refl)) (λ e. either _ (b == 63) _ e (plain 63 (λ p. refl))
     (λ e. either _ (b == 94) _ e (plain 94 (λ p. refl))
-            (λ e. either _ (b == 46) _ e (plain 46 (dot_runs rest))
-                (λ e. either _ (b == 58) (b == 92) e (plain 58 (λ p. refl)) (plain 92 (λ p. refl)))))))))))))))))))
+    (λ e. either _ (b == 46) _ e (plain 46 (dot_runs rest))
+    (λ e. either _ (b == 58) (b == 92) e (plain 58 (λ p. refl)) (plain 92 (λ p. refl)))))))))))))))))))
 
 pub opens_none : (b : ℕ) (rest : List ℕ) → is_first b (byte_at rest 0) ≡ false → opening_of b rest ≡ Known (Refused BadByte 0)
 opens_none b rest e =
@@ -185,24 +185,24 @@ walk b rest =
     let is = Opens b rest in let next = byte_at rest 0 in
     by_cond is (is_letter b) (Shaped Word) (behind_letters b rest) letter_opens (λ letter.
     by_cond is (is_digit b) (open_digit b) (behind_digits b rest)
-        (λ d. by_cond is (b == 48) (Shaped Zero) (Shaped (Number 10 (b - 48))) (zero_opens d) (digit_opens d)) (λ digit.
+    (λ d. by_cond is (b == 48) (Shaped Zero) (Shaped (Number 10 (b - 48))) (zero_opens d) (digit_opens d)) (λ digit.
     by_cond is (is_blank b) (Known (Gap false 1)) (behind_blanks b rest) blank_opens (λ blank.
     by_cond is (b == 13 && next == 10) (Known (Gap false 2)) (behind_ends b rest) line_end_opens (λ end.
     by_cond is (b == 35) (open_comment next) (behind_comments b rest) (λ h. by_cond is (next == 91) (Shaped (Nested 0 L.Hash)) (Shaped Line) (nested_opens h)
-            (line_opens h)) (λ hash.
+    (line_opens h)) (λ hash.
     by_cond is (b == 39) (Shaped (Inside Q.Char None)) (behind_chars b rest) char_opens (λ char.
     by_cond is (b == 34) (open_text next (byte_at rest 1)) (behind_texts b rest)
-        (λ t. by_cond is (is_triple rest) (Known (Refused BadLiteral 0)) (Shaped (Inside Q.Text None)) (triple_opens t) (text_opens t)) (λ text.
+    (λ t. by_cond is (is_triple rest) (Known (Refused BadLiteral 0)) (Shaped (Inside Q.Text None)) (triple_opens t) (text_opens t)) (λ text.
     by_cond is (b == 96) (Shaped (Quoted false)) (behind_ticks b rest) quoted_opens (λ tick.
     by_cond is (b == 123) (open_brace next (byte_at rest 1)) (behind_braces b rest)
     (λ brace. by_cond is (next == 46 && not (byte_at rest 1 == 46)) (Known (Found T.PragmaOpen 2)) (Known (Found (T.Punct 123) 1))
     (λ p. pragma_opens (are_true (b == 123) _ brace p)) (λ p. brace_opens brace (ap (λ v. v && (next == 46 && not (byte_at rest 1 == 46))) brace ∙ p)))
-        (λ brace.
+    (λ brace.
     by_cond is (b == 46 && next == 125) (Known (Found T.PragmaClose 2)) (open_mark b) pragma_closes (λ closes.
     by_cond is (is_bracket b) (Known (Found (T.Punct b) 1)) (cond (is_operator b) (Shaped (Single b)) (Known (Refused BadByte 0)))
     (λ bracket. bracket_opens bracket (ap (λ v. v && (next == 46 && not (byte_at rest 1 == 46))) brace)) (λ bracket.
     by_cond is (is_operator b) (Shaped (Single b)) (Known (Refused BadByte 0)) (λ operator. run_opens (runs b next operator closes)) (λ operator.
     none_opens (are_false (is_letter b) _ letter
-            (are_false (is_digit b) _ digit
-                (are_false (is_blank b) _ blank (are_false (b == 13 && next == 10) _ end (are_false (b == 35) _ hash (are_false (b == 39) _ char
+    (are_false (is_digit b) _ digit
+    (are_false (is_blank b) _ blank (are_false (b == 13 && next == 10) _ end (are_false (b == 35) _ hash (are_false (b == 39) _ char
     (are_false (b == 34) _ text (are_false (b == 96) _ tick (are_false (is_bracket b) (is_operator b) bracket operator)))))))))))))))))))))

@@ -34,8 +34,12 @@ stuck_here : (s : Shape) (b : ℕ) (bytes : List ℕ) → step s b (get_or bytes
 stuck_here s b bytes e = record { far = 0; reaches = s; reached = refl; stuck = ap (λ o. and_then o (λ t. form t 0 bytes)) e }
 
 stuck_later : (s u : Shape) (b : ℕ) (bytes : List ℕ) → step s b (get_or bytes 0 0) ≡ Some u → Stuck u bytes → Stuck s (b ∷ bytes)
-stuck_later s u b bytes e r = record { far = suc r.far; reaches = r.reaches; reached = then_form s u r.far b bytes e ∙ r.reached;
-        stuck = then_form s u (suc r.far) b bytes e ∙ r.stuck }
+stuck_later s u b bytes e r = record {
+  far = suc r.far;
+  reaches = r.reaches;
+  reached = then_form s u r.far b bytes e ∙ r.reached;
+  stuck = then_form s u (suc r.far) b bytes e ∙ r.stuck;
+}
 
 stuck_after : (s : Shape) (b : ℕ) (bytes : List ℕ) (o : Option Shape) → step s b (get_or bytes 0 0) ≡ o → ((u : Shape) → Stuck u bytes) → Stuck s (b ∷ bytes)
 stuck_after s b bytes None e on = stuck_here s b bytes e
@@ -103,12 +107,21 @@ outcome (suc size) here (b ∷ rest) le =
 pub tokens_or_refused : (source : List ℕ) (number : ℕ) → ((tokens : List Token) × Tokens source tokens)
     ⊎ ((code : Code) × (at : Place) × IsRefused source number code at)
 tokens_or_refused source number = on (outcome (length (drop (mark_length source) source)) (first_place (mark_length source)) (drop (mark_length source) source)
-        (omega arith))
+    (omega arith))
   where
     on : Outcome (first_place (mark_length source)) (drop (mark_length source) source) → ((tokens : List Token) × Tokens source tokens)
         ⊎ ((code : Code) × (at : Place) × IsRefused source number code at)
     on (inl x) = inl x
     on (inr x) =
         let here = x.1 in
-        inr (x.0, record { «module» = number; line = here.line; column = here.column }, record { here = here; stops = x.2; in_module = refl; on_line = refl;
-                    at_column = refl })
+        inr (
+          x.0,
+          record { «module» = number; line = here.line; column = here.column },
+          record {
+            here = here;
+            stops = x.2;
+            in_module = refl;
+            on_line = refl;
+            at_column = refl;
+          },
+        )

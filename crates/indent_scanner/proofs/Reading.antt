@@ -27,7 +27,7 @@ reads_gap here bytes tokens comment n b (gap other m c r) =
     let e = begins_once bytes (Gap other m) (Gap comment n) c b in
     let comments : other ≡ comment = cc in let lengths : m ≡ n = cc in
     subst (λ x. TokensFrom (over_gap x here (take n bytes)) (drop n bytes) tokens) comments
-        (subst (λ x. TokensFrom (over_gap other here (take x bytes)) (drop x bytes) tokens) lengths r)
+    (subst (λ x. TokensFrom (over_gap other here (take x bytes)) (drop x bytes) tokens) lengths r)
 reads_gap here bytes _ comment n b (token kind m c r) = let e = begins_once bytes (Found kind m) (Gap comment n) c b in (let f : ⊥ = cc in absurd f)
 
 pub reads_token : (here : Here) (bytes : List ℕ) (tokens : List Token) (kind : Tok) (n : ℕ) → Begins bytes (Found kind n) → TokensFrom here bytes tokens
@@ -36,9 +36,11 @@ reads_token here bytes tokens kind n b ends = absurd b
 reads_token here bytes tokens kind n b (gap other m c r) = let e = begins_once bytes (Gap other m) (Found kind n) c b in (let f : ⊥ = cc in absurd f)
 reads_token here bytes _ kind n b (token {tokens = tail} other m c r) =
     let e = begins_once bytes (Found other m) (Found kind n) c b in
-    let kinds : other ≡ kind = cc in let lengths : m ≡ n = cc in
-    (tail, ap (λ k. token_at here k m (drop m bytes) ∷ tail) kinds ∙ ap (λ x. token_at here kind x (drop x bytes) ∷ tail) lengths,
-            subst (λ x. TokensFrom (over_token here x) (drop x bytes) tail) lengths r)
+    let kinds : other ≡ kind = cc in let lengths : m ≡ n = cc in (
+      tail,
+      ap (λ k. token_at here k m (drop m bytes) ∷ tail) kinds ∙ ap (λ x. token_at here kind x (drop x bytes) ∷ tail) lengths,
+      subst (λ x. TokensFrom (over_token here x) (drop x bytes) tail) lengths r,
+    )
 
 pub reads_none : (here : Here) (bytes : List ℕ) (tokens : List Token) (code : Code) (k : ℕ) → Begins bytes (Refused code k) → TokensFrom here bytes tokens → ⊥
 reads_none here bytes tokens code k b ends = b
@@ -100,7 +102,7 @@ pub gap_turn : (first here new : Here) (all rest text left : List ℕ) (done : L
     → Begins rest (Gap comment n) → new ≡ over_gap comment here text → text ≡ take n rest → left ≡ drop n rest → SoFar first new all left done
 gap_turn first here new all rest text left done comment n h b place text_is left_is =
     subst (λ x. SoFar first x all left done) (sym (place ∙ ap (over_gap comment here) text_is))
-        (subst (λ x. SoFar first (over_gap comment here (take n rest)) all x done) (sym left_is) (over_a_gap first here all rest done comment n h b))
+    (subst (λ x. SoFar first (over_gap comment here (take n rest)) all x done) (sym left_is) (over_a_gap first here all rest done comment n h b))
 
 pub token_turn : (first here new : Here) (all rest left : List ℕ) (done more : List Token) (t : Token) (kind : Tok) (n : ℕ) → SoFar first here all rest done
     → Begins rest (Found kind n) → left ≡ drop n rest → t ≡ token_at here kind n left → more ≡ done ++ t ∷ [] → new ≡ over_token here n
@@ -108,8 +110,8 @@ pub token_turn : (first here new : Here) (all rest left : List ℕ) (done more :
 token_turn first here new all rest left done more t kind n h b left_is token_is more_is place =
     let is : more ≡ done ++ token_at here kind n (drop n rest) ∷ [] = more_is ∙ ap (λ x. done ++ x ∷ []) (token_is ∙ ap (token_at here kind n) left_is) in
     subst (λ x. SoFar first x all left more) (sym place)
-        (subst (λ x. SoFar first (over_token here n) all x more) (sym left_is)
-            (subst (SoFar first (over_token here n) all (drop n rest)) (sym is) (over_a_token first here all rest done kind n h b)))
+    (subst (λ x. SoFar first (over_token here n) all x more) (sym left_is)
+    (subst (SoFar first (over_token here n) all (drop n rest)) (sym is) (over_a_token first here all rest done kind n h b)))
 
 pub gap_size : (rest left : List ℕ) (n start next size : ℕ) → n ≤ length rest → left ≡ drop n rest → next ≡ start + length (take n rest)
     → start + length rest ≡ size → next + length left ≡ size
@@ -133,8 +135,14 @@ pub record Kept (source : List ℕ) (start : ℕ) (done : List Token) : Type 0 w
   pub placed : All PlaceFits done
 
 pub kept_further : (source : List ℕ) (start next : ℕ) (done : List Token) → start ≤ next → Kept source start done → Kept source next done
-kept_further source start next done le k = record { count = omega (arith, le, k.count); inside = k.inside; inner = k.inner; some = k.some;
-        bytes = omega (arith, le, k.bytes); placed = k.placed }
+kept_further source start next done le k = record {
+  count = omega (arith, le, k.count);
+  inside = k.inside;
+  inner = k.inner;
+  some = k.some;
+  bytes = omega (arith, le, k.bytes);
+  placed = k.placed;
+}
 
 bytes_push : (done : List Token) (t : Token) → token_bytes (done ++ t ∷ []) ≡ token_bytes done + t.len
 bytes_push [] t = omega arith
@@ -197,7 +205,7 @@ pub no_tokens : (source : List ℕ) (number : ℕ) (here place : Here) (rest : L
     → stop ≡ refusal number place code → OnRefusal stop (λ _ _. (tokens : List Token) → Tokens source tokens → ⊥)
 no_tokens source number here place rest done code k stop h b stop_is =
     subst (λ x. OnRefusal x (λ _ _. (tokens : List Token) → Tokens source tokens → ⊥)) (sym stop_is)
-        (none_here (first_place (mark_length source)) here (drop (mark_length source) source) rest done code k h b)
+    (none_here (first_place (mark_length source)) here (drop (mark_length source) source) rest done code k h b)
 
 pub ends_so : (here : Here) (rest : List ℕ) (done more : List Token) (t : Token) → t ≡ token_at here End 0 rest → more ≡ done ++ t ∷ [] → All IsInner done
     → IsEnded more

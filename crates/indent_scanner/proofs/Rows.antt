@@ -205,7 +205,7 @@ integer_by_form b n value rest l integer =
     (takes_front (Front IsNumeral (b ∷ rest)) s.0 b rest n _ (number_matches b rest s.0 digit number) l
     (λ k t is e w. let told = integer_to b value k rest s.0 t digit s.1 e (subst (λ x. IsInteger (take x (b ∷ rest)) value) is integer) in
     ap (λ x. int_piece value x (b ∷ rest)) is ∙ int_capped value (suc k) (b ∷ rest)
-        ∙ sym (number_piece t (cap value) (suc k) (b ∷ rest) (number_form k rest s.0 t number e) told)))
+    ∙ sym (number_piece t (cap value) (suc k) (b ∷ rest) (number_form k rest s.0 t number e) told)))
 
 bad_number : (b k : ℕ) (rest : List ℕ) (s t : Shape) (o : Option ℕ) → value_in t ≡ o → is_digit b ≡ true → Starts b s → IsNumberForm t → form s k rest ≡ Some t
     → ((value : ℕ) → IsInteger (b ∷ take k rest) value → ⊥) → Refused BadLiteral 0 ≡ piece_of t (suc k) (b ∷ rest)
@@ -226,7 +226,7 @@ number_here : (b k : ℕ) (rest : List ℕ) (s t : Shape) (o : Option ℕ) → v
 number_here b k rest s t (Some got) told digit starts number l e =
     let h = integer_from b got k rest s t digit starts e told in
     subst (FirstPiece b rest) (int_capped h.0 (suc k) (b ∷ rest) ∙ ap (λ x. int_piece x (suc k) (b ∷ rest)) (sym h.2)
-            ∙ sym (number_piece t got (suc k) (b ∷ rest) number told)) (integer_here (suc k) h.0 l h.1)
+    ∙ sym (number_piece t got (suc k) (b ∷ rest) number told)) (integer_here (suc k) h.0 l h.1)
 number_here b k rest s t None told digit starts number l e =
     subst (FirstPiece b rest) (sym (number_none t (suc k) (b ∷ rest) number told)) (bad_integer (suc k) l
     (λ value integer. (let f = integer_to b value k rest s t digit starts e integer in let g : ⊥ = cc in g)))
@@ -290,7 +290,7 @@ a_char_here : (b k value : ℕ) (rest : List ℕ) (t : Shape) → (b == 39) ≡ 
     ≡ Some t → t ≡ CharWhole value → FirstPiece b rest (piece_of t (suc k) (b ∷ rest))
 a_char_here b k value rest t quote l e is = subst (λ x. FirstPiece b rest (piece_of x (suc k) (b ∷ rest))) (sym is)
     (char_here (suc k) value l (reads_char b value k rest quote (e ∙ ap (λ x. Some x) is))
-            (checked_from (CharWhole value) (suc k) (b ∷ rest) (Found (T.Char value) (suc k)) l.holds.inside))
+    (checked_from (CharWhole value) (suc k) (b ∷ rest) (Found (T.Char value) (suc k)) l.holds.inside))
 
 from_char : (b : ℕ) (rest : List ℕ) (p : Piece) → (b == 39) ≡ true → Takes (Shaped (Inside Q.Char None)) b rest p → FirstPiece b rest p
 from_char b rest p quote x = from_takes (Front SomeChar (b ∷ rest)) (Inside Q.Char None) b rest p (char_matches b rest quote)
@@ -358,7 +358,7 @@ by_form_at b rest p (nested_comment_here n l c) = nested_by_form b n rest p l c
 by_form_at b rest _ (bad_comment e none) =
     let f = both_true (b == 35) (byte_at rest 0 == 91) e in
     shaped b rest _ (Nested 0 L.Hash) (O.opens_nested b rest f.0 f.1)
-        (takes_none (Front IsNestedComment (b ∷ rest)) (Nested 0 L.Hash) b rest _ (nested_matches b rest f.0 f.1) none refl)
+    (takes_none (Front IsNestedComment (b ∷ rest)) (Nested 0 L.Hash) b rest _ (nested_matches b rest f.0 f.1) none refl)
 by_form_at b rest _ (name_here n l name) = name_by_form b n rest l name
 by_form_at b rest _ (bad_name n l bad) = bad_name_by_form b n rest l bad
 by_form_at b rest _ (integer_here n value l integer) = integer_by_form b n value rest l integer
@@ -370,7 +370,7 @@ by_form_at b rest p (text_here n single l c) = text_by_form b n rest p single l 
 by_form_at b rest _ (bad_text quote none) = by_test _ (is_triple rest)
     (λ triple. known b rest _ (O.opens_triple b rest quote triple))
     (λ single. shaped b rest _ (Inside Q.Text None) (O.opens_text b rest quote single)
-            (takes_none (Front SomeText (b ∷ rest)) (Inside Q.Text None) b rest _ (text_matches b rest quote) none refl))
+    (takes_none (Front SomeText (b ∷ rest)) (Inside Q.Text None) b rest _ (text_matches b rest quote) none refl))
 by_form_at b rest _ (triple_quotes quote triple) = known b rest _ (O.opens_triple b rest quote triple)
 by_form_at b rest _ (quoted_here n l) = quoted_by_form b n rest l
 by_form_at b rest _ (bad_quoted quote none) = shaped b rest _ (Quoted false) (O.opens_quoted b rest quote)

@@ -67,7 +67,7 @@ at_most value e = grind (arith, e, le-leb)
 int_holds : (value n : ℕ) (bytes : List ℕ) → n ≤ length bytes → NoFeed (take n bytes) → IsInteger (take n bytes) value → Holds (int_piece value n bytes) bytes
 int_holds value n bytes le feeds integer =
     if_holds bytes (byte_at bytes n == 46 && is_digit (byte_at bytes (n + 1))) (Refused BadLiteral 0)
-        (cond (nat_lt 2147483647 value) (Refused IntTooLarge 0) (Found (T.Int (pos value)) n)) (λ e. tt)
+    (cond (nat_lt 2147483647 value) (Refused IntTooLarge 0) (Found (T.Int (pos value)) n)) (λ e. tt)
     (λ e. if_holds bytes (nat_lt 2147483647 value) (Refused IntTooLarge 0) (Found (T.Int (pos value)) n) (λ f. tt)
     (λ f. record { inside = le; no_feed = feeds; spelled = (value, integer, at_most value f, refl) }))
 
@@ -128,13 +128,20 @@ run_holds : (n b : ℕ) (rest : List ℕ) → IsRun (b ∷ rest) n → Holds (ru
 run_holds n b rest r =
     let all = b ∷ rest in let some = r.some in let last = Found T.Op n in
     if_holds all (n == 1 && is_mark b) (Found (T.Punct b) 1) (cond (n == 2 && (b == 42 && byte_at all 1 == 58)) (Found T.Op 1) last)
-    (λ e. record { inside = omega arith; no_feed = (other_byte is_operator b refl (run_operators n all r 0 (omega (arith, some))), tt);
-                spelled = (or_right (is_bracket b) (is_mark b) (both_true (n == 1) _ e).1, refl) })
+    (λ e. record {
+      inside = omega arith;
+      no_feed = (other_byte is_operator b refl (run_operators n all r 0 (omega (arith, some))), tt);
+      spelled = (or_right (is_bracket b) (is_mark b) (both_true (n == 1) _ e).1, refl);
+    })
     (λ e. if_holds all (n == 2 && (b == 42 && byte_at all 1 == 58)) (Found T.Op 1) last
     (λ f. front_holds n 1 b rest r some (λ pass inside. star_alone b (both_true (b == 42) _ (both_true (n == 2) _ f).1).0 pass))
     (λ f. front_holds n n b rest r (omega arith)
-            (λ pass inside. record { operators = pass; some = front_some n b rest some; no_mark = run_no_mark n b rest inside e;
-                    no_star_colon = run_no_star_colon n b rest inside f })))
+    (λ pass inside. record {
+      operators = pass;
+      some = front_some n b rest some;
+      no_mark = run_no_mark n b rest inside e;
+      no_star_colon = run_no_star_colon n b rest inside f;
+    })))
 
 -- ---- two bytes
 

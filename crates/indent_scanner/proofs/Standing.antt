@@ -66,8 +66,10 @@ over_one : (comment : Bool) (here : Here) (done : List ℕ) (b : ℕ) → At don
 over_one comment here done b at =
     by_cond (At (done ++ b ∷ [])) (b == 10) _ _
     (λ e. record { line = (let f = feed_more done b e in let g = at.line in omega (arith, f, g)); column = (let f = feed_last done b e in omega (arith, f)) })
-    (λ e. record { line = at.line ∙ ap (λ x. suc x) (sym (plain_more done b e));
-                column = (let f = plain_last done b e in let g = at.column in omega (arith, f, g)) })
+    (λ e. record {
+      line = at.line ∙ ap (λ x. suc x) (sym (plain_more done b e));
+      column = (let f = plain_last done b e in let g = at.column in omega (arith, f, g));
+    })
 
 pub start_one : (comment : Bool) (here : Here) (b : ℕ) → (over_byte comment here b).start ≡ here.start + 1
 start_one comment here b = by_cond {A = Here} (λ h. h.start ≡ here.start + 1) (b == 10) _ _ (λ e. refl) (λ e. refl)
@@ -84,9 +86,11 @@ gap_start comment (b ∷ text) here = let e = gap_start comment text (over_byte 
 feeds_none : (text done : List ℕ) → NoFeed text → (line_feeds (done ++ text) ≡ line_feeds done) × (last_line (done ++ text) ≡ last_line done + length text)
 feeds_none [] done n = (ap line_feeds (append-nil done), (let e = ap last_line (append-nil done) in omega (arith, e)))
 feeds_none (b ∷ text) done n =
-    let r = feeds_none text (done ++ b ∷ []) n.1 in let same = append_assoc done (b ∷ []) text in
-    (ap line_feeds (sym same) ∙ r.0 ∙ plain_more done b n.0, (let e = ap last_line (sym same) in let f = plain_last done b n.0 in let g = r.1 in
-                omega (arith, e, f, g)))
+    let r = feeds_none text (done ++ b ∷ []) n.1 in let same = append_assoc done (b ∷ []) text in (
+      ap line_feeds (sym same) ∙ r.0 ∙ plain_more done b n.0,
+      (let e = ap last_line (sym same) in let f = plain_last done b n.0 in let g = r.1 in
+          omega (arith, e, f, g)),
+    )
 
 token_behind : (text done : List ℕ) (here : Here) (n : ℕ) → length text ≡ n → NoFeed text → At done here → At (done ++ text) (over_token here n)
 token_behind text done here n is none at =
@@ -112,7 +116,7 @@ module _ (source mark : List ℕ) (is_mark : length mark ≡ mark_length source)
   pub bytes_before : (done bytes : List ℕ) (here : Here) → Reached source mark done bytes here → before source here.start ≡ done
   bytes_before done bytes here r =
       ap (λ x. drop x (take here.start source)) (sym is_mark) ∙ ap (λ x. drop (length mark) (take x source)) r.start
-          ∙ ap (λ x. drop (length mark) (take (length (mark ++ done)) x)) r.whole
+      ∙ ap (λ x. drop (length mark) (take (length (mark ++ done)) x)) r.whole
       ∙ ap (drop (length mark)) (take-append_seam (mark ++ done) bytes) ∙ drop-append_seam mark done
 
   bytes_behind : (done bytes : List ℕ) (here : Here) → Reached source mark done bytes here → drop here.start source ≡ bytes
@@ -134,7 +138,7 @@ module _ (source mark : List ℕ) (is_mark : length mark ≡ mark_length source)
   over_the_token kind n done bytes here t r =
       let long = length-take-le n bytes t.inside in
       further source mark done bytes (take n bytes) (drop n bytes) here (over_token here n) r (take-append-drop n bytes) (omega (arith, long))
-          (token_behind (take n bytes) done here n long t.no_feed r.at)
+      (token_behind (take n bytes) done here n long t.no_feed r.at)
 
 -- what is so of a token of the source
 record Known (source : List ℕ) (t : Token) : Type 0 where
@@ -154,9 +158,9 @@ reads_known source mark is_mark done bytes here tokens r (gap comment n b reads)
 reads_known source mark is_mark done bytes here _ r (token {tokens = tail} kind n b reads) =
     let t = begins_holds bytes (Found kind n) b in
     All-cons (Known source) (token_at here kind n (drop n bytes)) tail
-        (record { standing = stands source mark is_mark done bytes here r; spelling = spelled_in source mark is_mark kind n done bytes here r t.spelled })
+    (record { standing = stands source mark is_mark done bytes here r; spelling = spelled_in source mark is_mark kind n done bytes here r t.spelled })
     (reads_known source mark is_mark (done ++ take n bytes) (drop n bytes) (over_token here n) tail
-            (over_the_token source mark is_mark kind n done bytes here t r) reads)
+    (over_the_token source mark is_mark kind n done bytes here t r) reads)
 
 stops_stand : (source mark : List ℕ) → length mark ≡ mark_length source → (done bytes : List ℕ) (here at : Here) (code : Code)
     → Reached source mark done bytes here → RefusedFrom here bytes code at → StandsAt source at.start at.line at.column
@@ -204,5 +208,5 @@ pub refused_stands : (source : List ℕ) (number : ℕ) (code : Code) (at : Plac
     → StandsAt source r.here.start at.line at.column
 refused_stands source number code at r =
     let s = stops_stand source (take (mark_length source) source) (mark_is source) [] (drop (mark_length source) source) (first_place (mark_length source))
-        r.here code (begun source) r.stops in
+    r.here code (begun source) r.stops in
     record { line_is = r.on_line ∙ s.line_is; column_is = r.at_column ∙ s.column_is }

@@ -59,10 +59,10 @@ pub word_matches : (b : ℕ) (rest : List ℕ) → is_letter b ≡ true → Matc
 word_matches b rest letter = record {
   none = λ f. f.whole;
   to = λ n f. (let w = f.whole in let i = f.inside in let r = read_all IsWordForm is_word word_family n rest Word tt (omega (arith, i)) w.1 in
-          (r.0, r.1, word_whole r.0 r.2));
+      (r.0, r.1, word_whole r.0 r.2));
   from = λ n t e w.
       (let i = form_inside n rest Word t e in
-          record { inside = omega (arith, i); whole = (letter, (all_read IsWordForm is_word word_family n rest Word t tt e).0) });
+      record { inside = omega (arith, i); whole = (letter, (all_read IsWordForm is_word word_family n rest Word t tt e).0) });
 }
 
 pub word_form : (n : ℕ) (rest : List ℕ) (t : Shape) → form Word n rest ≡ Some t → IsWordForm t
@@ -103,10 +103,10 @@ pub line_matches : (b : ℕ) (rest : List ℕ) → (b == 35) ≡ true → Matche
 line_matches b rest hash = record {
   none = λ f. f.whole;
   to = λ n f. (let w = f.whole in let i = f.inside in let r = read_all IsLineForm is_line_byte line_family n rest Line tt (omega (arith, i)) w.1 in
-          (r.0, r.1, line_whole r.0 r.2));
+      (r.0, r.1, line_whole r.0 r.2));
   from = λ n t e w.
       (let i = form_inside n rest Line t e in
-          record { inside = omega (arith, i); whole = (hash, (all_read IsLineForm is_line_byte line_family n rest Line t tt e).0) });
+      record { inside = omega (arith, i); whole = (hash, (all_read IsLineForm is_line_byte line_family n rest Line t tt e).0) });
 }
 
 pub line_form : (n : ℕ) (rest : List ℕ) (t : Shape) → form Line n rest ≡ Some t → t ≡ Line
@@ -158,9 +158,11 @@ zero_on b next e = by_test _ (b == 120)
 number_on : (s : Shape) (b next : ℕ) → IsNumberForm s → is_word b ≡ true → Goes IsNumberForm s b next
 number_on Zero b next is e = zero_on b next e
 number_on (Number base value) b next is e = digit_on base value b e
-number_on (NumberUnder base value) b next is e =
-    (with_digit base value (digit_value base b), ap (λ v. cond v (Some (with_digit base value (digit_value base b))) None) e,
-        with_is base value (digit_value base b))
+number_on (NumberUnder base value) b next is e = (
+  with_digit base value (digit_value base b),
+  ap (λ v. cond v (Some (with_digit base value (digit_value base b))) None) e,
+  with_is base value (digit_value base b),
+)
 number_on BrokenNumber b next is e = (BrokenNumber, while_on BrokenNumber b e, tt)
 number_on _ b next is e = absurd is
 
@@ -186,10 +188,10 @@ pub number_matches : (b : ℕ) (rest : List ℕ) (s : Shape) → is_digit b ≡ 
 number_matches b rest s digit is = record {
   none = λ f. f.whole;
   to = λ n f. (let w = f.whole in let i = f.inside in let r = read_all IsNumberForm is_word number_family n rest s is (omega (arith, i)) w.1 in
-          (r.0, r.1, number_whole r.0 r.2));
+      (r.0, r.1, number_whole r.0 r.2));
   from = λ n t e w.
       (let i = form_inside n rest s t e in
-          record { inside = omega (arith, i); whole = (digit, (all_read IsNumberForm is_word number_family n rest s t is e).0) });
+      record { inside = omega (arith, i); whole = (digit, (all_read IsNumberForm is_word number_family n rest s t is e).0) });
 }
 
 pub number_form : (n : ℕ) (rest : List ℕ) (s t : Shape) → IsNumberForm s → form s n rest ≡ Some t → IsNumberForm t
@@ -284,7 +286,7 @@ zero_decimal : (value : ℕ) (text rest : List ℕ) → Digits 10 0 text value �
 zero_decimal value [] rest h = (Zero, refl, ap (λ x. Some (cap x)) (sym (no_more 10 0 value [] refl h)))
 zero_decimal value (c ∷ text) rest h =
     let same = zero_plain c (digits_head 0 value c text h 120 refl refl) (digits_head 0 value c text h 111 refl refl)
-        (digits_head 0 value c text h 98 refl refl) in
+    (digits_head 0 value c text h 98 refl refl) in
     (Number 10 (cap value), ap (λ o. and_then o (λ t. form t (length text) (text ++ rest))) same ∙ digits_to 10 0 value (c ∷ text) rest (omega arith) h, refl)
 
 zero_to : (value : ℕ) (text rest whole : List ℕ) → whole ≡ 48 ∷ text → IsInteger whole value → Tells Zero text rest value
@@ -315,18 +317,18 @@ zero_from got [] rest t e f =
     (0, decimal 0 (48 ∷ []) (some_digits 48 0 0 [] refl (digits_done 0)), none)
 zero_from got (c ∷ text) rest t e f = by_test _ (c == 120)
     (λ x. let h = prefix_from 16 got text rest t (omega arith)
-            (moved (zero_step c) (Some (NumberUnder 16 0)) text rest t (zero_cond c true (c == 111) (c == 98) x refl refl) e) f in
+    (moved (zero_step c) (Some (NumberUnder 16 0)) text rest t (zero_cond c true (c == 111) (c == 98) x refl refl) e) f in
     (h.0, subst (λ k. IsInteger (48 ∷ k ∷ text) h.0) (sym (eqb-true c 120 x)) (hexadecimal h.0 text h.1), h.2))
     (λ x. by_test _ (c == 111)
     (λ o. let h = prefix_from 8 got text rest t (omega arith)
-            (moved (zero_step c) (Some (NumberUnder 8 0)) text rest t (zero_cond c false true (c == 98) x o refl) e) f in
+    (moved (zero_step c) (Some (NumberUnder 8 0)) text rest t (zero_cond c false true (c == 98) x o refl) e) f in
     (h.0, subst (λ k. IsInteger (48 ∷ k ∷ text) h.0) (sym (eqb-true c 111 o)) (octal h.0 text h.1), h.2))
     (λ o. by_test _ (c == 98)
     (λ b. let h = prefix_from 2 got text rest t (omega arith) (moved (zero_step c) (Some (NumberUnder 2 0)) text rest t (zero_cond c false false true x o b) e)
-            f in
+    f in
     (h.0, subst (λ k. IsInteger (48 ∷ k ∷ text) h.0) (sym (eqb-true c 98 b)) (binary h.0 text h.1), h.2))
     (λ b. let plain : form (Number 10 0) (length (c ∷ text)) (c ∷ text ++ rest) ≡ Some t = moved (zero_step c) (digit_step 10 0 c) text rest t
-            (zero_plain c x o b) e in
+    (zero_plain c x o b) e in
     let h = digits_from 10 0 got (c ∷ text) rest (omega arith) (of_base 10 got (length (c ∷ text)) (c ∷ text ++ rest) (Number 10 0) t refl plain f) in
     (h.0, decimal h.0 (48 ∷ c ∷ text) (some_digits 48 0 h.0 (c ∷ text) refl h.1), h.2))))
 
@@ -357,7 +359,7 @@ other_from : (b got : ℕ) (text rest : List ℕ) (t : Shape) → is_digit b ≡
 other_from b got text rest t digit e f =
     let go = of_base 10 got (length text) (text ++ rest) (Number 10 (b - 48)) t refl e f in
     let h = digits_from 10 (b - 48) got text rest (omega arith) (subst (λ x. form (Number 10 x) (length text) (text ++ rest) ≡ Some (Number 10 got))
-            (sym (small b digit)) go) in
+    (sym (small b digit)) go) in
     (h.0, decimal h.0 (b ∷ text) (some_digits b (b - 48) h.0 text (decimal_value b digit) h.1), h.2)
 
 -- ---- both

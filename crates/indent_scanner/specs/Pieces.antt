@@ -85,7 +85,7 @@ opens_pragma b rest = b == 123 && (byte_at rest 0 == 46 && not (byte_at rest 1 =
 abbrev pub is_first : ℕ → ℕ → Bool
 is_first b next =
     is_letter b || (is_digit b
-            || (is_blank b || ((b == 13 && next == 10) || (b == 35 || (b == 39 || (b == 34 || (b == 96 || (is_bracket b || is_operator b))))))))
+    || (is_blank b || ((b == 13 && next == 10) || (b == 35 || (b == 39 || (b == 34 || (b == 96 || (is_bracket b || is_operator b))))))))
 
 -- b and the bytes behind it begin with this piece
 pub data FirstPiece (b : ℕ) (rest : List ℕ) : Piece → Type 0 where

@@ -88,7 +88,7 @@ pub selected_else : (at : Place) (selector : Box RustExpr Global) (branches : Ve
 selected_else at selector branches otherwise =
     let row = choices_inside (rust_expr.Case at selector branches (Some otherwise)) in
     ap (λ all. case_else at (term_of selector.value) all (term_of otherwise.value))
-        (choices_are row.0 row.1 ∙ ap choices_of (items_hidden-the_row-Choice-1 branches))
+    (choices_are row.0 row.1 ∙ ap choices_of (items_hidden-the_row-Choice-1 branches))
 
 -- an expression with these branches
 abbrev pub Branched : RustExpr → Vec RustChoice Global → Type 0

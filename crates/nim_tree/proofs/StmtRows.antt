@@ -67,7 +67,7 @@ conditional at all otherwise =
     let first = branches_row (rust_stmt.If at all otherwise) in
     let last = closing_row (rust_stmt.If at all otherwise) in
     ap₂ (branches at) (branches_are first.0 first.1 ∙ ap branches_of (items_hidden-the_row-Branch-1 all))
-        (rows_are last.0 last.1 ∙ ap statements_of (items_hidden-the_row-Stmt-0 otherwise))
+    (rows_are last.0 last.1 ∙ ap statements_of (items_hidden-the_row-Stmt-0 otherwise))
 
 pub selected : (at : Place) (selector : RustExpr) (all : Vec RustBranch Global) (otherwise : Vec RustStmt Global)
     → statement_of (rust_stmt.Case at selector all otherwise) ≡ selects at (term_of selector) (branches_of all.items) (statements_of otherwise.items)
@@ -75,7 +75,7 @@ selected at selector all otherwise =
     let first = branches_row (rust_stmt.Case at selector all otherwise) in
     let last = closing_row (rust_stmt.Case at selector all otherwise) in
     ap₂ (selects at (term_of selector)) (branches_are first.0 first.1 ∙ ap branches_of (items_hidden-the_row-Branch-1 all))
-        (rows_are last.0 last.1 ∙ ap statements_of (items_hidden-the_row-Stmt-0 otherwise))
+    (rows_are last.0 last.1 ∙ ap statements_of (items_hidden-the_row-Stmt-0 otherwise))
 
 pub repeated : (at : Place) (condition : RustExpr) (body : Vec RustStmt Global) → statement_of (rust_stmt.While at condition body)
     ≡ repeats at (term_of condition) (statements_of body.items)
@@ -96,8 +96,8 @@ tried at body all finally =
     let middle = handlers_row (rust_stmt.Try at body all finally) in
     let last = closing_row (rust_stmt.Try at body all finally) in
     let front = ap₂ (λ (block : Statements) (handled : Handlers). tries at block handled (row_of last.1))
-        (rows_are first.0 first.1 ∙ ap statements_of (items_hidden-the_row-Stmt-0 body))
-        (handlers_are middle.0 middle.1 ∙ ap handlers_of (items_hidden-the_row-Handler-2 all)) in
+    (rows_are first.0 first.1 ∙ ap statements_of (items_hidden-the_row-Stmt-0 body))
+    (handlers_are middle.0 middle.1 ∙ ap handlers_of (items_hidden-the_row-Handler-2 all)) in
     front ∙ ap (tries at (statements_of body.items) (handlers_of all.items)) (rows_are last.0 last.1 ∙ ap statements_of (items_hidden-the_row-Stmt-0 finally))
 
 pub deferred : (at : Place) (body : Vec RustStmt Global) → statement_of (rust_stmt.Defer at body) ≡ defers at (statements_of body.items)

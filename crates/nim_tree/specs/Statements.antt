@@ -338,15 +338,24 @@ abbrev mutual
 -- ---- the trees of the parser
 
 abbrev pub definition_of : Def → Definition
-definition_of d = record { names = d.names.items; pragmas = d.pragmas.items; annotation = option_map written_of d.annotation;
-        value = option_map term_of d.value }
+definition_of d = record {
+  names = d.names.items;
+  pragmas = d.pragmas.items;
+  annotation = option_map written_of d.annotation;
+  value = option_map term_of d.value;
+}
 
 abbrev pub parameters_of : Param → Parameters
 parameters_of p = record { names = p.names.items; mode = p.mode; of = written_of p.of }
 
 abbrev pub head_of : ProcHead → Head
-head_of h = record { name = h.name; generics = h.generics.items; params = map parameters_of h.params.items; gives = option_map written_of h.gives;
-        pragmas = h.pragmas.items }
+head_of h = record {
+  name = h.name;
+  generics = h.generics.items;
+  params = map parameters_of h.params.items;
+  gives = option_map written_of h.gives;
+  pragmas = h.pragmas.items;
+}
 
 abbrev pub course_of : Over → Course
 course_of (O.Each value) = each (term_of value)

@@ -49,13 +49,20 @@ never_tired x tired code at t e = t
 
 refused_for : {A : Type 0} {R S : A → List Token → List Token → Type 0} {F : Why → List Token → Type 0} {run : List Token → ℕ → Out A} → Agree R S F run
     → (x : Origin) (ts : List Token) (code : Code) (at : Place) → (h : Refuses (run ts) x code at) → F h.why ts → IsRefused R S F (Tells x) ts code at
-refused_for agree x ts code at h f = record { why = h.why; fault = f; none = reads_none agree ts h.why f (never_tired x h.why code at h.tells);
-        tells = h.tells }
+refused_for agree x ts code at h f = record {
+  why = h.why;
+  fault = f;
+  none = reads_none agree ts h.why f (never_tired x h.why code at h.tells);
+  tells = h.tells;
+}
 
 refused_of : {A : Type 0} {R S : A → List Token → List Token → Type 0} {F : Why → List Token → Type 0} {run : List Token → ℕ → Out A} → Agree R S F run
     → (x : Origin) (ts : List Token) (stop : Stop) → Fails (run ts) x stop → OnRefusal stop (IsRefused R S F (Tells x) ts)
-refused_of agree x ts (Refused code at) h = elim (agree.stops h.why ts h.runs) [ inl e ↦ absurd (never_tired x h.why code at h.tells e) | inr f ↦
-        refused_for agree x ts code at h f ]
+refused_of agree x ts (Refused code at) h = elim (agree.stops h.why ts h.runs) [
+  | inl e ↦ absurd (never_tired x h.why code at h.tells e)
+  | inr f ↦
+      refused_for agree x ts code at h f
+]
 refused_of agree x ts Memory h = h
 
 -- ---- how much is read

@@ -30,7 +30,7 @@ use Rattle.parse_decls.proofs.Coming.{told_fails, comes_at, behind_at, within_at
 abbrev pub declared_run : Input → ℕ → Declared → List Name → List Token → ℕ → Out Declaration
 declared_run input n name parameters ts k =
     unless_stuck (stays (Lines n) ts) ts
-        (then_do (run_body k (origin_of input) n ts) (λ body rest. got (record { name = name; parameters = parameters; body = body }) rest))
+    (then_do (run_body k (origin_of input) n ts) (λ body rest. got (record { name = name; parameters = parameters; body = body }) rest))
 
 -- ---- what a declared type is
 
@@ -58,7 +58,7 @@ pub ref_object_comes : (input : Input) (n at : ℕ) (p : Place) (r : Result (Rea
     → Comes body_of (λ k. run_body_by k B.RefObject (origin_of input) n p (from_at input at)) input (at + 1 + 1) r
 ref_object_comes input n at p r h =
     comes_at body_of (λ ts k. run_object k (origin_of input) n p true ts) input (at + 1 + 1) r (ap behind (behind_at at input.tokens.now)
-            ∙ behind_at (at + 1) input.tokens.now) h
+    ∙ behind_at (at + 1) input.tokens.now) h
 
 pub enum_comes : (input : Input) (n at : ℕ) (p : Place) (r : Result (Reading TypeBody) Stop)
     → Comes body_of (λ k. run_enum k (origin_of input) n p (from_at input (at + 1))) input (suc (at + 1)) r

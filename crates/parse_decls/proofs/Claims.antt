@@ -61,10 +61,16 @@ is_only p tokens from a next h = λ b rest d. reads_once p a b (drop from tokens
 reads_none : {A : Type 0} {run : ℕ → List Token → Out A} {R D : A → List Token → List Token → Type 0} {F : Why → List Token → Type 0} → Parses run R D F
     → (ts : List Token) (why : Why) → Settles (λ k. run k ts) (bad why) → (why ≡ tired → ⊥) → ReadsNone R D ts why
 reads_none p ts (too_deep at) h f = λ a rest d. got_bad (settles_one (p.complete a ts rest d) h)
-reads_none p ts (left_out at) h f = λ a rest d. elim (p.deep a ts rest d) [ inl c ↦ got_bad (settles_one (p.complete a ts rest c) h) | inr w ↦
-        (let e = bad_one (settles_one w.runs h) in cc) ]
-reads_none p ts (stuck at) h f = λ a rest d. elim (p.deep a ts rest d) [ inl c ↦ got_bad (settles_one (p.complete a ts rest c) h) | inr w ↦
-        (let e = bad_one (settles_one w.runs h) in cc) ]
+reads_none p ts (left_out at) h f = λ a rest d. elim (p.deep a ts rest d) [
+  | inl c ↦ got_bad (settles_one (p.complete a ts rest c) h)
+  | inr w ↦
+      (let e = bad_one (settles_one w.runs h) in cc)
+]
+reads_none p ts (stuck at) h f = λ a rest d. elim (p.deep a ts rest d) [
+  | inl c ↦ got_bad (settles_one (p.complete a ts rest c) h)
+  | inr w ↦
+      (let e = bad_one (settles_one w.runs h) in cc)
+]
 reads_none p ts tired h f = f refl
 
 pub is_refused : {A : Type 0} {run : ℕ → List Token → Out A} {R D : A → List Token → List Token → Type 0} {F : Why → List Token → Type 0} → Parses run R D F

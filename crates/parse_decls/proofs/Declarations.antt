@@ -52,7 +52,7 @@ line_from R one ts rest d = (one.names, d.0, d.1, (one.of, refl, d.2))
 
 line : (x : Origin) (n : ℕ) → Parses (λ k ts. run_field k x n ts)
     (Line x n (IsTyped x (Lines n))) (Line x n (ShortTyped x (Lines n))) (FaultsThen (Declareds x Brackets (Lines n)) (FaultsDeclareds x Brackets (Lines n))
-            (λ names. FaultsTyped x (Lines n)))
+    (λ names. FaultsTyped x (Lines n)))
 line x n = restated (seq (declareds x Brackets (Lines n)) (λ names. mapped (a_line names) (typed x (Lines n)))) (line_is (ShortTyped x (Lines n)))
     (line_from (ShortTyped x (Lines n))) (line_from (IsTyped x (Lines n))) (λ why ts w. w) (λ why ts w. w)
 
@@ -132,7 +132,7 @@ pub members : (x : Origin) (n : ℕ) → Parses (λ k ts. run_members k x n ts) 
 members x n =
     restated (either (deeper_at n)
     (placed (λ at. listed (more_members_at (level_at at)) (past_comma (Lines (level_at at))) (λ k some ts. run_more_members k x (level_at at) some ts)
-                (name x Brackets) (name x Brackets) (λ some ts. refl)
+    (name x Brackets) (name x Brackets) (λ some ts. refl)
     (λ k some ts. members_step (comma_at (Lines (level_at at)) ts) (member_at (level_at at) ts) ts
     (λ ts. then_do (run_name x Brackets ts) (λ name mid. run_more_members k x (level_at at) (some ++ name ∷ []) mid)) (got some ts))))
     (names x (Lines n)))
@@ -140,26 +140,26 @@ members x n =
   where
     done : {a : List Name} {ts rest : List Token}
         → Either (deeper_at n) (λ a ts rest. Listed (IsName x Brackets) (more_members_at (level_at ts)) (past_comma (Lines (level_at ts))) (IsName x Brackets) a
-            ts rest) (Names x (Lines n)) a ts rest → IsMembers x n a ts rest
+        ts rest) (Names x (Lines n)) a ts rest → IsMembers x n a ts rest
     done (inl e) = o_block e.0 e.1
     done (inr e) = o_line e.0 e.1
 
     from : {a : List Name} {ts rest : List Token} → IsMembers x n a ts rest
         → Either (deeper_at n) (λ a ts rest. Listed (IsName x Brackets) (more_members_at (level_at ts)) (past_comma (Lines (level_at ts))) (IsName x Brackets) a
-            ts rest) (Names x (Lines n)) a ts rest
+        ts rest) (Names x (Lines n)) a ts rest
     from (o_block h d) = inl (h, d)
     from (o_line h d) = inr (h, d)
 
     fault : (why : Why) (ts : List Token)
         → FaultsEither (deeper_at n) (λ why ts. FaultsListed (IsName x Brackets) (FaultsName (name_on Brackets)) (more_members_at (level_at ts))
-            (past_comma (Lines (level_at ts))) (IsName x Brackets) (FaultsName (name_on Brackets)) why ts)
+        (past_comma (Lines (level_at ts))) (IsName x Brackets) (FaultsName (name_on Brackets)) why ts)
         (FaultsNames x (Lines n)) why ts → FaultsMembers x n why ts
     fault why ts (inl w) = f_members_block w.0 w.1
     fault why ts (inr w) = f_members_line w.0 w.1
 
     back : (why : Why) (ts : List Token) → FaultsMembers x n why ts
         → FaultsEither (deeper_at n) (λ why ts. FaultsListed (IsName x Brackets) (FaultsName (name_on Brackets)) (more_members_at (level_at ts))
-            (past_comma (Lines (level_at ts))) (IsName x Brackets) (FaultsName (name_on Brackets)) why ts)
+        (past_comma (Lines (level_at ts))) (IsName x Brackets) (FaultsName (name_on Brackets)) why ts)
         (FaultsNames x (Lines n)) why ts
     back why ts (f_members_block h w) = inl (h, w)
     back why ts (f_members_line h w) = inr (h, w)
@@ -204,7 +204,7 @@ body_reads : {x : Origin} {n : ℕ} {b : Body} {ts rest : List Token} → IsBody
     → Headed (λ tok b ts rest. Form x n tok (IsType x (Lines n)) (FieldBlock x n) (body_lead (Lines n) (tok ∷ ts)) b ts rest) b ts rest
 body_reads {x} {n} (o_object {parent = parent} {all = all} {tok = tok} {ts = ts} {mid = mid} {rest = rest} q p f) =
     subst (λ l. Form x n tok (IsType x (Lines n)) (FieldBlock x n) l (object (place_at x tok) false parent all) ts rest) (sym q)
-        (parent, mid, p, (all, refl, f))
+    (parent, mid, p, (all, refl, f))
 body_reads {x} {n} (o_ref_object {parent = parent} {all = all} {tok = tok} {ts = ts} {mid = mid} {rest = rest} q p f) =
     subst (λ l. Form x n tok (IsType x (Lines n)) (FieldBlock x n) l (object (place_at x tok) true parent all) ts rest) (sym q) (parent, mid, p, (all, refl, f))
 body_reads {x} {n} (o_enum {all = all} {tok = tok} {ts = ts} {rest = rest} q d) =
@@ -292,7 +292,7 @@ made name parameters body = record { name = name; parameters = parameters; body 
 abbrev Whole : Origin → (first : Layout) → ℕ → (Body → List Token → List Token → Type 0) → Declaration → List Token → List Token → Type 0
 Whole x first n R = Then (IsDeclared x (Lines n) (name_on first))
     (λ name. Then (Generics x (Lines n))
-        (λ parameters. Guarded (equals_at (Lines n)) (λ d ts rest. Guarded (stays (Lines n)) (Mapped (made name parameters) R) d (behind ts) rest)))
+    (λ parameters. Guarded (equals_at (Lines n)) (λ d ts rest. Guarded (stays (Lines n)) (Mapped (made name parameters) R) d (behind ts) rest)))
 
 abbrev WholeFaults : Origin → (first : Layout) → ℕ → Why → List Token → Type 0
 WholeFaults x first n = FaultsThen (IsDeclared x (Lines n) (name_on first)) (FaultsName (name_on first))
@@ -303,16 +303,23 @@ pub declaration : (x : Origin) (first : Layout) (n : ℕ) → Parses (λ k ts. r
     (FaultsDeclaration x first n)
 declaration x first n =
     restated (seq (declared x (Lines n) (name_on first))
-            (λ name. seq (generics x (Lines n))
-                (λ parameters. guarded (equals_at (Lines n)) (shifted behind (guarded (stays (Lines n)) (mapped (made name parameters) (body x n)))))))
+    (λ name. seq (generics x (Lines n))
+    (λ parameters. guarded (equals_at (Lines n)) (shifted behind (guarded (stays (Lines n)) (mapped (made name parameters) (body x n)))))))
     (λ d ts rest w. done d ts rest w) (λ d ts rest s. from d ts rest s) (λ d ts rest r. reads d ts rest r) fault back
   where
     done : (d : Declaration) (ts rest : List Token) → Whole x first n (ShortBody x n) d ts rest → ShortDeclaration x first n d ts rest
     done d ts rest w =
         subst (λ d. ShortDeclaration x first n d ts rest) (sym w.3.3.1.1.1)
         (record {
-          reads = record { past_name = w.1; past_parameters = w.3.1; name = w.2; parameters = w.3.2; equals = w.3.3.0; stays = w.3.3.1.0;
-                  body = w.3.3.1.1.2.reads };
+          reads = record {
+            past_name = w.1;
+            past_parameters = w.3.1;
+            name = w.2;
+            parameters = w.3.2;
+            equals = w.3.3.0;
+            stays = w.3.3.1.0;
+            body = w.3.3.1.1.2.reads;
+          };
           few = w.3.3.1.1.2.few;
         })
 
@@ -346,7 +353,7 @@ pub declarations : (x : Origin) (n : ℕ) → Parses (λ k ts. run_types k x n t
 declarations x n =
     restated (either (deeper_at n)
     (placed (λ at. each (stands_at (level_at at)) (λ ts. ts) (λ k some ts. run_declarations k x (level_at at) some ts) (declaration x Brackets (level_at at))
-                (λ some ts. refl) (λ k some ts. refl)))
+    (λ some ts. refl) (λ k some ts. refl)))
     (mapped (λ d. d ∷ []) (declaration x (Lines n) n)))
     (λ a ts rest d. done a ts rest d) (λ a ts rest d. from d.reads d.few) (λ a ts rest d. reads d) fault back
   where
@@ -372,13 +379,13 @@ declarations x n =
 
     fault : (why : Why) (ts : List Token)
         → FaultsEither (deeper_at n) (λ why ts. FaultsEach (stands_at (level_at ts)) (λ ts. ts) (ShortDeclaration x Brackets (level_at ts))
-            (FaultsDeclaration x Brackets (level_at ts)) why ts) (FaultsDeclaration x (Lines n) n) why ts
+        (FaultsDeclaration x Brackets (level_at ts)) why ts) (FaultsDeclaration x (Lines n) n) why ts
         → FaultsDeclarations x n why ts
     fault why ts (inl w) = f_declarations w.0 w.1
     fault why ts (inr w) = f_declaration w.0 w.1
 
     back : (why : Why) (ts : List Token) → FaultsDeclarations x n why ts
         → FaultsEither (deeper_at n) (λ why ts. FaultsEach (stands_at (level_at ts)) (λ ts. ts) (ShortDeclaration x Brackets (level_at ts))
-            (FaultsDeclaration x Brackets (level_at ts)) why ts) (FaultsDeclaration x (Lines n) n) why ts
+        (FaultsDeclaration x Brackets (level_at ts)) why ts) (FaultsDeclaration x (Lines n) n) why ts
     back why ts (f_declarations h w) = inl (h, w)
     back why ts (f_declaration h w) = inr (h, w)

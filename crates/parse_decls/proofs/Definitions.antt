@@ -117,8 +117,15 @@ defined x first i =
     done d ts rest w =
         subst (λ d. ShortDefined x first i d ts rest) (sym w.3.3.3.1)
         (record {
-          reads = record { past_names = w.1; past_pragmas = w.3.1; past_type = w.3.3.1; names = w.2; pragmas = w.3.2; annotation = w.3.3.2.reads;
-                  value = w.3.3.3.2.reads };
+          reads = record {
+            past_names = w.1;
+            past_pragmas = w.3.1;
+            past_type = w.3.3.1;
+            names = w.2;
+            pragmas = w.3.2;
+            annotation = w.3.3.2.reads;
+            value = w.3.3.3.2.reads;
+          };
           few = both_few w.3.3.2.few w.3.3.3.2.few;
         })
 
@@ -138,7 +145,7 @@ defined x first i =
 
     fault : (why : Why) (ts : List Token) → FaultsThen (Declareds x first i) (FaultsDeclareds x first i)
         (λ names. FaultsThen (Pragmas x i) (FaultsPragmas x i)
-            (λ all. FaultsThen (ShortAnnotation x i) (FaultsAnnotation x i) (λ a. FaultsPresent (equals_at i) (FaultsValue x i)))) why ts
+        (λ all. FaultsThen (ShortAnnotation x i) (FaultsAnnotation x i) (λ a. FaultsPresent (equals_at i) (FaultsValue x i)))) why ts
         → FaultsDefined x first i why ts
     fault why ts (inl w) = f_def_names w
     fault why ts (inr w) = elim w.3 [
@@ -149,7 +156,7 @@ defined x first i =
     back : (why : Why) (ts : List Token) → FaultsDefined x first i why ts
         → FaultsThen (Declareds x first i) (FaultsDeclareds x first i)
         (λ names. FaultsThen (Pragmas x i) (FaultsPragmas x i)
-            (λ all. FaultsThen (ShortAnnotation x i) (FaultsAnnotation x i) (λ a. FaultsPresent (equals_at i) (FaultsValue x i)))) why ts
+        (λ all. FaultsThen (ShortAnnotation x i) (FaultsAnnotation x i) (λ a. FaultsPresent (equals_at i) (FaultsValue x i)))) why ts
     back why ts (f_def_names w) = inl w
     back why ts (f_def_pragmas {names = names} {a = a} d w) = inr (names, a, d, inl w)
     back why ts (f_def_type {names = names} {pragmas = all} {a = a} {b = b} d p w) = inr (names, a, d, inr (all, b, p, inl w))
@@ -164,7 +171,7 @@ ShortDefinitions x n = Short most_levels (highest definition_levels) (Definition
 
 pub definitions : (x : Origin) (n : ℕ) → Parses (λ k ts. run_defs k x n [] ts) (Definitions x n) (ShortDefinitions x n) (FaultsDefinitions x n)
 definitions x n = restated (each (stands_at n) (λ ts. ts) (λ k some ts. run_defs k x n some ts) (defined x Brackets (Lines n)) (λ some ts. refl)
-        (λ k some ts. refl))
+    (λ k some ts. refl))
     (λ a ts rest d. each_short d) (λ a ts rest d. short_each d.reads d.few) (λ a ts rest d. d) (λ why ts w. w) (λ why ts w. w)
 
 pub definition_block : (x : Origin) (n : ℕ) → Parses (λ k ts. run_def_block k x n ts) (IsDefinitionBlock x n) (ShortDefinitionBlock x n)

@@ -26,7 +26,7 @@ within_sound {x} {i} {n} {t} {rest} whole k ts (E.got a mid) q e =
     let g : (a ≡ t) × (mid ≡ rest) = got_one e in
     let s = sound_expr k x i n ts q in
     subst (λ r. ShortExpr x i n t ts r) g.1
-        (subst (λ u. ShortExpr x i n u ts mid) g.0 (record { reads = record { spells = s.spells; stops = s.stops }; few = s.few }))
+    (subst (λ u. ShortExpr x i n u ts mid) g.0 (record { reads = record { spells = s.spells; stops = s.stops }; few = s.few }))
 within_sound whole k ts (E.bad why) q e = got_bad (sym e)
 
 within_stops : {x : Origin} {i : Layout} {n : ℕ} {why : Why} (whole : List Token) (k : ℕ) (ts : List Token) (o : E.Out Term) → run_expr k x i n ts ≡ o

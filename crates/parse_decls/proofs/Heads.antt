@@ -50,8 +50,8 @@ WholeParamFaults x = FaultsThen (Names x Brackets) (FaultsNames x Brackets)
 pub parameter : (x : Origin) → Parses (λ k ts. run_param k x ts) (IsParameter x) (ShortParameter x) (FaultsParameter x)
 parameter x =
     restated (seq (names x Brackets)
-            (λ names. guarded (colon_at Brackets)
-                (placed (λ at. mapped (made_param names (mode_at x (behind at))) (shifted (λ ts. past_mode x (behind ts)) (written x Brackets))))))
+    (λ names. guarded (colon_at Brackets)
+    (placed (λ at. mapped (made_param names (mode_at x (behind at))) (shifted (λ ts. past_mode x (behind ts)) (written x Brackets))))))
     (λ p ts rest w. done p ts rest w) (λ p ts rest s. from p ts rest s) (λ p ts rest r. reads p ts rest r) fault back
   where
     done : (p : Parameters) (ts rest : List Token) → WholeParam x (ShortType x Brackets most_levels) p ts rest → ShortParameter x p ts rest
@@ -92,14 +92,14 @@ ShortParameters x = Short most_levels (highest parameter_type_levels) (IsParamet
 abbrev ParenthesesFaults : Origin → Why → List Token → Type 0
 ParenthesesFaults x = FaultsEither (λ ts. closes_at Round (behind ts)) (λ why ts. ⊥)
     (FaultsClosed (closes_at Round) (Listed (ShortParameter x) separator_at behind (ShortParameter x))
-            (FaultsListed (ShortParameter x) (FaultsParameter x) separator_at behind (ShortParameter x) (FaultsParameter x)))
+    (FaultsListed (ShortParameter x) (FaultsParameter x) separator_at behind (ShortParameter x) (FaultsParameter x)))
 
 pub parameter_list : (x : Origin) (i : Layout) → Parses (λ k ts. run_params k x i ts) (ParameterList x i) (ShortParameterList x i) (FaultsParameterList x i)
 parameter_list x i =
     restated (perhaps (opens_at i Round) []
     (restated (either (λ ts. closes_at Round (behind ts)) (shifted (λ ts. behind (behind ts)) (just []))
-                (closed_list separator_at behind (closes_at Round) (λ k some ts. run_more_params k x some ts) (parameter x) (λ some ts. refl)
-                    (λ k some ts. refl)))
+    (closed_list separator_at behind (closes_at Round) (λ k some ts. run_more_params k x some ts) (parameter x) (λ some ts. refl)
+    (λ k some ts. refl)))
     (λ a ts rest d. done a ts rest d) (λ a ts rest d. from d.reads d.few) (λ a ts rest d. reads d) fault back))
     (λ a ts rest d. short d) (λ a ts rest d. long d.reads d.few) (λ a ts rest d. d) (λ why ts w. w) (λ why ts w. w)
   where
@@ -147,13 +147,13 @@ Whole x i P R = Then (IsDeclared x i (proc_name_on i))
 abbrev WholeFaults : Origin → Layout → Why → List Token → Type 0
 WholeFaults x i = FaultsThen (IsDeclared x i (proc_name_on i)) (FaultsName (proc_name_on i)) (λ name. FaultsThen (Generics x i) (FaultsGenerics x i)
     (λ generics. FaultsThen (ShortParameterList x i) (FaultsParameterList x i)
-            (λ params. FaultsThen (ShortAnnotation x i) (FaultsAnnotation x i) (λ gives. FaultsPragmas x i))))
+    (λ params. FaultsThen (ShortAnnotation x i) (FaultsAnnotation x i) (λ gives. FaultsPragmas x i))))
 
 pub head : (x : Origin) (i : Layout) → Parses (λ k ts. run_head k x i ts) (IsHead x i) (ShortHead x i) (FaultsHead x i)
 head x i =
     restated (seq (declared x i (proc_name_on i))
-            (λ name. seq (generics x i)
-                (λ generics. seq (parameter_list x i) (λ params. seq (annotation x i) (λ gives. mapped (made name generics params gives) (pragmas x i))))))
+    (λ name. seq (generics x i)
+    (λ generics. seq (parameter_list x i) (λ params. seq (annotation x i) (λ gives. mapped (made name generics params gives) (pragmas x i))))))
     (λ h ts rest w. done h ts rest w) (λ h ts rest s. from h ts rest s) (λ h ts rest r. reads h ts rest r) fault back
   where
     done : (h : Head) (ts rest : List Token) → Whole x i (ShortParameterList x i) (ShortAnnotation x i) h ts rest → ShortHead x i h ts rest
@@ -161,8 +161,17 @@ head x i =
         let p = w.3.3.2 in let a = w.3.3.3.2 in
         subst (λ h. ShortHead x i h ts rest) (sym w.3.3.3.3.1)
         (record {
-          reads = record { past_name = w.1; past_generics = w.3.1; past_params = w.3.3.1; past_type = w.3.3.3.1; name = w.2; generics = w.3.2; params = p.reads;
-                  gives = a.reads; pragmas = w.3.3.3.3.2 };
+          reads = record {
+            past_name = w.1;
+            past_generics = w.3.1;
+            past_params = w.3.3.1;
+            past_type = w.3.3.3.1;
+            name = w.2;
+            generics = w.3.2;
+            params = p.reads;
+            gives = a.reads;
+            pragmas = w.3.3.3.3.2;
+          };
           few = both_few p.few a.few;
         })
 
@@ -170,16 +179,22 @@ head x i =
     from h ts rest s =
         let r = s.reads in
         let p : ShortParameterList x i h.params r.past_generics r.past_params =
-            record { reads = r.params; few = left_few (if_there type_levels h.gives) s.few } in
+        record { reads = r.params; few = left_few (if_there type_levels h.gives) s.few } in
         let a : ShortAnnotation x i h.gives r.past_params r.past_type =
-            record { reads = r.gives; few = right_few (highest parameter_type_levels h.params) s.few } in
-        (h.name, r.past_name, r.name,
-                (h.generics, r.past_generics, r.generics, (h.params, r.past_params, p, (h.gives, r.past_type, a, (h.pragmas, refl, r.pragmas)))))
+        record { reads = r.gives; few = right_few (highest parameter_type_levels h.params) s.few } in (
+          h.name,
+          r.past_name,
+          r.name,
+          (h.generics, r.past_generics, r.generics, (h.params, r.past_params, p, (h.gives, r.past_type, a, (h.pragmas, refl, r.pragmas)))),
+        )
 
     reads : (h : Head) (ts rest : List Token) → IsHead x i h ts rest → Whole x i (ParameterList x i) (Annotation x i) h ts rest
-    reads h ts rest r =
-        (h.name, r.past_name, r.name,
-            (h.generics, r.past_generics, r.generics, (h.params, r.past_params, r.params, (h.gives, r.past_type, r.gives, (h.pragmas, refl, r.pragmas)))))
+    reads h ts rest r = (
+      h.name,
+      r.past_name,
+      r.name,
+      (h.generics, r.past_generics, r.generics, (h.params, r.past_params, r.params, (h.gives, r.past_type, r.gives, (h.pragmas, refl, r.pragmas)))),
+    )
 
     fault : (why : Why) (ts : List Token) → WholeFaults x i why ts → FaultsHead x i why ts
     fault why ts (inl w) = f_head_name w

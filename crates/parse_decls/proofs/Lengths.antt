@@ -152,7 +152,7 @@ tried x whole n le = record {
         → (why ≡ tired) ⊎ FaultsTried x whole n why ts
     stops k ts (E.got t mid) q e =
         inr (stops_read t (reads k ts q) (if_split (comma_at Brackets mid) (if nat_lt n (levels t) then bad (too_deep whole) else got (Some t) (behind mid))
-                    (got None ts) e))
+        (got None ts) e))
     stops k ts (E.bad E.deep) q e = inr (y_opened (faults_expr F.too_deep k x Brackets most_levels ts q) (sym (bad_one e)))
     stops k ts (E.bad (E.stuck rest)) q e = got_bad e
     stops k ts (E.bad E.tired) q e = inl (sym (bad_one e))

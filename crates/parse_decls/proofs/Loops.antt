@@ -32,11 +32,11 @@ FaultsLoop {A = A} goes past over D F why ts = FaultsEach goes past D F why ts
 
 pub loop : {A C : Type 0} {item : ℕ → List Token → Out A} {R D : A → List Token → List Token → Type 0} {F : Why → List Token → Type 0}
     (goes : List Token → Bool) (past : List Token → List Token) (add : C → A → C) (over : List Token → Bool) (beyond : List Token → List Token)
-        (run : ℕ → C → List Token → Out C)
+    (run : ℕ → C → List Token → Out C)
     → Parses item R D F
     → ((c : C) (ts : List Token) → run zero c ts ≡ bad tired)
     → ((k : ℕ) (c : C) (ts : List Token) → run (suc k) c ts ≡ (if goes ts then then_do (item k (past ts)) (λ a mid. run k (add c a) mid)
-            else unless_stuck (over ts) ts (got c (beyond ts))))
+    else unless_stuck (over ts) ts (got c (beyond ts))))
     → (c : C) → Parses (λ k ts. run k c ts) (Loop goes past add over beyond R c) (Loop goes past add over beyond D c) (FaultsLoop goes past over D F)
 loop {A} {C} {item} {R} {D} {F} goes past add over beyond run p z e = λ c. record {
   sound = λ k ts b rest h. sound k c ts b rest h;
@@ -77,8 +77,11 @@ loop {A} {C} {item} {R} {D} {F} goes past add over beyond run p z e = λ c. reco
 
     sound : (k : ℕ) (c : C) (ts : List Token) (b : C) (rest : List Token) → run k c ts ≡ got b rest → Loop goes past add over beyond D c b ts rest
     sound zero c ts b rest h = got_bad (sym h ∙ z c ts)
-    sound (suc k) c ts b rest h = elim (split k c ts h) [ inl g ↦ again k c ts b rest g.is g.same (λ c mid i. sound k c mid b rest i) | inr g ↦
-            ended c ts b rest g.is g.same ]
+    sound (suc k) c ts b rest h = elim (split k c ts h) [
+      | inl g ↦ again k c ts b rest g.is g.same (λ c mid i. sound k c mid b rest i)
+      | inr g ↦
+          ended c ts b rest g.is g.same
+    ]
 
     complete : (c b : C) (ts rest : List Token) (all : List A) (end : List Token) → b ≡ gathered add c all → Each goes past D all ts end → over end ≡ true
         → rest ≡ beyond end → Settles (λ k. run k c ts) (got b rest)
@@ -100,8 +103,11 @@ loop {A} {C} {item} {R} {D} {F} goes past add over beyond run p z e = λ c. reco
 
     last_stops : (c : C) (ts : List Token) (why : Why) → goes ts ≡ false → unless_stuck (over ts) ts (got c (beyond ts)) ≡ bad why
         → (why ≡ tired) ⊎ FaultsLoop goes past over D F why ts
-    last_stops c ts why n h = elim (unless_bad (over ts) ts (got c (beyond ts)) h) [ inl s ↦ inr (inr ([], ts, e_over n, s.not, s.at)) | inr s ↦
-            got_bad s.same ]
+    last_stops c ts why n h = elim (unless_bad (over ts) ts (got c (beyond ts)) h) [
+      | inl s ↦ inr (inr ([], ts, e_over n, s.not, s.at))
+      | inr s ↦
+          got_bad s.same
+    ]
 
     later_stops : (a : A) (ts mid : List Token) (why : Why) → goes ts ≡ true → D a (past ts) mid → FaultsLoop goes past over D F why mid
         → FaultsLoop goes past over D F why ts
@@ -113,14 +119,20 @@ loop {A} {C} {item} {R} {D} {F} goes past add over beyond run p z e = λ c. reco
         → (why ≡ tired) ⊎ FaultsLoop goes past over D F why ts
     next_stops k c ts why g h later = elim (then_bad (item k (past ts)) (λ a mid. run k (add c a) mid) h) [
       | inl b ↦ elim (p.stops k (past ts) why b) [ inl t ↦ inl t | inr w ↦ inr (inl (f_here g w)) ]
-      | inr led ↦ elim (later (add c led.value) led.mid led.next) [ inl t ↦ inl t | inr w ↦
-              inr (later_stops led.value ts led.mid why g (p.sound k (past ts) led.value led.mid led.first) w) ]
+      | inr led ↦ elim (later (add c led.value) led.mid led.next) [
+        | inl t ↦ inl t
+        | inr w ↦
+            inr (later_stops led.value ts led.mid why g (p.sound k (past ts) led.value led.mid led.first) w)
+      ]
     ]
 
     stops : (k : ℕ) (c : C) (ts : List Token) (why : Why) → run k c ts ≡ bad why → (why ≡ tired) ⊎ FaultsLoop goes past over D F why ts
     stops zero c ts why h = inl (bad_one (sym h ∙ z c ts))
-    stops (suc k) c ts why h = elim (split k c ts h) [ inl g ↦ next_stops k c ts why g.is g.same (λ c mid i. stops k c mid why i) | inr g ↦
-            last_stops c ts why g.is g.same ]
+    stops (suc k) c ts why h = elim (split k c ts h) [
+      | inl g ↦ next_stops k c ts why g.is g.same (λ c mid i. stops k c mid why i)
+      | inr g ↦
+          last_stops c ts why g.is g.same
+    ]
 
     faults : (why : Why) (c : C) (ts : List Token) → FaultsEach goes past D F why ts → Settles (λ k. run k c ts) (bad why)
     faults why c ts (f_here g w) = settles_next c ts g (settles_bad (λ k a mid. run k (add c a) mid) (p.faults why (past ts) w))

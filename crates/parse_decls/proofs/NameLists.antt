@@ -127,4 +127,4 @@ generics x i = perhaps (opens_at i Square) [] (closed (closes_at Square) (names 
 
 pub pragmas : (x : Origin) (i : Layout) → Parses (λ k ts. run_pragmas k x i ts) (Pragmas x i) (Pragmas x i) (FaultsPragmas x i)
 pragmas x i = perhaps (pragmas_at i) [] (closed_list (comma_at Brackets) behind (kind_at is_pragma_close) (λ k some ts. run_more_pragmas k x some ts) (pragma x)
-        (λ some ts. refl) (λ k some ts. refl))
+    (λ some ts. refl) (λ k some ts. refl))

@@ -27,7 +27,7 @@ pub gathers : {A C : Type 0} {item : ℕ → List Token → Out A} {R D : A → 
     → (c : C) → Parses (λ k ts. run k c ts) (Gathers goes past add R c) (Gathers goes past add D c) (FaultsEach goes past D F)
 gathers {A} {C} {item} {R} {D} {F} goes past add run p z e c =
     restated (loop goes past add (λ ts. true) (λ ts. ts) run p z e c) (λ b ts rest l. done D l) (λ b ts rest g. from D g) (λ b ts rest g. from R g) fault
-        (λ why ts w. inl w)
+    (λ why ts w. inl w)
   where
     done : (R : A → List Token → List Token → Type 0) {b : C} {ts rest : List Token} → Loop goes past add (λ ts. true) (λ ts. ts) R c b ts rest
         → Gathers goes past add R c b ts rest
@@ -50,11 +50,11 @@ pub each : {A : Type 0} {item : ℕ → List Token → Out A} {R D : A → List 
     → Parses item R D F
     → ((c : List A) (ts : List Token) → run zero c ts ≡ bad tired)
     → ((k : ℕ) (c : List A) (ts : List Token) → run (suc k) c ts ≡ (if goes ts then then_do (item k (past ts)) (λ a mid. run k (c ++ a ∷ []) mid)
-            else got c ts))
+    else got c ts))
     → Parses (λ k ts. run k [] ts) (Each goes past R) (Each goes past D) (FaultsEach goes past D F)
 each {A} {item} {R} {D} {F} goes past run p z e =
     restated (gathers goes past (λ c a. c ++ a ∷ []) run p z e []) (λ b ts rest g. done D g) (λ b ts rest d. from D d) (λ b ts rest d. from R d) (λ why ts w. w)
-        (λ why ts w. w)
+    (λ why ts w. w)
   where
     done : (R : A → List Token → List Token → Type 0) {b : List A} {ts rest : List Token} → Gathers goes past (λ c a. c ++ a ∷ []) R [] b ts rest
         → Each goes past R b ts rest
@@ -70,11 +70,11 @@ pub listed : {A : Type 0} {first item : ℕ → List Token → Out A} {P Q R D :
     → Parses first P Q G → Parses item R D F
     → ((c : List A) (ts : List Token) → run zero c ts ≡ bad tired)
     → ((k : ℕ) (c : List A) (ts : List Token) → run (suc k) c ts ≡ (if goes ts then then_do (item k (past ts)) (λ a mid. run k (c ++ a ∷ []) mid)
-            else got c ts))
+    else got c ts))
     → Parses (λ k ts. then_do (first k ts) (λ a mid. run k (a ∷ []) mid)) (Listed P goes past R) (Listed Q goes past D) (FaultsListed Q G goes past D F)
 listed {A} {first} {item} {P} {Q} {R} {D} {F} {G} goes past run o p z e =
     restated (seq o (λ a. gathers goes past (λ c a. c ++ a ∷ []) run p z e (a ∷ []))) (λ b ts rest g. done Q D g) (λ b ts rest d. from Q D d)
-        (λ b ts rest d. from P R d) fault back
+    (λ b ts rest d. from P R d) fault back
   where
     Both : (P R : A → List Token → List Token → Type 0) → List A → List Token → List Token → Type 0
     Both P R = Then P (λ a. Gathers goes past (λ c a. c ++ a ∷ []) R (a ∷ []))
@@ -103,7 +103,7 @@ pub closed : {A : Type 0} {f : ℕ → List Token → Out A} {R D : A → List T
     (FaultsClosed closes D F)
 closed {A} {f} {R} {D} {F} closes p =
     restated (seq (shifted behind p) (λ a. guarded closes (shifted behind (just a)))) (λ a ts rest d. done D d) (λ a ts rest c. from D c)
-        (λ a ts rest c. from R c) fault back
+    (λ a ts rest c. from R c) fault back
   where
     done : (R : A → List Token → List Token → Type 0) {a : A} {ts rest : List Token}
         → Then (λ a ts rest. R a (behind ts) rest) (λ a. Guarded closes (λ b ts rest. Just a b (behind ts) rest)) a ts rest → Closed closes R a ts rest
@@ -129,12 +129,12 @@ pub closed_list : {A : Type 0} {item : ℕ → List Token → Out A} {R D : A �
     → Parses item R D F
     → ((c : List A) (ts : List Token) → run zero c ts ≡ bad tired)
     → ((k : ℕ) (c : List A) (ts : List Token) → run (suc k) c ts ≡ (if goes ts then then_do (item k (past ts)) (λ a mid. run k (c ++ a ∷ []) mid)
-            else unless_stuck (closes ts) ts (got c (behind ts))))
+    else unless_stuck (closes ts) ts (got c (behind ts))))
     → Parses (λ k ts. then_do (item k (behind ts)) (λ a mid. run k (a ∷ []) mid)) (Closed closes (Listed R goes past R)) (Closed closes (Listed D goes past D))
     (FaultsClosed closes (Listed D goes past D) (FaultsListed D F goes past D F))
 closed_list {A} {item} {R} {D} {F} goes past closes run p z e =
     restated (seq (shifted behind p) (λ a. loop goes past (λ c a. c ++ a ∷ []) closes behind run p z e (a ∷ []))) (λ b ts rest g. done D g)
-        (λ b ts rest d. from D d) (λ b ts rest d. from R d) fault back
+    (λ b ts rest d. from D d) (λ b ts rest d. from R d) fault back
   where
     done : (R : A → List Token → List Token → Type 0) {b : List A} {ts rest : List Token} → Then (λ a ts rest. R a (behind ts) rest)
         (λ a. Loop goes past (λ c a. c ++ a ∷ []) closes behind R (a ∷ [])) b ts rest

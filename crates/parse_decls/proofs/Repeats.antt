@@ -34,7 +34,7 @@ pub record Loop (S A X : Type 0) : Type 0 where
   pub add : S → A → S
   pub finish : S → List Token → ℕ → Out X
   pub law : (some : S) (ts : List Token) (k : ℕ) → run some ts (suc k) ≡ (if test ts then then_do (step (skip ts) k) (λ one mid. run (add some one) mid k)
-          else finish some ts k)
+      else finish some ts k)
 
 pub loop_on : {S A X : Type 0} (l : Loop S A X) (whole : ℕ → Out X) (input : Input) (least most : ℕ) (some all : S) (next at : ℕ) (one : A) (after : ℕ)
     → l.skip (from_at input next) ≡ from_at input at → most ≡ suc at → next ≤ at
@@ -45,7 +45,7 @@ loop_on l whole input least most some all next at one after s m n so e f a = rec
   leads = λ o h. so.leads o (settles_suc
       (settles_if (l.finish some (from_at input next)) e
       (settles_then (λ k one mid. l.run (l.add some one) mid k) (subst (λ ts. Settles (l.step ts) (got one (from_at input after))) (sym s) f.runs)
-              (subst (λ x. Settles (l.run x (from_at input after)) o) a h)))
+      (subst (λ x. Settles (l.run x (from_at input after)) o) a h)))
       (λ k. l.law some (from_at input next) k));
   goes = omega (arith, m, n, so.goes, f.goes);
   within = f.within;
@@ -64,15 +64,18 @@ loop_fails l whole input least some next at stop s so e f = fails_by (l.step (fr
 pub begins : {S A X : Type 0} (l : Loop S A X) (whole : ℕ → Out X) (input : Input) (least : ℕ) (some all : S) (next : ℕ) → all ≡ some
     → Leads (l.run some (from_at input next)) whole → least ≤ next → next ≤ length input.tokens.now
     → SoFar (l.run all (from_at input next)) whole input least next
-begins l whole input least some all next e h g w = record { leads = λ o s. h o (subst (λ x. Settles (l.run x (from_at input next)) o) e s); goes = g;
-        within = w }
+begins l whole input least some all next e h g w = record {
+  leads = λ o s. h o (subst (λ x. Settles (l.run x (from_at input next)) o) e s);
+  goes = g;
+  within = w;
+}
 
 pub loop_ends : {S A X : Type 0} (l : Loop S A X) (whole : ℕ → Out X) (input : Input) (least : ℕ) (some : S) (next : ℕ)
     → SoFar (l.run some (from_at input next)) whole input least next → l.test (from_at input next) ≡ false
     → SoFar (l.finish some (from_at input next)) whole input least next
 loop_ends l whole input least some next so e = record {
   leads = λ o h. so.leads o (settles_suc (settles_else (λ k. then_do (l.step (l.skip (from_at input next)) k) (λ one mid. l.run (l.add some one) mid k)) e h)
-          (λ k. l.law some (from_at input next) k));
+      (λ k. l.law some (from_at input next) k));
   goes = so.goes;
   within = so.within;
 }

@@ -107,7 +107,7 @@ opens_takes : (i : Layout) (b : Bracket) (ts : List Token) → opens_at i b ts �
 opens_takes i b [] h = cc
 opens_takes i b (tok ∷ ts) h =
     takes_token (no_end (λ k. is_bracket b (bracket_of k)) tok.kind (bracket_no_end b)
-        (both_of (goes_on i tok.indent) (is_bracket b (bracket_of tok.kind)) h).1)
+    (both_of (goes_on i tok.indent) (is_bracket b (bracket_of tok.kind)) h).1)
 
 closes_takes : (b : Bracket) (ts : List Token) → closes_at b ts ≡ true → Takes 1 ts (behind ts)
 closes_takes b ts h = takes_kind (is_punct (closing b)) ts refl h
@@ -132,13 +132,13 @@ proc_name_takes : (i : Layout) (ts : List Token) (one : Token) → proc_name_on 
 proc_name_takes i [] one h = cc
 proc_name_takes i (tok ∷ ts) one h =
     takes_token (no_end (λ k. is_name k || is_quoted k) tok.kind refl
-            (both_of (goes_on i tok.indent) (is_name tok.kind || is_quoted tok.kind)
-                (some_if tok (goes_on i tok.indent && (is_name tok.kind || is_quoted tok.kind)) h)).1)
+    (both_of (goes_on i tok.indent) (is_name tok.kind || is_quoted tok.kind)
+    (some_if tok (goes_on i tok.indent && (is_name tok.kind || is_quoted tok.kind)) h)).1)
 
 star_by : (i : Layout) (tok : Token) (ts : List Token) (x : Origin) (c : Bool) → star_at x i (tok ∷ ts) ≡ c → Takes 0 (tok ∷ ts) (if c then ts else tok ∷ ts)
 star_by i tok ts x true e =
     takes_less (takes_token
-        (no_end (λ k. is_run (codes "*") k (spelling x tok)) tok.kind refl (both_of (goes_on i tok.indent) (is_run (codes "*") tok.kind (spelling x tok)) e).1))
+    (no_end (λ k. is_run (codes "*") k (spelling x tok)) tok.kind refl (both_of (goes_on i tok.indent) (is_run (codes "*") tok.kind (spelling x tok)) e).1))
     (omega arith)
 star_by i tok ts x false e = takes_none
 
@@ -224,7 +224,7 @@ declareds_takes first {i = i} d = listed_takes {m = length} counts_one (λ ts h.
 
 generics_takes : {x : Origin} (i : Layout) {all : List Name} {ts rest : List Token} → Generics x i all ts rest → Takes (length all) ts rest
 generics_takes i d = perhaps_takes {f = length} refl (λ a ts rest h e. closed_takes (opens_takes i Square ts h) (closes_takes Square)
-        (λ ts rest n. names_takes n) e) d
+    (λ ts rest n. names_takes n) e) d
 
 pragma_takes : {x : Origin} (a : Pragma) (ts rest : List Token) → IsPragma x a ts rest → Takes 1 ts rest
 pragma_takes a ts rest (n_pragma {tok = tok} {ts = ts'} h k) = name_takes Brackets ts' tok h
@@ -265,14 +265,14 @@ mutual
       takes_less (takes_then (holds_takes q) (takes_then (type_takes d) (takes_then (types_takes t) (closes_takes Square end c)))) (omega arith)
   type_takes {x} {i} (t_array {tok = tok} {ts = ts} {mid = mid} {end = end} q d c t e) =
       takes_less (takes_then (lead_takes x i tok ts q (λ e. cc))
-              (takes_then (array_takes x i tok ts q)
-                  (takes_then (takes_expr d) (takes_then (comma_takes Brackets mid c) (takes_then (type_takes t) (closes_takes Square end e)))))) (omega arith)
+      (takes_then (array_takes x i tok ts q)
+      (takes_then (takes_expr d) (takes_then (comma_takes Brackets mid c) (takes_then (type_takes t) (closes_takes Square end e)))))) (omega arith)
   type_takes {x} {i} (t_ref {tok = tok} {ts = ts} q s d) = takes_less (takes_then (lead_takes x i tok ts q (λ e. cc)) (type_takes d)) (omega arith)
   type_takes {x} {i} (t_empty {tok = tok} {ts = ts} q o c) =
       takes_less (takes_then (lead_takes x i tok ts q (λ e. cc)) (takes_then (opens_takes i Square ts o) (closes_takes Square (behind ts) c))) (omega arith)
   type_takes {x} {i} (t_tuple {tok = tok} {ts = ts} {end = end} q o n d t c) =
       takes_less (takes_then (lead_takes x i tok ts q (λ e. cc))
-              (takes_then (opens_takes i Square ts o) (takes_then (field_takes d) (takes_then (fields_takes t) (closes_takes Square end c))))) (omega arith)
+      (takes_then (opens_takes i Square ts o) (takes_then (field_takes d) (takes_then (fields_takes t) (closes_takes Square end c))))) (omega arith)
 
   types_takes : {x : Origin} {all : Arguments} {ts rest : List Token} → IsTypes x all ts rest → Takes (argument_nodes all) ts rest
   types_takes (t_last n) = takes_none
@@ -302,7 +302,7 @@ pub definition_takes : {x : Origin} {first i : Layout} (d : Definition) (ts rest
     → Takes (definition_nodes d) ts rest
 definition_takes {first = first} {i = i} d ts rest r =
     takes_less (takes_then (declareds_takes first r.names)
-            (takes_then (all_pragmas_takes i r.pragmas) (takes_then (annotation_takes i r.annotation) (given_takes i r.value)))) (omega arith)
+    (takes_then (all_pragmas_takes i r.pragmas) (takes_then (annotation_takes i r.annotation) (given_takes i r.value)))) (omega arith)
 
 pub definitions_takes : {x : Origin} {n : ℕ} {all : List Definition} {ts rest : List Token} → Definitions x n all ts rest
     → Takes (total definition_nodes all) ts rest
@@ -354,7 +354,7 @@ body_takes {n = n} (o_object {tok = tok} {ts = ts} q p f) =
     takes_less (takes_then (body_lead_takes n tok ts q (λ e. cc)) (takes_then (parent_takes (Lines n) p) (field_block_takes n f))) (omega arith)
 body_takes {n = n} (o_ref_object {tok = tok} {ts = ts} q p f) =
     takes_less (takes_then (body_lead_takes n tok ts q (λ e. cc))
-            (takes_then (object_takes (Lines n) ts (ref_object n ts tok.kind q)) (takes_then (parent_takes (Lines n) p) (field_block_takes n f)))) (omega arith)
+    (takes_then (object_takes (Lines n) ts (ref_object n ts tok.kind q)) (takes_then (parent_takes (Lines n) p) (field_block_takes n f)))) (omega arith)
 body_takes {n = n} (o_enum {tok = tok} {ts = ts} q d) = takes_less (takes_then (body_lead_takes n tok ts q (λ e. cc)) (members_takes d)) (omega arith)
 body_takes {n = n} (o_distinct {tok = tok} {ts = ts} q s d) = takes_less (takes_then (body_lead_takes n tok ts q (λ e. cc)) (type_takes d)) (omega arith)
 body_takes (o_alias q d) = type_takes d
@@ -363,8 +363,8 @@ pub declaration_takes : {x : Origin} {first : Layout} {n : ℕ} (d : Declaration
     → Takes (declaration_nodes d) ts rest
 declaration_takes {first = first} {n = n} d ts rest r =
     takes_less (takes_then (declared_takes (name_takes first) d.name ts r.past_name r.name)
-            (takes_then (generics_takes (Lines n) r.parameters) (takes_then (equals_takes (Lines n) r.past_parameters r.equals) (body_takes r.body))))
-        (omega arith)
+    (takes_then (generics_takes (Lines n) r.parameters) (takes_then (equals_takes (Lines n) r.past_parameters r.equals) (body_takes r.body))))
+    (omega arith)
 
 pub declarations_takes : {x : Origin} {n : ℕ} (all : List Declaration) (ts rest : List Token) → IsDeclarations x n all ts rest
     → Takes (total declaration_nodes all) ts rest
@@ -377,13 +377,13 @@ declarations_takes all ts rest (o_declaration {d = one} h d) = takes_less (decla
 parameter_takes : {x : Origin} (p : Parameters) (ts rest : List Token) → IsParameter x p ts rest → Takes (parameter_nodes p) ts rest
 parameter_takes {x} p ts rest r =
     takes_less (takes_then (names_takes r.names)
-            (takes_then (colon_takes Brackets r.past_names r.colon) (takes_then (mode_takes x (behind r.past_names)) (type_takes r.of)))) (omega arith)
+    (takes_then (colon_takes Brackets r.past_names r.colon) (takes_then (mode_takes x (behind r.past_names)) (type_takes r.of)))) (omega arith)
 
 parameters_takes : {x : Origin} {all : List Parameters} {ts rest : List Token} → Takes 1 ts (behind ts) → IsParameters x all ts rest
     → Takes (total parameter_nodes all) ts rest
 parameters_takes o (h_none {ts = ts} c) = takes_less (takes_then o (closes_takes Round (behind ts) c)) (omega arith)
 parameters_takes o (h_some c d) = closed_takes o (closes_takes Round) (λ ts rest n. listed_takes {m = total parameter_nodes} (counts_total parameter_nodes)
-        (λ ts h. takes_less (separator_takes ts h) (omega arith)) parameter_takes parameter_takes n) d
+    (λ ts h. takes_less (separator_takes ts h) (omega arith)) parameter_takes parameter_takes n) d
 
 parameter_list_takes : {x : Origin} (i : Layout) {all : List Parameters} {ts rest : List Token} → ParameterList x i all ts rest
     → Takes (total parameter_nodes all) ts rest
@@ -392,8 +392,8 @@ parameter_list_takes i d = perhaps_takes {f = total parameter_nodes} refl (λ a 
 pub head_takes : {x : Origin} {i : Layout} (h : Head) (ts rest : List Token) → IsHead x i h ts rest → Takes (head_nodes h) ts rest
 head_takes {i = i} h ts rest r =
     takes_less (takes_then (declared_takes (proc_name_takes i) h.name ts r.past_name r.name)
-            (takes_then (generics_takes i r.generics)
-                (takes_then (parameter_list_takes i r.params) (takes_then (annotation_takes i r.gives) (all_pragmas_takes i r.pragmas))))) (omega arith)
+    (takes_then (generics_takes i r.generics)
+    (takes_then (parameter_list_takes i r.params) (takes_then (annotation_takes i r.gives) (all_pragmas_takes i r.pragmas))))) (omega arith)
 
 -- ---- at places of all tokens
 

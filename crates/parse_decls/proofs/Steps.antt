@@ -40,7 +40,7 @@ pub pragma_found : (input : Input) (tok : Token) (kind : PragmaKind) (at : ℕ) 
     → Found {X = Pragma} (λ k. run_pragma (origin_of input) (from_at input at)) input (suc at) (record { at = p; kind = kind }) (at + 1)
 pragma_found input tok kind at p e n s = record {
   runs = settles_is settles_got (λ k. ap (λ o. run_pragma_name (origin_of input) o (from_at input at)) e
-          ∙ ap (λ o. run_known (origin_of input) tok o (from_at input at)) n
+      ∙ ap (λ o. run_known (origin_of input) tok o (from_at input at)) n
       ∙ ap (got (pragma_of (origin_of input) tok kind)) (behind_at at input.tokens.now) ∙ ap (λ q. got (made kind q) (from_at input (at + 1))) (sym s));
   goes = omega arith;
   within = (let w = within_some (name_on Brackets) refl at input.tokens.now e in omega (arith, w));
@@ -101,10 +101,16 @@ stuck_why ts rest b e = ap (λ c. if c then left_out rest else stuck rest) (sym 
 -- an expression is refused for what its run comes to
 pub value_fails : (run : List Token → ℕ → E.Out Term) (x : Origin) (ts : List Token) (code : Code) (at : Place) → P.RunsInto run x ts code at
     → Fails (λ k. of_expr ts (run ts k)) x (Refused code at)
-value_fails run x ts C.Syntax at h = record { why = stuck h.rest; runs = settles_why (sym (stuck_why ts h.rest false h.used)) (of_settles ts h.runs);
-        tells = (refl, h.next) }
-value_fails run x ts C.LeftOut at h = record { why = left_out h.rest; runs = settles_why (sym (stuck_why ts h.rest true h.left_out)) (of_settles ts h.runs);
-        tells = (refl, h.first) }
+value_fails run x ts C.Syntax at h = record {
+  why = stuck h.rest;
+  runs = settles_why (sym (stuck_why ts h.rest false h.used)) (of_settles ts h.runs);
+  tells = (refl, h.next);
+}
+value_fails run x ts C.LeftOut at h = record {
+  why = left_out h.rest;
+  runs = settles_why (sym (stuck_why ts h.rest true h.left_out)) (of_settles ts h.runs);
+  tells = (refl, h.first);
+}
 value_fails run x ts C.NestTooDeep at h = record { why = of_why ts E.deep; runs = of_settles ts h.runs; tells = (refl, h.first) }
 value_fails run x ts _ at h = absurd h
 

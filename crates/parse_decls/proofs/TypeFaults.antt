@@ -66,7 +66,7 @@ array_fault {x} {n = n} q e (r_length {a = length} {mid = mid} d few c) w =
     ]
 array_fault {x} {whole = whole} {n = n} {why = why} q e (r_types t lacks) w =
     inside_fault (h_array q (subst (λ us. type_at us ≡ true) e t) (subst (NoLength x) e lacks))
-        (subst (λ us. FaultsInside (λ i. ShortType x i n) (λ i why ts. FaultsType x why i whole n ts) None why us) e w)
+    (subst (λ us. FaultsInside (λ i. ShortType x i n) (λ i why ts. FaultsType x why i whole n ts) None why us) e w)
 
 sort_fault : {x : Origin} {i : Layout} {whole : List Token} {n : ℕ} {why : Why} {tok : Token} {ts : List Token} (l : TypeLead) → type_lead x i tok ts ≡ l
     → SortFaults x i whole n tok l why ts → FaultsType x why i whole (suc n) (tok ∷ ts)
@@ -133,4 +133,4 @@ fault_type {x} {i} {whole} {n} {why} (f_tuple {names = names} {a = a} {all = all
     let one : Typed = record { names = names; of = a } in
     let e = short_fields t.reads t.few in
     subst (λ l. SortFaults x i whole n tok l why ts) (sym q)
-        (inr (o, inr (c, inr (one, mid, d, inr (fields names a all, end, (e.0, ap (fields names a) e.1 ∙ sym (more_fields one e.0), e.2), inl (v, w))))))
+    (inr (o, inr (c, inr (one, mid, d, inr (fields names a all, end, (e.0, ap (fields names a) e.1 ∙ sym (more_fields one e.0), e.2), inl (v, w))))))

@@ -96,7 +96,7 @@ Sort x i tok T E P L.Array b ts rest = Then (λ o ts rest. E o (behind ts) rest)
 Sort x i tok T E P L.Ref b ts rest = Guarded (stays i) (Mapped (ref_to (place_at x tok)) (T i)) b ts rest
 Sort x i tok T E P L.Tuple b ts rest =
     Guarded (opens_at i Square)
-        (Either (λ ts. closes_at Square (behind ts)) (λ b ts rest. Just (tuple_of (place_at x tok) no_fields) b (behind (behind ts)) rest)
+    (Either (λ ts. closes_at Square (behind ts)) (λ b ts rest. Just (tuple_of (place_at x tok) no_fields) b (behind (behind ts)) rest)
     (Then (λ one ts rest. P one (behind ts) rest) (λ one. Then (Gathers (comma_at Brackets) behind add_field P (fields one.names one.of no_fields))
     (λ all. Guarded (closes_at Square) (λ b ts rest. Just (tuple_of (place_at x tok) all) b (behind ts) rest))))) b ts rest
 
@@ -116,7 +116,7 @@ FaultsSort x i tok T E P F G H L.Ref why ts = FaultsGuarded (stays i) (F i) why 
 FaultsSort x i tok T E P F G H L.Tuple why ts =
     FaultsGuarded (opens_at i Square) (FaultsEither (λ ts. closes_at Square (behind ts)) (λ why ts. ⊥)
     (FaultsThen (λ one ts rest. P one (behind ts) rest) (λ why ts. H why (behind ts))
-            (λ one. FaultsThen (Gathers (comma_at Brackets) behind add_field P (fields one.names one.of no_fields))
+    (λ one. FaultsThen (Gathers (comma_at Brackets) behind add_field P (fields one.names one.of no_fields))
     (FaultsEach (comma_at Brackets) behind P H) (λ all. FaultsGuarded (closes_at Square) (λ why ts. ⊥))))) why ts
 
 -- those of the grammar, and those with at most n levels in it
@@ -137,9 +137,9 @@ ShortType x i n = Short n type_levels (IsType x i)
 
 -- a name with types in brackets, by what it begins with
 holds_sort : {x : Origin} {i : Layout} {tok : Token} (T : Layout → Written → List Token → List Token → Type 0) (E : Option Term → List Token → List Token
-        → Type 0) (P : Typed → List Token → List Token → Type 0)
+    → Type 0) (P : Typed → List Token → List Token → Type 0)
     {b : Written} {ts rest : List Token} → ((us : List Token) → type_at us ≡ true → NoLength x us → E None us us) → HoldsTypes x i tok ts
-        → Inside x tok T None b (behind ts) rest
+    → Inside x tok T None b (behind ts) rest
     → Sort x i tok T E P (type_lead x i tok ts) b ts rest
 holds_sort {x} {i} {tok} T E P {b} {ts} {rest} none (h_name q o) s = subst (λ l. Sort x i tok T E P l b ts rest) (sym q) (inl (o, s))
 holds_sort {x} {i} {tok} T E P {b} {ts} {rest} none (h_array q t lacks) s = subst (λ l. Sort x i tok T E P l b ts rest) (sym q)
@@ -152,10 +152,10 @@ sort_reads {x} {i} (t_name {tok = tok} {ts = ts} q o) = subst (λ l. SortReads x
 sort_reads {x} {i} (t_generic {a = a} {all = all} {tok = tok} {ts = ts} {mid = mid} {end = end} q d t c) =
     let e = types_each t in
     holds_sort (IsType x) (Length x) (Part x) (λ us h lacks. r_types h lacks) q
-        (a, mid, d, (argument a all, end, (e.0, ap (argument a) e.1 ∙ sym (more_arguments a e.0), e.2), (c, (refl, refl))))
+    (a, mid, d, (argument a all, end, (e.0, ap (argument a) e.1 ∙ sym (more_arguments a e.0), e.2), (c, (refl, refl))))
 sort_reads {x} {i} (t_array {length = length} {a = a} {tok = tok} {ts = ts} {mid = mid} {end = end} q d c t e) =
     subst (λ l. SortReads x i tok l (array (place_at x tok) length a) ts (behind end)) (sym q)
-        (Some length, behind mid, r_length d tt c, (a, end, t, (e, (refl, refl))))
+    (Some length, behind mid, r_length d tt c, (a, end, t, (e, (refl, refl))))
 sort_reads {x} {i} (t_ref {a = a} {tok = tok} {ts = ts} {rest = rest} q s d) = subst (λ l. SortReads x i tok l (ref_to (place_at x tok) a) ts rest) (sym q)
     (s, (a, refl, d))
 sort_reads {x} {i} (t_empty {tok = tok} {ts = ts} q o c) = subst (λ l. SortReads x i tok l (tuple_of (place_at x tok) no_fields) ts (behind (behind ts)))
@@ -180,11 +180,11 @@ sort_short_of {x} {i} {n} (t_generic {a = a} {all = all} {tok = tok} {ts = ts} {
     let e = short_types t (right_few (type_levels a) (down h)) in
     let s : ShortType x Brackets n a (behind ts) mid = record { reads = d; few = left_few (most_type_levels all) (down h) } in
     holds_sort (λ i. ShortType x i n) (ShortLength x n) (ShortPart x n) (λ us h lacks. r_types h lacks) q
-        (a, mid, s, (argument a all, end, (e.0, ap (argument a) e.1 ∙ sym (more_arguments a e.0), e.2), (c, (refl, refl))))
+    (a, mid, s, (argument a all, end, (e.0, ap (argument a) e.1 ∙ sym (more_arguments a e.0), e.2), (c, (refl, refl))))
 sort_short_of {x} {i} {n} (t_array {length = length} {a = a} {tok = tok} {ts = ts} {mid = mid} {end = end} q d c t e) h =
     let s : ShortType x Brackets n a (behind mid) end = record { reads = t; few = right_few (levels length) (down h) } in
     subst (λ l. ShortSort x i n tok l (array (place_at x tok) length a) ts (behind end)) (sym q)
-        (Some length, behind mid, r_length d (left_few (type_levels a) (down h)) c, (a, end, s, (e, (refl, refl))))
+    (Some length, behind mid, r_length d (left_few (type_levels a) (down h)) c, (a, end, s, (e, (refl, refl))))
 sort_short_of {x} {i} {n} (t_ref {a = a} {tok = tok} {ts = ts} {rest = rest} q s d) h =
     let r : ShortType x i n a ts rest = record { reads = d; few = down h } in
     subst (λ l. ShortSort x i n tok l (ref_to (place_at x tok) a) ts rest) (sym q) (s, (a, refl, r))
@@ -220,10 +220,10 @@ array_is : {x : Origin} {i : Layout} {n : ℕ} {b : Written} {tok : Token} {ts r
     → ShortLength x n o us mid → Inside x tok (λ i. ShortType x i n) o b mid rest → ShortType x i (suc n) b (tok ∷ ts) rest
 array_is {x} {i} {n} {b} {tok} {ts} {rest} q e (r_length {a = length} {mid = mid} d few c) s =
     made_type s.3.1.0 s.3.1.1
-        (record { reads = t_array q (subst (λ us. IsExpr x Brackets length us mid) e d) c s.2.reads s.3.0; few = up (both_few few s.2.few) })
+    (record { reads = t_array q (subst (λ us. IsExpr x Brackets length us mid) e d) c s.2.reads s.3.0; few = up (both_few few s.2.few) })
 array_is {x} {i} {n} {b} {tok} {ts} {rest} q e (r_types t lacks) s =
     inside_is (h_array q (subst (λ us. type_at us ≡ true) e t) (subst (NoLength x) e lacks))
-        (subst (λ us. Inside x tok (λ i. ShortType x i n) None b us rest) e s)
+    (subst (λ us. Inside x tok (λ i. ShortType x i n) None b us rest) e s)
 
 sort_is : {x : Origin} {i : Layout} {n : ℕ} {b : Written} {tok : Token} {ts rest : List Token} (l : TypeLead) → type_lead x i tok ts ≡ l
     → ShortSort x i n tok l b ts rest → ShortType x i (suc n) b (tok ∷ ts) rest

@@ -36,7 +36,7 @@ pub type_empty : (x : Origin) (i : Layout) (whole ts : List Token) (left n : ℕ
 type_empty x i whole ts left n e s stop t =
     subst (λ m. Fails (λ k. run_type k x i whole m ts) x stop) (sym e)
     (subst (λ all. Fails (λ k. run_type k x i whole (suc n) all) x stop) (sym s)
-            (told_fails x (settles_suc settles_got (λ k. refl)) stop (subst (λ all. Told x (stuck_at all) stop) s t)))
+    (told_fails x (settles_suc settles_got (λ k. refl)) stop (subst (λ all. Told x (stuck_at all) stop) s t)))
 
 -- ---- what it begins with
 
@@ -70,7 +70,7 @@ two_behind at ts = behind_at (at + 1) ts ∙ ap (λ k. drop k ts) (omega arith)
 
 abbrev pub named_end : Input → Token → Arguments → List Token → Out Written
 named_end input tok all end = unless_stuck (closes_at Square end) end (got (named (place_at (origin_of input) tok) (spelling (origin_of input) tok) all)
-        (behind end))
+    (behind end))
 
 -- the types in a bracket
 abbrev pub inside_run : Input → List Token → ℕ → Token → List Token → ℕ → Out Written
@@ -126,7 +126,7 @@ pub array_on : (input : Input) (i : Layout) (whole : List Token) (n : ℕ) (tok 
     (λ k. run_sort k L.Array (origin_of input) i whole n tok (from_at input (at + 1)))
 array_on input i whole n tok at next read wanted e f =
     let runs : Settles (λ k. run_length k (origin_of input) whole n (from_at input (at + 2))) (got wanted (from_at input next)) =
-        subst (λ o. Settles (λ k. run_length k (origin_of input) whole n (from_at input (at + 2))) (got o (from_at input next))) e f.runs in
+    subst (λ o. Settles (λ k. run_length k (origin_of input) whole n (from_at input (at + 2))) (got o (from_at input next))) e f.runs in
     leads_on (leads_then (λ k length mid. run_inside k length (origin_of input) whole n tok mid) runs) (array_leads input i whole n tok at)
 
 -- ---- a reference

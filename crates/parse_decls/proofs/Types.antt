@@ -68,27 +68,27 @@ pub part : (x : Origin) (n : ℕ) → TypesParse x n → (whole : List Token) �
     (λ why ts. FaultsField x why whole n ts)
 part x n p whole =
     restated (stepped
-            (seq (declareds x Brackets Brackets)
-                (λ names. guarded (colon_at Brackets)
-                    (mapped (λ a. let one : Typed = record { names = names; of = a } in one) (shifted behind (p Brackets whole))))) (λ ts. refl) (λ k ts. refl))
+    (seq (declareds x Brackets Brackets)
+    (λ names. guarded (colon_at Brackets)
+    (mapped (λ a. let one : Typed = record { names = names; of = a } in one) (shifted behind (p Brackets whole))))) (λ ts. refl) (λ k ts. refl))
     (λ one ts rest d. done one ts rest d) (λ one ts rest d. from d.reads d.few) (λ one ts rest d. reads d) fault back
   where
     done : (one : Typed) (ts rest : List Token) → Then (Declareds x Brackets Brackets)
         (λ names. Guarded (colon_at Brackets)
-            (Mapped (λ a. let one : Typed = record { names = names; of = a } in one) (λ a ts rest. ShortType x Brackets n a (behind ts) rest))) one ts rest
+        (Mapped (λ a. let one : Typed = record { names = names; of = a } in one) (λ a ts rest. ShortType x Brackets n a (behind ts) rest))) one ts rest
         → ShortPart x n one ts rest
     done one ts rest d = subst (λ one. ShortPart x n one ts rest) (sym d.3.1.1) (record { reads = t_field d.2 d.3.0 d.3.1.2.reads; few = d.3.1.2.few })
 
     from : {names : List Declared} {a : Written} {ts rest : List Token} → IsField x names a ts rest → type_levels a ≤ n
         → let one : Typed = record { names = names; of = a } in Then (Declareds x Brackets Brackets)
         (λ names. Guarded (colon_at Brackets)
-            (Mapped (λ a. let one : Typed = record { names = names; of = a } in one) (λ a ts rest. ShortType x Brackets n a (behind ts) rest))) one ts rest
+        (Mapped (λ a. let one : Typed = record { names = names; of = a } in one) (λ a ts rest. ShortType x Brackets n a (behind ts) rest))) one ts rest
     from (t_field {names = names} {a = a} {mid = mid} d c t) h = (names, mid, d, (c, (a, refl, record { reads = t; few = h })))
 
     reads : {names : List Declared} {a : Written} {ts rest : List Token} → IsField x names a ts rest
         → let one : Typed = record { names = names; of = a } in Then (Declareds x Brackets Brackets)
         (λ names. Guarded (colon_at Brackets)
-            (Mapped (λ a. let one : Typed = record { names = names; of = a } in one) (λ a ts rest. IsType x Brackets a (behind ts) rest))) one ts rest
+        (Mapped (λ a. let one : Typed = record { names = names; of = a } in one) (λ a ts rest. IsType x Brackets a (behind ts) rest))) one ts rest
     reads (t_field {names = names} {a = a} {mid = mid} d c t) = (names, mid, d, (c, (a, refl, t)))
 
     fault : (why : Why) (ts : List Token) → FaultsThen (Declareds x Brackets Brackets) (FaultsDeclareds x Brackets Brackets)
@@ -109,8 +109,8 @@ inside : (x : Origin) (n : ℕ) → TypesParse x n → (whole : List Token) (tok
     (FaultsInside (λ i. ShortType x i n) (λ i why ts. FaultsType x why i whole n ts) o)
 inside x n p whole tok None =
     stepped (seq (p Brackets whole)
-            (λ a. seq (gathers (comma_at Brackets) behind and_argument (λ k some ts. run_arguments k x whole n some ts) (p Brackets whole) (λ some ts. refl)
-                    (λ k some ts. refl) (argument a no_arguments))
+    (λ a. seq (gathers (comma_at Brackets) behind and_argument (λ k some ts. run_arguments k x whole n some ts) (p Brackets whole) (λ some ts. refl)
+    (λ k some ts. refl) (argument a no_arguments))
     (λ all. guarded (closes_at Square) (shifted behind (just (named (place_at x tok) (spelling x tok) all)))))) (λ ts. refl) (λ k ts. refl)
 inside x n p whole tok (Some length) =
     stepped (seq (p Brackets whole) (λ a. guarded (closes_at Square) (shifted behind (just (array (place_at x tok) length a))))) (λ ts. refl) (λ k ts. refl)
@@ -120,15 +120,15 @@ sort : (x : Origin) (n : ℕ) → n ≤ most_levels → TypesParse x n → (i : 
 sort x n le p i whole tok L.Other = stepped (failing (λ ts. stuck_at (tok ∷ ts))) (λ ts. refl) (λ k ts. refl)
 sort x n le p i whole tok L.Name =
     stepped (either (opens_at i Square) (shifted behind (inside x n p whole tok None)) (just (named (place_at x tok) (spelling x tok) no_arguments)))
-        (λ ts. refl) (λ k ts. refl)
+    (λ ts. refl) (λ k ts. refl)
 sort x n le p i whole tok L.Array = stepped (seq (shifted behind (length x whole n le)) (λ o. inside x n p whole tok o)) (λ ts. refl) (λ k ts. refl)
 sort x n le p i whole tok L.Ref = stepped (guarded (stays i) (mapped (ref_to (place_at x tok)) (p i whole))) (λ ts. refl) (λ k ts. refl)
 sort x n le p i whole tok L.Tuple =
     stepped (guarded (opens_at i Square)
-            (either (λ ts. closes_at Square (behind ts)) (shifted (λ ts. behind (behind ts)) (just (tuple_of (place_at x tok) no_fields)))
+    (either (λ ts. closes_at Square (behind ts)) (shifted (λ ts. behind (behind ts)) (just (tuple_of (place_at x tok) no_fields)))
     (seq (shifted behind (part x n p whole))
-            (λ one. seq (gathers (comma_at Brackets) behind add_field (λ k some ts. run_parts k x whole n some ts) (part x n p whole) (λ some ts. refl)
-                    (λ k some ts. refl) (fields one.names one.of no_fields))
+    (λ one. seq (gathers (comma_at Brackets) behind add_field (λ k some ts. run_parts k x whole n some ts) (part x n p whole) (λ some ts. refl)
+    (λ k some ts. refl) (fields one.names one.of no_fields))
     (λ all. guarded (closes_at Square) (shifted behind (just (tuple_of (place_at x tok) all)))))))) (λ ts. refl) (λ k ts. refl)
 
 pub types : (x : Origin) (n : ℕ) → n ≤ most_levels → TypesParse x n
@@ -136,6 +136,6 @@ types x zero le i whole = no_level x i whole
 types x (suc n) le i whole =
     let few : n ≤ most_levels = omega (arith, le) in
     restated (stepped
-            (headed (λ k ts. run_type (suc k) x i whole (suc n) ts) (λ tok. placed (λ at. sort x n few (types x n few) i whole tok (type_lead x i tok at)))
-                (λ k. refl) (λ k tok ts. refl)) (λ ts. refl) (λ k ts. refl))
+    (headed (λ k ts. run_type (suc k) x i whole (suc n) ts) (λ tok. placed (λ at. sort x n few (types x n few) i whole tok (type_lead x i tok at)))
+    (λ k. refl) (λ k tok ts. refl)) (λ ts. refl) (λ k ts. refl))
     short_sort (λ b ts rest s. sort_short s) (λ b ts rest d. sort_reads d) type_fault (λ why ts w. fault_type w)

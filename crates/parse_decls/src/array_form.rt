@@ -28,7 +28,7 @@ fn try_length(
     requires few { length input.now.tokens.now < 2 ^ 32 }
     ensures { Comes (λ value. option_map term_of value)
         (λ k. length_of (from_at input.now whole) left (from_at input.now at)
-            (run_expr k (origin_of input.now) Brackets most_levels (from_at input.now at))) input.now
+        (run_expr k (origin_of input.now) Brackets most_levels (from_at input.now at))) input.now
         at result }
 {
     match expr_within(

@@ -135,7 +135,7 @@ fn read_more_members(
     requires within { first.next ≤ length input.now.tokens.now }
     ensures { Comes (λ all. all.items)
         (λ k. run_more_members k (origin_of input.now) spaces (first.value ∷ [])
-            (from_at input.now first.next)) input.now first.next result }
+        (from_at input.now first.next)) input.now first.next result }
 {
     let mut all = and_one(Vec::new(alloc), first.value)?;
     let mut next = first.next;

@@ -111,7 +111,7 @@ pub(crate) fn read_declared(
 ) -> Result<Reading<Declared>, Stop>
     ensures { Comes (λ name. name)
         (λ k. run_shown (origin_of input.now) layout (name_on before (from_at input.now at))
-            (from_at input.now at)) input.now (suc at) result }
+        (from_at input.now at)) input.now (suc at) result }
 {
     let name = input.name_on(at, before);
     read_shown(alloc, input, at, name, layout)
@@ -126,7 +126,7 @@ pub(crate) fn read_proc_name(
 ) -> Result<Reading<Declared>, Stop>
     ensures { Comes (λ name. name)
         (λ k. run_shown (origin_of input.now) layout (proc_name_on layout (from_at input.now at))
-            (from_at input.now at)) input.now (suc at) result }
+        (from_at input.now at)) input.now (suc at) result }
 {
     let name = proc_name_on(input, at, layout);
     read_shown(alloc, input, at, name, layout)

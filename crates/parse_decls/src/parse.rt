@@ -42,9 +42,9 @@ pub fn names(
     ensures inside { IfOk result (λ p. HasNoEnd input.now.tokens.now at p.next) }
     ensures refused { IfErr result
         (λ stop. OnRefusal stop
-            (IsRefused (Names (origin_of input.now) layout) (Names (origin_of input.now) layout)
-                (FaultsNames (origin_of input.now) layout) (Tells (origin_of input.now))
-                (from_at input.now at))) }
+        (IsRefused (Names (origin_of input.now) layout) (Names (origin_of input.now) layout)
+        (FaultsNames (origin_of input.now) layout) (Tells (origin_of input.now))
+        (from_at input.now at))) }
 {
     read_names(alloc, input, at, layout)
 }
@@ -63,16 +63,16 @@ pub fn definition(
     ensures runs { Comes definition_of (λ k. run_def k (origin_of input.now) (Lines spaces) (from_at input.now at)) input.now (suc at) result }
     ensures reads { IfOk result
         (λ p. ShortDefinition (origin_of input.now) (Lines spaces) (definition_of p.value)
-            (from_at input.now at) (from_at input.now p.next)) }
+        (from_at input.now at) (from_at input.now p.next)) }
     ensures only { IfOk result (λ p. IsOnly (IsDefinition (origin_of input.now) (Lines spaces)) input.now.tokens.now at (definition_of p.value) p.next) }
     ensures size { IfOk result (λ p. definition_nodes (definition_of p.value) ≤ p.next - at) }
     ensures inside { IfOk result (λ p. HasNoEnd input.now.tokens.now at p.next) }
     ensures refused { IfErr result
         (λ stop. OnRefusal stop
-            (IsRefused (IsDefinition (origin_of input.now) (Lines spaces))
-                (ShortDefinition (origin_of input.now) (Lines spaces))
-                (FaultsDefinition (origin_of input.now) (Lines spaces)) (Tells (origin_of input.now))
-                (from_at input.now at))) }
+        (IsRefused (IsDefinition (origin_of input.now) (Lines spaces))
+        (ShortDefinition (origin_of input.now) (Lines spaces))
+        (FaultsDefinition (origin_of input.now) (Lines spaces)) (Tells (origin_of input.now))
+        (from_at input.now at))) }
 {
     read_definition(alloc, input, at, Layout::Lines(spaces))
 }
@@ -92,16 +92,16 @@ pub fn definition_block(
     ensures runs { Comes (λ all. map definition_of all.items) (λ k. run_def_block k (origin_of input.now) spaces (from_at input.now at)) input.now at result }
     ensures reads { IfOk result
         (λ p. ShortDefinitionBlock (origin_of input.now) spaces (map definition_of p.value.items)
-            (from_at input.now at) (from_at input.now p.next)) }
+        (from_at input.now at) (from_at input.now p.next)) }
     ensures only { IfOk result (λ p. IsOnly (IsDefinitionBlock (origin_of input.now) spaces) input.now.tokens.now at (map definition_of p.value.items) p.next) }
     ensures size { IfOk result (λ p. total definition_nodes (map definition_of p.value.items) ≤ p.next - at) }
     ensures inside { IfOk result (λ p. HasNoEnd input.now.tokens.now at p.next) }
     ensures refused { IfErr result
         (λ stop. OnRefusal stop
-            (IsRefused (IsDefinitionBlock (origin_of input.now) spaces)
-                (ShortDefinitionBlock (origin_of input.now) spaces)
-                (FaultsDefinitionBlock (origin_of input.now) spaces) (Tells (origin_of input.now))
-                (from_at input.now at))) }
+        (IsRefused (IsDefinitionBlock (origin_of input.now) spaces)
+        (ShortDefinitionBlock (origin_of input.now) spaces)
+        (FaultsDefinitionBlock (origin_of input.now) spaces) (Tells (origin_of input.now))
+        (from_at input.now at))) }
 {
     read_definition_block(alloc, input, at, spaces)
 }
@@ -121,16 +121,16 @@ pub fn type_declarations(
     ensures runs { Comes (λ all. map declaration_of all.items) (λ k. run_types k (origin_of input.now) spaces (from_at input.now at)) input.now at result }
     ensures reads { IfOk result
         (λ p. ShortDeclarations (origin_of input.now) spaces (map declaration_of p.value.items)
-            (from_at input.now at) (from_at input.now p.next)) }
+        (from_at input.now at) (from_at input.now p.next)) }
     ensures only { IfOk result (λ p. IsOnly (IsDeclarations (origin_of input.now) spaces) input.now.tokens.now at (map declaration_of p.value.items) p.next) }
     ensures size { IfOk result (λ p. total declaration_nodes (map declaration_of p.value.items) ≤ p.next - at) }
     ensures inside { IfOk result (λ p. HasNoEnd input.now.tokens.now at p.next) }
     ensures refused { IfErr result
         (λ stop. OnRefusal stop
-            (IsRefused (IsDeclarations (origin_of input.now) spaces)
-                (ShortDeclarations (origin_of input.now) spaces)
-                (FaultsDeclarations (origin_of input.now) spaces) (Tells (origin_of input.now))
-                (from_at input.now at))) }
+        (IsRefused (IsDeclarations (origin_of input.now) spaces)
+        (ShortDeclarations (origin_of input.now) spaces)
+        (FaultsDeclarations (origin_of input.now) spaces) (Tells (origin_of input.now))
+        (from_at input.now at))) }
 {
     read_types(alloc, input, at, spaces)
 }
@@ -152,10 +152,10 @@ pub fn procedure_head(
     ensures inside { IfOk result (λ p. HasNoEnd input.now.tokens.now at p.next) }
     ensures refused { IfErr result
         (λ stop. OnRefusal stop
-            (IsRefused (IsHead (origin_of input.now) (Lines spaces))
-                (ShortHead (origin_of input.now) (Lines spaces))
-                (FaultsHead (origin_of input.now) (Lines spaces)) (Tells (origin_of input.now))
-                (from_at input.now at))) }
+        (IsRefused (IsHead (origin_of input.now) (Lines spaces))
+        (ShortHead (origin_of input.now) (Lines spaces))
+        (FaultsHead (origin_of input.now) (Lines spaces)) (Tells (origin_of input.now))
+        (from_at input.now at))) }
 {
     read_head(alloc, input, at, Layout::Lines(spaces))
 }

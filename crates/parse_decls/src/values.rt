@@ -52,7 +52,7 @@ pub(crate) fn read_within(
     requires few { length input.now.tokens.now < 2 ^ 32 }
     ensures { Comes term_of
         (λ k. of_expr (from_at input.now whole)
-            (run_expr k (origin_of input.now) layout left (from_at input.now at))) input.now (suc at) result }
+        (run_expr k (origin_of input.now) layout left (from_at input.now at))) input.now (suc at) result }
 {
     let tokens = input.tokens;
     if at >= tokens.len() {
@@ -86,7 +86,7 @@ pub fn read_value(
     requires few { length input.now.tokens.now < 2 ^ 32 }
     ensures { Comes term_of
         (λ k. of_expr (from_at input.now at)
-            (run_expr k (origin_of input.now) layout most_levels (from_at input.now at))) input.now
+        (run_expr k (origin_of input.now) layout most_levels (from_at input.now at))) input.now
         (suc at) result }
 {
     read_within(alloc, input, at, layout, at, MOST_LEVELS)
@@ -102,7 +102,7 @@ pub fn read_callee(
     requires few { length input.now.tokens.now < 2 ^ 32 }
     ensures { Comes term_of
         (λ k. of_expr (from_at input.now at)
-            (run_primary k (origin_of input.now) (Lines spaces) true most_levels (from_at input.now at)))
+        (run_primary k (origin_of input.now) (Lines spaces) true most_levels (from_at input.now at)))
         input.now (suc at) result }
 {
     let tokens = input.tokens;

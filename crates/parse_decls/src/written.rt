@@ -28,7 +28,7 @@ fn no_level(input: &Input, at: usize, whole: usize) -> Stop
     requires order { whole ≤ at }
     ensures { Told (origin_of input.now)
         (if type_at (from_at input.now at) then too_deep (from_at input.now whole)
-            else stuck_at (from_at input.now at)) result }
+        else stuck_at (from_at input.now at)) result }
 {
     if type_at(input, at) {
         return too_deep(input, whole);
@@ -80,7 +80,7 @@ fn read_named(
     requires few { length input.now.tokens.now < 2 ^ 32 }
     ensures { Comes written_of
         (λ k. run_sort k L.Name (origin_of input.now) layout (from_at input.now whole) left token
-            (from_at input.now (at + 1))) input.now (suc at) result }
+        (from_at input.now (at + 1))) input.now (suc at) result }
 {
     let behind = at + 1;
     if opens_at(input, behind, layout, Bracket::Square) {
@@ -107,7 +107,7 @@ fn read_inside(
     requires few { length input.now.tokens.now < 2 ^ 32 }
     ensures { Comes written_of
         (λ k. run_inside k None (origin_of input.now) (from_at input.now whole) left token
-            (from_at input.now at)) input.now (suc at) result }
+        (from_at input.now at)) input.now (suc at) result }
 {
     let text = Bytes::from_slice(alloc, input.spelling(token))?;
     let first = read_type(alloc, input, at, Layout::Brackets, whole, left)?;
@@ -135,7 +135,7 @@ fn read_arguments(
     requires few { length input.now.tokens.now < 2 ^ 32 }
     ensures { Comes (λ all. arguments_of all.items)
         (λ k. run_arguments k (origin_of input.now) (from_at input.now whole) left
-            (argument (written_of first.value) no_arguments) (from_at input.now first.next)) input.now
+        (argument (written_of first.value) no_arguments) (from_at input.now first.next)) input.now
         first.next result }
 {
     let mut arguments = and_one(Vec::new(alloc), first.value)?;
@@ -167,7 +167,7 @@ fn read_array(
     requires few { length input.now.tokens.now < 2 ^ 32 }
     ensures { Comes written_of
         (λ k. run_sort k L.Array (origin_of input.now) layout (from_at input.now whole) left token
-            (from_at input.now (at + 1))) input.now (suc at) result }
+        (from_at input.now (at + 1))) input.now (suc at) result }
 {
     let inside = at + 2;
     let length = read_length(alloc, input, inside, whole, left)?;
@@ -193,7 +193,7 @@ fn read_element(
     requires few { length input.now.tokens.now < 2 ^ 32 }
     ensures { Comes written_of
         (λ k. run_inside k (Some (term_of count)) (origin_of input.now) (from_at input.now whole) left token
-            (from_at input.now at)) input.now (suc at) result }
+        (from_at input.now at)) input.now (suc at) result }
 {
     let element = read_type(alloc, input, at, Layout::Brackets, whole, left)?;
     if !input.closes_at(Bracket::Square, element.next) {
@@ -221,7 +221,7 @@ fn read_ref(
     requires few { length input.now.tokens.now < 2 ^ 32 }
     ensures { Comes written_of
         (λ k. run_sort k L.Ref (origin_of input.now) layout (from_at input.now whole) left token
-            (from_at input.now (at + 1))) input.now (suc at) result }
+        (from_at input.now (at + 1))) input.now (suc at) result }
 {
     let behind = at + 1;
     if !input.stays(behind, layout) {
@@ -250,7 +250,7 @@ fn read_tuple(
     requires few { length input.now.tokens.now < 2 ^ 32 }
     ensures { Comes written_of
         (λ k. run_sort k L.Tuple (origin_of input.now) layout (from_at input.now whole) left token
-            (from_at input.now (at + 1))) input.now (suc at) result }
+        (from_at input.now (at + 1))) input.now (suc at) result }
 {
     let open = at + 1;
     if !opens_at(input, open, layout, Bracket::Square) {
@@ -315,8 +315,8 @@ fn read_parts(
     requires few { length input.now.tokens.now < 2 ^ 32 }
     ensures { Comes (λ all. fields_of all.items)
         (λ k. run_parts k (origin_of input.now) (from_at input.now whole) left
-            (fields first.value.names.items (written_of first.value.of) no_fields)
-            (from_at input.now first.next)) input.now first.next result }
+        (fields first.value.names.items (written_of first.value.of) no_fields)
+        (from_at input.now first.next)) input.now first.next result }
 {
     let mut fields = and_one(Vec::new(alloc), first.value)?;
     let mut next = first.next;

@@ -83,7 +83,7 @@ module _ (x : Origin) (i : Layout) where
   elifs_end n some [] e = settles_suc settles_got (λ k. refl)
   elifs_end n some (tok ∷ ts) e =
       settles_suc (settles_else (λ k. then_do (run_tail k x i n ts) (λ one mid. run_elifs k x i n (and_choice some (place_at x tok) one.tests one.value) mid)) e
-          settles_got) (λ k. refl)
+      settles_got) (λ k. refl)
 
   module _ (n : ℕ) (some : Choices) (tok : Token) (ts all : List Token) (is : all ≡ tok ∷ ts) (e : branch_at i is_elif all ≡ true) where
     elifs_leads : Leads (λ k. then_do (run_tail k x i n ts) (λ one mid. run_elifs k x i n (and_choice some (place_at x tok) one.tests one.value) mid))
@@ -134,7 +134,7 @@ module _ (x : Origin) (i : Layout) where
       if_elifs_bad why h = settles_suc (settles_then if_next g (settles_bad if_else h)) if_step
 
       module _ (bs : Choices) (end : List Token) (b : Settles (λ k. run_elifs k x i n (choice (place_at x tok) one.tests one.value no_choices) mid)
-              (got bs end)) where
+          (got bs end)) where
         pub if_else_bad : Passes (λ k. run_else k x i n end) (λ k. run_if k x i m all)
         if_else_bad why h = settles_suc (settles_then if_next g (settles_then if_else b (settles_bad (λ k. if_last bs) h))) if_step
 
@@ -232,7 +232,7 @@ module _ (x : Origin) (i : Layout) where
   ofs_end n some [] e = settles_suc settles_got (λ k. refl)
   ofs_end n some (tok ∷ ts) e =
       settles_suc (settles_else (λ k. then_do (run_of k x i n ts) (λ one mid. run_ofs k x i n (and_choice some (place_at x tok) one.tests one.value) mid)) e
-          settles_got) (λ k. refl)
+      settles_got) (λ k. refl)
 
   module _ (n : ℕ) (some : Choices) (tok : Token) (ts all : List Token) (is : all ≡ tok ∷ ts) (e : branch_at i is_of all ≡ true) where
     ofs_leads : Leads (λ k. then_do (run_of k x i n ts) (λ one mid. run_ofs k x i n (and_choice some (place_at x tok) one.tests one.value) mid))
@@ -283,7 +283,7 @@ module _ (x : Origin) (i : Layout) where
     branches_leads o h = settles_suc (settles_unless (tok ∷ ts) (ap (first_of_at i) (sym is) ∙ e) h) (λ k. ap (λ us. run_branches (suc k) x i n at s us) is
         ∙ ap (λ w. unless_stuck (first_of_at i (tok ∷ ts)) (tok ∷ ts) (
         then_do (run_of k x w n ts) (λ one mid. then_do (run_ofs k x w n (choice (place_at x tok) one.tests one.value no_choices) mid)
-                (λ bs end. run_otherwise k x w n at s bs end)))) inner)
+        (λ bs end. run_otherwise k x w n at s bs end)))) inner)
 
     pub branches_bad : Passes (λ k. run_of k x j n ts) (λ k. run_branches k x i n at s all)
     branches_bad why h = branches_leads (bad why) (settles_bad branches_next h)

@@ -42,16 +42,26 @@ comes_up input l le ge (Err e) h = fails_on input e l h
 pub goes_up : {f : ℕ → Out Term} (run : Term → List Token → ℕ → Out Term) (input : Input) (left : ℕ) (a : Term) (at : ℕ)
     → ((b : Term) (mid : List Token) → Settles f (got b mid) → Leads (run b mid) (run a (from_at input at))) → Passes f (run a (from_at input at))
     → (r : Result Reading Stuck) → Comes f input left (suc at) r → Goes run input left a at r
-goes_up run input left a at on up (Ok p) h = record { leads = on (term_of p.tree) (from_at input p.next) h.runs; depth = h.depth; few = h.few; goes = h.goes;
-        within = h.within }
+goes_up run input left a at on up (Ok p) h = record {
+  leads = on (term_of p.tree) (from_at input p.next) h.runs;
+  depth = h.depth;
+  few = h.few;
+  goes = h.goes;
+  within = h.within;
+}
 goes_up run input left a at on up (Err e) h = fails_up input e up h
 
 -- so far it leads on, and the rest was read
 pub found_by : {X : Type 0} {part whole : ℕ → Out X} {t : X} (input : Input) {left least high next tall : ℕ} → Onward part whole input left least high next tall
     → Settles part (got t (from_at input next))
     → Found whole input left least t high next tall
-found_by {t = t} input {next = next} s h = record { runs = s.leads (got t (from_at input next)) h; depth = s.depth; few = s.few; goes = s.goes;
-        within = s.within }
+found_by {t = t} input {next = next} s h = record {
+  runs = s.leads (got t (from_at input next)) h;
+  depth = s.depth;
+  few = s.few;
+  goes = s.goes;
+  within = s.within;
+}
 
 -- first one part, and then what goes on with it
 pub onward_from : {X Y : Type 0} {f : ℕ → Out X} {part whole : ℕ → Out Y} {t : X} (input : Input) {left least high next tall : ℕ}

@@ -14,11 +14,10 @@ use Rattle.parse_exprs.specs.declared.input.Bracket.{Bracket}
 use Rattle.parse_exprs.specs.declared.input.Lead.{Lead}
 use Rattle.parse_exprs.specs.declared.input.Lead.TheVariants as L
 use Rattle.parse_exprs.specs.Look.{Origin, spelling, place_at, goes_on, op_at, op_levels, single, grouped, applied, sign_of, is_punct, bracket_at, name_on}
-use Rattle.parse_exprs.specs.Look.{suffix_at, lead_at, branch_at, is_elif, is_of, is_name, at_start, past_start, no_command_on, colon_at, deeper_line_at}
-use Rattle.parse_exprs.specs.Look.{line_layout, closed_at}
+use Rattle.parse_exprs.specs.Look.{suffix_at, lead_at, branch_at, is_elif, is_of, is_name, at_start, past_start, no_command_on}
 use Rattle.parse_exprs.specs.Outcome.{Out, got, bad, deep, then_do, unless_stuck, Settles}
 use Rattle.parse_exprs.specs.Run.{made, run_field, run_expr, run_lead, run_level, run_chain, run_more, run_unary, run_signed, run_primary, run_suffixes}
-use Rattle.parse_exprs.specs.Run.{run_applied, run_atom, run_group, run_enclosed, run_list, run_parts, run_part, run_tail, run_value, run_own_line, run_elifs}
+use Rattle.parse_exprs.specs.Run.{run_applied, run_atom, run_group, run_enclosed, run_list, run_parts, run_part, run_tail, run_value, run_elifs}
 use Rattle.parse_exprs.specs.Run.{run_else, run_branches, run_of, run_labels, run_label, run_ofs, run_otherwise}
 use Rattle.parse_exprs.specs.Grammar.{SpellsExpr, p_operators, p_if, p_case, Spells, p_unary, p_binary, SpellsMore, p_none, p_more, SpellsUnary, p_sign}
 use Rattle.parse_exprs.specs.Grammar.{p_plain, SpellsPrimary, p_primary, SpellsSuffixes, p_done, p_suffix, SpellsSuffix, p_field, p_applied, SpellsAtom}
@@ -140,7 +139,7 @@ mutual
   complete_unary {t = t} (p_plain d h) s zero few = none_left t few
   complete_unary {x = x} {i = i} {ts = ts} {rest = rest} (p_plain d h) s (suc n) few =
       by_primary x i n ts (primary_unsigned d)
-          (settles_then _ (complete_primary d (suffix_stays i (at_start i) rest s) n few) (settles_unless rest h settles_got))
+      (settles_then _ (complete_primary d (suffix_stays i (at_start i) rest s) n few) (settles_unless rest h settles_got))
 
   -- ---- what stands behind an atom
 
@@ -164,7 +163,7 @@ mutual
       → Settles (λ k. run_applied k (bracket_at ts) x i n a ts) (got t rest)
   complete_suffix {x = x} {i = i} {a = a} {ts = ts} (p_field {dot = dot} {tok = tok} {rest = rest} p g e) n few =
       by_bracket x i n a ts None (point_bracket dot.kind p)
-          (settles_suc (settles_is settles_got (λ k. ap (λ o. run_field o x a (dot ∷ tok ∷ rest)) (name_goes i tok rest g e))) (λ k. refl))
+      (settles_suc (settles_is settles_got (λ k. ap (λ o. run_field o x a (dot ∷ tok ∷ rest)) (name_goes i tok rest g e))) (λ k. refl))
   complete_suffix {x = x} {i = i} {a = a} {t = t} {ts = ts} {rest = rest} (p_applied {m = m} {b = b} {parts = ps} {tok = tok} {ts = inner} names d e) n few =
       let h = applied_levels b m a ps t e in
       by_bracket x i n a ts (Some b) (enclosed_bracket d) (settles_suc
@@ -179,7 +178,7 @@ mutual
       let h = grouped_levels b m (place_at x tok) ps t e in
       by_atom x i (suc n) tok ts None (Some b) (group_alone x tok (enclosed_bracket d)) (enclosed_bracket d) (settles_suc
       (subst (λ w. Settles (λ k. then_do (run_enclosed k x b w n (tok ∷ ts)) (λ parts rest. made (grouped b w (place_at x tok) parts) ts rest)) (got t rest))
-              (sym names)
+      (sym names)
       (settles_then _ (complete_enclosed d n (omega (arith, h, few))) (settles_made ts rest e))) (λ k. refl))
   complete_atom {x = x} {i = i} (p_sequence {tok = tok} {ts = ts} h on d) n few =
       by_atom x i (suc n) tok ts None None (at_alone x tok h) (at_bracket x tok h) (settles_suc
@@ -194,7 +193,7 @@ mutual
   complete_enclosed (p_empty h c) n few = settles_suc (settles_if _ c settles_got) (λ k. refl)
   complete_enclosed {x = x} {b = b} {rest = rest} (p_parts {end = end} h o d c) n few =
       settles_suc (settles_else _ o (settles_then _ (complete_parts d (closing_stops x Brackets op_levels b (end ∷ rest) c) n few)
-                  (settles_unless (end ∷ rest) c settles_got))) (λ k. refl)
+      (settles_unless (end ∷ rest) c settles_got))) (λ k. refl)
 
   pub complete_parts : {x : Origin} {m : Bool} {parts : Parts} {ts rest : List Token} → SpellsParts x m parts ts rest → Stops x Brackets op_levels rest
       → (n : ℕ) → most_levels parts ≤ n
@@ -217,7 +216,7 @@ mutual
   complete_part (p_unnamed d) s n few = settles_suc (complete_expr d s n few) (λ k. refl)
   complete_part (p_named {tok = tok} {colon = colon} {ts = ts} h c d) s n few =
       settles_suc (settles_unless (tok ∷ colon ∷ ts) (ap is_name h)
-              (settles_unless (colon ∷ ts) (ap (is_punct 58) c) (settles_then _ (complete_expr d s n few) settles_got))) (λ k. refl)
+      (settles_unless (colon ∷ ts) (ap (is_punct 58) c) (settles_then _ (complete_expr d s n few) settles_got))) (λ k. refl)
 
   -- ---- branches
 
@@ -226,7 +225,7 @@ mutual
       → Settles (λ k. run_tail k x i n ts) (got (record { tests = tests; value = v }) rest)
   complete_tail {x = x} {i = i} {ts = ts} (p_tail {mid = mid} on d c) s n few =
       settles_suc (settles_unless ts on (settles_then _ (complete_expr d (stops_start x i op_levels mid (value_stops c)) n (omega (arith, few)))
-                  (settles_then _ (complete_value c s n (omega (arith, few))) settles_got))) (λ k. refl)
+      (settles_then _ (complete_value c s n (omega (arith, few))) settles_got))) (λ k. refl)
 
   pub complete_value : {x : Origin} {i : Layout} {v : Term} {ts rest : List Token} → SpellsValue x i v ts rest → Stops x i op_levels rest → (n : ℕ)
       → levels v ≤ n → Settles (λ k. run_value k x i n ts) (got v rest)
@@ -235,7 +234,7 @@ mutual
   complete_value {x = x} {i = i} (p_own_line {tok = tok} {ts = ts} {rest = rest} h on d c) s n few =
       settles_suc (settles_unless (tok ∷ ts) h (settles_else _ (deeper_stays i ts on)
       (settles_suc (settles_unless ts on (settles_then _ (complete_expr d (stops_line x i ts op_levels rest s) n few) (settles_unless rest c settles_got)))
-              (λ k. refl)))) (λ k. refl)
+      (λ k. refl)))) (λ k. refl)
 
   pub complete_elifs : {x : Origin} {i : Layout} {some all : Choices} {ts rest : List Token} → SpellsElifs x i some all ts rest → Stops x i op_levels rest
       → (n : ℕ) → levels_in all ≤ n

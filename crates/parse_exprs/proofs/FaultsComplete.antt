@@ -12,7 +12,7 @@ use Rattle.parse_exprs.specs.declared.input.Lead.TheVariants as L
 use Rattle.parse_exprs.specs.Look.{Origin, place_at, grouped, bracket_at, closes_at, names_in}
 use Rattle.parse_exprs.specs.Outcome.{Out, got, bad, deep, stuck, unless_stuck, Settles}
 use Rattle.parse_exprs.specs.Run.{behind, run_field, run_expr, run_level, run_chain, run_unary, run_primary, run_suffixes, run_applied, run_atom, run_enclosed}
-use Rattle.parse_exprs.specs.Run.{run_list, run_parts, run_part, run_if, run_tail, run_value, run_own_line, run_elifs, run_else, run_case, run_branches, run_of}
+use Rattle.parse_exprs.specs.Run.{run_list, run_parts, run_part, run_if, run_tail, run_value, run_elifs, run_else, run_case, run_branches, run_of}
 use Rattle.parse_exprs.specs.Run.{run_labels, run_label, run_ofs, made}
 use Rattle.parse_exprs.specs.Faults.{Fault, too_deep, stuck_at, FaultsExpr, f_operators, f_no_if, f_if, f_no_case, f_case, Faults, f_tight, f_operand, f_more}
 use Rattle.parse_exprs.specs.Faults.{FaultsMore, f_operator, f_next, f_beyond, FaultsUnary, f_no_level, f_no_operand, f_nothing, f_sign_line, f_sign, f_plain}
@@ -82,8 +82,8 @@ mutual
       by_op x i l n a ts (Some op) h (settles_suc (settles_else (λ k. bad deep) (le-ltb less (levels a) le) (settles_bad _ (fails_level d))) (λ k. refl))
   fails_more {x = x} {i = i} {l = l} {n = n} {a = a} {ts = ts} (f_beyond {n = less} {op = op} h le d c) =
       by_op x i l n a ts (Some op) h
-          (settles_suc (settles_else (λ k. bad deep) (le-ltb less (levels a) le) (settles_then _ (complete_level d.spells d.stops less d.few) (fails_more c)))
-              (λ k. refl))
+      (settles_suc (settles_else (λ k. bad deep) (le-ltb less (levels a) le) (settles_then _ (complete_level d.spells d.stops less d.few) (fails_more c)))
+      (λ k. refl))
 
   fails_unary : {x : Origin} {why : Fault} {i : Layout} {n : ℕ} {ts : List Token} → FaultsUnary x why i n ts
       → Settles (λ k. run_unary k x i n ts) (bad (why_of why))
@@ -112,11 +112,11 @@ mutual
       settles_suc (settles_if _ on (settles_suc (settles_if _ (lt-ltb n (levels a) (omega (arith, le))) (deep_here w settles_got)) (λ k. refl))) (λ k. refl)
   fails_suffixes {n = n} {a = a} (f_suffix on le d) =
       settles_suc (settles_if _ on (settles_suc (settles_else (λ k. bad deep) (le-ltb n (levels a) le) (settles_bad _ (fails_suffix d))) (λ k. refl)))
-          (λ k. refl)
+      (λ k. refl)
   fails_suffixes {n = n} {a = a} (f_further on le d few c) =
       settles_suc (settles_if _ on
-              (settles_suc (settles_else (λ k. bad deep) (le-ltb n (levels a) le) (settles_then _ (complete_suffix d n few) (fails_suffixes c))) (λ k. refl)))
-          (λ k. refl)
+      (settles_suc (settles_else (λ k. bad deep) (le-ltb n (levels a) le) (settles_then _ (complete_suffix d n few) (fails_suffixes c))) (λ k. refl)))
+      (λ k. refl)
 
   fails_suffix : {x : Origin} {why : Fault} {i : Layout} {n : ℕ} {a : Term} {tok : Token} {ts : List Token} → FaultsSuffix x why i n a tok ts
       → Settles (λ k. run_applied k (bracket_at (tok ∷ ts)) x i n a (tok ∷ ts)) (bad (why_of why))
@@ -132,18 +132,18 @@ mutual
       (settles_suc (test_here _ (tok ∷ ts) at w) (λ k. refl))
   fails_atom {x = x} {i = i} {n = n} (f_no_square {tok = tok} {ts = ts} at on w) =
       by_atom x i (suc n) tok ts None None (at_alone x tok at) (at_bracket x tok at)
-          (settles_suc (settles_unless (tok ∷ ts) at (test_here _ ts on w)) (λ k. refl))
+      (settles_suc (settles_unless (tok ∷ ts) at (test_here _ ts on w)) (λ k. refl))
   fails_atom {x = x} {i = i} {n = n} (f_not_square {tok = tok} {ts = ts} at on square w) =
       by_atom x i (suc n) tok ts None None (at_alone x tok at) (at_bracket x tok at)
-          (settles_suc (settles_unless (tok ∷ ts) at (settles_unless ts on (test_here _ ts square w))) (λ k. refl))
+      (settles_suc (settles_unless (tok ∷ ts) at (settles_unless ts on (test_here _ ts square w))) (λ k. refl))
   fails_atom {x = x} {i = i} {n = n} (f_sequence {tok = tok} {at = at} {ts = ts} is on square d) =
       by_atom x i (suc n) at (tok ∷ ts) None None (at_alone x at is) (at_bracket x at is)
       (settles_suc (settles_unless (at ∷ tok ∷ ts) is (settles_unless (tok ∷ ts) on (settles_unless (tok ∷ ts) square (settles_bad _ (fails_enclosed tok d)))))
-              (λ k. refl))
+      (λ k. refl))
   fails_atom {x = x} {i = i} {n = n} (f_empty {tok = tok} {ts = ts} b c w) =
       by_atom x i (suc n) tok ts None (Some Round) (group_alone x tok b) b
-          (settles_suc (settles_then _ (empty_read x Round (names_in Round ts) n tok ts c) (stuck_here w (empty_stuck ts (names_in Round ts) x tok)))
-              (λ k. refl))
+      (settles_suc (settles_then _ (empty_read x Round (names_in Round ts) n tok ts c) (stuck_here w (empty_stuck ts (names_in Round ts) x tok)))
+      (λ k. refl))
   fails_atom {x = x} {i = i} {n = n} (f_group {b = b} {tok = tok} {ts = ts} is d) =
       by_atom x i (suc n) tok ts None (Some b) (group_alone x tok is) is (settles_suc (settles_bad _ (fails_enclosed tok d)) (λ k. refl))
 
@@ -181,10 +181,10 @@ mutual
   fails_if (f_tail d) = settles_suc (settles_bad _ (fails_tail d)) (λ k. refl)
   fails_if {x = x} {n = n} {tok = tok} (f_elifs {tests = tests} {v = v} d c) =
       settles_suc (settles_then _ (complete_tail d.spells d.stops n d.few) (settles_bad _ (fails_elifs (choice (place_at x tok) tests v no_choices) c)))
-          (λ k. refl)
+      (λ k. refl)
   fails_if {n = n} (f_else d c b) =
       settles_suc (settles_then _ (complete_tail d.spells d.stops n d.few)
-              (settles_then _ (complete_elifs c.spells c.stops n c.few) (settles_bad _ (fails_else b)))) (λ k. refl)
+      (settles_then _ (complete_elifs c.spells c.stops n c.few) (settles_bad _ (fails_else b)))) (λ k. refl)
 
   fails_tail : {x : Origin} {why : Fault} {i : Layout} {n : ℕ} {ts : List Token} → FaultsTail x why i n ts
       → Settles (λ k. run_tail k x i n ts) (bad (why_of why))
@@ -201,7 +201,7 @@ mutual
   fails_value (f_value {tok = tok} {ts = ts} h on d) = settles_suc (settles_unless (tok ∷ ts) h (settles_if _ on (fails_expr d))) (λ k. refl)
   fails_value {i = i} (f_own_line {tok = tok} {ts = ts} h on d) =
       settles_suc (settles_unless (tok ∷ ts) h
-              (settles_else _ (deeper_stays i ts on) (settles_suc (settles_unless ts on (settles_bad _ (fails_expr d))) (λ k. refl)))) (λ k. refl)
+      (settles_else _ (deeper_stays i ts on) (settles_suc (settles_unless ts on (settles_bad _ (fails_expr d))) (λ k. refl)))) (λ k. refl)
   fails_value {i = i} {n = n} (f_not_closed {tok = tok} {ts = ts} {rest = rest} h on d c w) =
       settles_suc (settles_unless (tok ∷ ts) h (settles_else _ (deeper_stays i ts on)
       (settles_suc (settles_unless ts on (settles_then _ (complete_expr d.spells d.stops n d.few) (test_here _ rest c w))) (λ k. refl)))) (λ k. refl)
@@ -211,7 +211,7 @@ mutual
   fails_elifs some (f_elif h d) = settles_suc (settles_if _ h (settles_bad _ (fails_tail d))) (λ k. refl)
   fails_elifs {x = x} {n = n} some (f_next_elif {tests = tests} {v = v} {tok = tok} h d c) =
       settles_suc (settles_if _ h (settles_then _ (complete_tail d.spells d.stops n d.few) (fails_elifs (and_choice some (place_at x tok) tests v) c)))
-          (λ k. refl)
+      (λ k. refl)
 
   fails_else : {x : Origin} {why : Fault} {i : Layout} {n : ℕ} {ts : List Token} → FaultsElse x why i n ts
       → Settles (λ k. run_else k x i n ts) (bad (why_of why))
@@ -232,7 +232,7 @@ mutual
   fails_branches at s (f_first_of {tok = tok} {ts = ts} on d) = settles_suc (settles_unless (tok ∷ ts) on (settles_bad _ (fails_of d))) (λ k. refl)
   fails_branches {x = x} {n = n} at s (f_ofs {tests = tests} {v = v} {tok = tok} {ts = ts} on d c) =
       settles_suc (settles_unless (tok ∷ ts) on
-              (settles_then _ (complete_of d.spells d.stops n d.few) (settles_bad _ (fails_ofs (choice (place_at x tok) tests v no_choices) c)))) (λ k. refl)
+      (settles_then _ (complete_of d.spells d.stops n d.few) (settles_bad _ (fails_ofs (choice (place_at x tok) tests v no_choices) c)))) (λ k. refl)
   fails_branches {n = n} at s (f_otherwise {tok = tok} {ts = ts} on d c h b) =
       settles_suc (settles_unless (tok ∷ ts) on (settles_then _ (complete_of d.spells d.stops n d.few) (settles_then _ (complete_ofs c.spells c.stops n c.few)
       (settles_suc (settles_if _ h (settles_bad _ (fails_value b))) (λ k. refl))))) (λ k. refl)
@@ -245,8 +245,8 @@ mutual
       (λ k. refl)
   fails_of {n = n} {ts = ts} (f_of_value on d c v) =
       settles_suc (settles_unless ts on
-              (settles_then _ (complete_label d.spells d.stops n d.few)
-                  (settles_then _ (complete_labels c.spells c.stops n c.few) (settles_bad _ (fails_value v))))) (λ k. refl)
+      (settles_then _ (complete_label d.spells d.stops n d.few)
+      (settles_then _ (complete_labels c.spells c.stops n c.few) (settles_bad _ (fails_value v))))) (λ k. refl)
 
   fails_labels : {x : Origin} {why : Fault} {i : Layout} {n : ℕ} {ts : List Token} (some : Parts) → FaultsLabels x why i n ts
       → Settles (λ k. run_labels k x i n some ts) (bad (why_of why))

@@ -148,7 +148,7 @@ faults_range : (why : Fault) (k : ℕ) (x : Origin) (i : Layout) (n : ℕ) (a : 
     → Done x i op_levels n (levels a) (SpellsExpr x i a ts mid) mid
     → ((rest : List Token) → run_expr k x i n rest ≡ bad (why_of why) → FaultsExpr x why i n rest)
     → (if dots_at x i mid then unless_stuck (stays i (behind mid)) (behind mid)
-        (then_do (run_expr k x i n (behind mid)) (λ b rest. got (range (place_of a) a b) rest)) else got a mid) ≡ bad (why_of why)
+    (then_do (run_expr k x i n (behind mid)) (λ b rest. got (range (place_of a) a b) rest)) else got a mid) ≡ bad (why_of why)
     → FaultsLabel x why i n ts
 faults_range why k x i n a ts [] d more e = got_bad e
 faults_range why k x i n a ts (tok ∷ mid) d more e =
@@ -156,8 +156,11 @@ faults_range why k x i n a ts (tok ∷ mid) d more e =
     elim (if_split (dots_at x i (tok ∷ mid)) (unless_stuck (stays i mid) mid go) (got a (tok ∷ mid)) e) as (λ w. FaultsLabel x why i n ts) [
       | inl h ↦ elim (unless_bad (stays i mid) mid go h.same) as (λ w. FaultsLabel x why i n ts) [
         | inl s ↦ f_range_line d h.is s.not (stuck_is why s.at)
-        | inr on ↦ elim (then_bad (run_expr k x i n mid) (λ b rest. got (range (place_of a) a b) rest) on.same) as (λ w. FaultsLabel x why i n ts) [ inl g ↦
-                f_range d h.is on.is (more mid g) | inr f ↦ got_bad f.next ]
+        | inr on ↦ elim (then_bad (run_expr k x i n mid) (λ b rest. got (range (place_of a) a b) rest) on.same) as (λ w. FaultsLabel x why i n ts) [
+          | inl g ↦
+              f_range d h.is on.is (more mid g)
+          | inr f ↦ got_bad f.next
+        ]
       ]
       | inr h ↦ got_bad h.same
     ]
@@ -227,8 +230,11 @@ mutual
   faults_signed why (suc k) (Some op) x i n tok ts is e =
       elim (unless_bad (stays i ts) ts _ e) as (λ w. FaultsUnary x why i (suc n) (tok ∷ ts)) [
         | inl s ↦ f_sign_line is s.not (stuck_is why s.at)
-        | inr g ↦ elim (then_bad (run_unary k x (past_start i) n ts) _ g.same) as (λ w. FaultsUnary x why i (suc n) (tok ∷ ts)) [ inl h ↦
-                f_sign is g.is (faults_unary why k x (past_start i) n ts h) | inr f ↦ got_bad f.next ]
+        | inr g ↦ elim (then_bad (run_unary k x (past_start i) n ts) _ g.same) as (λ w. FaultsUnary x why i (suc n) (tok ∷ ts)) [
+          | inl h ↦
+              f_sign is g.is (faults_unary why k x (past_start i) n ts h)
+          | inr f ↦ got_bad f.next
+        ]
       ]
 
   -- ---- what stands behind an atom
@@ -246,8 +252,11 @@ mutual
       ≡ bad (why_of why) → FaultsSuffixes x why i c n a ts
   faults_suffixes why zero x i c n a ts e = not_tired why e
   faults_suffixes why (suc k) x i c n a ts e =
-      elim (if_split (suffix_at i c ts) _ _ e) as (λ w. FaultsSuffixes x why i c n a ts) [ inl h ↦ faults_suffix why k x i c n a ts h.is h.same | inr h ↦
-              got_bad h.same ]
+      elim (if_split (suffix_at i c ts) _ _ e) as (λ w. FaultsSuffixes x why i c n a ts) [
+        | inl h ↦ faults_suffix why k x i c n a ts h.is h.same
+        | inr h ↦
+            got_bad h.same
+      ]
 
   faults_suffix : (why : Fault) (k : ℕ) (x : Origin) (i : Layout) (c : Bool) (n : ℕ) (a : Term) (ts : List Token) → suffix_at i c ts ≡ true
       → run_suffix k x i c (suc n) a ts ≡ bad (why_of why)
@@ -259,7 +268,7 @@ mutual
         | inr g ↦ elim (then_bad (run_applied k (bracket_at ts) x i n a ts) _ g.same) as (λ w. FaultsSuffixes x why i c n a ts) [
           | inl h ↦ faults_applied why k (bracket_at ts) x i c n a ts refl on g.few h
           | inr f ↦ (let d = sound_applied k (bracket_at ts) x i c n a ts refl on g.few f.first in
-                  f_further on g.few d.spells d.few (faults_suffixes why k x i c n f.value f.mid f.next))
+              f_further on g.few d.spells d.few (faults_suffixes why k x i c n f.value f.mid f.next))
         ]
       ]
 
@@ -393,7 +402,7 @@ mutual
               | inl h ↦ f_if is (f_elifs d (faults_elifs why k x i n first f.mid h))
               | inr g ↦ elim (then_bad (run_else k x i n g.mid) _ g.next) as (λ w. FaultsExpr x why i (suc n) (tok ∷ ts)) [
                 | inl h ↦ f_if is (f_else d (sound_elifs k x i n first f.mid (let p = d.few in omega (arith, p)) d.stops g.first)
-                        (faults_else why k x i n g.mid h))
+                    (faults_else why k x i n g.mid h))
                 | inr h ↦ got_bad h.next
               ]
             ])
@@ -512,7 +521,7 @@ mutual
                 | inl h ↦ f_labels on.is d (faults_labels why k x (past_start i) n (part f.value no_parts) f.mid h)
                 | inr g ↦ elim (then_bad (run_value k x i n g.mid) _ g.next) as (λ w. FaultsOf x why i n ts) [
                   | inl h ↦ f_of_value on.is d (sound_labels k x (past_start i) n (part f.value no_parts) f.mid (let p = d.few in omega (arith, p)) d.stops
-                          g.first) (faults_value why k x i n g.mid h)
+                      g.first) (faults_value why k x i n g.mid h)
                   | inr h ↦ got_bad h.next
                 ]
               ])

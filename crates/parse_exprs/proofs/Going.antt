@@ -82,7 +82,7 @@ module _ (x : Origin) (i : Layout) where
           → Leads (λ k. run_chain k x i l m (binary (place_of a) op a b) mid) (λ k. run_chain k x i l m a ts)
       chain_on b mid h =
           λ o g. more_leads o (settles_then (λ k c us. run_chain k x i l (suc n) (binary (place_of a) op a c) us) h
-              (subst (λ j. Settles (λ k. run_chain k x i l j (binary (place_of a) op a b) mid) o) (sym same) g))
+          (subst (λ j. Settles (λ k. run_chain k x i l j (binary (place_of a) op a b) mid) o) (sym same) g))
 
   -- ---- an operator before its operand
   pub unary_none : (n : ℕ) (ts : List Token) → 0 < n → ts ≡ [] → Settles (λ k. run_unary k x i n ts) (bad (stuck ts))
@@ -271,13 +271,13 @@ module _ (x : Origin) (i : Layout) where
           seq_bad why h =
               seq_leads (bad why)
               (settles_unless (tok ∷ ts) e
-                  (settles_unless ts s (settles_unless ts q (settles_bad (λ k parts rest. got (sequence (place_at x tok) parts) rest) h))))
+              (settles_unless ts s (settles_unless ts q (settles_bad (λ k parts rest. got (sequence (place_at x tok) parts) rest) h))))
 
           pub seq_got : (parts : Parts) (rest : List Token) → Settles (λ k. run_enclosed k x Square false n ts) (got parts rest)
               → Settles (λ k. run_group k None None x i m tok ts) (got (sequence (place_at x tok) parts) rest)
           seq_got parts rest h = seq_leads (got (sequence (place_at x tok) parts) rest)
               (settles_unless (tok ∷ ts) e
-                      (settles_unless ts s (settles_unless ts q (settles_then (λ k ps us. got (sequence (place_at x tok) ps) us) h settles_got))))
+              (settles_unless ts s (settles_unless ts q (settles_then (λ k ps us. got (sequence (place_at x tok) ps) us) h settles_got))))
 
 -- ---- parts in brackets
 module _ (x : Origin) where
@@ -298,12 +298,12 @@ module _ (x : Origin) where
       pub enclosed_open : (parts : Parts) (mid : List Token) → closes_at b mid ≡ false → Settles (λ k. run_list k x m n (behind ts)) (got parts mid)
           → Settles (λ k. run_enclosed k x b m n ts) (bad (stuck mid))
       enclosed_open parts mid c h = enclosed_leads (bad (stuck mid)) (settles_then (λ k ps us. unless_stuck (closes_at b us) us (got ps (behind us))) h
-              (settles_stuck (λ k. got parts (behind mid)) mid c))
+          (settles_stuck (λ k. got parts (behind mid)) mid c))
 
       pub enclosed_got : (parts : Parts) (mid : List Token) → closes_at b mid ≡ true → Settles (λ k. run_list k x m n (behind ts)) (got parts mid)
           → Settles (λ k. run_enclosed k x b m n ts) (got parts (behind mid))
       enclosed_got parts mid c h = enclosed_leads (got parts (behind mid)) (settles_then (λ k ps us. unless_stuck (closes_at b us) us (got ps (behind us))) h
-              (settles_unless mid c settles_got))
+          (settles_unless mid c settles_got))
 
   module _ (m : Bool) (n : ℕ) (ts : List Token) where
     pub list_bad : Passes (λ k. run_part k x m n ts) (λ k. run_list k x m n ts)
@@ -340,7 +340,7 @@ module _ (x : Origin) where
     named_leads : Leads (λ k. unless_stuck (kind_at is_name all) all (unless_stuck (kind_at (is_punct 58) ts) ts (value_go k))) (λ k. run_part k x true n all)
     named_leads o h =
         settles_suc h (λ k. ap (λ us. run_part (suc k) x true n us) is
-            ∙ ap (λ us. unless_stuck (kind_at is_name us) us (unless_stuck (kind_at (is_punct 58) ts) ts (value_go k))) (sym is))
+        ∙ ap (λ us. unless_stuck (kind_at is_name us) us (unless_stuck (kind_at (is_punct 58) ts) ts (value_go k))) (sym is))
 
     pub named_no_name : kind_at is_name all ≡ false → Settles (λ k. run_part k x true n all) (bad (stuck all))
     named_no_name e = named_leads (bad (stuck all)) (settles_stuck (λ k. unless_stuck (kind_at (is_punct 58) ts) ts (value_go k)) all e)

@@ -71,8 +71,11 @@ expr_agrees x i n = record {
   deep = λ ts. (λ f. fails_expr f, λ h. faults_expr too_deep h.steps x i n ts (at_last h));
   stuck = λ ts rest. (λ f. fails_expr f, λ h. faults_expr (stuck_at rest) h.steps x i n ts (at_last h));
   high = λ t ts rest d. (
-    λ f. elim (below_or n (levels t)) as (λ w. n < levels t) [ inl lt ↦ lt | inr le ↦
-            got_bad (settles_one (complete_expr d.spells d.stops n le) (fails_expr f)) ],
+    λ f. elim (below_or n (levels t)) as (λ w. n < levels t) [
+      | inl lt ↦ lt
+      | inr le ↦
+          got_bad (settles_one (complete_expr d.spells d.stops n le) (fails_expr f))
+    ],
     λ lt. let h = expr_high x i n t ts rest d lt in faults_expr too_deep h.steps x i n ts (at_last h),
   );
   steady = λ k ts o e f. expr_steady x i n k ts o e f;
@@ -101,13 +104,16 @@ callee_steady x spaces k ts (bad tired) e f = absurd (f refl)
 pub callee_agrees : (x : Origin) (spaces : ℕ) → Agree (ReadsCallee x spaces) (CalleeFaults x spaces) (CalleeRun x spaces) 64
 callee_agrees x spaces = record {
   sound = λ t ts rest h. (let d = sound_primary h.steps x (Lines spaces) true 63 ts (at_last h) in
-          record { reads = record { spells = d.spells; stops = d.stops }; few = d.few });
+      record { reads = record { spells = d.spells; stops = d.stops }; few = d.few });
   complete = λ t ts rest d few. complete_primary d.spells d.stops 63 few;
   deep = λ ts. (λ f. fails_primary f, λ h. faults_primary too_deep h.steps x (Lines spaces) true 63 ts (at_last h));
   stuck = λ ts rest. (λ f. fails_primary f, λ h. faults_primary (stuck_at rest) h.steps x (Lines spaces) true 63 ts (at_last h));
   high = λ t ts rest d. (
-    λ f. elim (below_or 64 (levels t)) as (λ w. 64 < levels t) [ inl lt ↦ lt | inr le ↦
-            got_bad (settles_one (complete_primary d.spells d.stops 63 le) (fails_primary f)) ],
+    λ f. elim (below_or 64 (levels t)) as (λ w. 64 < levels t) [
+      | inl lt ↦ lt
+      | inr le ↦
+          got_bad (settles_one (complete_primary d.spells d.stops 63 le) (fails_primary f))
+    ],
     λ lt. let h = callee_high x spaces t ts rest d lt in faults_primary too_deep h.steps x (Lines spaces) true 63 ts (at_last h),
   );
   steady = λ k ts o e f. callee_steady x spaces k ts o e f;

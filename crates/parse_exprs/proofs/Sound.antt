@@ -56,8 +56,11 @@ pub record Free {X : Type 0} (n m : ℕ) (go o : Out X) : Type 0 where
   pub same : go ≡ o
 
 pub limit_got : {X : Type 0} {t : X} {rest : List Token} (n m : ℕ) (go : Out X) → (if nat_lt n m then bad deep else go) ≡ got t rest → Free n m go (got t rest)
-limit_got {X} {t} {rest} n m go e = elim (if_split (nat_lt n m) (bad deep) go e) as (λ w. Free n m go (got t rest)) [ inl h ↦ (let f = h.same in cc) | inr h ↦
-        record { few = ltb-false n m h.is; same = h.same } ]
+limit_got {X} {t} {rest} n m go e = elim (if_split (nat_lt n m) (bad deep) go e) as (λ w. Free n m go (got t rest)) [
+  | inl h ↦ (let f = h.same in cc)
+  | inr h ↦
+      record { few = ltb-false n m h.is; same = h.same }
+]
 
 made_got : {t : Term} {rest : List Token} (o : Option Term) (at mid : List Token) → made o at mid ≡ got t rest → (o ≡ Some t) × (mid ≡ rest)
 made_got None at mid e = cc
@@ -92,7 +95,7 @@ sound_field x i c n a (dot ∷ here ∷ ts) (Some tok) is on few h e =
     let g = name_here i _ here tok refl h in
     let s = both_of (is_suffix dot.kind) (not (is_apart c dot)) (both_of (goes_on i dot.indent) (is_suffix dot.kind && not (is_apart c dot)) on).1 in
     same_got (λ t rest. Read (suc n) (levels t) (SpellsSuffix x i a t (dot ∷ here ∷ ts) rest))
-        (ap (λ w. got (field (place_of a) a (spelling x w)) ts) g.same ∙ e)
+    (ap (λ w. got (field (place_of a) a (spelling x w)) ts) g.same ∙ e)
     (record { spells = p_field (point_of dot.kind s.0 is) g.on g.name; few = omega (arith, few) })
 
 pub square_is : (ts : List Token) (o : Option Bracket) → bracket_at ts ≡ o → is_square o ≡ true → bracket_at ts ≡ Some Square
@@ -107,7 +110,7 @@ sound_empty : {parts : Parts} {rest : List Token} (x : Origin) (b : Bracket) (m 
 sound_empty x b m n tok [] is h e = cc
 sound_empty x b m n tok (end ∷ ts) is h e =
     same_got (λ parts rest. Read n (most_levels parts) (SpellsEnclosed x b m parts (tok ∷ end ∷ ts) rest)) e
-        (record { spells = p_empty is h; few = omega arith })
+    (record { spells = p_empty is h; few = omega arith })
 
 sound_closed : {parts : Parts} {rest : List Token} (x : Origin) (b : Bracket) (m : Bool) (n : ℕ) (tok : Token) (ts : List Token) (all : Parts)
     (mid : List Token) → bracket_at (tok ∷ ts) ≡ Some b → closes_at b ts ≡ false
@@ -116,7 +119,7 @@ sound_closed : {parts : Parts} {rest : List Token} (x : Origin) (b : Bracket) (m
 sound_closed x b m n tok ts all [] is h d k e = cc
 sound_closed x b m n tok ts all (end ∷ mid) is h d k e =
     same_got (λ parts rest. Read n (most_levels parts) (SpellsEnclosed x b m parts (tok ∷ ts) rest)) e
-        (record { spells = p_parts is h d.spells k; few = d.few })
+    (record { spells = p_parts is h d.spells k; few = d.few })
 
 -- ---- a range
 
@@ -125,8 +128,11 @@ ranged : (x : Origin) (i : Layout) (n : ℕ) (a b : Term) (ts mid rest : List To
     → Done x i op_levels n (levels b) (SpellsExpr x i b (behind mid) rest) rest → Done x i op_levels n (levels (range (place_of a) a b))
     (SpellsLabel x i (range (place_of a) a b) ts rest) rest
 ranged x i n a b ts [] rest d h on c = cc
-ranged x i n a b ts (tok ∷ mid) rest d h on c = record { spells = p_range d.spells h on c.spells; few = (let p = d.few in let q = c.few in omega (arith, p, q));
-        stops = c.stops }
+ranged x i n a b ts (tok ∷ mid) rest d h on c = record {
+  spells = p_range d.spells h on c.spells;
+  few = (let p = d.few in let q = c.few in omega (arith, p, q));
+  stops = c.stops;
+}
 
 -- a value on lines of its own
 pub record OwnLine (x : Origin) (i : Layout) (n : ℕ) (v : Term) (ts rest : List Token) : Type 0 where
@@ -174,7 +180,7 @@ mutual
   sound_more zero op x i l n a ts is few s e = cc
   sound_more (suc k) None x i l n a ts is few s e =
       same_got (λ t rest. Done x i (suc l) n (levels t) (SpellsMore x i l a t ts rest) rest) e
-          (record { spells = p_none; few = few; stops = one_more x i l ts s is })
+      (record { spells = p_none; few = few; stops = one_more x i l ts s is })
   sound_more (suc k) (Some op) x i l zero a ts is few s e = cc
   sound_more (suc k) (Some op) x i l (suc n) a [] is few s e = cc
   sound_more (suc k) (Some op) x i l (suc n) a (tok ∷ ts) is few s e =
@@ -268,7 +274,7 @@ mutual
   sound_group zero o b x i n tok ts is h e = cc
   sound_group (suc k) (Some u) b x i n tok ts is h e =
       same_got (λ t rest. Read (suc n) (levels t) (SpellsAtom x i t (tok ∷ ts) rest)) e
-          (record { spells = p_token is; few = (let one = single_level x tok u is in omega (arith, one)) })
+      (record { spells = p_token is; few = (let one = single_level x tok u is in omega (arith, one)) })
   sound_group {t} (suc k) None (Some b) x i n tok ts is h e =
       let m = names_in b ts in
       let f = then_got _ _ e in
@@ -317,15 +323,15 @@ mutual
   sound_parts zero x m n some ts few s e = cc
   sound_parts (suc k) x m n some [] few s e =
       same_got (λ parts rest. Done x Brackets op_levels n (most_levels parts) (SpellsMoreParts x m some parts [] rest) rest) e
-          (record { spells = p_over refl; few = few; stops = s })
+      (record { spells = p_over refl; few = few; stops = s })
   sound_parts {parts} {rest} (suc k) x m n some (tok ∷ ts) few s e =
       elim (if_split (kind_at (is_punct 44) (tok ∷ ts)) _ _ e) as (λ w. Done x Brackets op_levels n (most_levels parts)
-              (SpellsMoreParts x m some parts (tok ∷ ts) rest) rest) [
+      (SpellsMoreParts x m some parts (tok ∷ ts) rest) rest) [
         | inl h ↦ (
             let f = then_got _ _ h.same in
             let d = sound_part k x m n ts f.first in
             let c = sound_parts k x m n (and_part some f.value) f.mid (let p = most_and some f.value in let q = d.few in omega (arith, p, q, few))
-                d.stops f.next in
+            d.stops f.next in
             record { spells = p_part h.is d.spells c.spells; few = c.few; stops = c.stops })
         | inr h ↦ same_got (λ parts rest. Done x Brackets op_levels n (most_levels parts) (SpellsMoreParts x m some parts (tok ∷ ts) rest) rest) h.same
             (record { spells = p_over h.is; few = few; stops = s })
@@ -403,7 +409,7 @@ mutual
   sound_elifs zero x i n some ts few s e = cc
   sound_elifs (suc k) x i n some [] few s e =
       same_got (λ all rest. Done x i op_levels n (levels_in all) (SpellsElifs x i some all [] rest) rest) e
-          (record { spells = p_no_elif refl; few = few; stops = s })
+      (record { spells = p_no_elif refl; few = few; stops = s })
   sound_elifs {all} {rest} (suc k) x i n some (tok ∷ ts) few s e =
       elim (if_split (branch_at i is_elif (tok ∷ ts)) _ _ e) as (λ w. Done x i op_levels n (levels_in all) (SpellsElifs x i some all (tok ∷ ts) rest) rest) [
         | inl h ↦ (
@@ -411,7 +417,7 @@ mutual
             let d = sound_tail k x i n ts f.first in
             let some_more = levels_and some (place_at x tok) f.value.tests f.value.value in
             let c = sound_elifs k x i n (and_choice some (place_at x tok) f.value.tests f.value.value) f.mid (let q = d.few in omega (arith, some_more, q, few))
-                d.stops f.next in
+            d.stops f.next in
             record { spells = p_elif h.is d.spells c.spells; few = c.few; stops = c.stops })
         | inr h ↦ same_got (λ all rest. Done x i op_levels n (levels_in all) (SpellsElifs x i some all (tok ∷ ts) rest) rest) h.same
             (record { spells = p_no_elif h.is; few = few; stops = s })
@@ -474,14 +480,14 @@ mutual
   sound_labels zero x i n some ts few s e = cc
   sound_labels (suc k) x i n some [] few s e =
       same_got (λ all rest. Done x i op_levels n (most_levels all) (SpellsLabels x i some all [] rest) rest) e
-          (record { spells = p_last_label refl; few = few; stops = s })
+      (record { spells = p_last_label refl; few = few; stops = s })
   sound_labels {all} {rest} (suc k) x i n some (tok ∷ ts) few s e =
       elim (if_split (comma_at i (tok ∷ ts)) _ _ e) as (λ w. Done x i op_levels n (most_levels all) (SpellsLabels x i some all (tok ∷ ts) rest) rest) [
         | inl h ↦ (
             let f = then_got _ _ h.same in
             let d = sound_label k x i n ts f.first in
             let c = sound_labels k x i n (and_part some f.value) f.mid (let p = most_and some f.value in let q = d.few in omega (arith, p, q, few))
-                d.stops f.next in
+            d.stops f.next in
             record { spells = p_label h.is d.spells c.spells; few = c.few; stops = c.stops })
         | inr h ↦ same_got (λ all rest. Done x i op_levels n (most_levels all) (SpellsLabels x i some all (tok ∷ ts) rest) rest) h.same
             (record { spells = p_last_label h.is; few = few; stops = s })
@@ -499,7 +505,7 @@ mutual
             let g = then_got _ _ on.1 in
             let b = sound_expr k x i n (behind f.mid) g.first in
             same_got (λ t rest. Done x i op_levels n (levels t) (SpellsLabel x i t ts rest) rest) g.next
-                (ranged x i n f.value g.value ts f.mid g.mid d h.is on.0 b))
+            (ranged x i n f.value g.value ts f.mid g.mid d h.is on.0 b))
         | inr h ↦ same_got (λ t rest. Done x i op_levels n (levels t) (SpellsLabel x i t ts rest) rest) h.same
             (record { spells = p_one d.spells h.is; few = d.few; stops = d.stops })
       ]
@@ -510,7 +516,7 @@ mutual
   sound_ofs zero x i n some ts few s e = cc
   sound_ofs (suc k) x i n some [] few s e =
       same_got (λ all rest. Done x i op_levels n (levels_in all) (SpellsOfs x i some all [] rest) rest) e
-          (record { spells = p_last_of refl; few = few; stops = s })
+      (record { spells = p_last_of refl; few = few; stops = s })
   sound_ofs {all} {rest} (suc k) x i n some (tok ∷ ts) few s e =
       elim (if_split (branch_at i is_of (tok ∷ ts)) _ _ e) as (λ w. Done x i op_levels n (levels_in all) (SpellsOfs x i some all (tok ∷ ts) rest) rest) [
         | inl h ↦ (
@@ -518,7 +524,7 @@ mutual
             let d = sound_of k x i n ts f.first in
             let some_more = levels_and some (place_at x tok) f.value.tests f.value.value in
             let c = sound_ofs k x i n (and_choice some (place_at x tok) f.value.tests f.value.value) f.mid (let q = d.few in omega (arith, some_more, q, few))
-                d.stops f.next in
+            d.stops f.next in
             record { spells = p_next_of h.is d.spells c.spells; few = c.few; stops = c.stops })
         | inr h ↦ same_got (λ all rest. Done x i op_levels n (levels_in all) (SpellsOfs x i some all (tok ∷ ts) rest) rest) h.same
             (record { spells = p_last_of h.is; few = few; stops = s })
@@ -530,15 +536,18 @@ mutual
   sound_otherwise zero x i n at s all ts few fewer stops e = cc
   sound_otherwise (suc k) x i n at s all [] few fewer stops e =
       same_got (λ t rest. Done x i op_levels (suc n) (levels t) (SpellsOtherwise x i at s all t [] rest) rest) e
-          (record { spells = p_no_else refl; few = omega (arith, few, fewer); stops = stops })
+      (record { spells = p_no_else refl; few = omega (arith, few, fewer); stops = stops })
   sound_otherwise {t} {rest} (suc k) x i n at s all (tok ∷ ts) few fewer stops e =
       elim (if_split (else_on i (tok ∷ ts)) _ _ e) as (λ w. Done x i op_levels (suc n) (levels t) (SpellsOtherwise x i at s all t (tok ∷ ts) rest) rest) [
         | inl h ↦ (
             let f = then_got _ _ h.same in
             let d = sound_value k x i n ts f.first in
             same_got (λ t rest. Done x i op_levels (suc n) (levels t) (SpellsOtherwise x i at s all t (tok ∷ ts) rest) rest) f.next
-            (record { spells = p_with_else (else_with_colon i (tok ∷ ts) h.is) d.spells; few = (let p = d.few in omega (arith, p, few, fewer));
-                        stops = d.stops }))
+            (record {
+              spells = p_with_else (else_with_colon i (tok ∷ ts) h.is) d.spells;
+              few = (let p = d.few in omega (arith, p, few, fewer));
+              stops = d.stops;
+            }))
         | inr h ↦ same_got (λ t rest. Done x i op_levels (suc n) (levels t) (SpellsOtherwise x i at s all t (tok ∷ ts) rest) rest) h.same
             (record { spells = p_no_else h.is; few = omega (arith, few, fewer); stops = stops })
       ]

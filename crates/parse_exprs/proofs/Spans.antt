@@ -171,8 +171,10 @@ mutual
 
   atom_spans : {x : Origin} {i : Layout} {t : Term} {ts rest : List Token} → SpellsAtom x i t ts rest → Spans 0 (nodes t) ts rest
   atom_spans {x = x} {t = t} (p_token {tok = tok} h) =
-      record { size = (let one = single_node_of (place_at x tok) (spelling x tok) tok.kind t h in omega (arith, one));
-              free = step (single_no_end x tok t h) stop }
+      record {
+        size = (let one = single_node_of (place_at x tok) (spelling x tok) tok.kind t h in omega (arith, one));
+        free = step (single_no_end x tok t h) stop;
+      }
   atom_spans {x = x} {t = t} (p_group {m = m} {b = b} {parts = ps} {tok = tok} k d g) =
       let h = grouped_nodes b m (place_at x tok) ps t g in
       within (enclosed_spans d) (omega (arith, h))
@@ -184,8 +186,11 @@ mutual
   enclosed_spans {b = b} (p_empty {tok = tok} {end = end} h c) =
       record { size = omega arith; free = step (bracket_no_end tok.kind h) (step (test_no_end (is_punct (closing b)) end.kind refl c) stop) }
   enclosed_spans {b = b} (p_parts {tok = tok} {end = end} h o d c) = let f = parts_spans d in
-      record { size = (let p = f.size in omega (arith, p)); free = step (bracket_no_end tok.kind h)
-              (joined f.free (step (test_no_end (is_punct (closing b)) end.kind refl c) stop)) }
+      record {
+        size = (let p = f.size in omega (arith, p));
+        free = step (bracket_no_end tok.kind h)
+            (joined f.free (step (test_no_end (is_punct (closing b)) end.kind refl c) stop));
+      }
 
   parts_spans : {x : Origin} {m : Bool} {ps : Parts} {ts rest : List Token} → SpellsParts x m ps ts rest → Spans 0 (nodes_in ps) ts rest
   parts_spans (p_first d c) = within (then_spans (part_spans d) (more_parts_spans c)) (omega arith)
@@ -195,7 +200,7 @@ mutual
   more_parts_spans (p_over h) = no_spans
   more_parts_spans {some = some} (p_part {b = b} {tok = tok} h d c) =
       let e = nodes_and some b in within (token_spans (test_no_end (is_punct 44) tok.kind refl h) (then_spans (part_spans d) (more_parts_spans c)))
-          (omega (arith, e))
+      (omega (arith, e))
 
   part_spans : {x : Origin} {m : Bool} {t : Term} {ts rest : List Token} → SpellsPart x m t ts rest → Spans 0 (nodes t) ts rest
   part_spans (p_unnamed d) = expr_spans d
@@ -225,7 +230,7 @@ mutual
       → Spans (suc (nodes s)) (nodes t) ts rest
   branches_spans {i = i} (p_branches {tok = tok} on d c o) =
       within (token_spans (behind_no_end is_of (first_goes_on i tok.indent) tok.kind refl on)
-              (then_spans (of_spans d) (then_spans (ofs_spans c) (otherwise_spans o)))) (omega arith)
+      (then_spans (of_spans d) (then_spans (ofs_spans c) (otherwise_spans o)))) (omega arith)
 
   of_spans : {x : Origin} {i : Layout} {tests : Parts} {v : Term} {ts rest : List Token} → SpellsOf x i tests v ts rest
       → Spans 0 (suc (nodes_in tests + nodes v)) ts rest
@@ -236,14 +241,14 @@ mutual
   labels_spans (p_last_label h) = no_spans
   labels_spans {i = i} {some = some} (p_label {a = a} {tok = tok} h d c) =
       let e = nodes_and some a in
-          within (token_spans (behind_no_end (is_punct 44) (goes_on i tok.indent) tok.kind refl h) (then_spans (label_spans d) (labels_spans c)))
-          (omega (arith, e))
+      within (token_spans (behind_no_end (is_punct 44) (goes_on i tok.indent) tok.kind refl h) (then_spans (label_spans d) (labels_spans c)))
+      (omega (arith, e))
 
   label_spans : {x : Origin} {i : Layout} {t : Term} {ts rest : List Token} → SpellsLabel x i t ts rest → Spans 0 (nodes t) ts rest
   label_spans (p_one d h) = expr_spans d
   label_spans {x = x} {i = i} (p_range {tok = tok} d h on c) =
       within (then_spans (expr_spans d) (token_spans (behind_no_end (λ k. is_run (codes "..") k (spelling x tok)) (goes_on i tok.indent) tok.kind refl h)
-                  (expr_spans c))) (omega arith)
+      (expr_spans c))) (omega arith)
 
   ofs_spans : {x : Origin} {i : Layout} {some all : Choices} {ts rest : List Token} → SpellsOfs x i some all ts rest
       → Spans (nodes_of some) (nodes_of all) ts rest

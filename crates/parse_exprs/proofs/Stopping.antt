@@ -186,7 +186,7 @@ pub dots_stops : (x : Origin) (i j : Layout) (l : ℕ) (ts : List Token) → dot
 dots_stops x i j l [] e = cc
 dots_stops x i j l (tok ∷ ts) e =
     let h = dots_op tok.kind (spelling x tok) (both_of (goes_on i tok.indent) (is_run (codes "..") tok.kind (spelling x tok)) e).1 in
-        quiet_stops x j l tok ts h.0 h.1
+    quiet_stops x j l tok ts h.0 h.1
 
 -- ---- layouts in which the same tokens go on
 

@@ -80,7 +80,7 @@ single_weight_of at bytes n _ t le e = cc
 
 single_weight : (x : Origin) (tok : Token) (t : Term) → single x tok ≡ Some t → weight t ≤ unit tok.kind tok.len
 single_weight x tok t e = single_weight_of (place_at x tok) (spelling x tok) tok.len tok.kind t (let h = length-take tok.len (drop tok.start x.source) in
-        omega (arith, h)) e
+    omega (arith, h)) e
 
 no_weighs : {a : ℕ} {ts : List Token} → Weighs a a ts ts
 no_weighs = record { size = omega arith }
@@ -111,7 +111,7 @@ mutual
       within (token_weighs (lead_no_end tok.kind is (λ h. cc)) (then_weighs (tail_weighs d) (then_weighs (elifs_weighs c) (else_weighs e)))) (omega arith)
   expr_weighs {i = i} {t = t} (p_case {tok = tok} {mid = mid} is on d b) =
       within (token_weighs (lead_no_end tok.kind is (λ h. cc)) (then_weighs (expr_weighs d) (then_weighs (past_weighs i mid) (branches_weighs b))))
-          (omega arith)
+      (omega arith)
 
   level_weighs : {x : Origin} {i : Layout} {l : ℕ} {t : Term} {ts rest : List Token} → Spells x i l t ts rest → Weighs 0 (weight t) ts rest
   level_weighs (p_unary d) = unary_weighs d
@@ -156,7 +156,7 @@ mutual
       within (token_weighs (bracket_no_end tok.kind h) (token_weighs (test_no_end (is_punct (closing b)) end.kind refl c) (no_weighs {a = 0}))) (omega arith)
   enclosed_weighs {b = b} (p_parts {tok = tok} {end = end} h o d c) = let f = parts_weighs d in
       within (token_weighs (bracket_no_end tok.kind h) (then_weighs f (token_weighs (test_no_end (is_punct (closing b)) end.kind refl c) (no_weighs {a = 0}))))
-          (omega arith)
+      (omega arith)
 
   parts_weighs : {x : Origin} {m : Bool} {ps : Parts} {ts rest : List Token} → SpellsParts x m ps ts rest → Weighs 0 (weight_in ps) ts rest
   parts_weighs (p_first d c) = within (then_weighs (part_weighs d) (more_parts_weighs c)) (omega arith)
@@ -166,7 +166,7 @@ mutual
   more_parts_weighs (p_over h) = no_weighs
   more_parts_weighs {some = some} (p_part {b = b} {tok = tok} h d c) =
       let e = weight_and some b in within (token_weighs (test_no_end (is_punct 44) tok.kind refl h) (then_weighs (part_weighs d) (more_parts_weighs c)))
-          (omega (arith, e))
+      (omega (arith, e))
 
   part_weighs : {x : Origin} {m : Bool} {t : Term} {ts rest : List Token} → SpellsPart x m t ts rest → Weighs 0 (weight t) ts rest
   part_weighs (p_unnamed d) = expr_weighs d
@@ -187,7 +187,7 @@ mutual
   elifs_weighs {x = x} {i = i} {some = some} (p_elif {tests = tests} {v = v} {tok = tok} h d c) =
       let e = weight_choice some (place_at x tok) tests v in
       within (token_weighs (behind_no_end is_elif (branch_goes_on i tok.indent) tok.kind refl h) (then_weighs (tail_weighs d) (elifs_weighs c)))
-          (omega (arith, e))
+      (omega (arith, e))
 
   else_weighs : {x : Origin} {i : Layout} {v : Term} {ts rest : List Token} → SpellsElse x i v ts rest → Weighs 0 (weight v) ts rest
   else_weighs {i = i} (p_else {tok = tok} h d) = within (token_weighs (behind_no_end is_else (branch_goes_on i tok.indent) tok.kind refl h) (value_weighs d))
@@ -197,7 +197,7 @@ mutual
       → Weighs (suc (weight s)) (weight t) ts rest
   branches_weighs {i = i} (p_branches {tok = tok} on d c o) =
       within (token_weighs (behind_no_end is_of (first_goes_on i tok.indent) tok.kind refl on)
-              (then_weighs (of_weighs d) (then_weighs (ofs_weighs c) (otherwise_weighs o)))) (omega arith)
+      (then_weighs (of_weighs d) (then_weighs (ofs_weighs c) (otherwise_weighs o)))) (omega arith)
 
   of_weighs : {x : Origin} {i : Layout} {tests : Parts} {v : Term} {ts rest : List Token} → SpellsOf x i tests v ts rest
       → Weighs 0 (suc (weight_in tests + weight v)) ts rest
@@ -208,14 +208,14 @@ mutual
   labels_weighs (p_last_label h) = no_weighs
   labels_weighs {i = i} {some = some} (p_label {a = a} {tok = tok} h d c) =
       let e = weight_and some a in
-          within (token_weighs (behind_no_end (is_punct 44) (goes_on i tok.indent) tok.kind refl h) (then_weighs (label_weighs d) (labels_weighs c)))
-          (omega (arith, e))
+      within (token_weighs (behind_no_end (is_punct 44) (goes_on i tok.indent) tok.kind refl h) (then_weighs (label_weighs d) (labels_weighs c)))
+      (omega (arith, e))
 
   label_weighs : {x : Origin} {i : Layout} {t : Term} {ts rest : List Token} → SpellsLabel x i t ts rest → Weighs 0 (weight t) ts rest
   label_weighs (p_one d h) = expr_weighs d
   label_weighs {x = x} {i = i} (p_range {tok = tok} d h on c) =
       within (then_weighs (expr_weighs d) (token_weighs (behind_no_end (λ k. is_run (codes "..") k (spelling x tok)) (goes_on i tok.indent) tok.kind refl h)
-                  (expr_weighs c))) (omega arith)
+      (expr_weighs c))) (omega arith)
 
   ofs_weighs : {x : Origin} {i : Layout} {some all : Choices} {ts rest : List Token} → SpellsOfs x i some all ts rest
       → Weighs (weight_of some) (weight_of all) ts rest

@@ -19,7 +19,7 @@ use Rattle.parse_exprs.specs.declared.input.Lead.TheVariants as L
 use Rattle.parse_exprs.specs.Look.{Origin, spelling, place_at, op_at, op_levels, single_of, single, sign_of, is_at_sign, is_name, is_punct, kind_at, bracket_of}
 use Rattle.parse_exprs.specs.Look.{bracket_named, bracket_at, square_at, closes_at, names_in, names_behind, suffix_at, stays, begins_atom, begins, operand_at}
 use Rattle.parse_exprs.specs.Look.{lead_at, branch_at, is_elif, is_else, is_of, first_of_at, branch_layout, colon_at, comma_at, past_colon, dots_at, at_start}
-use Rattle.parse_exprs.specs.Look.{past_start, no_command_on, else_on, deeper_line_at, line_layout, closed_at}
+use Rattle.parse_exprs.specs.Look.{past_start, else_on, deeper_line_at, line_layout}
 use Rattle.parse_exprs.specs.Outcome.{deep, stuck, tired, Out, got, bad, then_do, unless_stuck}
 use Rattle.parse_exprs.specs.Run.{behind, run_expr, run_lead, run_level, run_chain, run_more, run_unary, run_signed, run_primary, run_suffixes, run_suffix}
 use Rattle.parse_exprs.specs.Run.{run_applied, run_atom, run_group, run_enclosed, run_list, run_parts, run_part, run_if, run_tail, run_value, run_own_line}
@@ -175,7 +175,7 @@ mutual
   kept_more (suc k) (Some op) x i l (suc n) zero a ts le = no_less n le
   kept_more (suc k) (Some op) x i l (suc n) (suc m) a ts le =
       kept_limit n m (levels a) (less n m le)
-          (kept_then _ _ (kept_level k x i l n m (behind ts) (less n m le)) (λ b mid. kept_chain k x i l (suc n) (suc m) (binary (place_of a) op a b) mid le))
+      (kept_then _ _ (kept_level k x i l n m (behind ts) (less n m le)) (λ b mid. kept_chain k x i l (suc n) (suc m) (binary (place_of a) op a b) mid le))
 
   kept_unary : (k : ℕ) (x : Origin) (i : Layout) (n m : ℕ) (ts : List Token) → n ≤ m → Kept (run_unary k x i n ts) (run_unary k x i m ts)
   kept_unary zero x i n m ts le = early refl
@@ -207,7 +207,7 @@ mutual
   kept_suffix (suc k) x i c (suc n) zero a ts le = no_less n le
   kept_suffix (suc k) x i c (suc n) (suc m) a ts le =
       kept_limit n m (levels a) (less n m le) (kept_then _ _ (kept_applied k (bracket_at ts) x i n m a ts (less n m le))
-              (λ b mid. kept_suffixes k x i c (suc n) (suc m) b mid le))
+      (λ b mid. kept_suffixes k x i c (suc n) (suc m) b mid le))
 
   kept_applied : (k : ℕ) (b : Option Bracket) (x : Origin) (i : Layout) (n m : ℕ) (a : Term) (ts : List Token) → n ≤ m
       → Kept (run_applied k b x i n a ts) (run_applied k b x i m a ts)
@@ -230,7 +230,7 @@ mutual
   kept_grouped (suc k) None (Some b) x i (suc n) (suc m) tok ts le = kept_last _ (kept_enclosed k x b (names_in b ts) n m (tok ∷ ts) (less n m le))
   kept_grouped (suc k) None None x i (suc n) (suc m) tok ts le =
       kept_unless (is_at_sign tok.kind (spelling x tok)) (tok ∷ ts)
-          (kept_unless (stays i ts) ts (kept_unless (square_at ts) ts (kept_last _ (kept_enclosed k x Square false n m ts (less n m le)))))
+      (kept_unless (stays i ts) ts (kept_unless (square_at ts) ts (kept_last _ (kept_enclosed k x Square false n m ts (less n m le)))))
 
   kept_enclosed : (k : ℕ) (x : Origin) (b : Bracket) (names : Bool) (n m : ℕ) (ts : List Token) → n ≤ m
       → Kept (run_enclosed k x b names n ts) (run_enclosed k x b names m ts)
@@ -247,7 +247,7 @@ mutual
   kept_parts zero x names n m some ts le = early refl
   kept_parts (suc k) x names n m some ts le =
       kept_if (kind_at (is_punct 44) ts) (got some ts)
-          (kept_then _ _ (kept_part k x names n m (behind ts) le) (λ a mid. kept_parts k x names n m (and_part some a) mid le))
+      (kept_then _ _ (kept_part k x names n m (behind ts) le) (λ a mid. kept_parts k x names n m (and_part some a) mid le))
 
   kept_part : (k : ℕ) (x : Origin) (names : Bool) (n m : ℕ) (ts : List Token) → n ≤ m → Kept (run_part k x names n ts) (run_part k x names m ts)
   kept_part zero x names n m ts le = early refl
@@ -286,7 +286,7 @@ mutual
   kept_elifs (suc k) x i n m some [] le = alike refl
   kept_elifs (suc k) x i n m some (tok ∷ ts) le =
       kept_if (branch_at i is_elif (tok ∷ ts)) (got some (tok ∷ ts))
-          (kept_then _ _ (kept_tail k x i n m ts le) (λ one mid. kept_elifs k x i n m (and_choice some (place_at x tok) one.tests one.value) mid le))
+      (kept_then _ _ (kept_tail k x i n m ts le) (λ one mid. kept_elifs k x i n m (and_choice some (place_at x tok) one.tests one.value) mid le))
 
   kept_the_else : (k : ℕ) (x : Origin) (i : Layout) (n m : ℕ) (ts : List Token) → n ≤ m → Kept (run_else k x i n ts) (run_else k x i m ts)
   kept_the_else zero x i n m ts le = early refl
@@ -299,8 +299,8 @@ mutual
   kept_case (suc k) x i (suc n) (suc m) [] le = alike refl
   kept_case (suc k) x i (suc n) (suc m) (tok ∷ ts) le =
       kept_unless (stays i ts) ts
-          (kept_then _ _ (kept_expr k x (past_start i) n m ts (less n m le))
-              (λ s mid. kept_branches k x i n m (place_at x tok) s (past_colon i mid) (less n m le)))
+      (kept_then _ _ (kept_expr k x (past_start i) n m ts (less n m le))
+      (λ s mid. kept_branches k x i n m (place_at x tok) s (past_colon i mid) (less n m le)))
 
   kept_branches : (k : ℕ) (x : Origin) (i : Layout) (n m : ℕ) (at : Place) (s : Term) (ts : List Token) → n ≤ m
       → Kept (run_branches k x i n at s ts) (run_branches k x i m at s ts)
@@ -337,7 +337,7 @@ mutual
   kept_ofs (suc k) x i n m some [] le = alike refl
   kept_ofs (suc k) x i n m some (tok ∷ ts) le =
       kept_if (branch_at i is_of (tok ∷ ts)) (got some (tok ∷ ts))
-          (kept_then _ _ (kept_of k x i n m ts le) (λ one mid. kept_ofs k x i n m (and_choice some (place_at x tok) one.tests one.value) mid le))
+      (kept_then _ _ (kept_of k x i n m ts le) (λ one mid. kept_ofs k x i n m (and_choice some (place_at x tok) one.tests one.value) mid le))
 
   kept_otherwise : (k : ℕ) (x : Origin) (i : Layout) (n m : ℕ) (at : Place) (s : Term) (all : Choices) (ts : List Token) → n ≤ m
       → Kept (run_otherwise k x i n at s all ts) (run_otherwise k x i m at s all ts)

@@ -194,7 +194,7 @@ abbrev mutual
   run_elifs (suc k) x i n some [] = got some []
   run_elifs (suc k) x i n some (tok ∷ ts) =
       if branch_at i is_elif (tok ∷ ts) then then_do (run_tail k x i n ts)
-          (λ one mid. run_elifs k x i n (and_choice some (place_at x tok) one.tests one.value) mid) else got some (tok ∷ ts)
+      (λ one mid. run_elifs k x i n (and_choice some (place_at x tok) one.tests one.value) mid) else got some (tok ∷ ts)
 
   -- `else`, a colon and a value
   pub run_else : ℕ → Origin → Layout → ℕ → List Token → Out Term
@@ -241,14 +241,14 @@ abbrev mutual
   run_label (suc k) x i n ts =
       then_do (run_expr k x i n ts) (λ a mid.
       if dots_at x i mid then unless_stuck (stays i (behind mid)) (behind mid)
-          (then_do (run_expr k x i n (behind mid)) (λ b rest. got (range (place_of a) a b) rest)) else got a mid)
+      (then_do (run_expr k x i n (behind mid)) (λ b rest. got (range (place_of a) a b) rest)) else got a mid)
 
   pub run_ofs : ℕ → Origin → Layout → ℕ → Choices → List Token → Out Choices
   run_ofs zero x i n some ts = bad tired
   run_ofs (suc k) x i n some [] = got some []
   run_ofs (suc k) x i n some (tok ∷ ts) =
       if branch_at i is_of (tok ∷ ts) then then_do (run_of k x i n ts) (λ one mid. run_ofs k x i n (and_choice some (place_at x tok) one.tests one.value) mid)
-          else got some (tok ∷ ts)
+      else got some (tok ∷ ts)
 
   -- `else` and its value, where there is one
   pub run_otherwise : ℕ → Origin → Layout → ℕ → Place → Term → Choices → List Token → Out Term

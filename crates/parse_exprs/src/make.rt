@@ -164,7 +164,7 @@ pub(crate) fn with_value(tests: Several, value: Reading) -> Tail
 pub(crate) fn and_branch(some: Branches, at: Place, last: Tail) -> Result<Branches, Stuck>
     ensures branches { IfOk result
         (λ all. choices_of all.branches.items ≡ and_choice (choices_of some.branches.items) at
-            (parts_of last.tests.items) (term_of last.value)) }
+        (parts_of last.tests.items) (term_of last.value)) }
     ensures next { IfOk result (λ all. all.next ≡ last.next) }
     ensures depth { IfOk result (λ all. all.depth ≡ max some.depth last.depth) }
     ensures err { IfErr result (λ e. e ≡ Memory) }

@@ -57,9 +57,9 @@ pub fn expr_within(
     ensures inside { IfOk result (λ p. HasNoEnd tokens.now from p.next) }
     ensures refused { IfErr result
         (λ stop. OnRefusal stop
-            (IsRefused (Reads (origin source.now «module») layout)
-                (ExprFaults (origin source.now «module») layout most) (origin source.now «module»)
-                (drop from tokens.now))) }
+        (IsRefused (Reads (origin source.now «module») layout)
+        (ExprFaults (origin source.now «module») layout most) (origin source.now «module»)
+        (drop from tokens.now))) }
     ensures runs { Runs (ExprRun (origin source.now «module») layout most) (origin source.now «module») tokens.now from result }
 {
     let input = Input {
@@ -96,9 +96,9 @@ pub fn callee(
     ensures inside { IfOk result (λ p. HasNoEnd tokens.now from p.next) }
     ensures refused { IfErr result
         (λ stop. OnRefusal stop
-            (IsRefused (ReadsCallee (origin source.now «module») spaces)
-                (CalleeFaults (origin source.now «module») spaces) (origin source.now «module»)
-                (drop from tokens.now))) }
+        (IsRefused (ReadsCallee (origin source.now «module») spaces)
+        (CalleeFaults (origin source.now «module») spaces) (origin source.now «module»)
+        (drop from tokens.now))) }
     ensures runs { Runs (CalleeRun (origin source.now «module») spaces) (origin source.now «module») tokens.now from result }
 {
     let input = Input {
@@ -140,9 +140,9 @@ pub fn expr(
     ensures inside { IfOk result (λ p. HasNoEnd tokens.now from p.next) }
     ensures refused { IfErr result
         (λ stop. OnRefusal stop
-            (IsRefused (Reads (origin source.now «module») (Lines (line_spaces from tokens.now)))
-                (ExprFaults (origin source.now «module») (Lines (line_spaces from tokens.now)) 64)
-                (origin source.now «module») (drop from tokens.now))) }
+        (IsRefused (Reads (origin source.now «module») (Lines (line_spaces from tokens.now)))
+        (ExprFaults (origin source.now «module») (Lines (line_spaces from tokens.now)) 64)
+        (origin source.now «module») (drop from tokens.now))) }
     ensures runs { Runs (ExprRun (origin source.now «module») (Lines (line_spaces from tokens.now)) 64) (origin source.now «module») tokens.now from result }
 {
     let input = Input {

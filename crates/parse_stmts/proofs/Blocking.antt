@@ -1,25 +1,25 @@
 -- Statements with blocks, step by step.
-use Rattle.std.proofs.Common.{◌≡◌, inl, inr, ℕ, zero, suc, ◌-◌, ◌<◌, ◌≤◌, List, [], ◌∷◌, Bool, true, false, refl, sym, ap, subst, ◌∙◌, arith}
+use Rattle.std.proofs.Common.{◌≡◌, inl, inr, ℕ, suc, List, [], ◌∷◌, true, false, refl, sym, ap, subst, ◌∙◌}
 use Rattle.nim_tree.specs.declared.expr.Expr.{Expr}
-use Rattle.std.specs.Prelude.{◌⊎◌, IfSome, option_map, Option, Some, None, ◌||◌, if◌then◌else◌}
+use Rattle.std.specs.Prelude.{◌⊎◌, IfSome, option_map, Option, Some, None, if◌then◌else◌}
 use Rattle.arc_base.specs.declared.place.Place.{Place}
 use Rattle.arc_base.specs.declared.place.Stop.{Stop}
 use Rattle.indent_scanner.specs.declared.token.Token.{Token}
-use Rattle.nim_tree.specs.Terms.{Term, Parts, part, no_parts, place_of, term_of}
-use Rattle.nim_tree.specs.Statements.{Statement, evaluates, Statements, empty, and_statement, Branches, Handlers}
+use Rattle.nim_tree.specs.Terms.{Term, place_of, term_of}
+use Rattle.nim_tree.specs.Statements.{evaluates, Statements, empty, and_statement, Branches, Handlers}
 use Rattle.parse_exprs.specs.declared.layout.Layout.TheVariants.{Lines}
-use Rattle.parse_exprs.specs.Look.{Origin, place_at, stays, colon_at, branch_at, is_elif, is_else, is_of, first_of_at, past_colon}
+use Rattle.parse_exprs.specs.Look.{Origin, place_at, colon_at, branch_at, is_elif, is_else, is_of}
 use Rattle.parse_decls.specs.Look.{behind, deeper_at, stands_at, level_at}
-use Rattle.parse_decls.specs.Outcome.{Out, got, bad, then_do, too_deep, stuck_at, unless_stuck, Settles}
-use Rattle.parse_decls.specs.Gives.{Told, Fails, Leads}
-use Rattle.parse_decls.proofs.ForCallers.{settles_suc, settles_is, settles_got, settles_then, settles_bad, settles_unless, settles_stuck, settles_if}
-use Rattle.parse_decls.proofs.ForCallers.{settles_else, told_fails, fails_by}
+use Rattle.parse_decls.specs.Outcome.{got, bad, then_do, too_deep, stuck_at, unless_stuck, Settles}
+use Rattle.parse_decls.specs.Gives.{Fails, Leads}
+use Rattle.parse_decls.proofs.ForCallers.{settles_suc, settles_got, settles_then, settles_bad, settles_unless, settles_stuck, settles_if}
+use Rattle.parse_decls.proofs.ForCallers.{settles_else, fails_by}
 use Rattle.parse_stmts.specs.declared.look.Lead.{Lead}
 use Rattle.parse_stmts.specs.declared.look.Lead.TheVariants as L
 use Rattle.parse_stmts.specs.Look.{chooses, opens_block, lead, on_line_at, ends_at, is_except, is_finally}
-use Rattle.parse_stmts.specs.Run.{run_here, run_line, run_statements, run_statement, run_led, run_alone, run_choice, choice_run, run_compound, run_body}
-use Rattle.parse_stmts.specs.Run.{run_block, run_if, run_branch, run_elifs, run_else, run_case, run_branches, run_of, run_ofs, run_try, Caught, run_handler}
-use Rattle.parse_stmts.specs.Run.{run_handlers, and_caught, are_some, run_finally, run_proc, branch_level}
+use Rattle.parse_stmts.specs.Run.{run_line, run_statements, run_statement, run_led, run_alone, run_choice, choice_run, run_compound, run_body}
+use Rattle.parse_stmts.specs.Run.{run_block, run_branch, run_elifs, run_else, run_of, run_ofs, Caught, run_handler}
+use Rattle.parse_stmts.specs.Run.{run_handlers, and_caught, are_some, run_finally}
 use Rattle.parse_stmts.proofs.Steps.{settles_at}
 
 -- ---- statements
@@ -33,25 +33,25 @@ pub statements_on : (x : Origin) (n left : ℕ) (some all : Statements) (ts mid 
     → Leads (λ k. run_statements k x n left all mid) (λ k. run_statements k x n left some ts)
 statements_on x n left some all ts mid e s o h =
     settles_suc (settles_if (λ k. unless_stuck (ends_at n ts) ts (got some ts)) e (settles_then (λ k all mid. run_statements k x n left all mid) s h))
-        (λ k. refl)
+    (λ k. refl)
 
 pub statements_fail : (x : Origin) (n left : ℕ) (some : Statements) (ts : List Token) → stands_at n ts ≡ true → (stop : Stop)
     → Fails (λ k. run_statement k x n left some ts) x stop → Fails (λ k. run_statements k x n left some ts) x stop
 statements_fail x n left some ts e stop h = fails_by (λ k. run_statement k x n left some ts) (λ k. run_statements k x n left some ts) x
     (λ why s. settles_suc (settles_if (λ k. unless_stuck (ends_at n ts) ts (got some ts)) e (settles_bad (λ k all mid. run_statements k x n left all mid) s))
-            (λ k. refl)) stop h
+    (λ k. refl)) stop h
 
 pub statements_end : (x : Origin) (n left : ℕ) (some : Statements) (ts : List Token) → stands_at n ts ≡ false → ends_at n ts ≡ true
     → Leads (λ k. got some ts) (λ k. run_statements k x n left some ts)
 statements_end x n left some ts e f o h =
     settles_suc (settles_else (λ k. then_do (run_statement k x n left some ts) (λ all mid. run_statements k x n left all mid)) e (settles_unless ts f h))
-        (λ k. refl)
+    (λ k. refl)
 
 pub statements_stuck : (x : Origin) (n left : ℕ) (some : Statements) (ts : List Token) → stands_at n ts ≡ false → ends_at n ts ≡ false
     → Settles (λ k. run_statements k x n left some ts) (bad (stuck_at ts))
 statements_stuck x n left some ts e f =
     settles_suc (settles_else (λ k. then_do (run_statement k x n left some ts) (λ all mid. run_statements k x n left all mid)) e
-            (settles_stuck (λ k. got some ts) ts f)) (λ k. refl)
+    (settles_stuck (λ k. got some ts) ts f)) (λ k. refl)
 
 -- ---- a statement
 
@@ -99,7 +99,7 @@ pub statement_choice : (x : Origin) (n left : ℕ) (some : Statements) (tok : To
     → Leads (λ k. then_do (run_alone k x n ts) (λ found mid. run_choice k found it x n left some tok rest mid)) (λ k. run_statement k x n left some ts)
 statement_choice x n left some tok rest ts it e f c o h = led_on x n left some tok rest ts it e f o
     (settles_suc (settles_at (λ m k. then_do (run_alone k x n m) (λ found mid. run_choice k found it x n left some tok rest mid)) (sym e) h)
-            (λ k. choice_step x n left some tok rest it c k))
+    (λ k. choice_step x n left some tok rest it c k))
 
 pub not_choice : (it : Lead) → (it ≡ L.If → ⊥) → (it ≡ L.Case → ⊥) → chooses it ≡ false
 not_choice L.If f g = absurd (f refl)
@@ -126,7 +126,7 @@ pub choice_is_alone : (x : Origin) (n left : ℕ) (some : Statements) (tok : Tok
     → Leads (λ k. got s mid) (choice_run it x n left some tok whole rest)
 choice_is_alone x n left some tok whole rest mid it found value s r e q o h =
     settles_then (λ k found mid. run_choice k found it x n left some tok rest mid)
-        (subst (λ (f : Option Expr). Settles (λ k. run_alone k x n whole) (got (option_map term_of f) mid)) e r)
+    (subst (λ (f : Option Expr). Settles (λ k. run_alone k x n whole) (got (option_map term_of f) mid)) e r)
     (choice_alone x n left some tok rest mid it (term_of value) o (subst (λ (t : Statements). Settles (λ k. got t mid) o) q h))
 
 pub choice_has_blocks : (x : Origin) (n left : ℕ) (some : Statements) (tok : Token) (whole rest mid : List Token) (it : Lead) (found : Option Expr)
@@ -134,7 +134,7 @@ pub choice_has_blocks : (x : Origin) (n left : ℕ) (some : Statements) (tok : T
     → Leads (λ k. then_do (run_compound k it x n left tok rest) (λ s mid. got (and_statement some s) mid)) (choice_run it x n left some tok whole rest)
 choice_has_blocks x n left some tok whole rest mid it found r e o h =
     settles_then (λ k found mid. run_choice k found it x n left some tok rest mid)
-        (subst (λ (f : Option Expr). Settles (λ k. run_alone k x n whole) (got (option_map term_of f) mid)) e r)
+    (subst (λ (f : Option Expr). Settles (λ k. run_alone k x n whole) (got (option_map term_of f) mid)) e r)
     (choice_blocks x n left some tok rest mid it o h)
 
 pub some_goes : {P : Type 0} (found : Option Expr) (value : Expr) → found ≡ Some value → IfSome found (λ tree. P) → P
@@ -145,7 +145,7 @@ pub compound_line : (x : Origin) (n left : ℕ) (tok : Token) (rest ts : List To
     → Settles (λ k. run_compound k it x n left tok rest) (bad (stuck_at ts))
 compound_line x n left tok rest ts it e f =
     subst (λ (i : Lead). Settles (λ k. run_compound k i x n left tok rest) (bad (stuck_at ts))) (sym f)
-        (settles_suc settles_got (λ k. ap (λ (m : List Token). bad (stuck_at m)) (sym e)))
+    (settles_suc settles_got (λ k. ap (λ (m : List Token). bad (stuck_at m)) (sym e)))
 
 pub compound_by : (x : Origin) (n left : ℕ) (tok : Token) (rest : List Token) (it to : Lead) → it ≡ to → Leads (λ k. run_compound k to x n left tok rest)
     (λ k. run_compound k it x n left tok rest)
@@ -190,7 +190,7 @@ pub elifs_on : (x : Origin) (n left : ℕ) (some all : Branches) (tok : Token) (
 elifs_on x n left some all tok rest ts mid place e p b s o h = subst (λ (m : List Token). Settles (λ k. run_elifs k x n left some m) o) (sym e)
     (settles_suc (settles_if (λ k. got some (tok ∷ rest)) (ap (branch_at (Lines n) is_elif) (sym e) ∙ b)
     (settles_then (λ k all mid. run_elifs k x n left all mid) (subst (λ (q : Place). Settles (λ k. run_branch k x n left some q rest) (got all mid)) p s) h))
-        (λ k. refl))
+    (λ k. refl))
 
 pub elifs_fail : (x : Origin) (n left : ℕ) (some : Branches) (tok : Token) (rest ts : List Token) (place : Place) → ts ≡ tok ∷ rest → place ≡ place_at x tok
     → branch_at (Lines n) is_elif ts ≡ true
@@ -199,7 +199,7 @@ elifs_fail x n left some tok rest ts place e p b stop h = fails_by (λ k. run_br
     (λ why s. subst (λ (m : List Token). Settles (λ k. run_elifs k x n left some m) (bad why)) (sym e)
     (settles_suc (settles_if (λ k. got some (tok ∷ rest)) (ap (branch_at (Lines n) is_elif) (sym e) ∙ b)
     (settles_bad (λ k all mid. run_elifs k x n left all mid) (subst (λ (q : Place). Settles (λ k. run_branch k x n left some q rest) (bad why)) p s)))
-        (λ k. refl))) stop h
+    (λ k. refl))) stop h
 
 pub elifs_end : (x : Origin) (n left : ℕ) (some : Branches) (ts : List Token) → branch_at (Lines n) is_elif ts ≡ false
     → Leads (λ k. got some ts) (λ k. run_elifs k x n left some ts)
@@ -213,7 +213,7 @@ pub ofs_on : (x : Origin) (n left : ℕ) (some all : Branches) (tok : Token) (re
 ofs_on x n left some all tok rest ts mid place e p b s o h = subst (λ (m : List Token). Settles (λ k. run_ofs k x n left some m) o) (sym e)
     (settles_suc (settles_if (λ k. got some (tok ∷ rest)) (ap (branch_at (Lines n) is_of) (sym e) ∙ b)
     (settles_then (λ k all mid. run_ofs k x n left all mid) (subst (λ (q : Place). Settles (λ k. run_of k x n left some q rest) (got all mid)) p s) h))
-        (λ k. refl))
+    (λ k. refl))
 
 pub ofs_fail : (x : Origin) (n left : ℕ) (some : Branches) (tok : Token) (rest ts : List Token) (place : Place) → ts ≡ tok ∷ rest → place ≡ place_at x tok
     → branch_at (Lines n) is_of ts ≡ true
@@ -222,7 +222,7 @@ ofs_fail x n left some tok rest ts place e p b stop h = fails_by (λ k. run_of k
     (λ why s. subst (λ (m : List Token). Settles (λ k. run_ofs k x n left some m) (bad why)) (sym e)
     (settles_suc (settles_if (λ k. got some (tok ∷ rest)) (ap (branch_at (Lines n) is_of) (sym e) ∙ b)
     (settles_bad (λ k all mid. run_ofs k x n left all mid) (subst (λ (q : Place). Settles (λ k. run_of k x n left some q rest) (bad why)) p s))) (λ k. refl)))
-        stop h
+    stop h
 
 pub ofs_end : (x : Origin) (n left : ℕ) (some : Branches) (ts : List Token) → branch_at (Lines n) is_of ts ≡ false
     → Leads (λ k. got some ts) (λ k. run_ofs k x n left some ts)
@@ -259,22 +259,22 @@ handlers_fail x n left some tok rest ts e b stop h = fails_by (λ k. run_handler
     (λ why s. subst (λ (m : List Token). Settles (λ k. run_handlers k x n left some m) (bad why)) (sym e)
     (settles_suc (settles_if (λ k. got some (tok ∷ rest)) (ap (branch_at (Lines n) is_except) (sym e) ∙ b)
     (settles_bad (λ k one mid. if are_some one.names then run_handlers k x n left (and_caught some (place_at x tok) one) mid
-                else got (and_caught some (place_at x tok) one) mid) s)) (λ k. refl))) stop h
+    else got (and_caught some (place_at x tok) one) mid) s)) (λ k. refl))) stop h
 
 pub handlers_on : (x : Origin) (n left : ℕ) (some : Handlers) (one : Caught) (tok : Token) (rest ts mid : List Token) → ts ≡ tok ∷ rest
     → branch_at (Lines n) is_except ts ≡ true
     → Settles (λ k. run_handler k x n left rest) (got one mid)
     → Leads (λ k. if are_some one.names then run_handlers k x n left (and_caught some (place_at x tok) one) mid else got (and_caught some (place_at x tok) one)
-        mid) (λ k. run_handlers k x n left some ts)
+    mid) (λ k. run_handlers k x n left some ts)
 handlers_on x n left some one tok rest ts mid e b s o h = subst (λ (m : List Token). Settles (λ k. run_handlers k x n left some m) o) (sym e)
     (settles_suc (settles_if (λ k. got some (tok ∷ rest)) (ap (branch_at (Lines n) is_except) (sym e) ∙ b)
     (settles_then (λ k one mid. if are_some one.names then run_handlers k x n left (and_caught some (place_at x tok) one) mid
-                else got (and_caught some (place_at x tok) one) mid) s h)) (λ k. refl))
+    else got (and_caught some (place_at x tok) one) mid) s h)) (λ k. refl))
 
 pub handlers_end : (x : Origin) (n left : ℕ) (some : Handlers) (ts : List Token) → branch_at (Lines n) is_except ts ≡ false
     → Leads (λ k. got some ts) (λ k. run_handlers k x n left some ts)
 handlers_end x n left some [] e o h = settles_suc h (λ k. refl)
 handlers_end x n left some (tok ∷ ts) e o h =
     settles_suc (settles_else
-            (λ k. then_do (run_handler k x n left ts) (λ one mid. if are_some one.names then run_handlers k x n left (and_caught some (place_at x tok) one) mid
-                    else got (and_caught some (place_at x tok) one) mid)) e h) (λ k. refl)
+    (λ k. then_do (run_handler k x n left ts) (λ one mid. if are_some one.names then run_handlers k x n left (and_caught some (place_at x tok) one) mid
+    else got (and_caught some (place_at x tok) one) mid)) e h) (λ k. refl)

@@ -48,14 +48,14 @@ pub led_read : {x : Origin} {n left : ℕ} {tok : Token} {ts rest : List Token} 
 led_read L.Line some b w e h = absurd b
 led_read {x} {n} {left} {tok} {ts} L.If some b w e h =
     settles_next
-        (settles_at (λ it k. run_led k it x n left some tok ts) e
-            (settles_next (settles_then _ (alone_none (subst (λ (l : Lead). BeginsBlocks l x n (tok ∷ ts)) e w))
-                    (settles_next (settles_then _ h settles_got)))))
+    (settles_at (λ it k. run_led k it x n left some tok ts) e
+    (settles_next (settles_then _ (alone_none (subst (λ (l : Lead). BeginsBlocks l x n (tok ∷ ts)) e w))
+    (settles_next (settles_then _ h settles_got)))))
 led_read {x} {n} {left} {tok} {ts} L.Case some b w e h =
     settles_next
-        (settles_at (λ it k. run_led k it x n left some tok ts) e
-            (settles_next (settles_then _ (alone_none (subst (λ (l : Lead). BeginsBlocks l x n (tok ∷ ts)) e w))
-                    (settles_next (settles_then _ h settles_got)))))
+    (settles_at (λ it k. run_led k it x n left some tok ts) e
+    (settles_next (settles_then _ (alone_none (subst (λ (l : Lead). BeginsBlocks l x n (tok ∷ ts)) e w))
+    (settles_next (settles_then _ h settles_got)))))
 led_read {x} {n} {left} {tok} {ts} it some b w e h =
     settles_next (settles_at (λ it k. run_led k it x n left some tok ts) e (settles_next (settles_then _ h settles_got)))
 
@@ -107,26 +107,26 @@ mutual
       → IsCompound x n left s (tok ∷ ts) rest → Settles (λ k. run_statement k x n left some (tok ∷ ts)) (got (and_statement some s) rest)
   compound_read law some w (c_if e b m o) =
       led_read L.If some tt w e
-          (settles_next (settles_next (settles_then _ (branch_read law b) (settles_then _ (elifs_read law m) (settles_then _ (else_read law o) settles_got)))))
+      (settles_next (settles_next (settles_then _ (branch_read law b) (settles_then _ (elifs_read law m) (settles_then _ (else_read law o) settles_got)))))
   compound_read law some w (c_case e h d) =
       led_read L.Case some tt w e (settles_next (settles_next (settles_then _ (here_read law h) (branches_read law _ refl d))))
   compound_read law some w (c_while e h d) =
       led_read L.While some tt w e (settles_next (settles_then _ (here_read law h) (settles_then _ (body_read law d) settles_got)))
   compound_read law some w (c_for e h g c d) =
       led_read L.For some tt w e
-          (settles_next
-              (settles_then _ ((law.name _ _).complete _ _ _ h)
-                  (settles_unless _ g (settles_then _ (course_read law c) (settles_then _ (body_read law d) settles_got)))))
+      (settles_next
+      (settles_then _ ((law.name _ _).complete _ _ _ h)
+      (settles_unless _ g (settles_then _ (course_read law c) (settles_then _ (body_read law d) settles_got)))))
   compound_read law some w (c_try e b m f g) =
       led_read L.Try some tt w e
-          (settles_next
-              (settles_next
-                  (settles_then _ (body_read law b)
-                      (settles_then _ (handlers_read law m) (settles_then _ (finally_read law f) (settles_unless _ g settles_got))))))
+      (settles_next
+      (settles_next
+      (settles_then _ (body_read law b)
+      (settles_then _ (handlers_read law m) (settles_then _ (finally_read law f) (settles_unless _ g settles_got))))))
   compound_read law some w (c_defer e d) = led_read L.Defer some tt w e (settles_next (settles_then _ (body_read law d) settles_got))
   compound_read law some w (c_proc e h g b) =
       led_read L.Proc some tt w e
-          (settles_next (settles_next (settles_then _ ((law.head _ _).complete _ _ _ h) (settles_if _ g (settles_then _ (block_read law b) settles_got)))))
+      (settles_next (settles_next (settles_then _ ((law.head _ _).complete _ _ _ h) (settles_if _ g (settles_then _ (block_read law b) settles_got)))))
   compound_read law some w (c_forward e h g) =
       led_read L.Proc some tt w e (settles_next (settles_next (settles_then _ ((law.head _ _).complete _ _ _ h) (settles_else _ g settles_got))))
   compound_read law some w (c_type e d) = led_read L.Type some tt w e (settles_next (settles_then _ ((law.types _ _).complete _ _ _ d) settles_got))
@@ -175,7 +175,7 @@ mutual
   handler_read law (h_bare c b) = settles_next (settles_then _ (settles_if _ c settles_got) (settles_then _ (body_read law b) settles_got))
   handler_read law (h_typed c (e_first f t) l b) =
       settles_next (settles_then _ (settles_else _ c ((law.names _ _).complete _ _ _ (e_first f t)))
-              (settles_then _ (alias_read law l) (settles_then _ (body_read law b) settles_got)))
+      (settles_then _ (alias_read law l) (settles_then _ (body_read law b) settles_got)))
 
   pub handlers_read : {x : Origin} {n left : ℕ} {some all : Handlers} {ts rest : List Token} → Laws → MoreHandlers x n left some all ts rest
       → Settles (λ k. run_handlers k x n left some ts) (got all rest)

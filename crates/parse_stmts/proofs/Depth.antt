@@ -1,7 +1,7 @@
 -- A tree that is read has no more than 64 levels of blocks, of each expression and of each written type.
-use Rattle.std.proofs.Common.{◌≡◌, ℕ, suc, pred, ◌≤◌, List, [], ◌∷◌, Bool, true, false, refl, ap, ◌∙◌, arith}
-use Rattle.std.specs.Prelude.{Option, Some, None, not, nat_lt, ◌==◌, ◌&&◌, if◌then◌else◌}
-use Rattle.std.proofs.lemmas.Bool.{ltb-false, eq-eqb}
+use Rattle.std.proofs.Common.{◌≡◌, ℕ, suc, pred, ◌≤◌, List, [], ◌∷◌, Bool, true, refl, ap, ◌∙◌, arith}
+use Rattle.std.specs.Prelude.{Option, Some, None, ◌==◌, ◌&&◌}
+use Rattle.std.proofs.lemmas.Bool.{eq-eqb}
 use Rattle.arc_base.specs.declared.place.Place.{Place}
 use Rattle.indent_scanner.specs.declared.token.Token.{Token}
 use Rattle.nim_tree.specs.Lists.{highest, if_there}
@@ -54,7 +54,7 @@ LowHandlers left all = Low (pred left) (handler_block_levels all) (handler_term_
 low_and : {left : ℕ} (some : Statements) (s : Statement) → LowAll left some → LowOne left s → LowAll left (and_statement some s)
 low_and empty s h k =
     (let a = k.of_blocks in let b = k.of_terms in let c = k.of_types in
-        record { of_blocks = omega (arith, a); of_terms = omega (arith, b); of_types = omega (arith, c) })
+    record { of_blocks = omega (arith, a); of_terms = omega (arith, b); of_types = omega (arith, c) })
 low_and {left} (next first rest) s h k =
     let a = h.of_blocks in let b = h.of_terms in let c = h.of_types in
     let r = low_and rest s (record { of_blocks = omega (arith, a); of_terms = omega (arith, b); of_types = omega (arith, c) }) k in
@@ -69,7 +69,7 @@ low_branch : {left : ℕ} (some : Branches) (at : Place) (tests : Parts) (body :
     → LowBranches left (and_branch some at tests body)
 low_branch no_branches at tests body h t k =
     let a = k.of_blocks in let b = k.of_terms in let c = k.of_types in
-        record { of_blocks = omega (arith, a); of_terms = omega (arith, t, b); of_types = omega (arith, c) }
+    record { of_blocks = omega (arith, a); of_terms = omega (arith, t, b); of_types = omega (arith, c) }
 low_branch {left} (branch p ts one rest) at tests body h t k =
     let a = h.of_blocks in let b = h.of_terms in let c = h.of_types in
     let r = low_branch rest at tests body (record { of_blocks = omega (arith, a); of_terms = omega (arith, b); of_types = omega (arith, c) }) t k in
@@ -81,7 +81,7 @@ low_handler : {left : ℕ} (some : Handlers) (at : Place) (one : Caught) → Low
     → LowHandlers left (and_caught some at one)
 low_handler no_handlers at one h k =
     let a = k.of_blocks in let b = k.of_terms in let c = k.of_types in
-        record { of_blocks = omega (arith, a); of_terms = omega (arith, b); of_types = omega (arith, c) }
+    record { of_blocks = omega (arith, a); of_terms = omega (arith, b); of_types = omega (arith, c) }
 low_handler {left} (handler p names alias body rest) at one h k =
     let a = h.of_blocks in let b = h.of_terms in let c = h.of_types in
     let r = low_handler rest at one (record { of_blocks = omega (arith, a); of_terms = omega (arith, b); of_types = omega (arith, c) }) k in
@@ -114,7 +114,7 @@ operands_low {some = some} h (o_next {a = a} e d m) = operands_low (low_part som
 plain_low : {x : Origin} {n : ℕ} {s : Statement} {ts rest : List Token} → IsPlain x n s ts rest → LowOne 0 s
 plain_low (p_command {b = b} e c o d m) =
     let a = c.few in let k = operands_low (let f = d.few in omega (arith, f)) m in
-        record { of_blocks = omega arith; of_terms = omega (arith, a, k); of_types = omega arith }
+    record { of_blocks = omega arith; of_terms = omega (arith, a, k); of_types = omega arith }
 plain_low (p_value c d e) = record { of_blocks = omega arith; of_terms = d.few; of_types = omega arith }
 plain_low (p_assign c d e h) =
     (let a = d.few in let b = h.value.few in record { of_blocks = omega arith; of_terms = omega (arith, a, b); of_types = omega arith })
@@ -210,15 +210,15 @@ mutual
   compound_low (c_case e h d) = branches_low h.value.few d
   compound_low (c_while e h d) =
       (let k = body_low d in let a = k.of_terms in let b = h.value.few in
-              record { of_blocks = k.of_blocks; of_terms = omega (arith, a, b); of_types = k.of_types })
+      record { of_blocks = k.of_blocks; of_terms = omega (arith, a, b); of_types = k.of_types })
   compound_low (c_for e i g c d) =
       (let k = body_low d in let a = k.of_terms in let b = course_low c in
-              record { of_blocks = k.of_blocks; of_terms = omega (arith, a, b); of_types = k.of_types })
+      record { of_blocks = k.of_blocks; of_terms = omega (arith, a, b); of_types = k.of_types })
   compound_low (c_try e b m f g) =
       let h = body_low b in let k = handlers_low (record { of_blocks = omega arith; of_terms = omega arith; of_types = omega arith }) m in let l =
-          finally_low f in
+      finally_low f in
       let a = h.of_blocks in let c = h.of_terms in let d = h.of_types in let i = k.of_blocks in let j = k.of_terms in let q = k.of_types in let r =
-          l.of_blocks in let s = l.of_terms in let t = l.of_types in
+      l.of_blocks in let s = l.of_terms in let t = l.of_types in
       record { of_blocks = omega (arith, a, i, r); of_terms = omega (arith, c, j, s); of_types = omega (arith, d, q, t) }
   compound_low (c_defer e d) = let k = body_low d in record { of_blocks = k.of_blocks; of_terms = k.of_terms; of_types = k.of_types }
   compound_low {left = left} (c_proc {body = body} e h g b) =
@@ -294,4 +294,4 @@ mutual
 pub module_few : {x : Origin} {tokens : List Token} {all : Statements} → IsModule x tokens all → HasFew all
 module_few d =
     let k = statements_low (record { of_blocks = omega arith; of_terms = omega arith; of_types = omega arith }) d.reads in
-        record { blocks = k.of_blocks; terms = k.of_terms; types = k.of_types }
+    record { blocks = k.of_blocks; terms = k.of_terms; types = k.of_types }

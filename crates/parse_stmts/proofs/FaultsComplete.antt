@@ -1,20 +1,19 @@
 -- Where statements with blocks can't go on, reading says so.
-use Rattle.std.proofs.Common.{◌≡◌, ℕ, zero, suc, List, [], ◌∷◌, Bool, true, false, refl, ap, ap₂, subst, ◌∙◌}
-use Rattle.std.specs.Prelude.{◌<◌, ◌≤◌, if◌then◌else◌}
+use Rattle.std.proofs.Common.{◌≡◌, ℕ, zero, List, [], ◌∷◌, Bool, true, false, refl, ap, subst}
+use Rattle.std.specs.Prelude.{◌<◌, if◌then◌else◌}
 use Rattle.arc_base.specs.declared.place.Place.{Place}
 use Rattle.indent_scanner.specs.declared.token.Token.{Token}
 use Rattle.nim_tree.specs.Terms.{Term, levels, place_of}
 use Rattle.nim_tree.specs.Statements.{Statements, Branches, Handlers, evaluates, and_statement, no_branches, no_handlers, empty}
 use Rattle.parse_exprs.specs.declared.layout.Layout.TheVariants.{Lines}
-use Rattle.parse_exprs.specs.Look.{Origin, place_at, first_of_at}
-use Rattle.parse_decls.specs.Look.{deeper_at}
+use Rattle.parse_exprs.specs.Look.{Origin, first_of_at}
 use Rattle.parse_decls.specs.Outcome.{Why, too_deep, stuck_at, bad, Settles}
 use Rattle.parse_decls.specs.Grammar.{e_first}
 use Rattle.parse_decls.proofs.ForCallers.{settles_got, settles_is, settles_then, settles_bad, settles_unless, settles_stuck, settles_if, settles_else}
 use Rattle.parse_decls.proofs.ForCallers.{settles_why}
 use Rattle.parse_stmts.specs.declared.look.Lead.{Lead}
 use Rattle.parse_stmts.specs.declared.look.Lead.TheVariants as L
-use Rattle.parse_stmts.specs.Look.{chooses, opens_block, on_line_at, lead}
+use Rattle.parse_stmts.specs.Look.{chooses, opens_block, lead}
 use Rattle.parse_stmts.specs.Run.{run_statements, run_statement, run_led, run_compound, run_body, run_block, run_branch, run_elifs, run_else, run_branches}
 use Rattle.parse_stmts.specs.Run.{run_of, run_ofs, run_handler, run_handlers, run_finally, run_module}
 use Rattle.parse_stmts.specs.Grammar.{IsLine, l_last, l_more, IsStatement, s_line, s_alone, s_choice, s_compound, r_branch, r_of}
@@ -33,7 +32,7 @@ use Rattle.parse_stmts.proofs.Leaves.{Laws}
 use Rattle.parse_stmts.proofs.LeavesComplete.{settles_at, here_read, here_faults, line_faults, label_read, label_faults, labels_read, labels_faults}
 use Rattle.parse_stmts.proofs.LeavesComplete.{course_read, course_faults, alias_read, alias_faults}
 use Rattle.parse_stmts.proofs.Reading.{HasBlocks}
-use Rattle.parse_stmts.proofs.Complete.{BeginsBlocks, with_blocks, no_choice, statements_read, statement_read, body_read, branch_read, elifs_read, else_read}
+use Rattle.parse_stmts.proofs.Complete.{BeginsBlocks, with_blocks, no_choice, statements_read, statement_read, body_read, branch_read, elifs_read}
 use Rattle.parse_stmts.proofs.Complete.{of_read, ofs_read, handler_read, handlers_read, finally_read}
 
 -- ---- the same behind other statements
@@ -66,12 +65,12 @@ led_faults : {x : Origin} {n left : ℕ} {tok : Token} {ts : List Token} {why : 
 led_faults L.Line some b w e h = absurd b
 led_faults {x} {n} {left} {tok} {ts} L.If some b w e h =
     settles_next
-        (settles_at (λ it k. run_led k it x n left some tok ts) e
-            (settles_next (settles_then _ (alone_none (subst (λ (l : Lead). BeginsBlocks l x n (tok ∷ ts)) e w)) (settles_next (settles_bad _ h)))))
+    (settles_at (λ it k. run_led k it x n left some tok ts) e
+    (settles_next (settles_then _ (alone_none (subst (λ (l : Lead). BeginsBlocks l x n (tok ∷ ts)) e w)) (settles_next (settles_bad _ h)))))
 led_faults {x} {n} {left} {tok} {ts} L.Case some b w e h =
     settles_next
-        (settles_at (λ it k. run_led k it x n left some tok ts) e
-            (settles_next (settles_then _ (alone_none (subst (λ (l : Lead). BeginsBlocks l x n (tok ∷ ts)) e w)) (settles_next (settles_bad _ h)))))
+    (settles_at (λ it k. run_led k it x n left some tok ts) e
+    (settles_next (settles_then _ (alone_none (subst (λ (l : Lead). BeginsBlocks l x n (tok ∷ ts)) e w)) (settles_next (settles_bad _ h)))))
 led_faults {x} {n} {left} {tok} {ts} it some b w e h = settles_next (settles_at (λ it k. run_led k it x n left some tok ts) e (settles_next (settles_bad _ h)))
 
 -- an expression alone on its line has a level too many
@@ -119,7 +118,7 @@ mutual
       led_faults L.If some tt v e (settles_next (settles_next (settles_then _ (branch_read law b) (settles_bad _ (elifs_faults law _ w)))))
   compound_faults law some v (f_if_else e b m w) =
       led_faults L.If some tt v e
-          (settles_next (settles_next (settles_then _ (branch_read law b) (settles_then _ (elifs_read law m) (settles_bad _ (else_faults law w))))))
+      (settles_next (settles_next (settles_then _ (branch_read law b) (settles_then _ (elifs_read law m) (settles_bad _ (else_faults law w))))))
   compound_faults law some v (f_case e w) = led_faults L.Case some tt v e (settles_next (settles_next (settles_bad _ (here_faults law w))))
   compound_faults law some v (f_branches e h w) =
       led_faults L.Case some tt v e (settles_next (settles_next (settles_then _ (here_read law h) (branches_faults law _ w))))
@@ -134,25 +133,25 @@ mutual
       led_faults L.For some tt v e (settles_next (settles_then _ ((law.name _ _).complete _ _ _ d) (settles_unless _ g (settles_bad _ (course_faults law w)))))
   compound_faults law some v (f_for_body e d g c w) =
       led_faults L.For some tt v e
-          (settles_next
-              (settles_then _ ((law.name _ _).complete _ _ _ d) (settles_unless _ g (settles_then _ (course_read law c) (settles_bad _ (body_faults law w))))))
+      (settles_next
+      (settles_then _ ((law.name _ _).complete _ _ _ d) (settles_unless _ g (settles_then _ (course_read law c) (settles_bad _ (body_faults law w))))))
   compound_faults law some v (f_try e w) = led_faults L.Try some tt v e (settles_next (settles_next (settles_bad _ (body_faults law w))))
   compound_faults law some v (f_handlers e b w) =
       led_faults L.Try some tt v e (settles_next (settles_next (settles_then _ (body_read law b) (settles_bad _ (handlers_faults law no_handlers w)))))
   compound_faults law some v (f_finally e b m w) =
       led_faults L.Try some tt v e
-          (settles_next (settles_next (settles_then _ (body_read law b) (settles_then _ (handlers_read law m) (settles_bad _ (finally_faults law w))))))
+      (settles_next (settles_next (settles_then _ (body_read law b) (settles_then _ (handlers_read law m) (settles_bad _ (finally_faults law w))))))
   compound_faults law some v (f_try_alone e b m f g q) =
       led_faults L.Try some tt v e
-          (settles_next
-              (settles_next
-                  (settles_then _ (body_read law b)
-                      (settles_then _ (handlers_read law m) (settles_then _ (finally_read law f) (settles_why q (settles_stuck _ _ g)))))))
+      (settles_next
+      (settles_next
+      (settles_then _ (body_read law b)
+      (settles_then _ (handlers_read law m) (settles_then _ (finally_read law f) (settles_why q (settles_stuck _ _ g)))))))
   compound_faults law some v (f_defer e w) = led_faults L.Defer some tt v e (settles_next (settles_bad _ (body_faults law w)))
   compound_faults law some v (f_head e w) = led_faults L.Proc some tt v e (settles_next (settles_next (settles_bad _ ((law.head _ _).faults _ _ w))))
   compound_faults law some v (f_proc_body e h g w) =
       led_faults L.Proc some tt v e
-          (settles_next (settles_next (settles_then _ ((law.head _ _).complete _ _ _ h) (settles_if _ g (settles_bad _ (block_faults law w))))))
+      (settles_next (settles_next (settles_then _ ((law.head _ _).complete _ _ _ h) (settles_if _ g (settles_bad _ (block_faults law w))))))
   compound_faults law some v (f_types e w) = led_faults L.Type some tt v e (settles_next (settles_bad _ ((law.types _ _).faults _ _ w)))
   compound_faults law some v (f_section e w) = led_faults L.Section some tt v e (settles_next (settles_bad _ ((law.definitions _ _).faults _ _ w)))
 
@@ -208,7 +207,7 @@ mutual
       settles_next (settles_then _ (settles_else _ c ((law.names _ _).complete _ _ _ (e_first f t))) (settles_bad _ (alias_faults law x n w)))
   handler_faults law (f_handler_body c (e_first f t) l w) =
       settles_next (settles_then _ (settles_else _ c ((law.names _ _).complete _ _ _ (e_first f t)))
-              (settles_then _ (alias_read law l) (settles_bad _ (body_faults law w))))
+      (settles_then _ (alias_read law l) (settles_bad _ (body_faults law w))))
 
   handlers_faults : {x : Origin} {why : Why} {n left : ℕ} {ts : List Token} → Laws → (some : Handlers) → FaultsHandlers x why n left ts
       → Settles (λ k. run_handlers k x n left some ts) (bad why)

@@ -7,14 +7,14 @@ use Rattle.indent_scanner.specs.declared.token.Token.{Token}
 use Rattle.nim_tree.specs.declared.expr.Expr.{Expr}
 use Rattle.nim_tree.specs.declared.stmt.Stmt.{Stmt}
 use Rattle.nim_tree.specs.declared.stmt.Handler.{Handler}
-use Rattle.nim_tree.specs.Terms.{Term, Parts, part, no_parts, term_of, parts_of}
+use Rattle.nim_tree.specs.Terms.{Term, part, no_parts, term_of, parts_of}
 use Rattle.nim_tree.specs.Statements.{Statement, selects, Statements, empty, statements_of, Branches, no_branches, and_branch, Handlers, no_handlers}
 use Rattle.nim_tree.specs.Statements.{handlers_of}
 use Rattle.parse_exprs.specs.declared.input.Input.{Input}
 use Rattle.parse_exprs.specs.declared.layout.Layout.TheVariants.{Lines}
 use Rattle.parse_exprs.specs.Look.{Origin, place_at, stays, branch_at, first_of_at}
 use Rattle.parse_exprs.specs.Input.{from_at}
-use Rattle.parse_decls.specs.Outcome.{Out, got, bad, then_do, stuck_at, unless_stuck, Settles}
+use Rattle.parse_decls.specs.Outcome.{Out, got, bad, then_do, stuck_at, Settles}
 use Rattle.parse_decls.specs.Gives.{Fails, Leads}
 use Rattle.parse_decls.proofs.ForCallers.{settles_suc, settles_got, settles_unless, settles_stuck, settles_if, settles_else, fails_by}
 use Rattle.parse_stmts.specs.Look.{is_except}
@@ -39,7 +39,7 @@ pub branch_fail_is : (x : Origin) (n left : ℕ) (some none : Branches) (p q : P
     → Fails (λ k. run_branch k x n left some p ts) x stop → Fails (λ k. run_branch k x n left none q ts) x stop
 branch_fail_is x n left some none p q ts e f stop h =
     subst (λ (s : Branches). Fails (λ k. run_branch k x n left s q ts) x stop) e
-        (subst (λ (r : Place). Fails (λ k. run_branch k x n left some r ts) x stop) f h)
+    (subst (λ (r : Place). Fails (λ k. run_branch k x n left some r ts) x stop) f h)
 
 pub single_part : (tests : List Expr) (a : Expr) → tests ≡ [] ++ a ∷ [] → parts_of tests ≡ part (term_of a) no_parts
 single_part tests a e = ap parts_of e
@@ -59,8 +59,8 @@ pub of_stuck : (x : Origin) (n left : ℕ) (some : Branches) (place : Place) (ts
     → Settles (λ k. run_of k x n left some place ts) (bad (stuck_at ts))
 of_stuck x n left some place ts e = settles_suc (settles_stuck
     (λ k. then_do (run_label k x n ts)
-            (λ a mid. then_do (run_labels k x n (part a no_parts) mid)
-                (λ labels end. then_do (run_body k x n left end) (λ block rest. got (and_branch some place labels block) rest)))) ts e) (λ k. refl)
+    (λ a mid. then_do (run_labels k x n (part a no_parts) mid)
+    (λ labels end. then_do (run_body k x n left end) (λ block rest. got (and_branch some place labels block) rest)))) ts e) (λ k. refl)
 
 pub handlers_start : (x : Origin) (n left : ℕ) (some : Handlers) (ts : List Token) → some ≡ no_handlers → Leads (λ k. run_handlers k x n left some ts)
     (λ k. run_handlers k x n left no_handlers ts)
@@ -76,7 +76,7 @@ pub handlers_more : (x : Origin) (n left : ℕ) (some all : Handlers) (tok : Tok
     → Leads (λ k. run_handlers k x n left all mid) (λ k. run_handlers k x n left some ts)
 handlers_more x n left some all tok one ts rest mid e b s t a o h =
     handlers_on x n left some one tok rest ts mid e b s o
-        (settles_if (λ k. got (and_caught some (place_at x tok) one) mid) t (subst (λ (m : Handlers). Settles (λ k. run_handlers k x n left m mid) o) a h))
+    (settles_if (λ k. got (and_caught some (place_at x tok) one) mid) t (subst (λ (m : Handlers). Settles (λ k. run_handlers k x n left m mid) o) a h))
 
 pub handlers_last : (x : Origin) (n left : ℕ) (some all : Handlers) (tok : Token) (one : Caught) (ts rest mid : List Token) → ts ≡ tok ∷ rest
     → branch_at (Lines n) is_except ts ≡ true
@@ -84,7 +84,7 @@ pub handlers_last : (x : Origin) (n left : ℕ) (some all : Handlers) (tok : Tok
     → Leads (λ k. got all mid) (λ k. run_handlers k x n left some ts)
 handlers_last x n left some all tok one ts rest mid e b s t a o h =
     handlers_on x n left some one tok rest ts mid e b s o (settles_else (λ k. run_handlers k x n left (and_caught some (place_at x tok) one) mid) t
-            (subst (λ (m : Handlers). Settles (λ k. got m mid) o) a h))
+    (subst (λ (m : Handlers). Settles (λ k. got m mid) o) a h))
 
 abbrev pub branches_run : Origin → ℕ → ℕ → Token → Term → List Token → ℕ → Out Statement
 branches_run x m left tok s mid k = then_do (run_ofs k x m left no_branches mid)
@@ -96,7 +96,7 @@ pub branches_on : (x : Origin) (n left : ℕ) (tok : Token) (s : Term) (first : 
 branches_on x n left tok s first rest mid m e f g o h = subst (λ (l : List Token). Settles (λ k. run_branches k x n left tok s l) o) (sym e)
     (settles_suc (settles_unless (first ∷ rest) (ap (first_of_at (Lines n)) (sym e) ∙ f)
     (subst (λ (l : List Token). Settles (branches_run x (branch_level n first.indent) left tok s l) o) e
-            (subst (λ (i : ℕ). Settles (branches_run x i left tok s mid) o) g h))) (λ k. refl))
+    (subst (λ (i : ℕ). Settles (branches_run x i left tok s mid) o) g h))) (λ k. refl))
 
 pub branches_stuck : (x : Origin) (n left : ℕ) (tok : Token) (s : Term) (mid : List Token) → first_of_at (Lines n) mid ≡ false
     → Settles (λ k. run_branches k x n left tok s mid) (bad (stuck_at mid))

@@ -27,7 +27,7 @@ use Rattle.parse_stmts.specs.Grammar.{MoreModules, m_over, m_next, MoreOperands,
 use Rattle.parse_stmts.specs.Grammar.{b_const, IsSimple, i_discard, i_return, i_raise, i_break, i_continue, i_import, i_define, i_plain, IsLine, l_last, l_more}
 use Rattle.parse_stmts.specs.Grammar.{IsLabel, a_one, a_range, MoreLabels, a_over, a_next, IsCourse, f_each, f_up_to, f_below, Alias}
 use Rattle.parse_stmts.specs.Faults as F
-use Rattle.parse_stmts.specs.Faults.{FaultsValue, FaultsHere, FaultsOptional, FaultsCalled, FaultsModuleName, FaultsModules, FaultsOperands, FaultsPlain}
+use Rattle.parse_stmts.specs.Faults.{FaultsValue, FaultsHere, FaultsOptional, FaultsCalled, FaultsModuleName, FaultsOperands, FaultsPlain}
 use Rattle.parse_stmts.specs.Faults.{FaultsSimple, FaultsLine, FaultsLabel, FaultsLabels, FaultsCourse, FaultsAlias}
 use Rattle.parse_stmts.proofs.Means.{Means, m_got, m_bad, m_tired, means_map, means_then, means_unless, means_if, Told}
 
@@ -101,7 +101,7 @@ means_command : (law : Laws) (k : ℕ) (x : Origin) (n : ℕ) (a : Term) (ts mid
 means_command law k x n a ts mid e c o =
     means_then (means_value law k x n mid)
     (λ b end d. means_then (means_operands law k x n (part b no_parts) end) (λ all rest m. m_got (p_command e c o d m)) (λ why w. F.f_operands e c o d w))
-        (λ why w. F.f_operand e c o w)
+    (λ why w. F.f_operand e c o w)
 
 pub means_plain : (law : Laws) (k : ℕ) (x : Origin) (n : ℕ) (ts : List Token) → Means (λ s rest. IsPlain x n s ts rest) (λ why. FaultsPlain x n why ts)
     (run_plain k x n ts)
@@ -127,7 +127,7 @@ means_simple_by law k S.Continue x n tok ts e = m_got (i_continue e)
 means_simple_by law k S.Import x n tok ts e =
     means_then (means_module law x (Lines n) ts)
     (λ name mid d. means_then (means_modules law k x n (name ∷ []) mid) (λ all rest m. m_got (i_import e d m)) (λ why w. F.f_import e (f_next d w)))
-        (λ why w. F.f_import e (f_first w))
+    (λ why w. F.f_import e (f_first w))
 means_simple_by law k S.Let x n tok ts e = means_bound law k x n tok ts e b_let
 means_simple_by law k S.Var x n tok ts e = means_bound law k x n tok ts e b_var
 means_simple_by law k S.Const x n tok ts e = means_bound law k x n tok ts e b_const
@@ -145,7 +145,7 @@ means_line law (suc k) x n some ts =
     means_then (means_simple law k x n ts)
     (λ s mid d. means_if _
     (λ e. means_unless _ _ (λ h. means_map (means_line law k x n (and_statement some s) (behind mid)) (λ all rest m. l_more d e h m)
-                (λ why w. F.f_next_simple d e h w))
+    (λ why w. F.f_next_simple d e h w))
     (λ h. F.f_semicolon d e h refl))
     (λ e. m_got (l_last d e)))
     (λ why w. F.f_simple w)
@@ -157,7 +157,7 @@ pub means_label : (law : Laws) (k : ℕ) (x : Origin) (n : ℕ) (ts : List Token
 means_label law k x n ts =
     means_then (means_value law k x n ts)
     (λ a mid d. means_if _ (λ e. means_then (means_here law k x n (behind mid)) (λ b rest h. m_got (a_range d e h)) (λ why w. F.f_range d e w))
-            (λ e. m_got (a_one d e)))
+    (λ e. m_got (a_one d e)))
     (λ why w. F.f_label w)
 
 pub means_labels : (law : Laws) (k : ℕ) (x : Origin) (n : ℕ) (some : Parts) (ts : List Token) → Means (λ all rest. MoreLabels x n some all ts rest)
@@ -174,11 +174,11 @@ means_course law k x n ts =
     means_then (means_here law k x n ts)
     (λ a mid d. means_if _ (λ e. means_then (means_here law k x n (behind mid)) (λ b rest h. m_got (f_up_to d e h)) (λ why w. F.f_up_to d e w))
     (λ e. means_if _ (λ g. means_then (means_here law k x n (behind mid)) (λ b rest h. m_got (f_below d e g h)) (λ why w. F.f_below d e g w))
-            (λ g. m_got (f_each d e g))))
+    (λ g. m_got (f_each d e g))))
     (λ why w. F.f_from w)
 
 pub means_alias : (law : Laws) (x : Origin) (n : ℕ) (ts : List Token) → Means (λ a rest. Alias x n a ts rest) (λ why. FaultsAlias x n why ts)
     (run_binding true x n ts)
 means_alias law x n ts =
     means_if _ (λ e. means_then ((law.name x (Lines n)).means 0 (behind ts)) (λ name rest d. m_got (e_some e d)) (λ why w. record { begins = e; at = w }))
-        (λ e. m_got (e_none e))
+    (λ e. m_got (e_none e))

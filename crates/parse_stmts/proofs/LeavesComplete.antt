@@ -22,7 +22,7 @@ use Rattle.parse_stmts.specs.Grammar.{IsPlain, p_command, p_value, p_assign, b_l
 use Rattle.parse_stmts.specs.Grammar.{i_import, i_define, i_plain, IsLine, l_last, l_more, IsLabel, a_one, a_range, MoreLabels, a_over, a_next, IsCourse}
 use Rattle.parse_stmts.specs.Grammar.{f_each, f_up_to, f_below, Alias}
 use Rattle.parse_stmts.specs.Faults as F
-use Rattle.parse_stmts.specs.Faults.{FaultsValue, FaultsHere, FaultsOptional, FaultsCalled, FaultsModuleName, FaultsModules, FaultsOperands, FaultsPlain}
+use Rattle.parse_stmts.specs.Faults.{FaultsHere, FaultsOptional, FaultsModuleName, FaultsOperands, FaultsPlain}
 use Rattle.parse_stmts.specs.Faults.{FaultsSimple, FaultsLine, FaultsLabel, FaultsLabels, FaultsCourse, FaultsAlias}
 use Rattle.parse_stmts.proofs.Means.{settles_next}
 use Rattle.parse_stmts.proofs.Leaves.{Laws}
@@ -95,8 +95,8 @@ settles_at run e h = settles_is h (λ k. ap (λ c. run c k) e)
 pub plain_read : {x : Origin} {n : ℕ} {s : Statement} {ts rest : List Token} → Laws → IsPlain x n s ts rest → Settles (λ k. run_plain k x n ts) (got s rest)
 plain_read law (p_command e c o d m) =
     settles_if _ e
-        (settles_then _ ((law.called _ _).complete _ _ _ c)
-            (settles_if _ o (settles_then _ ((law.value _ _).complete _ _ _ d) (settles_then _ (operands_read law m) settles_got))))
+    (settles_then _ ((law.called _ _).complete _ _ _ c)
+    (settles_if _ o (settles_then _ ((law.value _ _).complete _ _ _ d) (settles_then _ (operands_read law m) settles_got))))
 plain_read {x} {n} law (p_value {a = a} {rest = rest} c d e) =
     no_command law c (settles_then _ ((law.value _ _).complete _ _ _ d) (settles_at (λ op k. run_assigned k op x n a rest) e settles_got))
 plain_read {x} {n} law (p_assign {a = a} {mid = mid} c d e h) =
@@ -109,8 +109,8 @@ plain_faults law (F.f_operand e c o w) =
     settles_if _ e (settles_then _ ((law.called _ _).complete _ _ _ c) (settles_if _ o (settles_bad _ ((law.value _ _).faults _ _ w))))
 plain_faults law (F.f_operands e c o d w) =
     settles_if _ e
-        (settles_then _ ((law.called _ _).complete _ _ _ c)
-            (settles_if _ o (settles_then _ ((law.value _ _).complete _ _ _ d) (settles_bad _ (operands_faults law _ w)))))
+    (settles_then _ ((law.called _ _).complete _ _ _ c)
+    (settles_if _ o (settles_then _ ((law.value _ _).complete _ _ _ d) (settles_bad _ (operands_faults law _ w)))))
 plain_faults law (F.f_expression c w) = no_command law c (settles_bad _ ((law.value _ _).faults _ _ w))
 plain_faults {x} {n} law (F.f_assigned {a = a} {mid = mid} c d e w) =
     no_command law c

@@ -1,11 +1,11 @@
 -- What reading a module comes to, from what reading its statements comes to.
-use Rattle.std.proofs.Common.{◌≡◌, ℕ, List, Bool, true, false, refl, sym, subst}
+use Rattle.std.proofs.Common.{◌≡◌, ℕ, List, true, false, subst}
 use Rattle.arc_base.specs.declared.place.Stop.{Stop}
 use Rattle.indent_scanner.specs.declared.token.Token.{Token}
 use Rattle.nim_tree.specs.Statements.{Statements, empty}
 use Rattle.parse_exprs.specs.Look.{Origin}
 use Rattle.parse_decls.specs.Look.{level_at}
-use Rattle.parse_decls.specs.Outcome.{Out, got, then_do, unless_stuck, stuck_at, Settles}
+use Rattle.parse_decls.specs.Outcome.{Out, got, unless_stuck, stuck_at, Settles}
 use Rattle.parse_decls.specs.Gives.{Told, Fails, Leads}
 use Rattle.parse_decls.proofs.ForCallers.{settles_got, fails_then, fails_stuck, fails_leads, leads_then, leads_unless}
 use Rattle.parse_stmts.specs.Look.{end_at}

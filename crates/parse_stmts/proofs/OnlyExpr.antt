@@ -42,7 +42,7 @@ alone_means : (k : ℕ) (x : Origin) (n : ℕ) (ts : List Token) (o : E.Out Term
     → Means (λ found rest. Finds x n ts found rest) (λ why. FaultsAlone x n why ts) (alone_in n ts o)
 alone_means k x n ts (E.got a rest) e =
     (let d = sound_expr k x (Start n) MOST_ALONE ts e in
-        begun_means x n ts a rest (record { reads = record { spells = d.spells; stops = d.stops }; few = d.few }))
+    begun_means x n ts a rest (record { reads = record { spells = d.spells; stops = d.stops }; few = d.few }))
 alone_means k x n ts (E.bad E.deep) e = m_got (d_none (n_stops (faults_expr F.too_deep k x (Start n) MOST_ALONE ts e)))
 alone_means k x n ts (E.bad (E.stuck rest)) e = m_got (d_none (n_stops (faults_expr (F.stuck_at rest) k x (Start n) MOST_ALONE ts e)))
 alone_means k x n ts (E.bad E.tired) e = m_tired

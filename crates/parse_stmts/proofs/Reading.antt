@@ -8,14 +8,14 @@ use Rattle.nim_tree.specs.Terms.{Term, no_parts, part}
 use Rattle.nim_tree.specs.Statements.{Statements, empty, Branches, no_branches, Handlers, no_handlers}
 use Rattle.parse_exprs.specs.declared.layout.Layout.TheVariants.{Lines}
 use Rattle.parse_exprs.specs.Look.{Origin, place_at, colon_at, past_colon}
-use Rattle.parse_decls.specs.Look.{behind, deeper_at, stands_at, level_at}
+use Rattle.parse_decls.specs.Look.{behind, stands_at, level_at}
 use Rattle.parse_decls.specs.Outcome.{Why, too_deep, stuck_at, got, bad, then_do}
 use Rattle.parse_decls.specs.Grammar.{e_first, Names}
 use Rattle.parse_decls.specs.Faults.{FaultsNames}
 use Rattle.parse_stmts.specs.declared.look.Lead.{Lead}
 use Rattle.parse_stmts.specs.declared.look.Lead.TheVariants as L
 use Rattle.parse_stmts.specs.Look.{chooses, opens_block, lead}
-use Rattle.parse_stmts.specs.Run.{run_types_of, run_binding, are_some, and_caught, branch_level, run_alone, run_choice, run_statements, run_statement, run_led}
+use Rattle.parse_stmts.specs.Run.{run_types_of, run_binding, are_some, and_caught, branch_level, run_choice, run_statements, run_statement, run_led}
 use Rattle.parse_stmts.specs.Run.{run_compound, run_body, run_block, run_if, run_branch, run_elifs, run_else, run_case, run_branches, run_of, run_ofs, run_try}
 use Rattle.parse_stmts.specs.Run.{run_handler, run_handlers, run_finally, run_proc, run_module}
 use Rattle.parse_stmts.specs.Grammar.{AreStatements, s_over, s_next, IsStatement, s_line, s_alone, s_choice, s_compound, IsCompound, c_if, c_case, c_while}
@@ -78,7 +78,7 @@ mutual
   means_statements law (suc k) x n left some ts =
       means_if _ (λ e. means_then (means_statement law k x n left some ts e)
       (λ more mid d. means_map (means_statements law k x n left more mid) (λ all rest m. s_next e d m) (λ why w. F.f_next_statement e d w))
-          (λ why w. F.f_statement e w))
+      (λ why w. F.f_statement e w))
       (λ e. means_unless _ _ (λ h. m_got (s_over e h)) (λ h. F.f_no_end e h refl))
 
   means_statement : (law : Laws) (k : ℕ) (x : Origin) (n left : ℕ) (some : Statements) (ts : List Token) → stands_at n ts ≡ true
@@ -93,10 +93,10 @@ mutual
   means_led law (suc k) L.Line x n left some tok ts e = means_map (means_line law k x n some (tok ∷ ts)) (λ all rest d. s_line e d) (λ why w. F.f_one_line e w)
   means_led law (suc k) L.If x n left some tok ts e =
       means_then (means_alone k x n (tok ∷ ts)) (λ found mid d. means_found law k L.If x n left some tok ts e refl tt found mid d)
-          (λ why w. F.f_alone (ap chooses e) w.is w.deep w.at)
+      (λ why w. F.f_alone (ap chooses e) w.is w.deep w.at)
   means_led law (suc k) L.Case x n left some tok ts e =
       means_then (means_alone k x n (tok ∷ ts)) (λ found mid d. means_found law k L.Case x n left some tok ts e refl tt found mid d)
-          (λ why w. F.f_alone (ap chooses e) w.is w.deep w.at)
+      (λ why w. F.f_alone (ap chooses e) w.is w.deep w.at)
   means_led law (suc k) it x n left some tok ts e = means_then (means_compound law k it x n left tok ts e tt) (λ s rest d. m_got (s_compound (ap chooses e) d))
       (λ why w. F.f_compound (ap chooses e) w)
 
@@ -109,7 +109,7 @@ mutual
   means_found law (suc k) it x n left some tok ts e c b _ _ (d_alone d few) = m_got (s_alone (ap chooses e ∙ c) d few)
   means_found law (suc k) it x n left some tok ts e c b _ _ (d_none d) =
       means_then (means_compound law k it x n left tok ts e b) (λ s rest m. m_got (s_choice (ap chooses e ∙ c) d m))
-          (λ why w. F.f_choice (ap chooses e ∙ c) d w)
+      (λ why w. F.f_choice (ap chooses e ∙ c) d w)
 
   means_compound : (law : Laws) (k : ℕ) (it : Lead) (x : Origin) (n left : ℕ) (tok : Token) (ts : List Token) → lead n tok ts ≡ it → HasBlocks it
       → Means (λ s rest. IsCompound x n left s (tok ∷ ts) rest) (λ why. FaultsCompound x why n left (tok ∷ ts)) (run_compound k it x n left tok ts)
@@ -119,13 +119,13 @@ mutual
   means_compound law (suc k) L.Case x n left tok ts e b = means_case law k x n left tok ts e
   means_compound law (suc k) L.While x n left tok ts e b =
       means_then (means_here law k x n ts) (λ c mid h. means_then (means_body law k x n left mid) (λ body rest d. m_got (c_while e h d))
-              (λ why w. F.f_while_body e h w)) (λ why w. F.f_while e w)
+      (λ why w. F.f_while_body e h w)) (λ why w. F.f_while e w)
   means_compound law (suc k) L.For x n left tok ts e b =
       means_then ((law.name x (Lines n)).means k ts)
       (λ name mid h. means_unless _ _
       (λ g. means_then (means_course law k x n (behind mid))
       (λ course end c. means_then (means_body law k x n left end) (λ body rest d. m_got (c_for e h g c d)) (λ why w. F.f_for_body e h g c w))
-          (λ why w. F.f_course e h g w))
+      (λ why w. F.f_course e h g w))
       (λ g. F.f_no_in e h g refl))
       (λ why w. F.f_for e w)
   means_compound law (suc k) L.Try x n left tok ts e b = means_try law k x n left tok ts e
@@ -171,7 +171,7 @@ mutual
   means_branch law zero x n left some at ts = m_tired
   means_branch law (suc k) x n left some at ts =
       means_then (means_here law k x n ts) (λ c mid h. means_then (means_body law k x n left mid) (λ body rest d. m_got (r_branch h d))
-              (λ why w. F.f_branch_body h w)) (λ why w. F.f_condition w)
+      (λ why w. F.f_branch_body h w)) (λ why w. F.f_condition w)
 
   means_elifs : (law : Laws) (k : ℕ) (x : Origin) (n left : ℕ) (some : Branches) (ts : List Token)
       → Means (λ all rest. MoreElifs x n left some all ts rest) (λ why. FaultsElifs x why n left ts) (run_elifs k x n left some ts)
@@ -196,7 +196,7 @@ mutual
   means_case law (suc k) x n left tok ts e =
       means_then (means_here law k x n ts)
       (λ a mid h. means_map (means_branches law k x n left tok a (past_colon (Lines n) mid)) (λ s rest d. c_case e h d) (λ why w. F.f_branches e h w))
-          (λ why w. F.f_case e w)
+      (λ why w. F.f_case e w)
 
   means_branches : (law : Laws) (k : ℕ) (x : Origin) (n left : ℕ) (tok : Token) (a : Term) (mid : List Token)
       → Means (λ s rest. AreBranches x n left (place_at x tok) a s mid rest) (λ why. FaultsBranches x why n left mid) (run_branches k x n left tok a mid)
@@ -251,7 +251,7 @@ mutual
   means_handler law zero x n left ts = m_tired
   means_handler law (suc k) x n left ts =
       means_then (means_types_of law k x n ts) (λ names a d. means_caught law k x n left ts names a (λ ts. means_body law k x n left ts) d)
-          (λ why w. F.f_names w.some w.at)
+      (λ why w. F.f_names w.some w.at)
 
   means_handlers : (law : Laws) (k : ℕ) (x : Origin) (n left : ℕ) (some : Handlers) (ts : List Token)
       → Means (λ all rest. MoreHandlers x n left some all ts rest) (λ why. FaultsHandlers x why n left ts) (run_handlers k x n left some ts)
@@ -261,7 +261,7 @@ mutual
       means_if _ (λ e. means_then (means_handler law k x n left ts)
       (λ one mid h. means_if _
       (λ g. means_map (means_handlers law k x n left (and_caught some (place_at x tok) one) mid) (λ all rest m. h_next e h g m)
-              (λ why w. F.f_next_handler e h g w))
+      (λ why w. F.f_next_handler e h g w))
       (λ g. m_got (h_last e h g)))
       (λ why w. F.f_handler e w))
       (λ e. m_got (h_over e))
@@ -271,7 +271,7 @@ mutual
   means_finally law zero x n left ts = m_tired
   means_finally law (suc k) x n left ts =
       means_if _ (λ e. means_map (means_body law k x n left (behind ts)) (λ body rest d. h_finally e d) (λ why w. F.f_finally_body e w))
-          (λ e. m_got (h_no_finally e))
+      (λ e. m_got (h_no_finally e))
 
   means_proc : (law : Laws) (k : ℕ) (x : Origin) (n left : ℕ) (tok : Token) (ts : List Token) → lead n tok ts ≡ L.Proc
       → Means (λ s rest. IsCompound x n left s (tok ∷ ts) rest) (λ why. FaultsCompound x why n left (tok ∷ ts)) (run_proc k x n left tok ts)
@@ -279,7 +279,7 @@ mutual
   means_proc law (suc k) x n left tok ts e =
       means_then ((law.head x n).means k ts)
       (λ head mid h. means_if _ (λ g. means_then (means_block law k x n left (behind mid)) (λ body rest b. m_got (c_proc e h g b))
-                  (λ why w. F.f_proc_body e h g w)) (λ g. m_got (c_forward e h g)))
+      (λ why w. F.f_proc_body e h g w)) (λ g. m_got (c_forward e h g)))
       (λ why w. F.f_head e w)
 
 pub means_module : (law : Laws) (k : ℕ) (x : Origin) (ts : List Token) → Means (λ all rest. IsModule x ts all) (λ why. FaultsModule x why ts)

@@ -91,14 +91,14 @@ modules_spans : {x : Origin} {n : ℕ} {some all : List Name} {ts rest : List To
 modules_spans (m_over e) = no_spans
 modules_spans {n = n} {some = some} {ts = ts} (m_next {name = name} e d m) =
     let h = length-append some (name ∷ []) in within (then_spans (comma_spans n ts e) (then_spans (name_spans d.is) (modules_spans m))) (omega (arith, h))
-        (omega arith)
+    (omega arith)
 
 operands_spans : {x : Origin} {n : ℕ} {some all : Parts} {ts rest : List Token} → MoreOperands x n some all ts rest
     → Spans (nodes_in some) (nodes_in all) (weight_in some) (weight_in all) ts rest
 operands_spans (o_over e) = no_spans
 operands_spans {n = n} {some = some} {ts = ts} (o_next {a = a} e d m) =
     let h = nodes_and some a in let k = weight_and some a in within (then_spans (comma_spans n ts e) (then_spans (value_spans d) (operands_spans m)))
-        (omega (arith, h)) (omega (arith, k))
+    (omega (arith, h)) (omega (arith, k))
 
 plain_spans : {x : Origin} {n : ℕ} {s : Statement} {ts rest : List Token} → IsPlain x n s ts rest → Spans 0 (nodes_of s) 0 (statement_weight s) ts rest
 plain_spans (p_command {a = a} e c o d m) =
@@ -150,7 +150,7 @@ labels_spans : {x : Origin} {n : ℕ} {some all : Parts} {ts rest : List Token} 
 labels_spans (a_over e) = no_spans
 labels_spans {n = n} {some = some} {ts = ts} (a_next {a = a} e d m) =
     let h = nodes_and some a in let k = weight_and some a in within (then_spans (comma_spans n ts e) (then_spans (label_spans d) (labels_spans m)))
-        (omega (arith, h)) (omega (arith, k))
+    (omega (arith, h)) (omega (arith, k))
 
 course_spans : {x : Origin} {n : ℕ} {a : Course} {ts rest : List Token} → IsCourse x n a ts rest → Spans 0 (2 * course_nodes a) 0 (course_weight a) ts rest
 course_spans (f_each h e g) = here_spans h
@@ -192,23 +192,23 @@ mutual
       → Spans 0 (nodes_of s) 0 (statement_weight s) ts rest
   compound_spans {x} {n} (c_if {all = all} {other = other} {tok = tok} {ts = ts} e b m o) =
       within (then_spans (lead_token L.If n tok ts e (λ h. cc)) (then_spans (one_branch_spans b) (then_spans (elifs_spans m) (else_spans o)))) (omega arith)
-          (omega arith)
+      (omega arith)
   compound_spans {n = n} (c_case {tok = tok} {ts = ts} {mid = mid} e h d) =
       within (then_spans (lead_token L.Case n tok ts e (λ h. cc)) (then_spans (here_spans h) (then_spans (past_spans n mid) (branches_spans d)))) (omega arith)
-          (omega arith)
+      (omega arith)
   compound_spans {n = n} (c_while {tok = tok} {ts = ts} e h d) =
       within (then_spans (lead_token L.While n tok ts e (λ h. cc)) (then_spans (here_spans h) (body_spans d))) (omega arith) (omega arith)
   compound_spans {n = n} (c_for {tok = tok} {ts = ts} {mid = mid} e i g c d) =
       within (then_spans (lead_token L.For n tok ts e (λ h. cc))
-              (then_spans (name_spans i) (then_spans (word_spans n is_in mid refl g) (then_spans (course_spans c) (body_spans d))))) (omega arith) (omega arith)
+      (then_spans (name_spans i) (then_spans (word_spans n is_in mid refl g) (then_spans (course_spans c) (body_spans d))))) (omega arith) (omega arith)
   compound_spans {n = n} (c_try {tok = tok} {ts = ts} e b m f g) =
       within (then_spans (lead_token L.Try n tok ts e (λ h. cc)) (then_spans (body_spans b) (then_spans (handlers_spans m) (finally_spans f)))) (omega arith)
-          (omega arith)
+      (omega arith)
   compound_spans {n = n} (c_defer {tok = tok} {ts = ts} e d) = within (then_spans (lead_token L.Defer n tok ts e (λ h. cc)) (body_spans d)) (omega arith)
       (omega arith)
   compound_spans {n = n} (c_proc {head = head} {tok = tok} {ts = ts} {mid = mid} e h g b) =
       within (then_spans (lead_token L.Proc n tok ts e (λ h. cc))
-              (then_spans (takes_spans (head_takes head ts mid h.reads)) (then_spans (equals_spans n mid g) (block_spans b)))) (omega arith) (omega arith)
+      (then_spans (takes_spans (head_takes head ts mid h.reads)) (then_spans (equals_spans n mid g) (block_spans b)))) (omega arith) (omega arith)
   compound_spans {n = n} (c_forward {head = head} {tok = tok} {ts = ts} {rest = rest} e h g) =
       within (then_spans (lead_token L.Proc n tok ts e (λ h. cc)) (takes_spans (head_takes head ts rest h.reads))) (omega arith) (omega arith)
   compound_spans {n = n} (c_type {all = all} {tok = tok} {ts = ts} {rest = rest} e d) =
@@ -229,7 +229,7 @@ mutual
       → Spans (branch_nodes some) (branch_nodes all) (branch_weights some) (branch_weights all) ts rest
   one_branch_spans (r_branch {a = a} {some = some} {body = body} {at = at} h d) =
       let k = branch_more some at (part a no_parts) body in let b = k.size in let c = k.weighs in within (then_spans (here_spans h) (body_spans d))
-          (omega (arith, b)) (omega (arith, c))
+      (omega (arith, b)) (omega (arith, c))
 
   elifs_spans : {x : Origin} {n left : ℕ} {some all : Branches} {ts rest : List Token} → MoreElifs x n left some all ts rest
       → Spans (branch_nodes some) (branch_nodes all) (branch_weights some) (branch_weights all) ts rest

@@ -210,9 +210,9 @@ pub definition_spans : {x : Origin} {first : Layout} {n : ℕ} (d : Definition) 
 definition_spans {first = first} {n = n} d {ts} {rest} r =
     let t = definition_takes d ts rest r in
     let w = then_spans
-        (takes_spans
-            (takes_then (declareds_takes first r.names) (takes_then (all_pragmas_takes (Lines n) r.pragmas) (annotation_takes (Lines n) r.annotation))))
-        (given_spans r.value) in
+    (takes_spans
+    (takes_then (declareds_takes first r.names) (takes_then (all_pragmas_takes (Lines n) r.pragmas) (annotation_takes (Lines n) r.annotation))))
+    (given_spans r.value) in
     let p = t.size in let q = w.weighs in let some = some_names first r.names in
     record { size = omega (arith, p); weighs = omega (arith, q, some) }
 

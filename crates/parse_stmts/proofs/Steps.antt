@@ -1,5 +1,5 @@
 -- Tests on tokens, and steps of the code.
-use Rattle.std.proofs.Common.{◌≡◌, ℕ, zero, suc, ◌<◌, ◌≤◌, List, [], ◌∷◌, drop, length, Bool, true, false, refl, sym, ap, subst, ◌∙◌, ◌+◌, add-one, arith}
+use Rattle.std.proofs.Common.{◌≡◌, ℕ, zero, suc, ◌≤◌, List, [], ◌∷◌, drop, length, Bool, true, false, refl, sym, ap, subst, ◌∙◌, ◌+◌, add-one, arith}
 use Rattle.std.specs.Prelude.{Option, Some, None, if◌then◌else◌}
 use Rattle.arc_base.specs.declared.place.Stop.{Stop}
 use Rattle.indent_scanner.specs.declared.token.Token.{Token}
@@ -16,7 +16,7 @@ use Rattle.parse_decls.proofs.ForCallers.{told_fails, fails_by}
 use Rattle.parse_stmts.specs.declared.look.Simple.{Simple}
 use Rattle.parse_stmts.specs.Look.{simple_of, word_on}
 use Rattle.parse_stmts.specs.Run.{run_simple, run_simple_by, run_line}
-use Rattle.parse_stmts.specs.Marks.{Past, IsPast, Behind, IsBehind}
+use Rattle.parse_stmts.specs.Marks.{IsPast, IsBehind}
 
 pub beyond : (test : List Token → Bool) → test [] ≡ false → (at : ℕ) (ts : List Token) → length ts ≤ at → test (drop at ts) ≡ false
 beyond test n zero [] le = n
@@ -68,7 +68,7 @@ pub line_more : (x : Origin) (n : ℕ) (some all : Statements) (one : Statement)
     → Leads (λ k. run_more_line k x n all mid) (λ k. run_line k x n some ts)
 line_more x n some all one ts mid e s o h =
     settles_suc (settles_then (λ k one mid. run_more_line k x n (and_statement some one) mid) s
-            (subst (λ (a : Statements). Settles (λ k. run_more_line k x n a mid) o) e h)) (λ k. refl)
+    (subst (λ (a : Statements). Settles (λ k. run_more_line k x n a mid) o) e h)) (λ k. refl)
 
 pub line_ends : (x : Origin) (n : ℕ) (some : Statements) (ts : List Token) → word_on n (is_punct 59) ts ≡ false
     → Leads (λ k. got some ts) (λ k. run_more_line k x n some ts)
@@ -84,5 +84,5 @@ pub line_stuck : (x : Origin) (n : ℕ) (some : Statements) (ts rest : List Toke
     → word_on n (is_punct 59) ts ≡ true → behind ts ≡ rest → stays (Lines n) rest ≡ false → (stop : Stop) → Told x (stuck_at rest) stop → Fails whole x stop
 line_stuck x n some ts rest whole l e b s stop t =
     told_fails x
-        (l _ (settles_if (λ k. got some ts) e (settles_at (λ m k. unless_stuck (stays (Lines n) m) m (run_line k x n some m)) b
-                    (settles_stuck (λ k. run_line k x n some rest) rest s)))) stop t
+    (l _ (settles_if (λ k. got some ts) e (settles_at (λ m k. unless_stuck (stays (Lines n) m) m (run_line k x n some m)) b
+    (settles_stuck (λ k. run_line k x n some rest) rest s)))) stop t

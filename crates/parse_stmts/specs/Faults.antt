@@ -30,7 +30,7 @@ use Rattle.parse_stmts.specs.Look.{word_on, below_at, path_at, assigned_by, bran
 use Rattle.parse_stmts.specs.Alone.{IsAlone, NotAlone}
 use Rattle.parse_stmts.specs.Handling.{are_some, Caught, have_some, hold_some}
 use Rattle.parse_stmts.specs.Grammar.{IsValue, IsHere, IsCalled, NoCommand, IsModuleName, Binds, IsSimple, IsLabel, MoreLabels, IsCourse, Alias, IsProcedure}
-use Rattle.parse_stmts.specs.Grammar.{AreStatements, IsStatement, IsBody, IsBranch, MoreElifs, IsElse, IsOf, MoreOfs, IsHandler, MoreHandlers, IsFinally}
+use Rattle.parse_stmts.specs.Grammar.{AreStatements, IsStatement, IsBody, IsBranch, MoreElifs, IsOf, MoreOfs, IsHandler, MoreHandlers, IsFinally}
 
 -- ---- expressions
 

@@ -2,7 +2,7 @@
 --
 -- Each function takes the steps that are left. n is the number of spaces that the statement stands behind, and left the
 -- number of levels of blocks that are left.
-use Rattle.std.specs.Prelude.{ℕ, zero, suc, Bool, true, false, nat_lt, ◌&&◌, ◌||◌, if◌then◌else◌, List, [], ◌∷◌, ◌++◌, Option, Some, None}
+use Rattle.std.specs.Prelude.{ℕ, zero, suc, Bool, true, nat_lt, ◌&&◌, ◌||◌, if◌then◌else◌, List, [], ◌∷◌, ◌++◌, Option, Some, None}
 use Rattle.arc_base.specs.declared.place.Place.{Place}
 use Rattle.indent_scanner.specs.declared.token.Token.{Token}
 use Rattle.nim_tree.specs.declared.name.Name.{Name}
@@ -78,7 +78,7 @@ run_expression k x n ts = then_do (run_value k x n ts) (λ a mid. run_assigned k
 abbrev pub run_plain : ℕ → Origin → ℕ → List Token → Out Statement
 run_plain k x n ts =
     if atom_at x ts then then_do (of_expr ts (run_primary k x (Lines n) true most_levels ts))
-        (λ a mid. if operand_on x (Lines n) mid then run_command k x n a mid else run_expression k x n ts)
+    (λ a mid. if operand_on x (Lines n) mid then run_command k x n a mid else run_expression k x n ts)
     else run_expression k x n ts
 
 abbrev pub run_bound : ℕ → Binding → Origin → ℕ → Place → List Token → Out Statement
@@ -92,7 +92,7 @@ run_simple_by k S.Break x n tok ts = got (breaks (place_at x tok)) ts
 run_simple_by k S.Continue x n tok ts = got (continues (place_at x tok)) ts
 run_simple_by k S.Import x n tok ts =
     then_do (run_module_name x (Lines n) ts)
-        (λ name mid. then_do (run_more_modules k x n (name ∷ []) mid) (λ all rest. got (imports (place_at x tok) all) rest))
+    (λ name mid. then_do (run_more_modules k x n (name ∷ []) mid) (λ all rest. got (imports (place_at x tok) all) rest))
 run_simple_by k S.Let x n tok ts = run_bound k B.Let x n (place_at x tok) ts
 run_simple_by k S.Var x n tok ts = run_bound k B.Var x n (place_at x tok) ts
 run_simple_by k S.Const x n tok ts = run_bound k B.Const x n (place_at x tok) ts
@@ -108,7 +108,7 @@ run_line zero x n some ts = bad tired
 run_line (suc k) x n some ts =
     then_do (run_simple k x n ts) (λ s mid.
     if word_on n (is_punct 59) mid then unless_stuck (stays (Lines n) (behind mid)) (behind mid) (run_line k x n (and_statement some s) (behind mid))
-        else got (and_statement some s) mid)
+    else got (and_statement some s) mid)
 
 -- ---- parts of statements with blocks
 
@@ -157,7 +157,7 @@ abbrev mutual
   run_statements zero x n left some ts = bad tired
   run_statements (suc k) x n left some ts =
       if stands_at n ts then then_do (run_statement k x n left some ts) (λ all mid. run_statements k x n left all mid) else unless_stuck (ends_at n ts) ts
-          (got some ts)
+      (got some ts)
 
   -- a statement, or a line of them, behind some others
   pub run_statement : ℕ → Origin → ℕ → ℕ → Statements → List Token → Out Statements
@@ -232,7 +232,7 @@ abbrev mutual
   run_elifs (suc k) x n left some [] = got some []
   run_elifs (suc k) x n left some (tok ∷ ts) =
       if branch_at (Lines n) is_elif (tok ∷ ts) then then_do (run_branch k x n left some (place_at x tok) ts) (λ all mid. run_elifs k x n left all mid)
-          else got some (tok ∷ ts)
+      else got some (tok ∷ ts)
 
   -- `else`, a colon and a block, where there is one
   pub run_else : ℕ → Origin → ℕ → ℕ → List Token → Out Statements
@@ -270,7 +270,7 @@ abbrev mutual
   run_ofs (suc k) x n left some [] = got some []
   run_ofs (suc k) x n left some (tok ∷ ts) =
       if branch_at (Lines n) is_of (tok ∷ ts) then then_do (run_of k x n left some (place_at x tok) ts) (λ all mid. run_ofs k x n left all mid)
-          else got some (tok ∷ ts)
+      else got some (tok ∷ ts)
 
   -- ---- `try` and `proc`
 
@@ -310,7 +310,7 @@ abbrev mutual
   run_proc (suc k) x n left tok ts =
       then_do (run_head k x (Lines n) ts) (λ head mid.
       if equals_at (Lines n) mid then then_do (run_block k x n left (behind mid)) (λ block rest. got (proclaims (place_at x tok) head block) rest)
-          else got (proclaims (place_at x tok) head empty) mid)
+      else got (proclaims (place_at x tok) head empty) mid)
 
 -- the statements of a module, which stand behind as many spaces as its first line
 abbrev pub run_module : ℕ → Origin → List Token → Out Statements

@@ -200,7 +200,7 @@ fn read_more_modules(
     requires within { first.next ≤ length input.now.tokens.now }
     ensures { Comes (λ names. names.items)
         (λ k. run_more_modules k (origin_of input.now) spaces (first.value ∷ [])
-            (from_at input.now first.next)) input.now first.next result }
+        (from_at input.now first.next)) input.now first.next result }
 {
     let mut names = and_one(Vec::new(alloc), first.value)?;
     let mut next = first.next;
@@ -225,7 +225,7 @@ fn read_bound(
     requires few { length input.now.tokens.now < 2 ^ 32 }
     ensures { Comes statement_of
         (λ k. run_bound k binding (origin_of input.now) spaces (place_at (origin_of input.now) token)
-            (from_at input.now at)) input.now at result }
+        (from_at input.now at)) input.now at result }
 {
     let one = definition(alloc, input, at, spaces)?;
     Ok(Reading {

@@ -127,7 +127,7 @@ fn read_elifs(
     requires within { first.next ≤ length input.now.tokens.now }
     ensures { ComesChoices
         (λ k. run_elifs k (origin_of input.now) layout left (choices_of first.branches.items)
-            (from_at input.now first.next)) input.now left first.next result }
+        (from_at input.now first.next)) input.now left first.next result }
 {
     let mut some = first;
     while let Some(token) = input.elif_at(some.next, layout) {
@@ -192,7 +192,7 @@ fn read_branches(
     requires few { selector.depth < left }
     requires within { selector.next ≤ length input.now.tokens.now }
     ensures { Comes (λ k. run_branches k (origin_of input.now) layout (left - 1) place (term_of selector.tree)
-            (past_colon layout (from_at input.now selector.next))) input.now left (suc selector.next) result }
+        (past_colon layout (from_at input.now selector.next))) input.now left (suc selector.next) result }
 {
     let at = input.past_colon(selector.next, layout);
     let Some(token) = input.first_of_at(at, layout) else {
@@ -241,7 +241,7 @@ fn read_labels(
     requires within { first.next ≤ length input.now.tokens.now }
     ensures { ComesParts
         (λ k. run_labels k (origin_of input.now) layout left (parts_of first.parts.items)
-            (from_at input.now first.next)) input.now left first.next result }
+        (from_at input.now first.next)) input.now left first.next result }
 {
     let mut some = first;
     while input.comma_at(some.next, layout) {
@@ -294,7 +294,7 @@ fn read_ofs(
     requires within { first.next ≤ length input.now.tokens.now }
     ensures { ComesChoices
         (λ k. run_ofs k (origin_of input.now) layout left (choices_of first.branches.items)
-            (from_at input.now first.next)) input.now left first.next result }
+        (from_at input.now first.next)) input.now left first.next result }
 {
     let mut some = first;
     while let Some(token) = input.of_at(some.next, layout) {
@@ -321,7 +321,7 @@ fn read_otherwise(
     requires few { all.depth < left }
     requires within { all.next ≤ length input.now.tokens.now }
     ensures { Comes (λ k. run_otherwise k (origin_of input.now) layout (left - 1) place
-            (term_of selector.tree) (choices_of all.branches.items) (from_at input.now all.next)) input.now
+        (term_of selector.tree) (choices_of all.branches.items) (from_at input.now all.next)) input.now
         left all.next result }
 {
     let deeper = selector.depth.max(all.depth);

@@ -232,7 +232,7 @@ fn read_field(
     requires depth { a.depth ≡ levels (term_of a.tree) }
     requires few { a.depth < left }
     ensures { Comes (λ k. run_applied k None (origin_of input.now) layout (left - 1) (term_of a.tree)
-            (from_at input.now a.next)) input.now left (suc a.next) result }
+        (from_at input.now a.next)) input.now left (suc a.next) result }
 {
     let Some(token) = input.name_on(a.next + 1, layout) else {
         return Err(Stuck::Syntax(a.next + 1));
@@ -260,7 +260,7 @@ fn read_applied(
     requires depth { a.depth ≡ levels (term_of a.tree) }
     requires few { a.depth < left }
     ensures { Comes (λ k. run_applied k (Some bracket) (origin_of input.now) layout (left - 1)
-            (term_of a.tree) (from_at input.now a.next)) input.now left (suc a.next) result }
+        (term_of a.tree) (from_at input.now a.next)) input.now left (suc a.next) result }
 {
     let Reading { tree, next, depth } = a;
     let names = input.names_behind(&tree, bracket, next + 1);

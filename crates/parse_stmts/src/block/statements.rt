@@ -65,7 +65,7 @@ fn read_statement(
     requires few { length input.now.tokens.now < 2 ^ 32 }
     ensures { Comes (λ all. statements_of all.items)
         (λ k. run_statement k (origin_of input.now) spaces left (statements_of some.items)
-            (from_at input.now at)) input.now (suc at) result }
+        (from_at input.now at)) input.now (suc at) result }
 {
     let Some(token) = input.head(at) else {
         return Err(stuck(input, at));
@@ -101,7 +101,7 @@ fn read_choice(
     requires within { at < length input.now.tokens.now }
     ensures { Comes (λ all. statements_of all.items)
         (choice_run lead (origin_of input.now) spaces left (statements_of some.items) token
-            (from_at input.now at) (from_at input.now (suc at))) input.now (suc at) result }
+        (from_at input.now at) (from_at input.now (suc at))) input.now (suc at) result }
 {
     let Reading { value: alone, next } = read_alone(alloc, input, at, spaces)?;
     match alone {

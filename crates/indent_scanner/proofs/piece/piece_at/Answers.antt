@@ -23,7 +23,7 @@ pub returns-then-is_whole-clause-begins : goal.returns-then-is_whole-clause-begi
 returns-then-is_whole-clause-begins c =
     begins_so c.args.bytes.now c.piece_of.result (subst (ByForm c.args.bytes.now) (sym c.piece_of.ensures)
     (begins_whole c.args.bytes.now _ c.in-Shaped.shape c.run-len.result.1 c.run-len.result.0 c.requires (take_rest c.args.bytes.now 1)
-            (sym c.opening_of.ensures ∙ c.in-Shaped.is) c.run-len.ensures.reached c.run-len.ensures.stuck (sym c.is_whole.ensures ∙ c.if-is_whole.true)))
+    (sym c.opening_of.ensures ∙ c.in-Shaped.is) c.run-len.ensures.reached c.run-len.ensures.stuck (sym c.is_whole.ensures ∙ c.if-is_whole.true)))
 
 pub returns-then-is_whole-clause-within : goal.returns-then-is_whole-clause-within
 returns-then-is_whole-clause-within c =
@@ -35,4 +35,4 @@ pub returns-else-is_whole-clause-begins : goal.returns-else-is_whole-clause-begi
 returns-else-is_whole-clause-begins c =
     begins_so c.args.bytes.now (Refused c.code_of.result 0) (subst (λ x. ByForm c.args.bytes.now (Refused x 0)) (sym c.code_of.ensures)
     (begins_open c.args.bytes.now _ c.in-Shaped.shape c.run-len.result.1 c.run-len.result.0 c.requires (take_rest c.args.bytes.now 1)
-            (sym c.opening_of.ensures ∙ c.in-Shaped.is) c.run-len.ensures.reached c.run-len.ensures.stuck (sym c.is_whole.ensures ∙ c.if-is_whole.false)))
+    (sym c.opening_of.ensures ∙ c.in-Shaped.is) c.run-len.ensures.reached c.run-len.ensures.stuck (sym c.is_whole.ensures ∙ c.if-is_whole.false)))

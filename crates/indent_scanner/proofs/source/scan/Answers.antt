@@ -16,13 +16,13 @@ loop-comment-preserved-in-Gap c =
       fits = gap.fits;
       size = gap_size rest _ n c.loop-comment.here.start c.over_gap-here.result.start _ c.in-Gap.ensures.within.1 (take_rest rest n) gap.start before.size;
       kept = (let further : c.loop-comment.here.start ≤ c.over_gap-here.result.start = omega (arith, gap.start) in
-              kept_further _ _ _ c.loop-comment.tokens further before.kept);
+          kept_further _ _ _ c.loop-comment.tokens further before.kept);
     }
 
 pub loop-comment-preserved : goal.loop-comment-preserved
 loop-comment-preserved c =
     let rest = c.loop-comment.rest.now in let here = c.loop-comment.here in let before = c.loop-comment.invariant in let n = c.in-Found.len in let pushed =
-        c.in_ok-push-in-Found.ensures.ok in
+    c.in_ok-push-in-Found.ensures.ok in
     let room : here.start + n ≤ length c.args.source.now = omega (arith, before.size, c.in-Found.ensures.within.1) in
     record {
       so_far = token_turn _ here c.over_token-here.result _ rest _ c.loop-comment.tokens c.push.new.self c.token_at.result c.in-Found.kind n before.so_far
@@ -53,12 +53,12 @@ pub returns-clause-inside : goal.returns-clause-inside
 returns-clause-inside c =
     let room : c.loop-comment.here.start + 0 ≤ length c.args.source.now = omega (arith, c.loop-comment.invariant.size) in
     one_more c.args.source.now c.loop-comment.tokens c.push-2.new.self c.token_at-2.result c.loop-comment.here End 0 c.loop-comment.rest.now
-        c.in_ok-push.ensures.ok c.token_at-2.ensures (LiesIn c.args.source.now) c.loop-comment.invariant.kept.inside (record { inside = room })
+    c.in_ok-push.ensures.ok c.token_at-2.ensures (LiesIn c.args.source.now) c.loop-comment.invariant.kept.inside (record { inside = room })
 
 pub returns-clause-count : goal.returns-clause-count
 returns-clause-count c =
     let e = more_count c.args.source.now c.loop-comment.tokens c.push-2.new.self c.token_at-2.result c.loop-comment.here End 0 c.loop-comment.rest.now
-        c.in_ok-push.ensures.ok c.token_at-2.ensures c.loop-comment.here.start c.loop-comment.invariant.kept.count in
+    c.in_ok-push.ensures.ok c.token_at-2.ensures c.loop-comment.here.start c.loop-comment.invariant.kept.count in
     omega (arith, e, c.loop-comment.invariant.size)
 
 pub returns-clause-ended : goal.returns-clause-ended
@@ -72,15 +72,15 @@ returns-clause-some c = one_more c.args.source.now c.loop-comment.tokens c.push-
 pub returns-clause-bytes : goal.returns-clause-bytes
 returns-clause-bytes c =
     let e = more_bytes c.args.source.now c.loop-comment.tokens c.push-2.new.self c.token_at-2.result c.loop-comment.here End 0 c.loop-comment.rest.now
-        c.in_ok-push.ensures.ok c.token_at-2.ensures in
+    c.in_ok-push.ensures.ok c.token_at-2.ensures in
     omega (arith, e, c.loop-comment.invariant.kept.bytes, c.loop-comment.invariant.size)
 
 pub returns-clause-fits : goal.returns-clause-fits
 returns-clause-fits c =
     let placed = place_fits c.args.source.now c.loop-comment.tokens c.push-2.new.self c.token_at-2.result c.loop-comment.here End 0 c.loop-comment.rest.now
-        c.in_ok-push.ensures.ok c.token_at-2.ensures c.loop-comment.invariant.fits in
+    c.in_ok-push.ensures.ok c.token_at-2.ensures c.loop-comment.invariant.fits in
     one_more c.args.source.now c.loop-comment.tokens c.push-2.new.self c.token_at-2.result c.loop-comment.here End 0 c.loop-comment.rest.now
-        c.in_ok-push.ensures.ok c.token_at-2.ensures PlaceFits c.loop-comment.invariant.kept.placed placed
+    c.in_ok-push.ensures.ok c.token_at-2.ensures PlaceFits c.loop-comment.invariant.kept.placed placed
 
 pub returns-clause-spelled : goal.returns-clause-spelled
 returns-clause-spelled c = tokens_spelled c.args.source.now c.push-2.new.self (returns-clause-tokens c)

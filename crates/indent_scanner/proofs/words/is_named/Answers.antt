@@ -22,4 +22,4 @@ pub returns-else-name-key : goal.returns-else-name-key
 returns-else-name-key c =
     let name = c.args.name.now in let key = c.args.key.now in
     ne_eqb _ _ c.if-name-key.false
-        ∙ sym (named_differs name key (sym c.is_empty.ensures ∙ c.if-is_empty.false) (sym c.is_empty-2.ensures ∙ c.if-is_empty-2.false) c.if-name-key.false)
+    ∙ sym (named_differs name key (sym c.is_empty.ensures ∙ c.if-is_empty.false) (sym c.is_empty-2.ensures ∙ c.if-is_empty-2.false) c.if-name-key.false)

@@ -13,6 +13,6 @@ returns-then-not-deeper_at c = none_found c.args.input.now c.args.at _ (ap field
 pub returns : goal.returns
 returns c =
     comes_leads (λ all. fields_of all.items) _ _ c.args.input.now c.args.at (leads_if _ _ (sym c.deeper_at.ensures ∙ c.if-not-deeper_at.false)) c.args.at
-        (omega arith) c.read_fields.result
+    (omega arith) c.read_fields.result
     (subst (λ n. Comes (λ all. fields_of all.items) (λ k. run_fields k (origin_of c.args.input.now) n no_fields (from_at c.args.input.now c.args.at))
-                c.args.input.now c.args.at c.read_fields.result) c.level_at-level.ensures c.read_fields.ensures)
+    c.args.input.now c.args.at c.read_fields.result) c.level_at-level.ensures c.read_fields.ensures)

@@ -17,14 +17,14 @@ pub returns-in_err-annotation : goal.returns-in_err-annotation
 returns-in_err-annotation c =
     let p = err_from_is_err_and c.from_residual-in_err-annotation.result c.from_residual-in_err-annotation.ensures.1 in
     rw (p.1, p.2) (fails_leads _ _ _ (leads_on (leads_then _ c.in_ok-pragmas.ensures.runs) (leads_then _ c.in_ok-names.ensures.runs))
-            _ (fails_then _ _ _ _ c.in_err-annotation.ensures))
+    _ (fails_then _ _ _ _ c.in_err-annotation.ensures))
 
 pub returns-in_err-value : goal.returns-in_err-value
 returns-in_err-value c =
     let p = err_from_is_err_and c.from_residual-in_err-value.result c.from_residual-in_err-value.ensures.1 in
     rw (p.1, p.2)
-        (fails_leads _ _ _ (leads_on (leads_then _ c.in_ok-annotation.ensures.runs)
-                (leads_on (leads_then _ c.in_ok-pragmas.ensures.runs) (leads_then _ c.in_ok-names.ensures.runs))) _ (fails_then _ _ _ _ c.in_err-value.ensures))
+    (fails_leads _ _ _ (leads_on (leads_then _ c.in_ok-annotation.ensures.runs)
+    (leads_on (leads_then _ c.in_ok-pragmas.ensures.runs) (leads_then _ c.in_ok-names.ensures.runs))) _ (fails_then _ _ _ _ c.in_err-value.ensures))
 
 pub returns : goal.returns
 returns c =
@@ -33,6 +33,6 @@ returns c =
     let i = c.in_ok-annotation.ensures.goes in
     let j = c.in_ok-value.ensures.goes in
     found _ _ (leads_on (leads_then _ c.in_ok-value.ensures.runs)
-            (leads_on (leads_then _ c.in_ok-annotation.ensures.runs)
-                (leads_on (leads_then _ c.in_ok-pragmas.ensures.runs) (leads_then _ c.in_ok-names.ensures.runs)))) (omega (arith, g, h, i, j))
-        c.in_ok-value.ensures.within
+    (leads_on (leads_then _ c.in_ok-annotation.ensures.runs)
+    (leads_on (leads_then _ c.in_ok-pragmas.ensures.runs) (leads_then _ c.in_ok-names.ensures.runs)))) (omega (arith, g, h, i, j))
+    c.in_ok-value.ensures.within

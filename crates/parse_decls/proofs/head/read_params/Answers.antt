@@ -18,14 +18,14 @@ returns-then-closes_at c =
     let l = inside_leads c.args.input.now c.args.layout c.args.at (sym c.opens_at.ensures ∙ c.if-not-opens_at.false) in
     let e = sym c.closes_at.ensures ∙ c.if-closes_at.true in
     found_is (ap (map parameters_of) c.new-then-closes_at.ensures.items)
-        (found_behind c.args.input.now _ _ (leads_on (leads_if _ _ e) l) (omega arith) (within_at (closes_at Round) refl _ c.args.input.now.tokens.now e))
+    (found_behind c.args.input.now _ _ (leads_on (leads_if _ _ e) l) (omega arith) (within_at (closes_at Round) refl _ c.args.input.now.tokens.now e))
 
 pub returns-in_err-first : goal.returns-in_err-first
 returns-in_err-first c =
     let p = err_from_is_err_and c.from_residual.result c.from_residual.ensures.1 in
     let l = inside_leads c.args.input.now c.args.layout c.args.at (sym c.opens_at.ensures ∙ c.if-not-opens_at.false) in
     rw (p.1, p.2)
-        (fails_leads _ _ _ (leads_on (leads_else _ _ (sym c.closes_at.ensures ∙ c.if-closes_at.false)) l) _ (fails_then _ _ _ _ c.in_err-first.ensures))
+    (fails_leads _ _ _ (leads_on (leads_else _ _ (sym c.closes_at.ensures ∙ c.if-closes_at.false)) l) _ (fails_then _ _ _ _ c.in_err-first.ensures))
 
 pub returns : goal.returns
 returns c =
@@ -33,4 +33,4 @@ returns c =
     let m = leads_on (leads_else _ _ (sym c.closes_at.ensures ∙ c.if-closes_at.false)) l in
     let g = c.in_ok-first.ensures.goes in
     comes_leads (λ all. map parameters_of all.items) _ _ c.args.input.now c.args.at (leads_on (leads_then _ c.in_ok-first.ensures.runs) m)
-        c.in_ok-first.first.next (omega (arith, g)) c.read_more_params.result c.read_more_params.ensures
+    c.in_ok-first.first.next (omega (arith, g)) c.read_more_params.result c.read_more_params.ensures

@@ -16,4 +16,4 @@ pub returns : goal.returns
 returns c =
     let ts : List Token = from_at c.args.input.now c.args.at in
     subst (λ o. Comes {T = Declared} {X = Declared} (λ name. name) (λ k. run_shown (origin_of c.args.input.now) c.args.layout o ts) c.args.input.now
-            (suc c.args.at) c.read_shown.result) c.name_on-name.ensures c.read_shown.ensures
+    (suc c.args.at) c.read_shown.result) c.name_on-name.ensures c.read_shown.ensures

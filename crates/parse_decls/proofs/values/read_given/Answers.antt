@@ -11,7 +11,7 @@ pub returns-in_err-value : goal.returns-in_err-value
 returns-in_err-value c =
     let p = err_from_is_err_and c.from_residual.result c.from_residual.ensures.1 in
     rw (p.1, p.2) (given_fails c.args.input.now c.args.layout c.args.at (sym c.equals_at.ensures ∙ c.if-not-equals_at.false)
-            (sym c.stays.ensures ∙ c.if-not-stays.false) _ c.in_err-value.ensures)
+    (sym c.stays.ensures ∙ c.if-not-stays.false) _ c.in_err-value.ensures)
 
 pub returns : goal.returns
 returns c = given_found c.args.input.now c.args.layout c.args.at (sym c.equals_at.ensures ∙ c.if-not-equals_at.false)

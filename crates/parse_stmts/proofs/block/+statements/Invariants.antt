@@ -1,4 +1,4 @@
-use Rattle.std.proofs.Common.{◌+◌, ◌-◌, ◌*◌, suc, length}
+use Rattle.std.proofs.Common.{◌+◌, ◌-◌, ◌*◌, length}
 use Rattle.nim_tree.specs.Statements.{empty, statements_of, no_branches, no_handlers, handlers_of}
 use Rattle.parse_exprs.specs.Input.{from_at, origin_of}
 use Rattle.parse_decls.specs.Gives.{SoFar}

@@ -1,7 +1,5 @@
-use Rattle.std.proofs.Common.{suc, sym, ◌∙◌, arith}
-use Rattle.parse_exprs.specs.Input.{from_at, origin_of}
+use Rattle.std.proofs.Common.{sym, ◌∙◌, arith}
 use Rattle.parse_decls.proofs.ForCallers.{settles_if, settles_got, told_fails, comes_leads, leads_else}
-use Rattle.parse_stmts.specs.Run.{run_module_name}
 use Rattle.parse_stmts.proofs.simple.read_module_name.Goals as goal
 
 pub returns-then-path_at : goal.returns-then-path_at
