@@ -1,5 +1,6 @@
 -- The values of characters, byte by byte.
-use Rattle.std.proofs.Common.{◌≡◌, ℕ, suc, ◌+◌, ◌-◌, ◌<◌, ◌≤◌, List, [], ◌∷◌, ◌++◌, length, get_or, take, drop, Bool, true, false, ap, ◌∙◌, arith, get_or-drop, add-zero, length-drop}
+use Rattle.std.proofs.Common.{◌≡◌, ℕ, suc, ◌+◌, ◌-◌, ◌<◌, ◌≤◌, List, [], ◌∷◌, ◌++◌, length, get_or, take, drop, Bool, true, false, ap, ◌∙◌, arith, get_or-drop}
+use Rattle.std.proofs.Common.{add-zero, length-drop}
 use Rattle.std.specs.Prelude.{Option, Some, None, cond, ◌==◌}
 use Rattle.std.proofs.lemmas.List.{at_drop_more, length-take, length-append}
 use Rattle.std.proofs.Math.Seq.{take-append_seam}
@@ -15,12 +16,14 @@ use Rattle.indent_scanner.specs.Grammar.{IsText, a_text, IsQuoted}
 use Rattle.indent_scanner.proofs.GrammarLiterals.{values_are}
 use Rattle.indent_scanner.specs.ByForm.{onto, value_of, read_on, values, meaning}
 
-pub values_here : (s : Shape) (bytes : List ℕ) (i : ℕ) → i < length bytes → values s (drop i bytes) ≡ read_on (step s (get_or bytes i 0) (get_or bytes (i + 1) 0)) (λ t. values t (drop (i + 1) bytes))
+pub values_here : (s : Shape) (bytes : List ℕ) (i : ℕ) → i < length bytes
+    → values s (drop i bytes) ≡ read_on (step s (get_or bytes i 0) (get_or bytes (i + 1) 0)) (λ t. values t (drop (i + 1) bytes))
 values_here s bytes i lt =
     let e : get_or (drop (i + 1) bytes) 0 0 ≡ get_or bytes (i + 1) 0 = get_or-drop (i + 1) bytes 0 0 ∙ ap (λ k. get_or bytes k 0) (add-zero (i + 1)) in
     at_drop_more (values s) bytes i 0 lt ∙ ap (λ n. read_on (step s (get_or bytes i 0) n) (λ t. values t (drop (i + 1) bytes))) e
 
-pub values_go : (s t : Shape) (bytes : List ℕ) (i : ℕ) → i < length bytes → step s (get_or bytes i 0) (get_or bytes (i + 1) 0) ≡ Some t → values s (drop i bytes) ≡ onto (value_of t) (values t (drop (i + 1) bytes))
+pub values_go : (s t : Shape) (bytes : List ℕ) (i : ℕ) → i < length bytes → step s (get_or bytes i 0) (get_or bytes (i + 1) 0) ≡ Some t
+    → values s (drop i bytes) ≡ onto (value_of t) (values t (drop (i + 1) bytes))
 values_go s t bytes i lt e = values_here s bytes i lt ∙ ap (λ o. read_on o (λ t. values t (drop (i + 1) bytes))) e
 
 pub onto_some : (o : Option ℕ) (v : ℕ) (values : List ℕ) → o ≡ Some v → onto o values ≡ v ∷ values
@@ -35,7 +38,8 @@ onto_short : (o : Option ℕ) (values : List ℕ) (n : ℕ) → length values �
 onto_short None values n le = omega arith
 onto_short (Some v) values n le = omega arith
 
-read_short : (o : Option Shape) (bytes : List ℕ) → ((s : Shape) → length (values s bytes) ≤ length bytes) → length (read_on o (λ s. values s bytes)) ≤ suc (length bytes)
+read_short : (o : Option Shape) (bytes : List ℕ) → ((s : Shape) → length (values s bytes) ≤ length bytes) → length (read_on o (λ s. values s bytes))
+    ≤ suc (length bytes)
 read_short None bytes h = omega arith
 read_short (Some s) bytes h = onto_short (value_of s) (values s bytes) (length bytes) (h s)
 

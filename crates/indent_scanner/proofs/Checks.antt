@@ -60,7 +60,9 @@ module _ (s : Shape) where
   tells_once n bytes whole _ None t (clean all) = refl
   tells_once n bytes whole _ None t (stray k lt is before) = absurd (not_both _ (t k lt) is)
   tells_once n bytes whole _ (Some j) t (clean all) = let lt = t.among in absurd (not_both _ (all j lt) t.is)
-  tells_once n bytes whole _ (Some j) t (stray k lt is before) = ap (λ x. Refused BadByte x) (same_place n bytes k j (record { among = lt; is = is; before = before }) t)
+  tells_once n bytes whole _ (Some j) t (stray k lt is before) =
+      ap (λ x. Refused BadByte x) (same_place n bytes k j (record { among = lt; is = is; before = before }) t)
 
-  pub checked_is : (n : ℕ) (bytes : List ℕ) (whole p : Piece) → n ≤ length bytes → Checked (may_hold s) n bytes whole p → p ≡ if_clean (stray_in s n bytes) whole
+  pub checked_is : (n : ℕ) (bytes : List ℕ) (whole p : Piece) → n ≤ length bytes → Checked (may_hold s) n bytes whole p
+      → p ≡ if_clean (stray_in s n bytes) whole
   checked_is n bytes whole p le c = tells_once n bytes whole p (stray_in s n bytes) (tells n bytes le) c

@@ -3,7 +3,8 @@ use Rattle.std.proofs.Common.{◌≡◌, ℕ, ◌+◌, ◌*◌, ◌-◌, List, [
 use Rattle.std.specs.Prelude.{Option, Some, None, ◌==◌}
 use Rattle.std.specs.List.{AllPass}
 use Rattle.indent_scanner.specs.Bytes.{is_letter, is_digit, is_word, is_quotable, hex_value, simple_escape}
-use Rattle.indent_scanner.specs.Grammar.{IsWord, IsNumeral, Decimals, last_digit, more_digits, Character, plain, escape, hex_escape, decimal_escape, IsChar, a_char, SomeChar, TextRest, text_closes, text_goes, IsText, a_text, SomeText, IsQuoted}
+use Rattle.indent_scanner.specs.Grammar.{IsWord, IsNumeral, Decimals, last_digit, more_digits, Character, plain, escape, hex_escape, decimal_escape, IsChar}
+use Rattle.indent_scanner.specs.Grammar.{a_char, SomeChar, TextRest, text_closes, text_goes, IsText, a_text, SomeText, IsQuoted}
 use Rattle.indent_scanner.proofs.Bools.{by_test, at_byte, not_both, pass_head, pass_tail}
 
 -- ---- texts without line feeds
@@ -46,7 +47,8 @@ decimals_feeds v w _ behind (more_digits _ b _ bytes _ e f d) n = (other_byte is
 character_feeds : (quote v : ℕ) (bytes behind : List ℕ) → Character quote bytes v behind → NoFeed behind → NoFeed bytes
 character_feeds quote _ _ behind (plain b _ e f g) n = (g, n)
 character_feeds quote v _ behind (escape b _ _ e) n = (refl, (other_value simple_escape b v refl e, n))
-character_feeds quote _ _ behind (hex_escape b c high low _ e f) n = (refl, (refl, (other_value hex_value b high refl e, (other_value hex_value c low refl f, n))))
+character_feeds quote _ _ behind (hex_escape b c high low _ e f) n =
+    (refl, (refl, (other_value hex_value b high refl e, (other_value hex_value c low refl f, n))))
 character_feeds quote v _ behind (decimal_escape _ bytes _ d le) n = (refl, decimals_feeds 0 v bytes behind d n)
 
 char_bytes : (value : ℕ) (bytes : List ℕ) → IsChar bytes value → NoFeed bytes

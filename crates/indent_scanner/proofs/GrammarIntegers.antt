@@ -1,5 +1,6 @@
 -- The form of an integer is what the grammar says, with its value.
-use Rattle.std.proofs.Common.{◌≡◌, ℕ, zero, suc, ◌+◌, ◌*◌, ◌-◌, ◌≤◌, ◌⊎◌, inl, inr, min, List, [], ◌∷◌, ◌++◌, length, Bool, true, false, refl, sym, ap, subst, ◌∙◌, arith}
+use Rattle.std.proofs.Common.{◌≡◌, ℕ, zero, suc, ◌+◌, ◌*◌, ◌-◌, ◌≤◌, ◌⊎◌, inl, inr, min, List, [], ◌∷◌, ◌++◌, length, Bool, true, false, refl, sym, ap, subst}
+use Rattle.std.proofs.Common.{◌∙◌, arith}
 use Rattle.std.specs.Prelude.{Option, Some, None, cond, ◌==◌, ◌&&◌, ◌||◌, nat_le, nat_lt}
 use Rattle.std.proofs.Math.Nat.{mul-le-mul_left}
 use Rattle.std.proofs.lemmas.Bool.{eqb-true, ne_eqb, le-leb}
@@ -32,7 +33,8 @@ cap_step base v d one = by_side (either_side v)
   where
     by_side : (v ≤ 2147483648) ⊎ (2147483648 ≤ v) → cap (cap v * base + d) ≡ cap (v * base + d)
     by_side (inl le) = ap (λ x. cap (x * base + d)) (cap_small v le)
-    by_side (inr ge) = ap (λ x. cap (x * base + d)) (cap_large v ge) ∙ cap_large _ (large 2147483648 base d one (omega arith)) ∙ sym (cap_large _ (large v base d one ge))
+    by_side (inr ge) = ap (λ x. cap (x * base + d)) (cap_large v ge) ∙ cap_large _ (large 2147483648 base d one (omega arith))
+        ∙ sym (cap_large _ (large v base d one ge))
 
 -- ---- digits are bytes of words
 
@@ -45,10 +47,21 @@ IsPlain b = (is_word b ≡ true) × ((b == 95) ≡ false)
 hex_plain : (b d : ℕ) → hex_value b ≡ Some d → IsPlain b
 hex_plain b d e = by_tests (is_digit b) (is_in 97 102 b) (is_in 65 70 b) refl refl refl e
   where
-    by_tests : (u v w : Bool) → is_digit b ≡ u → is_in 97 102 b ≡ v → is_in 65 70 b ≡ w → cond u (Some (b - 48)) (cond v (Some (b - 87)) (cond w (Some (b - 55)) None)) ≡ Some d → IsPlain b
-    by_tests true v w e f g h = let r = in_range 48 57 b e in (or_right (is_letter b) (is_digit b || b == 95) (or_left (is_digit b) (b == 95) e), ne_eqb b 95 (λ n. omega (arith, n, r.1)))
-    by_tests false true w e f g h = let r = in_range 97 102 b f in (or_left (is_letter b) _ (or_right (is_in 65 90 b) (is_in 97 122 b) (is_within 97 122 b r.0 (omega (arith, r.1)))), ne_eqb b 95 (λ n. omega (arith, n, r.0)))
-    by_tests false false true e f g h = let r = in_range 65 70 b g in (or_left (is_letter b) _ (or_left (is_in 65 90 b) (is_in 97 122 b) (is_within 65 90 b r.0 (omega (arith, r.1)))), ne_eqb b 95 (λ n. omega (arith, n, r.1)))
+    by_tests : (u v w : Bool) → is_digit b ≡ u → is_in 97 102 b ≡ v → is_in 65 70 b ≡ w
+        → cond u (Some (b - 48)) (cond v (Some (b - 87)) (cond w (Some (b - 55)) None)) ≡ Some d → IsPlain b
+    by_tests true v w e f g h =
+        let r = in_range 48 57 b e in
+        (or_right (is_letter b) (is_digit b || b == 95) (or_left (is_digit b) (b == 95) e), ne_eqb b 95 (λ n. omega (arith, n, r.1)))
+    by_tests false true w e f g h =
+        let r = in_range 97 102 b f in (
+          or_left (is_letter b) _ (or_right (is_in 65 90 b) (is_in 97 122 b) (is_within 97 122 b r.0 (omega (arith, r.1)))),
+          ne_eqb b 95 (λ n. omega (arith, n, r.0)),
+        )
+    by_tests false false true e f g h =
+        let r = in_range 65 70 b g in (
+          or_left (is_letter b) _ (or_left (is_in 65 90 b) (is_in 97 122 b) (is_within 65 90 b r.0 (omega (arith, r.1)))),
+          ne_eqb b 95 (λ n. omega (arith, n, r.1)),
+        )
     by_tests false false false e f g h = cc
 
 below_from : (base d : ℕ) (o : Option ℕ) → below base o ≡ Some d → o ≡ Some d
@@ -84,14 +97,18 @@ due_goes base v b d one e =
 
 -- ---- from the grammar
 
-pub digits_to : (base value whole : ℕ) (text rest : List ℕ) → 1 ≤ base → Digits base value text whole → form (Number base (min value 2147483648)) (length text) (text ++ rest) ≡ Some (Number base (min whole 2147483648))
+pub digits_to : (base value whole : ℕ) (text rest : List ℕ) → 1 ≤ base → Digits base value text whole → form (Number base (min value 2147483648)) (length text)
+    (text ++ rest) ≡ Some (Number base (min whole 2147483648))
 digits_to base value _ _ rest one (digits_done _) = refl
-digits_to base value whole _ rest one (digits_more _ b d _ text e h) = ap (λ o. after o (length text) (text ++ rest)) (digit_goes base value b d one e) ∙ digits_to base (value * base + d) whole text rest one h
-digits_to base value whole _ rest one (digits_under _ b d _ text e h) = ap (λ o. after o (length text) (text ++ rest)) (due_goes base value b d one e) ∙ digits_to base (value * base + d) whole text rest one h
+digits_to base value whole _ rest one (digits_more _ b d _ text e h) = ap (λ o. after o (length text) (text ++ rest)) (digit_goes base value b d one e)
+    ∙ digits_to base (value * base + d) whole text rest one h
+digits_to base value whole _ rest one (digits_under _ b d _ text e h) = ap (λ o. after o (length text) (text ++ rest)) (due_goes base value b d one e)
+    ∙ digits_to base (value * base + d) whole text rest one h
 
 -- ---- to the grammar
 
-broken_step : (v : Bool) (n : ℕ) (bytes : List ℕ) (t : Shape) → (form BrokenNumber n bytes ≡ Some t → t ≡ BrokenNumber) → after (cond v (Some BrokenNumber) None) n bytes ≡ Some t → t ≡ BrokenNumber
+broken_step : (v : Bool) (n : ℕ) (bytes : List ℕ) (t : Shape) → (form BrokenNumber n bytes ≡ Some t → t ≡ BrokenNumber)
+    → after (cond v (Some BrokenNumber) None) n bytes ≡ Some t → t ≡ BrokenNumber
 broken_step true n bytes t h e = h e
 broken_step false n bytes t h e = cc
 
@@ -108,22 +125,31 @@ record FromText (base : ℕ) (text rest : List ℕ) : Type 0 where
   sound : (v got : ℕ) → form (Number base (cap v)) (length text) (text ++ rest) ≡ Some (Number base got) → GoesTo base v text got
   under : (v got : ℕ) → form (NumberUnder base (cap v)) (length text) (text ++ rest) ≡ Some (Number base got) → GoesTo base v (95 ∷ text) got
 
-with_from : (base v got b : ℕ) (text rest : List ℕ) (o : Option ℕ) → 1 ≤ base → FromText base text rest → after (Some (with_digit base (cap v) o)) (length text) (text ++ rest) ≡ Some (Number base got) → (d : ℕ) × (o ≡ Some d) × GoesTo base (v * base + d) text got
+with_from : (base v got b : ℕ) (text rest : List ℕ) (o : Option ℕ) → 1 ≤ base → FromText base text rest → after (Some (with_digit base (cap v) o)) (length text)
+    (text ++ rest) ≡ Some (Number base got) → (d : ℕ) × (o ≡ Some d) × GoesTo base (v * base + d) text got
 with_from base v got b text rest None one h e = (let g = broken_stays (length text) (text ++ rest) (Number base got) e in let f : ⊥ = cc in absurd f)
-with_from base v got b text rest (Some d) one h e = (d, refl, h.sound (v * base + d) got (subst (λ x. form (Number base x) (length text) (text ++ rest) ≡ Some (Number base got)) (cap_step base v d one) e))
+with_from base v got b text rest (Some d) one h e =
+    (d, refl, h.sound (v * base + d) got (subst (λ x. form (Number base x) (length text) (text ++ rest) ≡ Some (Number base got)) (cap_step base v d one) e))
 
-sound_from : (base v got b : ℕ) (text rest : List ℕ) → 1 ≤ base → FromText base text rest → after (digit_step base (cap v) b) (length text) (text ++ rest) ≡ Some (Number base got) → GoesTo base v (b ∷ text) got
+sound_from : (base v got b : ℕ) (text rest : List ℕ) → 1 ≤ base → FromText base text rest → after (digit_step base (cap v) b) (length text) (text ++ rest)
+    ≡ Some (Number base got) → GoesTo base v (b ∷ text) got
 sound_from base v got b text rest one h e = by_tests (is_word b) (b == 95) refl refl e
   where
-    by_tests : (x y : Bool) → is_word b ≡ x → (b == 95) ≡ y → after (cond x (cond y (Some (NumberUnder base (cap v))) (Some (with_digit base (cap v) (digit_value base b)))) None) (length text) (text ++ rest) ≡ Some (Number base got) → GoesTo base v (b ∷ text) got
+    by_tests : (x y : Bool) → is_word b ≡ x → (b == 95) ≡ y
+        → after (cond x (cond y (Some (NumberUnder base (cap v))) (Some (with_digit base (cap v) (digit_value base b)))) None) (length text) (text ++ rest)
+        ≡ Some (Number base got) → GoesTo base v (b ∷ text) got
     by_tests false y p q e = (let f : ⊥ = cc in absurd f)
     by_tests true true p q e = subst (λ x. GoesTo base v (x ∷ text) got) (sym (eqb-true b 95 q)) (h.under v got e)
-    by_tests true false p q e = let w = with_from base v got b text rest (digit_value base b) one h e in (w.2.0, digits_more v b w.0 w.2.0 text w.1 w.2.1, w.2.2)
+    by_tests true false p q e =
+        let w = with_from base v got b text rest (digit_value base b) one h e in
+        (w.2.0, digits_more v b w.0 w.2.0 text w.1 w.2.1, w.2.2)
 
-due_from : (base v got b : ℕ) (text rest : List ℕ) → 1 ≤ base → FromText base text rest → after (digit_due_step base (cap v) b) (length text) (text ++ rest) ≡ Some (Number base got) → GoesTo base v (95 ∷ b ∷ text) got
+due_from : (base v got b : ℕ) (text rest : List ℕ) → 1 ≤ base → FromText base text rest → after (digit_due_step base (cap v) b) (length text) (text ++ rest)
+    ≡ Some (Number base got) → GoesTo base v (95 ∷ b ∷ text) got
 due_from base v got b text rest one h e = by_test (is_word b) e
   where
-    by_test : (x : Bool) → after (cond x (Some (with_digit base (cap v) (digit_value base b))) None) (length text) (text ++ rest) ≡ Some (Number base got) → GoesTo base v (95 ∷ b ∷ text) got
+    by_test : (x : Bool) → after (cond x (Some (with_digit base (cap v) (digit_value base b))) None) (length text) (text ++ rest) ≡ Some (Number base got)
+        → GoesTo base v (95 ∷ b ∷ text) got
     by_test false e = (let f : ⊥ = cc in absurd f)
     by_test true e = let w = with_from base v got b text rest (digit_value base b) one h e in (w.2.0, digits_under v b w.0 w.2.0 text w.1 w.2.1, w.2.2)
 
@@ -137,5 +163,6 @@ from_text base (b ∷ text) rest one = let before = from_text base text rest one
   under = λ v got e. due_from base v got b text rest one before e;
 }
 
-pub digits_from : (base value got : ℕ) (text rest : List ℕ) → 1 ≤ base → form (Number base (min value 2147483648)) (length text) (text ++ rest) ≡ Some (Number base got) → (whole : ℕ) × Digits base value text whole × (got ≡ min whole 2147483648)
+pub digits_from : (base value got : ℕ) (text rest : List ℕ) → 1 ≤ base → form (Number base (min value 2147483648)) (length text) (text ++ rest)
+    ≡ Some (Number base got) → (whole : ℕ) × Digits base value text whole × (got ≡ min whole 2147483648)
 digits_from base value got text rest one e = let h = from_text base text rest one in h.sound value got e

@@ -36,15 +36,20 @@ sound_is b e = either _ (is_letter b) (is_digit b) e
     (λ f. (
       or_left (is_letter b) (is_digit b || b == 95) f,
       either _ (is_in 65 90 b) (is_in 97 122 b) f
-          (λ g. ne_eqb b 95 (λ n. (let r = in_range 65 90 b g in omega (arith, n, r.1)))) (λ g. ne_eqb b 95 (λ n. (let r = in_range 97 122 b g in omega (arith, n, r.0)))),
+          (λ g. ne_eqb b 95 (λ n. (let r = in_range 65 90 b g in omega (arith, n, r.1))))
+          (λ g. ne_eqb b 95 (λ n. (let r = in_range 97 122 b g in omega (arith, n, r.0)))),
     ))
-    (λ f. (or_right (is_letter b) (is_digit b || b == 95) (or_left (is_digit b) (b == 95) f), ne_eqb b 95 (λ n. (let r = in_range 48 57 b f in omega (arith, n, r.1)))))
+    (λ f. (
+      or_right (is_letter b) (is_digit b || b == 95) (or_left (is_digit b) (b == 95) f),
+      ne_eqb b 95 (λ n. (let r = in_range 48 57 b f in omega (arith, n, r.1))),
+    ))
 
 sound_so : (b : ℕ) → is_word b ≡ true → (b == 95) ≡ false → is_alphanumeric b ≡ true
 sound_so b e f = either _ (is_letter b) (is_digit b || b == 95) e (λ g. or_left (is_letter b) (is_digit b) g)
     (λ g. either _ (is_digit b) (b == 95) g (λ h. or_right (is_letter b) (is_digit b) h) (λ h. absurd (not_both (b == 95) h f)))
 
-broken_step : (v : Bool) (n : ℕ) (bytes : List ℕ) (t : Shape) → (form BrokenWord n bytes ≡ Some t → t ≡ BrokenWord) → after (cond v (Some BrokenWord) None) n bytes ≡ Some t → t ≡ BrokenWord
+broken_step : (v : Bool) (n : ℕ) (bytes : List ℕ) (t : Shape) → (form BrokenWord n bytes ≡ Some t → t ≡ BrokenWord)
+    → after (cond v (Some BrokenWord) None) n bytes ≡ Some t → t ≡ BrokenWord
 broken_step true n bytes t h e = h e
 broken_step false n bytes t h e = cc
 
@@ -74,20 +79,30 @@ under_sound b f u = two_tests (is_word b) (b == 95) true false (Some BrokenWord)
 onward : (o p : Option Shape) (n : ℕ) (bytes : List ℕ) (t : Shape) → o ≡ p → after o n bytes ≡ Some t → after p n bytes ≡ Some t
 onward o p n bytes t e h = subst (λ x. after x n bytes ≡ Some t) e h
 
-name_byte : (b n : ℕ) (text bytes : List ℕ) → (form Word n bytes ≡ Some Word → NameRest text) → (form WordUnder n bytes ≡ Some Word → NameRest (95 ∷ text)) → WordByte b → after (word_step b) n bytes ≡ Some Word → NameRest (b ∷ text)
+name_byte : (b n : ℕ) (text bytes : List ℕ) → (form Word n bytes ≡ Some Word → NameRest text) → (form WordUnder n bytes ≡ Some Word → NameRest (95 ∷ text))
+    → WordByte b → after (word_step b) n bytes ≡ Some Word → NameRest (b ∷ text)
 name_byte b n text bytes sound under (is_other f) e = (let g = onward (word_step b) None n bytes Word (word_other b f) e in let h : ⊥ = cc in absurd h)
-name_byte b n text bytes sound under (is_under f u) e = subst (λ x. NameRest (x ∷ text)) (sym (eqb-true b 95 u)) (under (onward (word_step b) (Some WordUnder) n bytes Word (word_under b f u) e))
-name_byte b n text bytes sound under (is_letter_or_digit f u) e = name_plain b text (sound_so b f u) (sound (onward (word_step b) (Some Word) n bytes Word (word_sound b f u) e))
+name_byte b n text bytes sound under (is_under f u) e = subst (λ x. NameRest (x ∷ text)) (sym (eqb-true b 95 u))
+    (under (onward (word_step b) (Some WordUnder) n bytes Word (word_under b f u) e))
+name_byte b n text bytes sound under (is_letter_or_digit f u) e = name_plain b text (sound_so b f u)
+    (sound (onward (word_step b) (Some Word) n bytes Word (word_sound b f u) e))
 
-behind_under : (b n : ℕ) (text bytes : List ℕ) → (form Word n bytes ≡ Some Word → NameRest text) → WordByte b → after (under_step b) n bytes ≡ Some Word → NameRest (95 ∷ b ∷ text)
+behind_under : (b n : ℕ) (text bytes : List ℕ) → (form Word n bytes ≡ Some Word → NameRest text) → WordByte b → after (under_step b) n bytes ≡ Some Word
+    → NameRest (95 ∷ b ∷ text)
 behind_under b n text bytes sound (is_other f) e = (let g = onward (under_step b) None n bytes Word (under_other b f) e in let h : ⊥ = cc in absurd h)
-behind_under b n text bytes sound (is_under f u) e = (let g = broken_stays n bytes Word (onward (under_step b) (Some BrokenWord) n bytes Word (under_under b f u) e) in let h : ⊥ = cc in absurd h)
-behind_under b n text bytes sound (is_letter_or_digit f u) e = name_under b text (sound_so b f u) (sound (onward (under_step b) (Some Word) n bytes Word (under_sound b f u) e))
+behind_under b n text bytes sound (is_under f u) e =
+    (let g = broken_stays n bytes Word (onward (under_step b) (Some BrokenWord) n bytes Word (under_under b f u) e) in let h : ⊥ = cc in absurd h)
+behind_under b n text bytes sound (is_letter_or_digit f u) e = name_under b text (sound_so b f u)
+    (sound (onward (under_step b) (Some Word) n bytes Word (under_sound b f u) e))
 
-names_from : (text rest : List ℕ) → (form Word (length text) (text ++ rest) ≡ Some Word → NameRest text) × (form WordUnder (length text) (text ++ rest) ≡ Some Word → NameRest (95 ∷ text))
+names_from : (text rest : List ℕ) → (form Word (length text) (text ++ rest) ≡ Some Word → NameRest text)
+    × (form WordUnder (length text) (text ++ rest) ≡ Some Word → NameRest (95 ∷ text))
 names_from [] rest = (λ e. name_done, λ e. (let h : ⊥ = cc in absurd h))
-names_from (b ∷ text) rest = let before = names_from text rest in
-    (λ e. name_byte b (length text) text (text ++ rest) before.0 before.1 (word_byte b) e, λ e. behind_under b (length text) text (text ++ rest) before.0 (word_byte b) e)
+names_from (b ∷ text) rest = let before = names_from text rest in (
+  λ e. name_byte b (length text) text (text ++ rest) before.0 before.1 (word_byte b) e,
+  λ e. behind_under b (length text) text (text ++ rest) before.0
+      (word_byte b) e,
+)
 
 pub name_from : (text rest : List ℕ) → form Word (length text) (text ++ rest) ≡ Some Word → NameRest text
 name_from text rest e = (names_from text rest).0 e

@@ -1,5 +1,6 @@
 -- The longest front that is whole, and the form that is read behind its first byte.
-use Rattle.std.proofs.Common.{◌≡◌, ℕ, zero, suc, ◌≤◌, List, [], ◌∷◌, ◌++◌, length, take, drop, get_or, Bool, true, false, refl, ap, subst, ◌∙◌, arith, length-take-le}
+use Rattle.std.proofs.Common.{◌≡◌, ℕ, zero, suc, ◌≤◌, List, [], ◌∷◌, ◌++◌, length, take, drop, get_or, Bool, true, false, refl, ap, subst, ◌∙◌, arith}
+use Rattle.std.proofs.Common.{length-take-le}
 use Rattle.std.specs.Prelude.{Some, None}
 use Rattle.std.specs.List.{AllPass}
 use Rattle.std.proofs.lemmas.List.{take-append-drop}
@@ -25,7 +26,9 @@ module _ (P : ℕ → Type 0) (s : Shape) (rest : List ℕ) (m : Matches P s res
 
   pub longest_to : (n : ℕ) → Longest P n → (k : ℕ) × (t : Shape) × (n ≡ suc k) × LongestForm s rest k t
   longest_to zero l = absurd (m.none l.holds)
-  longest_to (suc k) l = let u = m.to k l.holds in (k, u.0, refl, record { reached = u.1; whole = u.2; longest = λ j v e w. (let le = l.greatest (suc j) (m.from j v e w) in omega (arith, le)) })
+  longest_to (suc k) l =
+      let u = m.to k l.holds in
+      (k, u.0, refl, record { reached = u.1; whole = u.2; longest = λ j v e w. (let le = l.greatest (suc j) (m.from j v e w) in omega (arith, le)) })
 
   pub none_from : NoForm s rest → (n : ℕ) → P n → ⊥
   none_from no_form zero p = m.none p
@@ -45,7 +48,8 @@ pub record Family (Is : Shape → Type 0) (test : ℕ → Bool) : Type 0 where
   pub on : (s : Shape) (b next : ℕ) → Is s → test b ≡ true → (t : Shape) × (step s b next ≡ Some t) × Is t
   pub off : (s : Shape) (b next : ℕ) → Is s → test b ≡ false → step s b next ≡ None
 
-pub read_all : (Is : Shape → Type 0) (test : ℕ → Bool) → Family Is test → (n : ℕ) (rest : List ℕ) (s : Shape) → Is s → n ≤ length rest → AllPass test (take n rest) → (t : Shape) × (form s n rest ≡ Some t) × Is t
+pub read_all : (Is : Shape → Type 0) (test : ℕ → Bool) → Family Is test → (n : ℕ) (rest : List ℕ) (s : Shape) → Is s → n ≤ length rest
+    → AllPass test (take n rest) → (t : Shape) × (form s n rest ≡ Some t) × Is t
 read_all Is test f zero rest s is le all = (s, refl, is)
 read_all Is test f (suc n) [] s is le all = (let g : ⊥ = omega arith in absurd g)
 read_all Is test f (suc n) (b ∷ rest) s is le all =
@@ -53,7 +57,8 @@ read_all Is test f (suc n) (b ∷ rest) s is le all =
     let r = read_all Is test f n rest o.0 o.2 (omega arith) (pass_tail test b (take n rest) all) in
     (r.0, then_form s o.0 n b rest o.1 ∙ r.1, r.2)
 
-pub all_read : (Is : Shape → Type 0) (test : ℕ → Bool) → Family Is test → (n : ℕ) (rest : List ℕ) (s t : Shape) → Is s → form s n rest ≡ Some t → AllPass test (take n rest) × Is t
+pub all_read : (Is : Shape → Type 0) (test : ℕ → Bool) → Family Is test → (n : ℕ) (rest : List ℕ) (s t : Shape) → Is s → form s n rest ≡ Some t
+    → AllPass test (take n rest) × Is t
 all_read Is test f zero rest s t is e = (pass_none test, subst Is (some_same _ refl e) is)
 all_read Is test f (suc n) [] s t is e = (let g : ⊥ = cc in absurd g)
 all_read Is test f (suc n) (b ∷ rest) s t is e =

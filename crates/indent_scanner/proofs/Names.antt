@@ -24,13 +24,15 @@ named_none [] key e g = absurd (eqb-false 0 0 e refl)
 named_none (x ∷ name) [] e g = refl
 named_none (x ∷ name) (k ∷ key) e g = (let n = eqb-true (length (k ∷ key)) 0 g in let f : ⊥ = omega (arith, n) in absurd f)
 
-named_some : (name key : List ℕ) → (length name == 0) ≡ false → (length key == 0) ≡ false → is_named name key ≡ ((get_or name 0 0 == get_or key 0 0) && same (folded (drop 1 name)) (drop 1 key))
+named_some : (name key : List ℕ) → (length name == 0) ≡ false → (length key == 0) ≡ false
+    → is_named name key ≡ ((get_or name 0 0 == get_or key 0 0) && same (folded (drop 1 name)) (drop 1 key))
 unfolding is_named
 named_some [] key e g = absurd (eqb-false 0 0 e refl)
 named_some (x ∷ name) [] e g = absurd (eqb-false 0 0 g refl)
 named_some (x ∷ name) (k ∷ key) e g = refl
 
-pub named_goes : (name key : List ℕ) → (length name == 0) ≡ false → (length key == 0) ≡ false → get_or name 0 0 ≡ get_or key 0 0 → is_named name key ≡ same (folded (drop 1 name)) (drop 1 key)
+pub named_goes : (name key : List ℕ) → (length name == 0) ≡ false → (length key == 0) ≡ false → get_or name 0 0 ≡ get_or key 0 0
+    → is_named name key ≡ same (folded (drop 1 name)) (drop 1 key)
 named_goes name key e g first = named_some name key e g ∙ ap (λ v. v && same (folded (drop 1 name)) (drop 1 key)) (eq-eqb _ _ first)
 
 pub named_differs : (name key : List ℕ) → (length name == 0) ≡ false → (length key == 0) ≡ false → get_or name 0 0 ≢ get_or key 0 0 → is_named name key ≡ false
@@ -54,12 +56,15 @@ first_is name k e = ap (λ o. or_else o (or_else (more_keys name) (or_else (left
 
 pub more_is : (name : List ℕ) (k : Key) → first_keys name ≡ None → more_keys name ≡ Some k → key_of name ≡ Some k
 unfolding key_of
-more_is name k none e = ap (λ o. or_else o (or_else (more_keys name) (or_else (left_keys name) (other_left_keys name)))) none ∙ ap (λ o. or_else o (or_else (left_keys name) (other_left_keys name))) e
+more_is name k none e = ap (λ o. or_else o (or_else (more_keys name) (or_else (left_keys name) (other_left_keys name)))) none
+    ∙ ap (λ o. or_else o (or_else (left_keys name) (other_left_keys name))) e
 
 pub left_is : (name : List ℕ) (k : Key) → first_keys name ≡ None → more_keys name ≡ None → left_keys name ≡ Some k → key_of name ≡ Some k
 unfolding key_of
-left_is name k none nor e = ap (λ o. or_else o (or_else (more_keys name) (or_else (left_keys name) (other_left_keys name)))) none ∙ ap (λ o. or_else o (or_else (left_keys name) (other_left_keys name))) nor ∙ ap (λ o. or_else o (other_left_keys name)) e
+left_is name k none nor e = ap (λ o. or_else o (or_else (more_keys name) (or_else (left_keys name) (other_left_keys name)))) none
+    ∙ ap (λ o. or_else o (or_else (left_keys name) (other_left_keys name))) nor ∙ ap (λ o. or_else o (other_left_keys name)) e
 
 pub last_is : (name : List ℕ) → first_keys name ≡ None → more_keys name ≡ None → left_keys name ≡ None → key_of name ≡ other_left_keys name
 unfolding key_of
-last_is name none nor neither = ap (λ o. or_else o (or_else (more_keys name) (or_else (left_keys name) (other_left_keys name)))) none ∙ ap (λ o. or_else o (or_else (left_keys name) (other_left_keys name))) nor ∙ ap (λ o. or_else o (other_left_keys name)) neither
+last_is name none nor neither = ap (λ o. or_else o (or_else (more_keys name) (or_else (left_keys name) (other_left_keys name)))) none
+    ∙ ap (λ o. or_else o (or_else (left_keys name) (other_left_keys name))) nor ∙ ap (λ o. or_else o (other_left_keys name)) neither

@@ -7,7 +7,8 @@ use Rattle.indent_scanner.specs.declared.token.Tok.TheVariants.{End}
 use Rattle.indent_scanner.specs.declared.token.Token.{Token}
 use Rattle.indent_scanner.specs.declared.here.Here.{Here}
 use Rattle.indent_scanner.specs.declared.piece.Piece.TheVariants.{Gap, Found}
-use Rattle.indent_scanner.specs.Tokens.{mark_length, first_place, one_space, spaces_over, over_byte, over_gap, over_token, is_apart, token_at, TokensFrom, ends, gap, token, Tokens}
+use Rattle.indent_scanner.specs.Tokens.{mark_length, first_place, one_space, spaces_over, over_byte, over_gap, over_token, is_apart, token_at, TokensFrom, ends}
+use Rattle.indent_scanner.specs.Tokens.{gap, token, Tokens}
 use Rattle.indent_scanner.specs.Spacing.{is_end, touches, Beside, IsFirst, IsSpaced}
 use Rattle.indent_scanner.proofs.Bools.{by_test, by_cond, or_right, are_false}
 use Rattle.indent_scanner.proofs.Firsts.{begins_tells}
@@ -72,8 +73,20 @@ behind_byte comment t here b h =
     let before = h.start in let line = h.line in
     let apart : true ≡ not (here.start + 1 == t.start + t.len) = sym (ap not (beyond (here.start + 1) (t.start + t.len) (omega (arith, before)))) in
     by_cond (Behind t) (b == 10) _ _
-    (λ e. record { start = omega (arith, before); apart = apart; line = omega (arith, line); same = λ f. (let g : ⊥ = omega (arith, f, line) in absurd g); new = λ f. some_zero })
-    (λ e. record { start = omega (arith, before); apart = apart; line = line; same = λ f. spaces_none comment b here.spaces (h.same f); new = λ f. spaces_some comment b here.spaces (h.new f) })
+    (λ e. record {
+      start = omega (arith, before);
+      apart = apart;
+      line = omega (arith, line);
+      same = λ f. (let g : ⊥ = omega (arith, f, line) in absurd g);
+      new = λ f. some_zero;
+    })
+    (λ e. record {
+      start = omega (arith, before);
+      apart = apart;
+      line = line;
+      same = λ f. spaces_none comment b here.spaces (h.same f);
+      new = λ f. spaces_some comment b here.spaces (h.new f);
+    })
 
 behind_gap : (comment : Bool) (t : Token) (bytes : List ℕ) (here : Here) → Behind t here → Behind t (over_gap comment here bytes)
 behind_gap comment t [] here h = h
@@ -86,7 +99,8 @@ record Next (t u : Token) : Type 0 where
 
 next_is : (t : Token) (here : Here) (bytes : List ℕ) (tokens : List Token) → Behind t here → TokensFrom here bytes tokens → HeadIs (Next t) tokens
 next_is t here _ _ h ends = record { before = h.apart; same = h.same; new = h.new }
-next_is t here bytes tokens h (gap comment n b r) = next_is t (over_gap comment here (take n bytes)) (drop n bytes) tokens (behind_gap comment t (take n bytes) here h) r
+next_is t here bytes tokens h (gap comment n b r) = next_is t (over_gap comment here (take n bytes)) (drop n bytes) tokens
+    (behind_gap comment t (take n bytes) here h) r
 next_is t here bytes _ h (token kind n b r) = record { before = h.apart; same = h.same; new = h.new }
 
 -- ---- what follows a token
@@ -102,7 +116,8 @@ not_end : (kind : Tok) → kind ≢ End → is_end kind ≡ false
 not_end End h = absurd (h refl)
 not_end _ h = refl
 
-after_is : (here : Here) (bytes : List ℕ) (tokens : List Token) → TokensFrom here bytes tokens → HeadIs (λ u. is_apart bytes ≡ (is_end u.kind || not (u.start == here.start))) tokens
+after_is : (here : Here) (bytes : List ℕ) (tokens : List Token) → TokensFrom here bytes tokens
+    → HeadIs (λ u. is_apart bytes ≡ (is_end u.kind || not (u.start == here.start))) tokens
 after_is here _ _ ends = refl
 after_is here bytes tokens (gap comment n b r) =
     let e = gap_start comment (take n bytes) here in let w = begins_within bytes (Gap comment n) b in let long = length-take-le n bytes w.1 in let one = w.0 in
@@ -141,7 +156,8 @@ record Fresh (here : Here) : Type 0 where
   some : here.spaces ≢ None
 
 fresh_byte : (comment : Bool) (here : Here) (b : ℕ) → Fresh here → Fresh (over_byte comment here b)
-fresh_byte comment here b f = by_cond Fresh (b == 10) _ _ (λ e. record { apart = refl; some = some_zero }) (λ e. record { apart = refl; some = spaces_some comment b here.spaces f.some })
+fresh_byte comment here b f = by_cond Fresh (b == 10) _ _ (λ e. record { apart = refl; some = some_zero })
+    (λ e. record { apart = refl; some = spaces_some comment b here.spaces f.some })
 
 fresh_gap : (comment : Bool) (bytes : List ℕ) (here : Here) → Fresh here → Fresh (over_gap comment here bytes)
 fresh_gap comment [] here f = f
@@ -149,7 +165,8 @@ fresh_gap comment (b ∷ bytes) here f = fresh_gap comment bytes (over_byte comm
 
 first_is : (here : Here) (bytes : List ℕ) (tokens : List Token) → Fresh here → TokensFrom here bytes tokens → HeadIs IsFirst tokens
 first_is here _ _ f ends = record { before = f.apart; indented = f.some }
-first_is here bytes tokens f (gap comment n b r) = first_is (over_gap comment here (take n bytes)) (drop n bytes) tokens (fresh_gap comment (take n bytes) here f) r
+first_is here bytes tokens f (gap comment n b r) = first_is (over_gap comment here (take n bytes)) (drop n bytes) tokens
+    (fresh_gap comment (take n bytes) here f) r
 first_is here bytes _ f (token kind n b r) = record { before = f.apart; indented = f.some }
 
 -- ---- the last token
@@ -172,7 +189,8 @@ last_is : (here : Here) (bytes : List ℕ) (tokens : List Token) → TokensFrom 
 last_is here _ _ ends = refl
 last_is here bytes tokens (gap comment n b r) = last_is (over_gap comment here (take n bytes)) (drop n bytes) tokens r
 last_is here bytes _ (token {tokens = tail} kind n b r) =
-    last_cons (token_at here kind n (drop n bytes)) tail (not_empty (over_token here n) (drop n bytes) tail r) (last_is (over_token here n) (drop n bytes) tail r)
+    last_cons (token_at here kind n (drop n bytes)) tail (not_empty (over_token here n) (drop n bytes) tail r)
+    (last_is (over_token here n) (drop n bytes) tail r)
 
 last_at : (left : List Token) (t : Token) → LastIs (left ++ t ∷ []) → t.space_after ≡ true
 last_at [] t l = l

@@ -7,22 +7,29 @@ use Rattle.indent_scanner.specs.declared.token.Tok.TheVariants as T
 use Rattle.indent_scanner.specs.declared.shape.Quote.TheVariants as Q
 use Rattle.indent_scanner.specs.declared.shape.Last.TheVariants as L
 use Rattle.indent_scanner.specs.declared.shape.Shape.{Shape}
-use Rattle.indent_scanner.specs.declared.shape.Shape.TheVariants.{Word, WordUnder, BrokenWord, Zero, Number, NumberUnder, BrokenNumber, Inside, CharWhole, TextWhole, Quoted, Line, Nested, NestedWhole, Single}
+use Rattle.indent_scanner.specs.declared.shape.Shape.TheVariants.{Word, WordUnder, BrokenWord, Zero, Number, NumberUnder, BrokenNumber, Inside, CharWhole}
+use Rattle.indent_scanner.specs.declared.shape.Shape.TheVariants.{TextWhole, Quoted, Line, Nested, NestedWhole, Single}
 use Rattle.indent_scanner.specs.declared.piece.Piece.{Piece}
 use Rattle.indent_scanner.specs.declared.piece.Piece.TheVariants.{Gap, Found, Refused}
 use Rattle.indent_scanner.specs.declared.piece.Opening.{Opening}
 use Rattle.indent_scanner.specs.declared.piece.Opening.TheVariants.{Known, Shaped}
 use Rattle.indent_scanner.specs.Bytes.{byte_at, is_letter, is_digit, is_word, is_line_byte, is_bracket, is_operator, in_char, in_text, in_comment, in_run}
-use Rattle.indent_scanner.specs.Grammar.{IsWord, IsName, IsNumeral, IsInteger, SomeChar, IsChar, a_char, SomeText, IsText, a_text, IsQuoted, IsLineComment, IsNestedComment, nested_comment}
+use Rattle.indent_scanner.specs.Grammar.{IsWord, IsName, IsNumeral, IsInteger, SomeChar, IsChar, a_char, SomeText, IsText, a_text, IsQuoted, IsLineComment}
+use Rattle.indent_scanner.specs.Grammar.{IsNestedComment, nested_comment}
 use Rattle.indent_scanner.specs.Shape.{form, is_whole}
-use Rattle.indent_scanner.specs.Pieces.{Front, Longest, behind_dot, IsRun, word_piece, int_piece, run_piece, Checked, is_triple, opens_pragma, FirstPiece, blank_here, line_end_here, line_comment_here, nested_comment_here, bad_comment, name_here, bad_name, integer_here, bad_integer, char_here, bad_char, text_here, bad_text, triple_quotes, quoted_here, bad_quoted, pragma_opens, pragma_closes, bracket_here, run_here, no_piece, Begins}
+use Rattle.indent_scanner.specs.Pieces.{Front, Longest, behind_dot, IsRun, word_piece, int_piece, run_piece, Checked, is_triple, opens_pragma, FirstPiece}
+use Rattle.indent_scanner.specs.Pieces.{blank_here, line_end_here, line_comment_here, nested_comment_here, bad_comment, name_here, bad_name, integer_here}
+use Rattle.indent_scanner.specs.Pieces.{bad_integer, char_here, bad_char, text_here, bad_text, triple_quotes, quoted_here, bad_quoted, pragma_opens}
+use Rattle.indent_scanner.specs.Pieces.{pragma_closes, bracket_here, run_here, no_piece, Begins}
 use Rattle.indent_scanner.specs.ByForm.{open_digit, opening_of, stray_in, if_clean, piece_of, code_of, Takes}
 use Rattle.indent_scanner.proofs.Bools.{by_test, both_true, are_true, at_byte, pass_none}
 use Rattle.indent_scanner.proofs.Fronts.{some_same}
 use Rattle.indent_scanner.proofs.Matches.{Matches, longest_from, longest_to, none_from, none_to}
 use Rattle.indent_scanner.proofs.Checks.{checked_from, checked_is}
-use Rattle.indent_scanner.proofs.WordFronts.{IsWordForm, word_matches, word_form, name_of_form, form_of_name, line_matches, line_form, IsNumberForm, number_matches, number_form, value_in, Starts, zero_first, other_first, starts_number, integer_to, integer_from}
-use Rattle.indent_scanner.proofs.ClosedFronts.{char_reads, reads_char, char_matches, char_form, text_matches, text_form, quoted_matches, quoted_form, nested_matches, nested_form}
+use Rattle.indent_scanner.proofs.WordFronts.{IsWordForm, word_matches, word_form, name_of_form, form_of_name, line_matches, line_form, IsNumberForm}
+use Rattle.indent_scanner.proofs.WordFronts.{number_matches, number_form, value_in, Starts, zero_first, other_first, starts_number, integer_to, integer_from}
+use Rattle.indent_scanner.proofs.ClosedFronts.{char_reads, reads_char, char_matches, char_form, text_matches, text_form, quoted_matches, quoted_form}
+use Rattle.indent_scanner.proofs.ClosedFronts.{nested_matches, nested_form}
 use Rattle.indent_scanner.proofs.RunFronts.{run_matches, run_is}
 use Rattle.indent_scanner.proofs.GrammarIntegers.{cap}
 use Rattle.indent_scanner.proofs.Openings as O
@@ -34,13 +41,15 @@ takes_front : (P : ℕ → Type 0) (s : Shape) (b : ℕ) (rest : List ℕ) (n : 
     → ((k : ℕ) (t : Shape) → n ≡ suc k → form s k rest ≡ Some t → is_whole t ≡ true → p ≡ piece_of t (suc k) (b ∷ rest)) → Takes (Shaped s) b rest p
 takes_front P s b rest n p m l tells = let r = longest_to P s rest m n l in inl (r.0, r.1, r.3, (let f = r.3 in tells r.0 r.1 r.2 f.reached f.whole))
 
-takes_none : (P : ℕ → Type 0) (s : Shape) (b : ℕ) (rest : List ℕ) (p : Piece) → Matches P s rest → ((n : ℕ) → P n → ⊥) → p ≡ Refused (code_of s) 0 → Takes (Shaped s) b rest p
+takes_none : (P : ℕ → Type 0) (s : Shape) (b : ℕ) (rest : List ℕ) (p : Piece) → Matches P s rest → ((n : ℕ) → P n → ⊥) → p ≡ Refused (code_of s) 0
+    → Takes (Shaped s) b rest p
 takes_none P s b rest p m no_front e = inr (none_to P s rest m no_front, e)
 
 from_takes : (P : ℕ → Type 0) (s : Shape) (b : ℕ) (rest : List ℕ) (p : Piece) → Matches P s rest
     → ((k : ℕ) (t : Shape) → Longest P (suc k) → form s k rest ≡ Some t → is_whole t ≡ true → FirstPiece b rest (piece_of t (suc k) (b ∷ rest)))
     → (((n : ℕ) → P n → ⊥) → FirstPiece b rest (Refused (code_of s) 0)) → Takes (Shaped s) b rest p → FirstPiece b rest p
-from_takes P s b rest p m some none (inl x) = subst (FirstPiece b rest) (sym x.3) (let f = x.2 in some x.0 x.1 (longest_from P s rest m x.0 x.1 f) f.reached f.whole)
+from_takes P s b rest p m some none (inl x) = subst (FirstPiece b rest) (sym x.3)
+    (let f = x.2 in some x.0 x.1 (longest_from P s rest m x.0 x.1 f) f.reached f.whole)
 from_takes P s b rest p m some none (inr x) = subst (FirstPiece b rest) (sym x.1) (none (none_from P s rest m x.0))
 
 shaped : (b : ℕ) (rest : List ℕ) (p : Piece) (s : Shape) → opening_of b rest ≡ Shaped s → Takes (Shaped s) b rest p → ByForm (b ∷ rest) p
@@ -136,10 +145,13 @@ bad_name_by_form b n rest l bad =
     (λ k t is e w. word_no_name (suc k) k b rest t (word_form k rest t e)
     (λ same. bad (subst (λ x. IsName (take x (b ∷ rest))) (sym is) (letter, name_of_form k rest (e ∙ ap (λ x. Some x) same))))))
 
-word_here : (b k : ℕ) (rest : List ℕ) (t : Shape) → is_letter b ≡ true → IsWordForm t → Longest (Front IsWord (b ∷ rest)) (suc k) → form Word k rest ≡ Some t → FirstPiece b rest (piece_of t (suc k) (b ∷ rest))
+word_here : (b k : ℕ) (rest : List ℕ) (t : Shape) → is_letter b ≡ true → IsWordForm t → Longest (Front IsWord (b ∷ rest)) (suc k) → form Word k rest ≡ Some t
+    → FirstPiece b rest (piece_of t (suc k) (b ∷ rest))
 word_here b k rest Word letter is l e = name_here (suc k) l (letter, name_of_form k rest e)
-word_here b k rest WordUnder letter is l e = bad_name (suc k) l (λ name. (let le = l.holds.inside in let f = form_of_name k rest (omega (arith, le)) name.1 in let g : ⊥ = cc in g))
-word_here b k rest BrokenWord letter is l e = bad_name (suc k) l (λ name. (let le = l.holds.inside in let f = form_of_name k rest (omega (arith, le)) name.1 in let g : ⊥ = cc in g))
+word_here b k rest WordUnder letter is l e =
+    bad_name (suc k) l (λ name. (let le = l.holds.inside in let f = form_of_name k rest (omega (arith, le)) name.1 in let g : ⊥ = cc in g))
+word_here b k rest BrokenWord letter is l e =
+    bad_name (suc k) l (λ name. (let le = l.holds.inside in let f = form_of_name k rest (omega (arith, le)) name.1 in let g : ⊥ = cc in g))
 word_here b k rest _ letter is l e = absurd is
 
 from_word : (b : ℕ) (rest : List ℕ) (p : Piece) → is_letter b ≡ true → Takes (Shaped Word) b rest p → FirstPiece b rest p
@@ -185,20 +197,23 @@ number_none (NumberUnder base value) n bytes is e = refl
 number_none BrokenNumber n bytes is e = refl
 number_none _ n bytes is e = absurd is
 
-integer_by_form : (b n value : ℕ) (rest : List ℕ) → Longest (Front IsNumeral (b ∷ rest)) n → IsInteger (take n (b ∷ rest)) value → ByForm (b ∷ rest) (int_piece value n (b ∷ rest))
+integer_by_form : (b n value : ℕ) (rest : List ℕ) → Longest (Front IsNumeral (b ∷ rest)) n → IsInteger (take n (b ∷ rest)) value
+    → ByForm (b ∷ rest) (int_piece value n (b ∷ rest))
 integer_by_form b n value rest l integer =
     let digit = numeral_first b n rest l.holds in let s = starting b in let number = starts_number b s.0 s.1 in
     shaped b rest _ s.0 (O.opens_digit b rest digit ∙ s.2)
     (takes_front (Front IsNumeral (b ∷ rest)) s.0 b rest n _ (number_matches b rest s.0 digit number) l
     (λ k t is e w. let told = integer_to b value k rest s.0 t digit s.1 e (subst (λ x. IsInteger (take x (b ∷ rest)) value) is integer) in
-    ap (λ x. int_piece value x (b ∷ rest)) is ∙ int_capped value (suc k) (b ∷ rest) ∙ sym (number_piece t (cap value) (suc k) (b ∷ rest) (number_form k rest s.0 t number e) told)))
+    ap (λ x. int_piece value x (b ∷ rest)) is ∙ int_capped value (suc k) (b ∷ rest)
+    ∙ sym (number_piece t (cap value) (suc k) (b ∷ rest) (number_form k rest s.0 t number e) told)))
 
 bad_number : (b k : ℕ) (rest : List ℕ) (s t : Shape) (o : Option ℕ) → value_in t ≡ o → is_digit b ≡ true → Starts b s → IsNumberForm t → form s k rest ≡ Some t
     → ((value : ℕ) → IsInteger (b ∷ take k rest) value → ⊥) → Refused BadLiteral 0 ≡ piece_of t (suc k) (b ∷ rest)
 bad_number b k rest s t None told digit starts number e bad = sym (number_none t (suc k) (b ∷ rest) number told)
 bad_number b k rest s t (Some got) told digit starts number e bad = let h = integer_from b got k rest s t digit starts e told in absurd (bad h.0 h.1)
 
-bad_integer_by_form : (b n : ℕ) (rest : List ℕ) → Longest (Front IsNumeral (b ∷ rest)) n → ((value : ℕ) → IsInteger (take n (b ∷ rest)) value → ⊥) → ByForm (b ∷ rest) (Refused BadLiteral 0)
+bad_integer_by_form : (b n : ℕ) (rest : List ℕ) → Longest (Front IsNumeral (b ∷ rest)) n → ((value : ℕ) → IsInteger (take n (b ∷ rest)) value → ⊥)
+    → ByForm (b ∷ rest) (Refused BadLiteral 0)
 bad_integer_by_form b n rest l bad =
     let digit = numeral_first b n rest l.holds in let s = starting b in let number = starts_number b s.0 s.1 in
     shaped b rest _ s.0 (O.opens_digit b rest digit ∙ s.2)
@@ -206,10 +221,12 @@ bad_integer_by_form b n rest l bad =
     (λ k t is e w. bad_number b k rest s.0 t (value_in t) refl digit s.1 (number_form k rest s.0 t number e) e
     (λ value integer. bad value (subst (λ x. IsInteger (take x (b ∷ rest)) value) (sym is) integer))))
 
-number_here : (b k : ℕ) (rest : List ℕ) (s t : Shape) (o : Option ℕ) → value_in t ≡ o → is_digit b ≡ true → Starts b s → IsNumberForm t → Longest (Front IsNumeral (b ∷ rest)) (suc k) → form s k rest ≡ Some t → FirstPiece b rest (piece_of t (suc k) (b ∷ rest))
+number_here : (b k : ℕ) (rest : List ℕ) (s t : Shape) (o : Option ℕ) → value_in t ≡ o → is_digit b ≡ true → Starts b s → IsNumberForm t
+    → Longest (Front IsNumeral (b ∷ rest)) (suc k) → form s k rest ≡ Some t → FirstPiece b rest (piece_of t (suc k) (b ∷ rest))
 number_here b k rest s t (Some got) told digit starts number l e =
     let h = integer_from b got k rest s t digit starts e told in
-    subst (FirstPiece b rest) (int_capped h.0 (suc k) (b ∷ rest) ∙ ap (λ x. int_piece x (suc k) (b ∷ rest)) (sym h.2) ∙ sym (number_piece t got (suc k) (b ∷ rest) number told)) (integer_here (suc k) h.0 l h.1)
+    subst (FirstPiece b rest) (int_capped h.0 (suc k) (b ∷ rest) ∙ ap (λ x. int_piece x (suc k) (b ∷ rest)) (sym h.2)
+    ∙ sym (number_piece t got (suc k) (b ∷ rest) number told)) (integer_here (suc k) h.0 l h.1)
 number_here b k rest s t None told digit starts number l e =
     subst (FirstPiece b rest) (sym (number_none t (suc k) (b ∷ rest) number told)) (bad_integer (suc k) l
     (λ value integer. (let f = integer_to b value k rest s t digit starts e integer in let g : ⊥ = cc in g)))
@@ -230,7 +247,8 @@ line_by_form b n rest next l =
     (takes_front (Front IsLineComment (b ∷ rest)) Line b rest n _ (line_matches b rest hash) l
     (λ k t is e w. ap (λ x. Gap true x) is ∙ sym (ap (λ x. piece_of x (suc k) (b ∷ rest)) (line_form k rest t e))))
 
-line_here : (b k : ℕ) (rest : List ℕ) (t : Shape) → (byte_at rest 0 == 91) ≡ false → Longest (Front IsLineComment (b ∷ rest)) (suc k) → t ≡ Line → FirstPiece b rest (piece_of t (suc k) (b ∷ rest))
+line_here : (b k : ℕ) (rest : List ℕ) (t : Shape) → (byte_at rest 0 == 91) ≡ false → Longest (Front IsLineComment (b ∷ rest)) (suc k) → t ≡ Line
+    → FirstPiece b rest (piece_of t (suc k) (b ∷ rest))
 line_here b k rest t next l e = subst (λ x. FirstPiece b rest (piece_of x (suc k) (b ∷ rest))) (sym e) (line_comment_here (suc k) next l)
 
 from_line : (b : ℕ) (rest : List ℕ) (p : Piece) → (b == 35) ≡ true → (byte_at rest 0 == 91) ≡ false → Takes (Shaped Line) b rest p → FirstPiece b rest p
@@ -238,7 +256,8 @@ from_line b rest p hash next x = from_takes (Front IsLineComment (b ∷ rest)) L
     (λ k t l e w. line_here b k rest t next l (line_form k rest t e))
     (λ none. absurd (none 1 (one_front IsLineComment b rest (hash, pass_none is_line_byte)))) x
 
-nested_by_form : (b n : ℕ) (rest : List ℕ) (p : Piece) → Longest (Front IsNestedComment (b ∷ rest)) n → Checked in_comment n (b ∷ rest) (Gap true n) p → ByForm (b ∷ rest) p
+nested_by_form : (b n : ℕ) (rest : List ℕ) (p : Piece) → Longest (Front IsNestedComment (b ∷ rest)) n → Checked in_comment n (b ∷ rest) (Gap true n) p
+    → ByForm (b ∷ rest) p
 nested_by_form b n rest p l c =
     let first = nested_first b n rest l.holds in
     shaped b rest p (Nested 0 L.Hash) (O.opens_nested b rest first.0 first.1)
@@ -246,7 +265,8 @@ nested_by_form b n rest p l c =
     (λ k t is e w. checked_is NestedWhole n (b ∷ rest) (Gap true n) p l.holds.inside c
     ∙ ap (λ x. if_clean (stray_in NestedWhole x (b ∷ rest)) (Gap true x)) is ∙ sym (ap (λ x. piece_of x (suc k) (b ∷ rest)) (nested_form k rest t e w))))
 
-from_nested : (b : ℕ) (rest : List ℕ) (p : Piece) → (b == 35) ≡ true → (byte_at rest 0 == 91) ≡ true → Takes (Shaped (Nested 0 L.Hash)) b rest p → FirstPiece b rest p
+from_nested : (b : ℕ) (rest : List ℕ) (p : Piece) → (b == 35) ≡ true → (byte_at rest 0 == 91) ≡ true → Takes (Shaped (Nested 0 L.Hash)) b rest p
+    → FirstPiece b rest p
 from_nested b rest p hash next x = from_takes (Front IsNestedComment (b ∷ rest)) (Nested 0 L.Hash) b rest p (nested_matches b rest hash next)
     (λ k t l e w. subst (λ x. FirstPiece b rest (piece_of x (suc k) (b ∷ rest))) (sym (nested_form k rest t e w))
     (nested_comment_here (suc k) l (checked_from NestedWhole (suc k) (b ∷ rest) (Gap true (suc k)) l.holds.inside)))
@@ -254,7 +274,8 @@ from_nested b rest p hash next x = from_takes (Front IsNestedComment (b ∷ rest
 
 -- ---- chars and texts
 
-char_by_form : (b n value : ℕ) (rest : List ℕ) (p : Piece) → Longest (Front SomeChar (b ∷ rest)) n → IsChar (take n (b ∷ rest)) value → Checked (λ c next. in_char c) n (b ∷ rest) (Found (T.Char value) n) p → ByForm (b ∷ rest) p
+char_by_form : (b n value : ℕ) (rest : List ℕ) (p : Piece) → Longest (Front SomeChar (b ∷ rest)) n → IsChar (take n (b ∷ rest)) value
+    → Checked (λ c next. in_char c) n (b ∷ rest) (Found (T.Char value) n) p → ByForm (b ∷ rest) p
 char_by_form b n value rest p l char c =
     let quote = char_first b n rest l.holds in
     shaped b rest p (Inside Q.Char None) (O.opens_char b rest quote)
@@ -262,18 +283,22 @@ char_by_form b n value rest p l char c =
     (λ k t is e w. let le = l.holds.inside in
     let f = char_reads b value k rest (omega (arith, le, is)) (subst (λ x. IsChar (take x (b ∷ rest)) value) is char) in
     checked_is (CharWhole value) n (b ∷ rest) (Found (T.Char value) n) p le c
-    ∙ ap (λ x. if_clean (stray_in (CharWhole value) x (b ∷ rest)) (Found (T.Char value) x)) is ∙ sym (ap (λ x. piece_of x (suc k) (b ∷ rest)) (some_same _ e f))))
+    ∙ ap (λ x. if_clean (stray_in (CharWhole value) x (b ∷ rest)) (Found (T.Char value) x)) is
+    ∙ sym (ap (λ x. piece_of x (suc k) (b ∷ rest)) (some_same _ e f))))
 
-a_char_here : (b k value : ℕ) (rest : List ℕ) (t : Shape) → (b == 39) ≡ true → Longest (Front SomeChar (b ∷ rest)) (suc k) → form (Inside Q.Char None) k rest ≡ Some t → t ≡ CharWhole value → FirstPiece b rest (piece_of t (suc k) (b ∷ rest))
+a_char_here : (b k value : ℕ) (rest : List ℕ) (t : Shape) → (b == 39) ≡ true → Longest (Front SomeChar (b ∷ rest)) (suc k) → form (Inside Q.Char None) k rest
+    ≡ Some t → t ≡ CharWhole value → FirstPiece b rest (piece_of t (suc k) (b ∷ rest))
 a_char_here b k value rest t quote l e is = subst (λ x. FirstPiece b rest (piece_of x (suc k) (b ∷ rest))) (sym is)
-    (char_here (suc k) value l (reads_char b value k rest quote (e ∙ ap (λ x. Some x) is)) (checked_from (CharWhole value) (suc k) (b ∷ rest) (Found (T.Char value) (suc k)) l.holds.inside))
+    (char_here (suc k) value l (reads_char b value k rest quote (e ∙ ap (λ x. Some x) is))
+    (checked_from (CharWhole value) (suc k) (b ∷ rest) (Found (T.Char value) (suc k)) l.holds.inside))
 
 from_char : (b : ℕ) (rest : List ℕ) (p : Piece) → (b == 39) ≡ true → Takes (Shaped (Inside Q.Char None)) b rest p → FirstPiece b rest p
 from_char b rest p quote x = from_takes (Front SomeChar (b ∷ rest)) (Inside Q.Char None) b rest p (char_matches b rest quote)
     (λ k t l e w. let v = char_form k rest t e w in a_char_here b k v.0 rest t quote l e v.1)
     (λ none. bad_char quote none) x
 
-text_by_form : (b n : ℕ) (rest : List ℕ) (p : Piece) → is_triple rest ≡ false → Longest (Front SomeText (b ∷ rest)) n → Checked (λ c next. in_text c) n (b ∷ rest) (Found T.Text n) p → ByForm (b ∷ rest) p
+text_by_form : (b n : ℕ) (rest : List ℕ) (p : Piece) → is_triple rest ≡ false → Longest (Front SomeText (b ∷ rest)) n
+    → Checked (λ c next. in_text c) n (b ∷ rest) (Found T.Text n) p → ByForm (b ∷ rest) p
 text_by_form b n rest p single l c =
     let quote = text_first b n rest l.holds in
     shaped b rest p (Inside Q.Text None) (O.opens_text b rest quote single)
@@ -313,7 +338,8 @@ run_by_form b n rest l =
     (takes_front (IsRun (b ∷ rest)) (Single b) b rest n _ (run_matches b rest first) l
     (λ k t is e w. ap (λ x. run_piece x (b ∷ rest)) is ∙ sym (run_is k b rest t e)))
 
-one_run : (b : ℕ) (rest : List ℕ) → in_run false b (byte_at rest 0) ≡ true → (k : ℕ) → k < 1 → in_run (behind_dot (b ∷ rest) k) (byte_at (b ∷ rest) k) (byte_at (b ∷ rest) (suc k)) ≡ true
+one_run : (b : ℕ) (rest : List ℕ) → in_run false b (byte_at rest 0) ≡ true → (k : ℕ) → k < 1 → in_run (behind_dot (b ∷ rest) k) (byte_at (b ∷ rest) k)
+    (byte_at (b ∷ rest) (suc k)) ≡ true
 one_run b rest first zero lt = first
 one_run b rest first (suc k) lt = (let f : ⊥ = omega arith in absurd f)
 
@@ -331,20 +357,24 @@ by_form_at b rest _ (line_comment_here n next l) = line_by_form b n rest next l
 by_form_at b rest p (nested_comment_here n l c) = nested_by_form b n rest p l c
 by_form_at b rest _ (bad_comment e none) =
     let f = both_true (b == 35) (byte_at rest 0 == 91) e in
-    shaped b rest _ (Nested 0 L.Hash) (O.opens_nested b rest f.0 f.1) (takes_none (Front IsNestedComment (b ∷ rest)) (Nested 0 L.Hash) b rest _ (nested_matches b rest f.0 f.1) none refl)
+    shaped b rest _ (Nested 0 L.Hash) (O.opens_nested b rest f.0 f.1)
+    (takes_none (Front IsNestedComment (b ∷ rest)) (Nested 0 L.Hash) b rest _ (nested_matches b rest f.0 f.1) none refl)
 by_form_at b rest _ (name_here n l name) = name_by_form b n rest l name
 by_form_at b rest _ (bad_name n l bad) = bad_name_by_form b n rest l bad
 by_form_at b rest _ (integer_here n value l integer) = integer_by_form b n value rest l integer
 by_form_at b rest _ (bad_integer n l bad) = bad_integer_by_form b n rest l bad
 by_form_at b rest p (char_here n value l char c) = char_by_form b n value rest p l char c
-by_form_at b rest _ (bad_char quote none) = shaped b rest _ (Inside Q.Char None) (O.opens_char b rest quote) (takes_none (Front SomeChar (b ∷ rest)) (Inside Q.Char None) b rest _ (char_matches b rest quote) none refl)
+by_form_at b rest _ (bad_char quote none) = shaped b rest _ (Inside Q.Char None) (O.opens_char b rest quote)
+    (takes_none (Front SomeChar (b ∷ rest)) (Inside Q.Char None) b rest _ (char_matches b rest quote) none refl)
 by_form_at b rest p (text_here n single l c) = text_by_form b n rest p single l c
 by_form_at b rest _ (bad_text quote none) = by_test _ (is_triple rest)
     (λ triple. known b rest _ (O.opens_triple b rest quote triple))
-    (λ single. shaped b rest _ (Inside Q.Text None) (O.opens_text b rest quote single) (takes_none (Front SomeText (b ∷ rest)) (Inside Q.Text None) b rest _ (text_matches b rest quote) none refl))
+    (λ single. shaped b rest _ (Inside Q.Text None) (O.opens_text b rest quote single)
+    (takes_none (Front SomeText (b ∷ rest)) (Inside Q.Text None) b rest _ (text_matches b rest quote) none refl))
 by_form_at b rest _ (triple_quotes quote triple) = known b rest _ (O.opens_triple b rest quote triple)
 by_form_at b rest _ (quoted_here n l) = quoted_by_form b n rest l
-by_form_at b rest _ (bad_quoted quote none) = shaped b rest _ (Quoted false) (O.opens_quoted b rest quote) (takes_none (Front IsQuoted (b ∷ rest)) (Quoted false) b rest _ (quoted_matches b rest quote) none refl)
+by_form_at b rest _ (bad_quoted quote none) = shaped b rest _ (Quoted false) (O.opens_quoted b rest quote)
+    (takes_none (Front IsQuoted (b ∷ rest)) (Quoted false) b rest _ (quoted_matches b rest quote) none refl)
 by_form_at b rest _ (pragma_opens e) = known b rest _ (O.pragma_opening b rest e)
 by_form_at b rest _ (pragma_closes e) = known b rest _ (O.pragma_closing b rest e)
 by_form_at b rest _ (bracket_here e none) = known b rest _ (O.opens_bracket b rest e none)
@@ -352,7 +382,8 @@ by_form_at b rest _ (run_here n l) = run_by_form b n rest l
 by_form_at b rest _ (no_piece e) = known b rest _ (O.opens_none b rest e)
 
 brace_here : (b : ℕ) (rest : List ℕ) → (b == 123) ≡ true → opens_pragma b rest ≡ false → FirstPiece b rest (Found (T.Punct 123) 1)
-brace_here b rest brace none = subst (λ x. FirstPiece b rest (Found (T.Punct x) 1)) (eqb-true b 123 brace) (bracket_here (at_byte (λ x. is_bracket x ≡ true) b 123 refl brace) none)
+brace_here b rest brace none = subst (λ x. FirstPiece b rest (Found (T.Punct x) 1)) (eqb-true b 123 brace)
+    (bracket_here (at_byte (λ x. is_bracket x ≡ true) b 123 refl brace) none)
 
 from_opening : (b : ℕ) (rest : List ℕ) (p : Piece) (o : Opening) → O.Opens b rest o → Takes o b rest p → FirstPiece b rest p
 from_opening b rest p _ (O.letter_opens e) x = from_word b rest p e x

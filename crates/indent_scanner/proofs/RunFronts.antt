@@ -63,7 +63,8 @@ run_off p _ b next is e = absurd is
 abbrev In : List ℕ → ℕ → Type 0
 In bytes k = in_run (behind_dot bytes k) (byte_at bytes k) (byte_at bytes (suc k)) ≡ true
 
-each_more : (n p b : ℕ) (rest : List ℕ) → in_run (p == 46) b (get_or rest 0 0) ≡ true → ((k : ℕ) → k < n → In (b ∷ rest) (suc k)) → (k : ℕ) → k < suc n → In (p ∷ b ∷ rest) (suc k)
+each_more : (n p b : ℕ) (rest : List ℕ) → in_run (p == 46) b (get_or rest 0 0) ≡ true → ((k : ℕ) → k < n → In (b ∷ rest) (suc k)) → (k : ℕ) → k < suc n
+    → In (p ∷ b ∷ rest) (suc k)
 each_more n p b rest first all zero lt = first
 each_more n p b rest first all (suc k) lt = all k (omega arith)
 
@@ -76,7 +77,8 @@ run_each (suc n) (b ∷ rest) p s t is e =
     (λ g. let o = run_on p s b (get_or rest 0 0) is g in each_more n p b rest g (run_each n rest b f.0 t (subst (Behind b) (some_same _ o.1 f.1) o.2) f.2))
     (λ g. absurd (no_some _ (run_off p s b (get_or rest 0 0) is g) f.1))
 
-each_run : (n : ℕ) (rest : List ℕ) (p : ℕ) (s : Shape) → Behind p s → ((k : ℕ) → k < n → In (p ∷ rest) (suc k)) → (t : Shape) × (form s n rest ≡ Some t) × (is_whole t ≡ true)
+each_run : (n : ℕ) (rest : List ℕ) (p : ℕ) (s : Shape) → Behind p s → ((k : ℕ) → k < n → In (p ∷ rest) (suc k)) → (t : Shape) × (form s n rest ≡ Some t)
+    × (is_whole t ≡ true)
 each_run zero rest p s is all = (s, refl, behind_whole p s is)
 each_run (suc n) [] p s is all = (let e = all zero (omega arith) in let f : ⊥ = cc in absurd f)
 each_run (suc n) (b ∷ rest) p s is all =

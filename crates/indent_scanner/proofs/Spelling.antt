@@ -1,5 +1,6 @@
 -- What is so of the bytes of each token that a piece is.
-use Rattle.std.proofs.Common.{◌≡◌, ℕ, zero, suc, ◌+◌, ◌<◌, ◌≤◌, List, [], ◌∷◌, ◌≢◌, length, take, get_or, Bool, true, false, refl, sym, ap, ◌∙◌, arith, length-take-le}
+use Rattle.std.proofs.Common.{◌≡◌, ℕ, zero, suc, ◌+◌, ◌<◌, ◌≤◌, List, [], ◌∷◌, ◌≢◌, length, take, get_or, Bool, true, false, refl, sym, ap, ◌∙◌, arith}
+use Rattle.std.proofs.Common.{length-take-le}
 use Rattle.std.specs.Prelude.{Option, Some, None, cond, ◌==◌, ◌&&◌, nat_lt, pos}
 use Rattle.std.specs.List.{AllPass}
 use Rattle.std.proofs.lemmas.Bool.{eqb-true, le-leb}
@@ -13,7 +14,10 @@ use Rattle.indent_scanner.specs.Bytes.{byte_at, is_digit, is_bracket, is_operato
 use Rattle.indent_scanner.specs.Words.{key_of}
 use Rattle.indent_scanner.specs.Grammar.{IsName, IsInteger}
 use Rattle.indent_scanner.specs.Meaning.{IsOperators, IsSpelled}
-use Rattle.indent_scanner.specs.Pieces.{IsRun, word_kind, word_piece, int_piece, run_piece, Checked, clean, stray, FirstPiece, blank_here, line_end_here, line_comment_here, nested_comment_here, bad_comment, name_here, bad_name, integer_here, bad_integer, char_here, bad_char, text_here, bad_text, triple_quotes, quoted_here, bad_quoted, pragma_opens, pragma_closes, bracket_here, run_here, no_piece, Begins}
+use Rattle.indent_scanner.specs.Pieces.{IsRun, word_kind, word_piece, int_piece, run_piece, Checked, clean, stray, FirstPiece, blank_here, line_end_here}
+use Rattle.indent_scanner.specs.Pieces.{line_comment_here, nested_comment_here, bad_comment, name_here, bad_name, integer_here, bad_integer, char_here}
+use Rattle.indent_scanner.specs.Pieces.{bad_char, text_here, bad_text, triple_quotes, quoted_here, bad_quoted, pragma_opens, pragma_closes, bracket_here}
+use Rattle.indent_scanner.specs.Pieces.{run_here, no_piece, Begins}
 use Rattle.indent_scanner.proofs.Bools.{by_cond, both_true, are_true, or_left, or_right, not_both, at_byte, pass_none, pass_more}
 use Rattle.indent_scanner.proofs.Feeds.{NoFeed, other_byte, pass_feeds, word_feeds, numeral_feeds, char_feeds, text_feeds, quoted_feeds}
 
@@ -39,9 +43,11 @@ checked_holds may n bytes whole _ h (stray k lt is before) = tt
 front_passes : (test : ℕ → Bool) (n : ℕ) (bytes : List ℕ) → ((k : ℕ) → k < n → test (get_or bytes k 0) ≡ true) → AllPass test (take n bytes)
 front_passes test zero bytes all = pass_none test
 front_passes test (suc n) [] all = pass_none test
-front_passes test (suc n) (b ∷ bytes) all = pass_more test b (take n bytes) (all zero (omega arith)) (front_passes test n bytes (λ k lt. all (suc k) (omega (arith, lt))))
+front_passes test (suc n) (b ∷ bytes) all = pass_more test b (take n bytes) (all zero (omega arith))
+    (front_passes test n bytes (λ k lt. all (suc k) (omega (arith, lt))))
 
-clean_holds : (test : ℕ → Bool) (kind : Tok) (n : ℕ) (bytes : List ℕ) (p : Piece) → (AllPass test (take n bytes) → IsToken kind n bytes) → Checked (λ c next. test c) n bytes (Found kind n) p → Holds p bytes
+clean_holds : (test : ℕ → Bool) (kind : Tok) (n : ℕ) (bytes : List ℕ) (p : Piece) → (AllPass test (take n bytes) → IsToken kind n bytes)
+    → Checked (λ c next. test c) n bytes (Found kind n) p → Holds p bytes
 clean_holds test kind n bytes _ h (clean all) = h (front_passes test n bytes all)
 clean_holds test kind n bytes _ h (stray k lt is before) = tt
 
@@ -60,7 +66,8 @@ at_most value e = grind (arith, e, le-leb)
 
 int_holds : (value n : ℕ) (bytes : List ℕ) → n ≤ length bytes → NoFeed (take n bytes) → IsInteger (take n bytes) value → Holds (int_piece value n bytes) bytes
 int_holds value n bytes le feeds integer =
-    if_holds bytes (byte_at bytes n == 46 && is_digit (byte_at bytes (n + 1))) (Refused BadLiteral 0) (cond (nat_lt 2147483647 value) (Refused IntTooLarge 0) (Found (T.Int (pos value)) n)) (λ e. tt)
+    if_holds bytes (byte_at bytes n == 46 && is_digit (byte_at bytes (n + 1))) (Refused BadLiteral 0)
+    (cond (nat_lt 2147483647 value) (Refused IntTooLarge 0) (Found (T.Int (pos value)) n)) (λ e. tt)
     (λ e. if_holds bytes (nat_lt 2147483647 value) (Refused IntTooLarge 0) (Found (T.Int (pos value)) n) (λ f. tt)
     (λ f. record { inside = le; no_feed = feeds; spelled = (value, integer, at_most value f, refl) }))
 
@@ -81,7 +88,8 @@ run_operators : (n : ℕ) (bytes : List ℕ) → IsRun bytes n → (k : ℕ) →
 run_operators n bytes r k lt = (both_true (is_operator (get_or bytes k 0)) _ (r.each k lt)).0
 
 -- the first bytes of a run, so many
-front_holds : (n m b : ℕ) (rest : List ℕ) → IsRun (b ∷ rest) n → m ≤ n → (AllPass is_operator (take m (b ∷ rest)) → m ≤ length (b ∷ rest) → IsOperators (take m (b ∷ rest))) → IsToken T.Op m (b ∷ rest)
+front_holds : (n m b : ℕ) (rest : List ℕ) → IsRun (b ∷ rest) n → m ≤ n
+    → (AllPass is_operator (take m (b ∷ rest)) → m ≤ length (b ∷ rest) → IsOperators (take m (b ∷ rest))) → IsToken T.Op m (b ∷ rest)
 front_holds n m b rest r le spelled =
     let all : (k : ℕ) → k < m → is_operator (get_or (b ∷ rest) k 0) ≡ true = λ k lt. run_operators n (b ∷ rest) r k (omega (arith, lt, le)) in
     let pass = front_passes is_operator m (b ∷ rest) all in let inside = operators_inside m (b ∷ rest) all in
@@ -120,10 +128,20 @@ run_holds : (n b : ℕ) (rest : List ℕ) → IsRun (b ∷ rest) n → Holds (ru
 run_holds n b rest r =
     let all = b ∷ rest in let some = r.some in let last = Found T.Op n in
     if_holds all (n == 1 && is_mark b) (Found (T.Punct b) 1) (cond (n == 2 && (b == 42 && byte_at all 1 == 58)) (Found T.Op 1) last)
-    (λ e. record { inside = omega arith; no_feed = (other_byte is_operator b refl (run_operators n all r 0 (omega (arith, some))), tt); spelled = (or_right (is_bracket b) (is_mark b) (both_true (n == 1) _ e).1, refl) })
+    (λ e. record {
+      inside = omega arith;
+      no_feed = (other_byte is_operator b refl (run_operators n all r 0 (omega (arith, some))), tt);
+      spelled = (or_right (is_bracket b) (is_mark b) (both_true (n == 1) _ e).1, refl);
+    })
     (λ e. if_holds all (n == 2 && (b == 42 && byte_at all 1 == 58)) (Found T.Op 1) last
     (λ f. front_holds n 1 b rest r some (λ pass inside. star_alone b (both_true (b == 42) _ (both_true (n == 2) _ f).1).0 pass))
-    (λ f. front_holds n n b rest r (omega arith) (λ pass inside. record { operators = pass; some = front_some n b rest some; no_mark = run_no_mark n b rest inside e; no_star_colon = run_no_star_colon n b rest inside f })))
+    (λ f. front_holds n n b rest r (omega arith)
+    (λ pass inside. record {
+      operators = pass;
+      some = front_some n b rest some;
+      no_mark = run_no_mark n b rest inside e;
+      no_star_colon = run_no_star_colon n b rest inside f;
+    })))
 
 -- ---- two bytes
 
@@ -131,7 +149,8 @@ second_there : (rest : List ℕ) (k : ℕ) → (get_or rest 0 0 == suc k) ≡ tr
 second_there [] k e = (let f = eqb-true 0 (suc k) e in let g : ⊥ = omega (arith, f) in absurd g)
 second_there (c ∷ rest) k e = omega arith
 
-pair_holds : (kind : Tok) (b x y : ℕ) (rest : List ℕ) → (b == x) ≡ true → (get_or rest 0 0 == suc y) ≡ true → (x == 10) ≡ false → (suc y == 10) ≡ false → IsSpelled kind (x ∷ suc y ∷ []) → IsToken kind 2 (b ∷ rest)
+pair_holds : (kind : Tok) (b x y : ℕ) (rest : List ℕ) → (b == x) ≡ true → (get_or rest 0 0 == suc y) ≡ true → (x == 10) ≡ false → (suc y == 10) ≡ false
+    → IsSpelled kind (x ∷ suc y ∷ []) → IsToken kind 2 (b ∷ rest)
 pair_holds kind b x y [] e f g h spelled = (let n = eqb-true 0 (suc y) f in let k : ⊥ = omega (arith, n) in absurd k)
 pair_holds kind b x y (c ∷ rest) e f g h spelled = record {
   inside = omega arith;
@@ -151,16 +170,21 @@ row_holds b rest _ (name_here n l name) = word_holds n (b ∷ rest) l.holds.insi
 row_holds b rest _ (bad_name n l bad) = tt
 row_holds b rest _ (integer_here n value l integer) = int_holds value n (b ∷ rest) l.holds.inside (numeral_feeds (take n (b ∷ rest)) l.holds.whole) integer
 row_holds b rest _ (bad_integer n l bad) = tt
-row_holds b rest p (char_here n value l char c) = clean_holds in_char (T.Char value) n (b ∷ rest) p (λ all. record { inside = l.holds.inside; no_feed = char_feeds (take n (b ∷ rest)) l.holds.whole; spelled = (char, all) }) c
+row_holds b rest p (char_here n value l char c) = clean_holds in_char (T.Char value) n (b ∷ rest) p
+    (λ all. record { inside = l.holds.inside; no_feed = char_feeds (take n (b ∷ rest)) l.holds.whole; spelled = (char, all) }) c
 row_holds b rest _ (bad_char quote none) = tt
-row_holds b rest p (text_here n single l c) = clean_holds in_text T.Text n (b ∷ rest) p (λ all. record { inside = l.holds.inside; no_feed = text_feeds (take n (b ∷ rest)) l.holds.whole; spelled = (l.holds.whole, all) }) c
+row_holds b rest p (text_here n single l c) = clean_holds in_text T.Text n (b ∷ rest) p
+    (λ all. record { inside = l.holds.inside; no_feed = text_feeds (take n (b ∷ rest)) l.holds.whole; spelled = (l.holds.whole, all) }) c
 row_holds b rest _ (bad_text quote none) = tt
 row_holds b rest _ (triple_quotes quote triple) = tt
 row_holds b rest _ (quoted_here n l) = record { inside = l.holds.inside; no_feed = quoted_feeds (take n (b ∷ rest)) l.holds.whole; spelled = l.holds.whole }
 row_holds b rest _ (bad_quoted quote none) = tt
-row_holds b rest _ (pragma_opens e) = let f = both_true (b == 123) _ e in pair_holds T.PragmaOpen b 123 45 rest f.0 (both_true (byte_at rest 0 == 46) _ f.1).0 refl refl refl
+row_holds b rest _ (pragma_opens e) =
+    let f = both_true (b == 123) _ e in
+    pair_holds T.PragmaOpen b 123 45 rest f.0 (both_true (byte_at rest 0 == 46) _ f.1).0 refl refl refl
 row_holds b rest _ (pragma_closes e) = let f = both_true (b == 46) _ e in pair_holds T.PragmaClose b 46 124 rest f.0 f.1 refl refl refl
-row_holds b rest _ (bracket_here e none) = record { inside = omega arith; no_feed = (other_byte is_bracket b refl e, tt); spelled = (or_left (is_bracket b) (is_mark b) e, refl) }
+row_holds b rest _ (bracket_here e none) =
+    record { inside = omega arith; no_feed = (other_byte is_bracket b refl e, tt); spelled = (or_left (is_bracket b) (is_mark b) e, refl) }
 row_holds b rest _ (run_here n l) = run_holds n b rest l.holds
 row_holds b rest _ (no_piece e) = tt
 

@@ -1,5 +1,6 @@
 -- How the code finds a piece: by the form that its first byte opens. No public clause speaks of forms.
-use Rattle.std.specs.Prelude.{◌≡◌, ◌≢◌, ◌≤◌, length, ℕ, zero, suc, ◌-◌, ◌⊎◌, Bool, true, false, not, ◌&&◌, ◌==◌, if◌then◌else◌, List, [], ◌∷◌, drop, Option, Some, None}
+use Rattle.std.specs.Prelude.{◌≡◌, ◌≢◌, ◌≤◌, length, ℕ, zero, suc, ◌-◌, ◌⊎◌, Bool, true, false, not, ◌&&◌, ◌==◌, if◌then◌else◌, List, [], ◌∷◌, drop, Option}
+use Rattle.std.specs.Prelude.{Some, None}
 use Rattle.arc_base.specs.declared.place.Code.{Code}
 use Rattle.arc_base.specs.declared.place.Code.TheVariants.{BadByte, BadLiteral}
 use Rattle.indent_scanner.specs.declared.token.Tok.{Tok}
@@ -7,7 +8,8 @@ use Rattle.indent_scanner.specs.declared.token.Tok.TheVariants as T
 use Rattle.indent_scanner.specs.declared.shape.Quote.TheVariants as Q
 use Rattle.indent_scanner.specs.declared.shape.Last.TheVariants as L
 use Rattle.indent_scanner.specs.declared.shape.Shape.{Shape}
-use Rattle.indent_scanner.specs.declared.shape.Shape.TheVariants.{Word, WordUnder, BrokenWord, Zero, Number, Inside, CharWhole, TextWhole, Quoted, QuotedWhole, Line, Nested, NestedWhole, Single, StarColon, Run}
+use Rattle.indent_scanner.specs.declared.shape.Shape.TheVariants.{Word, WordUnder, BrokenWord, Zero, Number, Inside, CharWhole, TextWhole, Quoted, QuotedWhole}
+use Rattle.indent_scanner.specs.declared.shape.Shape.TheVariants.{Line, Nested, NestedWhole, Single, StarColon, Run}
 use Rattle.indent_scanner.specs.declared.piece.Piece.{Piece}
 use Rattle.indent_scanner.specs.declared.piece.Piece.TheVariants.{Gap, Found, Refused}
 use Rattle.indent_scanner.specs.declared.piece.Opening.{Opening}

@@ -1,6 +1,7 @@
 -- Which piece a list of bytes begins with: a token, a gap between tokens, or neither. The kind of a piece is told by its
 -- first bytes, and its length by the longest front that is whole.
-use Rattle.std.specs.Prelude.{◌≡◌, ◌≤◌, ◌<◌, length, ℕ, zero, suc, ◌+◌, pos, Bool, true, false, not, nat_lt, ◌&&◌, ◌||◌, ◌==◌, if◌then◌else◌, List, [], ◌∷◌, take, Option, Some, None}
+use Rattle.std.specs.Prelude.{◌≡◌, ◌≤◌, ◌<◌, length, ℕ, zero, suc, ◌+◌, pos, Bool, true, false, not, nat_lt, ◌&&◌, ◌||◌, ◌==◌, if◌then◌else◌, List, [], ◌∷◌}
+use Rattle.std.specs.Prelude.{take, Option, Some, None}
 use Rattle.arc_base.specs.declared.place.Code.TheVariants.{BadByte, BadLiteral, IntTooLarge}
 use Rattle.indent_scanner.specs.declared.token.Key.{Key}
 use Rattle.indent_scanner.specs.declared.token.Tok.{Tok}
@@ -83,7 +84,8 @@ opens_pragma b rest = b == 123 && (byte_at rest 0 == 46 && not (byte_at rest 1 =
 -- a line feed
 abbrev pub is_first : ℕ → ℕ → Bool
 is_first b next =
-    is_letter b || (is_digit b || (is_blank b || ((b == 13 && next == 10) || (b == 35 || (b == 39 || (b == 34 || (b == 96 || (is_bracket b || is_operator b))))))))
+    is_letter b || (is_digit b
+    || (is_blank b || ((b == 13 && next == 10) || (b == 35 || (b == 39 || (b == 34 || (b == 96 || (is_bracket b || is_operator b))))))))
 
 -- b and the bytes behind it begin with this piece
 pub data FirstPiece (b : ℕ) (rest : List ℕ) : Piece → Type 0 where

@@ -1,11 +1,14 @@
 -- The forms of pieces, by which the code reads byte by byte. No public clause speaks of them.
-use Rattle.std.specs.Prelude.{◌≡◌, ℕ, zero, suc, ◌+◌, ◌-◌, ◌*◌, ◌≤◌, min, Bool, true, false, nat_le, ◌&&◌, ◌==◌, if◌then◌else◌, List, [], ◌∷◌, Option, Some, None}
+use Rattle.std.specs.Prelude.{◌≡◌, ℕ, zero, suc, ◌+◌, ◌-◌, ◌*◌, ◌≤◌, min, Bool, true, false, nat_le, ◌&&◌, ◌==◌, if◌then◌else◌, List, [], ◌∷◌, Option, Some}
+use Rattle.std.specs.Prelude.{None}
 use Rattle.indent_scanner.specs.declared.shape.Quote.{Quote}
 use Rattle.indent_scanner.specs.declared.shape.Quote.TheVariants as Q
 use Rattle.indent_scanner.specs.declared.shape.Last.{Last}
 use Rattle.indent_scanner.specs.declared.shape.Last.TheVariants as L
 use Rattle.indent_scanner.specs.declared.shape.Shape.{Shape}
-use Rattle.indent_scanner.specs.declared.shape.Shape.TheVariants.{Word, WordUnder, BrokenWord, Zero, Number, NumberUnder, BrokenNumber, Inside, Escaped, Hex, Decimal, CharWhole, TextWhole, Quoted, QuotedWhole, Line, Nested, NestedWhole, Single, StarColon, Run}
+use Rattle.indent_scanner.specs.declared.shape.Shape.TheVariants.{Word, WordUnder, BrokenWord, Zero, Number, NumberUnder, BrokenNumber, Inside, Escaped, Hex}
+use Rattle.indent_scanner.specs.declared.shape.Shape.TheVariants.{Decimal, CharWhole, TextWhole, Quoted, QuotedWhole, Line, Nested, NestedWhole, Single}
+use Rattle.indent_scanner.specs.declared.shape.Shape.TheVariants.{StarColon, Run}
 use Rattle.indent_scanner.specs.Bytes.{byte_at, is_digit, is_word, is_quotable, is_line_byte, in_run, hex_value, digit_value, simple_escape}
 
 -- ---- words: no two `_` in a row

@@ -1,5 +1,6 @@
 -- The spaces and the indents of tokens.
-use Rattle.std.specs.Prelude.{◌≡◌, ◌≢◌, ℕ, suc, ◌+◌, ◌-◌, nat_le, nat_lt, Bool, true, false, not, ◌&&◌, ◌||◌, ◌==◌, if◌then◌else◌, List, [], ◌∷◌, ◌++◌, length, Some, None}
+use Rattle.std.specs.Prelude.{◌≡◌, ◌≢◌, ℕ, suc, ◌+◌, ◌-◌, nat_le, nat_lt, Bool, true, false, not, ◌&&◌, ◌||◌, ◌==◌, if◌then◌else◌, List, [], ◌∷◌, ◌++◌, length}
+use Rattle.std.specs.Prelude.{Some, None}
 use Rattle.indent_scanner.specs.declared.token.Tok.{Tok}
 use Rattle.indent_scanner.specs.declared.token.Tok.TheVariants.{End}
 use Rattle.indent_scanner.specs.declared.token.Token.{Token}

@@ -1,6 +1,8 @@
 // Classes of bytes.
 ghost use Rattle.std.specs.Prelude.{◌≡◌, IfSome, ◌<◌};
-ghost use Rattle.indent_scanner.specs.Bytes.{byte_at, is_letter, is_digit, is_word, is_operator, is_bracket, is_mark, is_blank, is_quotable, is_line_byte, in_char, in_text, in_comment, in_run, hex_value, digit_value, simple_escape};
+ghost use Rattle.indent_scanner.specs.Bytes.{byte_at, is_letter, is_digit, is_word, is_operator, is_bracket, is_mark};
+ghost use Rattle.indent_scanner.specs.Bytes.{is_blank, is_quotable, is_line_byte, in_char, in_text, in_comment, in_run};
+ghost use Rattle.indent_scanner.specs.Bytes.{hex_value, digit_value, simple_escape};
 
 // The byte at a place, or 0 behind the end.
 pub(crate) fn byte_at(bytes: &[u8], k: usize) -> u8

@@ -11,10 +11,14 @@ ghost use Rattle.indent_scanner.specs.ByForm.{characters};
 
 /// A source has tokens or is refused, and never both: it has one list of tokens, or one refusal at one place.
 pub fn one_reading()
-    ensures some { (source : List ℕ) (number : ℕ) → ((tokens : List Token) × Tokens source tokens) ⊎ ((code : Code) × (at : Place) × IsRefused source number code at) }
+    ensures some { (source : List ℕ) (number : ℕ) → ((tokens : List Token) × Tokens source tokens)
+        ⊎ ((code : Code) × (at : Place) × IsRefused source number code at) }
     ensures once { (source : List ℕ) (tokens others : List Token) → Tokens source tokens → Tokens source others → tokens ≡ others }
-    ensures apart { (source : List ℕ) (number : ℕ) (code : Code) (at : Place) (tokens : List Token) → IsRefused source number code at → Tokens source tokens → ⊥ }
-    ensures refused_once { (source : List ℕ) (number : ℕ) (code other : Code) (at elsewhere : Place) → IsRefused source number code at → IsRefused source number other elsewhere → (code ≡ other) × (at ≡ elsewhere) }
+    ensures apart { (source : List ℕ) (number : ℕ) (code : Code) (at : Place) (tokens : List Token)
+        → IsRefused source number code at → Tokens source tokens → ⊥ }
+    ensures refused_once { (source : List ℕ) (number : ℕ) (code other : Code) (at elsewhere : Place)
+        → IsRefused source number code at → IsRefused source number other elsewhere
+        → (code ≡ other) × (at ≡ elsewhere) }
 {}
 
 /// Each token stands at the line and column of its first byte, and its bytes are a token of its kind; its spaces tell
@@ -25,7 +29,8 @@ pub fn each_token()
     ensures spelled { (source : List ℕ) (tokens : List Token) → Tokens source tokens → All (IsSpelledIn source) tokens }
     ensures spaced { (source : List ℕ) (tokens : List Token) → Tokens source tokens → IsSpaced tokens }
     ensures indented { (source : List ℕ) (tokens : List Token) (r : Tokens source tokens) → All (IsIndented source (comments r)) tokens }
-    ensures refused { (source : List ℕ) (number : ℕ) (code : Code) (at : Place) (r : IsRefused source number code at) → StandsAt source r.here.start at.line at.column }
+    ensures refused { (source : List ℕ) (number : ℕ) (code : Code) (at : Place)
+        (r : IsRefused source number code at) → StandsAt source r.here.start at.line at.column }
 {}
 
 /// The characters of a text are the values that it stands for.

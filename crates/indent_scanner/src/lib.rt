@@ -16,6 +16,3 @@ pub use source::scan;
 pub use text::{characters_of, inner_of, normal_form, text_of};
 pub use token::{Key, Tok, Token};
 pub use words::is_named;
-
-#[cfg(test)]
-mod tests;

@@ -3,7 +3,8 @@ ghost use Rattle.std.specs.Prelude.{◌≡◌, ◌≢◌, ◌≤◌, ◌<◌, �
 ghost use Rattle.indent_scanner.specs.Bytes.{byte_at};
 ghost use Rattle.indent_scanner.specs.Shape.{depth_of};
 ghost use Rattle.indent_scanner.specs.Pieces.{word_kind, word_piece, int_piece, Begins};
-ghost use Rattle.indent_scanner.specs.ByForm.{open_comment, open_text, open_brace, open_digit, open_mark, opening_of, may_hold, stray_in, if_clean, piece_of, code_of, IsWithin};
+ghost use Rattle.indent_scanner.specs.ByForm.{open_comment, open_text, open_brace, open_digit, open_mark, opening_of};
+ghost use Rattle.indent_scanner.specs.ByForm.{may_hold, stray_in, if_clean, piece_of, code_of, IsWithin};
 
 use crate::bytes::{
     byte_at, in_char, in_comment, in_text, is_blank, is_bracket, is_digit, is_letter, is_mark,

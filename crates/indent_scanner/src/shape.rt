@@ -1,6 +1,9 @@
 // The forms of pieces, byte by byte.
 ghost use Rattle.std.specs.Prelude.{◌≡◌, ◌≤◌, ◌<◌, ◌+◌, ◌^◌, ℕ, Some, None, IfSome, IsTrue, true, false, length};
-ghost use Rattle.indent_scanner.specs.Shape.{word_step, under_step, while_word, with_digit, digit_step, digit_due_step, zero_step, character, plain_step, inside_step, decimal_step, simple_step, escaped_step, hex_step, quoted_step, line_step, nested_on, nested_step, run_step, single_step, step, is_whole, depth_of, form};
+ghost use Rattle.indent_scanner.specs.Shape.{word_step, under_step, while_word, with_digit, digit_step, digit_due_step};
+ghost use Rattle.indent_scanner.specs.Shape.{zero_step, character, plain_step, inside_step, decimal_step, simple_step};
+ghost use Rattle.indent_scanner.specs.Shape.{escaped_step, hex_step, quoted_step, line_step, nested_on, nested_step};
+ghost use Rattle.indent_scanner.specs.Shape.{run_step, single_step, step, is_whole, depth_of, form};
 
 use crate::bytes::{
     byte_at, digit_value, hex_value, in_run, is_digit, is_line_byte, is_quotable, is_word,

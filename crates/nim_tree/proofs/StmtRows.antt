@@ -10,10 +10,15 @@ use Rattle.nim_tree.specs.declared.stmt.ProcHead.{ProcHead}
 use Rattle.nim_tree.specs.declared.stmt.Branch.{Branch as RustBranch}
 use Rattle.nim_tree.specs.declared.stmt.Handler.{Handler as RustHandler}
 use Rattle.nim_tree.specs.declared.stmt.Stmt.{Stmt as RustStmt}
-use Rattle.nim_tree.specs.declared.stmt.Stmt.TheBlock.{Row_of-Stmt, end_of-Stmt, more_of-Stmt, items-the_row-Stmt, items_hidden-the_row-Stmt-0, items_shown-the_row-Stmt-0, Row_of-Branch, end_of-Branch, more_of-Branch, items-the_row-Branch, items_hidden-the_row-Branch-1, Row_of-Handler, end_of-Handler, more_of-Handler, items-the_row-Handler, items_hidden-the_row-Handler-2}
+use Rattle.nim_tree.specs.declared.stmt.Stmt.TheBlock.{Row_of-Stmt, end_of-Stmt, more_of-Stmt, items-the_row-Stmt, items_hidden-the_row-Stmt-0}
+use Rattle.nim_tree.specs.declared.stmt.Stmt.TheBlock.{items_shown-the_row-Stmt-0, Row_of-Branch, end_of-Branch, more_of-Branch, items-the_row-Branch}
+use Rattle.nim_tree.specs.declared.stmt.Stmt.TheBlock.{items_hidden-the_row-Branch-1, Row_of-Handler, end_of-Handler, more_of-Handler, items-the_row-Handler}
+use Rattle.nim_tree.specs.declared.stmt.Stmt.TheBlock.{items_hidden-the_row-Handler-2}
 use Rattle.nim_tree.specs.declared.stmt.Stmt.TheVariants as rust_stmt
 use Rattle.nim_tree.specs.Terms.{term_of, parts_of}
-use Rattle.nim_tree.specs.Statements.{Statements, Branches, Handlers, branches, selects, repeats, counts, tries, defers, proclaims, then, branch, handler, statement_of, row_of, statements_of, branch_row, branches_of, handler_row, handlers_of, course_of, head_of, body_in, closing_in, branches_in, handlers_in}
+use Rattle.nim_tree.specs.Statements.{Statements, Branches, Handlers, branches, selects, repeats, counts, tries, defers, proclaims, then, branch, handler}
+use Rattle.nim_tree.specs.Statements.{statement_of, row_of, statements_of, branch_row, branches_of, handler_row, handlers_of, course_of, head_of, body_in}
+use Rattle.nim_tree.specs.Statements.{closing_in, branches_in, handlers_in}
 
 rows_are : (n : Count) (row : Row_of-Stmt n) → row_of row ≡ statements_of (items-the_row-Stmt n row)
 rows_are n end_of-Stmt = refl
@@ -21,11 +26,13 @@ rows_are n (more_of-Stmt first row) = ap (then (statement_of first)) (rows_are _
 
 branches_are : (n : Count) (row : Row_of-Branch n) → branch_row row ≡ branches_of (items-the_row-Branch n row)
 branches_are n end_of-Branch = refl
-branches_are n (more_of-Branch at tests p body row) = ap₂ (λ (block : Statements) (rest : Branches). branch at (parts_of tests.items) block rest) (rows_are _ body ∙ ap statements_of (sym (items_shown-the_row-Stmt-0 p body))) (branches_are _ row)
+branches_are n (more_of-Branch at tests p body row) = ap₂ (λ (block : Statements) (rest : Branches). branch at (parts_of tests.items) block rest)
+    (rows_are _ body ∙ ap statements_of (sym (items_shown-the_row-Stmt-0 p body))) (branches_are _ row)
 
 handlers_are : (n : Count) (row : Row_of-Handler n) → handler_row row ≡ handlers_of (items-the_row-Handler n row)
 handlers_are n end_of-Handler = refl
-handlers_are n (more_of-Handler at names binding p body row) = ap₂ (λ (block : Statements) (rest : Handlers). handler at names.items binding block rest) (rows_are _ body ∙ ap statements_of (sym (items_shown-the_row-Stmt-0 p body))) (handlers_are _ row)
+handlers_are n (more_of-Handler at names binding p body row) = ap₂ (λ (block : Statements) (rest : Handlers). handler at names.items binding block rest)
+    (rows_are _ body ∙ ap statements_of (sym (items_shown-the_row-Stmt-0 p body))) (handlers_are _ row)
 
 -- ---- the rows of a statement
 
@@ -54,34 +61,43 @@ handlers_row _ = (_, end_of-Handler)
 
 -- ---- the trees of statements with blocks
 
-pub conditional : (at : Place) (all : Vec RustBranch Global) (otherwise : Vec RustStmt Global) → statement_of (rust_stmt.If at all otherwise) ≡ branches at (branches_of all.items) (statements_of otherwise.items)
+pub conditional : (at : Place) (all : Vec RustBranch Global) (otherwise : Vec RustStmt Global) → statement_of (rust_stmt.If at all otherwise) ≡ branches at
+    (branches_of all.items) (statements_of otherwise.items)
 conditional at all otherwise =
     let first = branches_row (rust_stmt.If at all otherwise) in
     let last = closing_row (rust_stmt.If at all otherwise) in
-    ap₂ (branches at) (branches_are first.0 first.1 ∙ ap branches_of (items_hidden-the_row-Branch-1 all)) (rows_are last.0 last.1 ∙ ap statements_of (items_hidden-the_row-Stmt-0 otherwise))
+    ap₂ (branches at) (branches_are first.0 first.1 ∙ ap branches_of (items_hidden-the_row-Branch-1 all))
+    (rows_are last.0 last.1 ∙ ap statements_of (items_hidden-the_row-Stmt-0 otherwise))
 
-pub selected : (at : Place) (selector : RustExpr) (all : Vec RustBranch Global) (otherwise : Vec RustStmt Global) → statement_of (rust_stmt.Case at selector all otherwise) ≡ selects at (term_of selector) (branches_of all.items) (statements_of otherwise.items)
+pub selected : (at : Place) (selector : RustExpr) (all : Vec RustBranch Global) (otherwise : Vec RustStmt Global)
+    → statement_of (rust_stmt.Case at selector all otherwise) ≡ selects at (term_of selector) (branches_of all.items) (statements_of otherwise.items)
 selected at selector all otherwise =
     let first = branches_row (rust_stmt.Case at selector all otherwise) in
     let last = closing_row (rust_stmt.Case at selector all otherwise) in
-    ap₂ (selects at (term_of selector)) (branches_are first.0 first.1 ∙ ap branches_of (items_hidden-the_row-Branch-1 all)) (rows_are last.0 last.1 ∙ ap statements_of (items_hidden-the_row-Stmt-0 otherwise))
+    ap₂ (selects at (term_of selector)) (branches_are first.0 first.1 ∙ ap branches_of (items_hidden-the_row-Branch-1 all))
+    (rows_are last.0 last.1 ∙ ap statements_of (items_hidden-the_row-Stmt-0 otherwise))
 
-pub repeated : (at : Place) (condition : RustExpr) (body : Vec RustStmt Global) → statement_of (rust_stmt.While at condition body) ≡ repeats at (term_of condition) (statements_of body.items)
+pub repeated : (at : Place) (condition : RustExpr) (body : Vec RustStmt Global) → statement_of (rust_stmt.While at condition body)
+    ≡ repeats at (term_of condition) (statements_of body.items)
 repeated at condition body =
     let row = body_row (rust_stmt.While at condition body) in
     ap (repeats at (term_of condition)) (rows_are row.0 row.1 ∙ ap statements_of (items_hidden-the_row-Stmt-0 body))
 
-pub counted : (at : Place) (variable : Name) (over : Over) (body : Vec RustStmt Global) → statement_of (rust_stmt.For at variable over body) ≡ counts at variable (course_of over) (statements_of body.items)
+pub counted : (at : Place) (variable : Name) (over : Over) (body : Vec RustStmt Global) → statement_of (rust_stmt.For at variable over body)
+    ≡ counts at variable (course_of over) (statements_of body.items)
 counted at variable over body =
     let row = body_row (rust_stmt.For at variable over body) in
     ap (counts at variable (course_of over)) (rows_are row.0 row.1 ∙ ap statements_of (items_hidden-the_row-Stmt-0 body))
 
-pub tried : (at : Place) (body : Vec RustStmt Global) (all : Vec RustHandler Global) (finally : Vec RustStmt Global) → statement_of (rust_stmt.Try at body all finally) ≡ tries at (statements_of body.items) (handlers_of all.items) (statements_of finally.items)
+pub tried : (at : Place) (body : Vec RustStmt Global) (all : Vec RustHandler Global) (finally : Vec RustStmt Global)
+    → statement_of (rust_stmt.Try at body all finally) ≡ tries at (statements_of body.items) (handlers_of all.items) (statements_of finally.items)
 tried at body all finally =
     let first = body_row (rust_stmt.Try at body all finally) in
     let middle = handlers_row (rust_stmt.Try at body all finally) in
     let last = closing_row (rust_stmt.Try at body all finally) in
-    let front = ap₂ (λ (block : Statements) (handled : Handlers). tries at block handled (row_of last.1)) (rows_are first.0 first.1 ∙ ap statements_of (items_hidden-the_row-Stmt-0 body)) (handlers_are middle.0 middle.1 ∙ ap handlers_of (items_hidden-the_row-Handler-2 all)) in
+    let front = ap₂ (λ (block : Statements) (handled : Handlers). tries at block handled (row_of last.1))
+    (rows_are first.0 first.1 ∙ ap statements_of (items_hidden-the_row-Stmt-0 body))
+    (handlers_are middle.0 middle.1 ∙ ap handlers_of (items_hidden-the_row-Handler-2 all)) in
     front ∙ ap (tries at (statements_of body.items) (handlers_of all.items)) (rows_are last.0 last.1 ∙ ap statements_of (items_hidden-the_row-Stmt-0 finally))
 
 pub deferred : (at : Place) (body : Vec RustStmt Global) → statement_of (rust_stmt.Defer at body) ≡ defers at (statements_of body.items)
@@ -89,7 +105,8 @@ deferred at body =
     let row = body_row (rust_stmt.Defer at body) in
     ap (defers at) (rows_are row.0 row.1 ∙ ap statements_of (items_hidden-the_row-Stmt-0 body))
 
-pub proclaimed : (at : Place) (head : ProcHead) (body : Vec RustStmt Global) → statement_of (rust_stmt.Proc at head body) ≡ proclaims at (head_of head) (statements_of body.items)
+pub proclaimed : (at : Place) (head : ProcHead) (body : Vec RustStmt Global) → statement_of (rust_stmt.Proc at head body) ≡ proclaims at (head_of head)
+    (statements_of body.items)
 proclaimed at head body =
     let row = body_row (rust_stmt.Proc at head body) in
     ap (proclaims at (head_of head)) (rows_are row.0 row.1 ∙ ap statements_of (items_hidden-the_row-Stmt-0 body))
@@ -140,5 +157,6 @@ pub branches_inside : (tree : RustStmt) (all : Vec RustBranch Global) → WithBr
 branches_inside tree all (inl (at, otherwise, e)) = ap (λ t. branches_in (statement_of t)) e ∙ ap branches_in (conditional at all otherwise)
 branches_inside tree all (inr (at, selector, otherwise, e)) = ap (λ t. branches_in (statement_of t)) e ∙ ap branches_in (selected at selector all otherwise)
 
-pub handlers_inside : (tree : RustStmt) (at : Place) (body : Vec RustStmt Global) (all : Vec RustHandler Global) (finally : Vec RustStmt Global) → tree ≡ rust_stmt.Try at body all finally → handlers_in (statement_of tree) ≡ handlers_of all.items
+pub handlers_inside : (tree : RustStmt) (at : Place) (body : Vec RustStmt Global) (all : Vec RustHandler Global) (finally : Vec RustStmt Global)
+    → tree ≡ rust_stmt.Try at body all finally → handlers_in (statement_of tree) ≡ handlers_of all.items
 handlers_inside tree at body all finally e = ap (λ t. handlers_in (statement_of t)) e ∙ ap handlers_in (tried at body all finally)

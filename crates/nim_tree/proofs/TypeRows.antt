@@ -4,7 +4,9 @@ use mathlib.Core.Former.{Count}
 use Rattle.arc_base.specs.declared.place.Place.{Place}
 use Rattle.nim_tree.specs.declared.types.Field.{Field}
 use Rattle.nim_tree.specs.declared.types.TypeTree.{TypeTree}
-use Rattle.nim_tree.specs.declared.types.TypeTree.TheBlock.{Row_of-TypeTree, end_of-TypeTree, more_of-TypeTree, items-the_row-TypeTree, items_hidden-the_row-TypeTree-0, Row_of-Field, end_of-Field, more_of-Field, items-the_row-Field, items_hidden-the_row-Field-1}
+use Rattle.nim_tree.specs.declared.types.TypeTree.TheBlock.{Row_of-TypeTree, end_of-TypeTree, more_of-TypeTree, items-the_row-TypeTree}
+use Rattle.nim_tree.specs.declared.types.TypeTree.TheBlock.{items_hidden-the_row-TypeTree-0, Row_of-Field, end_of-Field, more_of-Field, items-the_row-Field}
+use Rattle.nim_tree.specs.declared.types.TypeTree.TheBlock.{items_hidden-the_row-Field-1}
 use Rattle.nim_tree.specs.declared.types.TypeTree.TheVariants as rust_type
 use Rattle.nim_tree.specs.Types.{named, tuple_of, argument, fields, written_of, argument_row, arguments_of, field_row, fields_of, arguments_in, fields_in}
 
@@ -24,7 +26,8 @@ abbrev fields_row : TypeTree → (n : Count) × Row_of-Field n
 fields_row (rust_type.Tuple' _ _ row) = (_, row)
 fields_row _ = (_, end_of-Field)
 
-pub named_type : (at : Place) (text : List ℕ) (arguments : Vec TypeTree Global) → written_of (rust_type.Named at text arguments) ≡ named at text (arguments_of arguments.items)
+pub named_type : (at : Place) (text : List ℕ) (arguments : Vec TypeTree Global) → written_of (rust_type.Named at text arguments) ≡ named at text
+    (arguments_of arguments.items)
 named_type at text arguments =
     let row = arguments_row (rust_type.Named at text arguments) in
     ap (named at text) (arguments_are row.0 row.1 ∙ ap arguments_of (items_hidden-the_row-TypeTree-0 arguments))
@@ -34,8 +37,10 @@ tuple_type at inside =
     let row = fields_row (rust_type.Tuple at inside) in
     ap (tuple_of at) (fields_are row.0 row.1 ∙ ap fields_of (items_hidden-the_row-Field-1 inside))
 
-pub arguments_inside : (tree : TypeTree) (at : Place) (text : List ℕ) (arguments : Vec TypeTree Global) → tree ≡ rust_type.Named at text arguments → arguments_in (written_of tree) ≡ arguments_of arguments.items
+pub arguments_inside : (tree : TypeTree) (at : Place) (text : List ℕ) (arguments : Vec TypeTree Global) → tree ≡ rust_type.Named at text arguments
+    → arguments_in (written_of tree) ≡ arguments_of arguments.items
 arguments_inside tree at text arguments e = ap (λ t. arguments_in (written_of t)) e ∙ ap arguments_in (named_type at text arguments)
 
-pub fields_inside : (tree : TypeTree) (at : Place) (inside : Vec Field Global) → tree ≡ rust_type.Tuple at inside → fields_in (written_of tree) ≡ fields_of inside.items
+pub fields_inside : (tree : TypeTree) (at : Place) (inside : Vec Field Global) → tree ≡ rust_type.Tuple at inside → fields_in (written_of tree)
+    ≡ fields_of inside.items
 fields_inside tree at inside e = ap (λ t. fields_in (written_of t)) e ∙ ap fields_in (tuple_type at inside)

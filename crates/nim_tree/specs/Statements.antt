@@ -17,11 +17,13 @@ use Rattle.nim_tree.specs.declared.stmt.Handler.{Handler}
 use Rattle.nim_tree.specs.declared.stmt.Import.{Import}
 use Rattle.nim_tree.specs.declared.stmt.Module.{Module}
 use Rattle.nim_tree.specs.declared.stmt.Stmt.{Stmt}
-use Rattle.nim_tree.specs.declared.stmt.Stmt.TheBlock.{Row_of-Stmt, end_of-Stmt, more_of-Stmt, Row_of-Branch, end_of-Branch, more_of-Branch, Row_of-Handler, end_of-Handler, more_of-Handler}
+use Rattle.nim_tree.specs.declared.stmt.Stmt.TheBlock.{Row_of-Stmt, end_of-Stmt, more_of-Stmt, Row_of-Branch, end_of-Branch, more_of-Branch, Row_of-Handler}
+use Rattle.nim_tree.specs.declared.stmt.Stmt.TheBlock.{end_of-Handler, more_of-Handler}
 use Rattle.nim_tree.specs.declared.stmt.Stmt.TheVariants as S
 use Rattle.nim_tree.specs.Lists.{highest, total, if_there, one}
 use Rattle.nim_tree.specs.Terms.{Term, Parts, term_of, parts_of, levels, most_levels, nodes, nodes_in}
-use Rattle.nim_tree.specs.Types.{Written, Declaration, written_of, declaration_of, type_levels as written_levels, declaration_levels, type_nodes, declaration_nodes}
+use Rattle.nim_tree.specs.Types.{Written, Declaration, written_of, declaration_of, type_levels as written_levels, declaration_levels, type_nodes}
+use Rattle.nim_tree.specs.Types.{declaration_nodes}
 
 -- names with one type and one value
 pub record Definition : Type 0 where
@@ -336,13 +338,24 @@ abbrev mutual
 -- ---- the trees of the parser
 
 abbrev pub definition_of : Def → Definition
-definition_of d = record { names = d.names.items; pragmas = d.pragmas.items; annotation = option_map written_of d.annotation; value = option_map term_of d.value }
+definition_of d = record {
+  names = d.names.items;
+  pragmas = d.pragmas.items;
+  annotation = option_map written_of d.annotation;
+  value = option_map term_of d.value;
+}
 
 abbrev pub parameters_of : Param → Parameters
 parameters_of p = record { names = p.names.items; mode = p.mode; of = written_of p.of }
 
 abbrev pub head_of : ProcHead → Head
-head_of h = record { name = h.name; generics = h.generics.items; params = map parameters_of h.params.items; gives = option_map written_of h.gives; pragmas = h.pragmas.items }
+head_of h = record {
+  name = h.name;
+  generics = h.generics.items;
+  params = map parameters_of h.params.items;
+  gives = option_map written_of h.gives;
+  pragmas = h.pragmas.items;
+}
 
 abbrev pub course_of : Over → Course
 course_of (O.Each value) = each (term_of value)

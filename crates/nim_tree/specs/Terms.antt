@@ -5,7 +5,8 @@ use Rattle.nim_tree.specs.declared.expr.UnaryOp.{UnaryOp}
 use Rattle.nim_tree.specs.declared.expr.BinaryOp.{BinaryOp}
 use Rattle.nim_tree.specs.declared.expr.Choice.{Choice}
 use Rattle.nim_tree.specs.declared.expr.Expr.{Expr}
-use Rattle.nim_tree.specs.declared.expr.Expr.TheBlock.{Row_of-Expr, end_of-Expr, more_of-Expr, Row_of-Choice, end_of-Choice, more_of-Choice, Held-Expr-Case-3, None', Some'}
+use Rattle.nim_tree.specs.declared.expr.Expr.TheBlock.{Row_of-Expr, end_of-Expr, more_of-Expr, Row_of-Choice, end_of-Choice, more_of-Choice, Held-Expr-Case-3}
+use Rattle.nim_tree.specs.declared.expr.Expr.TheBlock.{None', Some'}
 use Rattle.nim_tree.specs.declared.expr.Expr.TheVariants as E
 
 mutual

@@ -1,8 +1,11 @@
 -- A measure of trees that their source outweighs: a part of an expression weighs one, a text as many as it has bytes, and a
 -- statement one and what its expressions and blocks weigh. The code that is made of a tree is measured by it.
 use Rattle.std.specs.Prelude.{ℕ, suc, ◌+◌, List, [], ◌∷◌, length, Option, Some, None}
-use Rattle.nim_tree.specs.Terms.{Term, int, char, text, name, quoted, nil, paren, tuple, array, sequence, construct, named, field, call, index, unary, binary, if_term, case_term, case_else, range, Parts, no_parts, part, Choices, no_choices, choice}
-use Rattle.nim_tree.specs.Statements.{Course, each, up_to, below, Definition, Statement, discards, returns, raises, breaks, continues, imports, evaluates, assigns, commands, defines, types, branches, selects, repeats, counts, tries, defers, proclaims, Statements, empty, then, Branches, no_branches, branch, Handlers, no_handlers, handler}
+use Rattle.nim_tree.specs.Terms.{Term, int, char, text, name, quoted, nil, paren, tuple, array, sequence, construct, named, field, call, index, unary, binary}
+use Rattle.nim_tree.specs.Terms.{if_term, case_term, case_else, range, Parts, no_parts, part, Choices, no_choices, choice}
+use Rattle.nim_tree.specs.Statements.{Course, each, up_to, below, Definition, Statement, discards, returns, raises, breaks, continues, imports, evaluates}
+use Rattle.nim_tree.specs.Statements.{assigns, commands, defines, types, branches, selects, repeats, counts, tries, defers, proclaims, Statements, empty, then}
+use Rattle.nim_tree.specs.Statements.{Branches, no_branches, branch, Handlers, no_handlers, handler}
 
 abbrev mutual
   pub weight : Term → ℕ

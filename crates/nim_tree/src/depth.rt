@@ -1,6 +1,8 @@
 // How deep blocks stand inside one another.
 ghost use Rattle.std.specs.Prelude.{◌≡◌, ◌-◌, ◌^◌, min};
-ghost use Rattle.nim_tree.specs.Statements.{tree_of, statement_of, statements_of, branches_of, handlers_of, block_levels_of, block_levels, levels_if_block, branch_block_levels, handler_block_levels};
+ghost use Rattle.nim_tree.specs.Statements.{tree_of, statement_of, statements_of, branches_of, handlers_of};
+ghost use Rattle.nim_tree.specs.Statements.{block_levels_of, block_levels, levels_if_block, branch_block_levels};
+ghost use Rattle.nim_tree.specs.Statements.{handler_block_levels};
 
 use crate::{Branch, Handler, Module, Stmt};
 

@@ -10,8 +10,6 @@ mod part_count;
 mod part_depth;
 mod stmt;
 mod term_depth;
-#[cfg(test)]
-mod tests;
 mod types;
 
 pub use count::nodes;

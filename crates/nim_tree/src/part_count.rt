@@ -2,7 +2,8 @@
 ghost use Rattle.std.specs.Prelude.{◌≡◌, ◌-◌, ◌^◌, min, length, map, option_map};
 ghost use Rattle.nim_tree.specs.Lists.{total, if_there, one};
 ghost use Rattle.nim_tree.specs.Terms.{term_of, parts_of, choices_of, nodes, nodes_in, nodes_of};
-ghost use Rattle.nim_tree.specs.Types.{written_of, arguments_of, fields_of, body_of, declaration_of, type_nodes, argument_nodes, field_nodes, body_nodes, declaration_nodes};
+ghost use Rattle.nim_tree.specs.Types.{written_of, arguments_of, fields_of, body_of, declaration_of, type_nodes};
+ghost use Rattle.nim_tree.specs.Types.{argument_nodes, field_nodes, body_nodes, declaration_nodes};
 ghost use Rattle.nim_tree.specs.Statements.{definition_of, parameters_of, head_of, course_of, definition_nodes, parameter_nodes, head_nodes, course_nodes};
 
 use crate::{Choice, Def, Expr, Field, Name, Over, Param, ProcHead, TypeBody, TypeDef, TypeTree};

@@ -1,6 +1,7 @@
 // How deep the expressions of statements are.
 ghost use Rattle.std.specs.Prelude.{◌≡◌, ◌-◌, ◌^◌, min};
-ghost use Rattle.nim_tree.specs.Statements.{tree_of, statement_of, statements_of, branches_of, handlers_of, term_levels_of, term_levels, branch_term_levels, handler_term_levels};
+ghost use Rattle.nim_tree.specs.Statements.{tree_of, statement_of, statements_of, branches_of, handlers_of};
+ghost use Rattle.nim_tree.specs.Statements.{term_levels_of, term_levels, branch_term_levels, handler_term_levels};
 
 use crate::expr::most_levels;
 use crate::part_depth::{in_course, in_definitions, in_value};

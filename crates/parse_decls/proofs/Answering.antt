@@ -31,7 +31,8 @@ one_why agree ts v w f g n = n (bad_one (settles_one (agree.faults v ts f) (agre
 
 no_reading : {A C : Type 0} {R S : A → List Token → List Token → Type 0} {F : Why → List Token → Type 0} {run : List Token → ℕ → Out A} → Agree R S F run
     → (ts : List Token) (why : Why) → F why ts → ((at : List Token) → why ≡ too_deep at → C) → (a : A) (rest : List Token) → R a ts rest → C
-no_reading agree ts why f n a rest r = elim (agree.deep a ts rest r) [ inl s ↦ absurd (agree.none a why ts rest f s) | inr d ↦ one_why agree ts why (too_deep d.0) f d.1 (n d.0) ]
+no_reading agree ts why f n a rest r =
+    elim (agree.deep a ts rest r) [ inl s ↦ absurd (agree.none a why ts rest f s) | inr d ↦ one_why agree ts why (too_deep d.0) f d.1 (n d.0) ]
 
 reads_none : {A : Type 0} {R S : A → List Token → List Token → Type 0} {F : Why → List Token → Type 0} {run : List Token → ℕ → Out A} → Agree R S F run
     → (ts : List Token) (why : Why) → F why ts → (why ≡ tired → ⊥) → ReadsNone R S ts why
@@ -48,11 +49,20 @@ never_tired x tired code at t e = t
 
 refused_for : {A : Type 0} {R S : A → List Token → List Token → Type 0} {F : Why → List Token → Type 0} {run : List Token → ℕ → Out A} → Agree R S F run
     → (x : Origin) (ts : List Token) (code : Code) (at : Place) → (h : Refuses (run ts) x code at) → F h.why ts → IsRefused R S F (Tells x) ts code at
-refused_for agree x ts code at h f = record { why = h.why; fault = f; none = reads_none agree ts h.why f (never_tired x h.why code at h.tells); tells = h.tells }
+refused_for agree x ts code at h f = record {
+  why = h.why;
+  fault = f;
+  none = reads_none agree ts h.why f (never_tired x h.why code at h.tells);
+  tells = h.tells;
+}
 
 refused_of : {A : Type 0} {R S : A → List Token → List Token → Type 0} {F : Why → List Token → Type 0} {run : List Token → ℕ → Out A} → Agree R S F run
     → (x : Origin) (ts : List Token) (stop : Stop) → Fails (run ts) x stop → OnRefusal stop (IsRefused R S F (Tells x) ts)
-refused_of agree x ts (Refused code at) h = elim (agree.stops h.why ts h.runs) [ inl e ↦ absurd (never_tired x h.why code at h.tells e) | inr f ↦ refused_for agree x ts code at h f ]
+refused_of agree x ts (Refused code at) h = elim (agree.stops h.why ts h.runs) [
+  | inl e ↦ absurd (never_tired x h.why code at h.tells e)
+  | inr f ↦
+      refused_for agree x ts code at h f
+]
 refused_of agree x ts Memory h = h
 
 -- ---- how much is read
@@ -69,31 +79,41 @@ no_end_of tokens from next n f within = takes_no_end tokens from next n f within
 
 -- ---- what a call says of its text, from what its run comes to
 
-pub comes_reads : {T A : Type 0} (of : T → A) {R S : A → List Token → List Token → Type 0} {F : Why → List Token → Type 0} {run : List Token → ℕ → Out A} → Agree R S F run
-    → (input : Input) (at least : ℕ) (result : Result (Reading T) Stop) → Comes of (run (from_at input at)) input least result → IfOk result (λ p. S (of p.value) (from_at input at) (from_at input p.next))
+pub comes_reads : {T A : Type 0} (of : T → A) {R S : A → List Token → List Token → Type 0} {F : Why → List Token → Type 0} {run : List Token → ℕ → Out A}
+    → Agree R S F run
+    → (input : Input) (at least : ℕ) (result : Result (Reading T) Stop) → Comes of (run (from_at input at)) input least result
+    → IfOk result (λ p. S (of p.value) (from_at input at) (from_at input p.next))
 comes_reads of agree input at least (Ok p) h = agree.sound _ _ _ h.runs
 comes_reads of agree input at least (Err stop) h = tt
 
-pub comes_only : {T A : Type 0} (of : T → A) {R S : A → List Token → List Token → Type 0} {F : Why → List Token → Type 0} {run : List Token → ℕ → Out A} → Agree R S F run
-    → (input : Input) (at least : ℕ) (result : Result (Reading T) Stop) → Comes of (run (from_at input at)) input least result → IfOk result (λ p. IsOnly R input.tokens.now at (of p.value) p.next)
+pub comes_only : {T A : Type 0} (of : T → A) {R S : A → List Token → List Token → Type 0} {F : Why → List Token → Type 0} {run : List Token → ℕ → Out A}
+    → Agree R S F run
+    → (input : Input) (at least : ℕ) (result : Result (Reading T) Stop) → Comes of (run (from_at input at)) input least result
+    → IfOk result (λ p. IsOnly R input.tokens.now at (of p.value) p.next)
 comes_only of agree input at least (Ok p) h = only_of agree input.tokens.now at _ _ h.runs
 comes_only of agree input at least (Err stop) h = tt
 
-pub comes_size : {T A : Type 0} (of : T → A) {R S : A → List Token → List Token → Type 0} {F : Why → List Token → Type 0} {run : List Token → ℕ → Out A} → Agree R S F run
+pub comes_size : {T A : Type 0} (of : T → A) {R S : A → List Token → List Token → Type 0} {F : Why → List Token → Type 0} {run : List Token → ℕ → Out A}
+    → Agree R S F run
     → (nodes : A → ℕ) → ((a : A) (ts rest : List Token) → S a ts rest → Takes (nodes a) ts rest)
-    → (input : Input) (at least : ℕ) → at ≤ least → (result : Result (Reading T) Stop) → Comes of (run (from_at input at)) input least result → IfOk result (λ p. nodes (of p.value) ≤ p.next - at)
+    → (input : Input) (at least : ℕ) → at ≤ least → (result : Result (Reading T) Stop) → Comes of (run (from_at input at)) input least result
+    → IfOk result (λ p. nodes (of p.value) ≤ p.next - at)
 comes_size of agree nodes takes input at least le (Ok p) h =
     let g = h.goes in
     size_of input.tokens.now at p.next (nodes (of p.value)) (takes _ _ _ (agree.sound _ _ _ h.runs)) (omega (arith, g, le)) h.within
 comes_size of agree nodes takes input at least le (Err stop) h = tt
 
-pub comes_inside : {T A : Type 0} (of : T → A) {R S : A → List Token → List Token → Type 0} {F : Why → List Token → Type 0} {run : List Token → ℕ → Out A} → Agree R S F run
+pub comes_inside : {T A : Type 0} (of : T → A) {R S : A → List Token → List Token → Type 0} {F : Why → List Token → Type 0} {run : List Token → ℕ → Out A}
+    → Agree R S F run
     → (nodes : A → ℕ) → ((a : A) (ts rest : List Token) → S a ts rest → Takes (nodes a) ts rest)
-    → (input : Input) (at least : ℕ) (result : Result (Reading T) Stop) → Comes of (run (from_at input at)) input least result → IfOk result (λ p. HasNoEnd input.tokens.now at p.next)
-comes_inside of agree nodes takes input at least (Ok p) h = no_end_of input.tokens.now at p.next (nodes (of p.value)) (takes _ _ _ (agree.sound _ _ _ h.runs)) h.within
+    → (input : Input) (at least : ℕ) (result : Result (Reading T) Stop) → Comes of (run (from_at input at)) input least result
+    → IfOk result (λ p. HasNoEnd input.tokens.now at p.next)
+comes_inside of agree nodes takes input at least (Ok p) h = no_end_of input.tokens.now at p.next (nodes (of p.value))
+    (takes _ _ _ (agree.sound _ _ _ h.runs)) h.within
 comes_inside of agree nodes takes input at least (Err stop) h = tt
 
-pub comes_refused : {T A : Type 0} (of : T → A) {R S : A → List Token → List Token → Type 0} {F : Why → List Token → Type 0} {run : List Token → ℕ → Out A} → Agree R S F run
+pub comes_refused : {T A : Type 0} (of : T → A) {R S : A → List Token → List Token → Type 0} {F : Why → List Token → Type 0} {run : List Token → ℕ → Out A}
+    → Agree R S F run
     → (input : Input) (at least : ℕ) (result : Result (Reading T) Stop) → Comes of (run (from_at input at)) input least result
     → IfErr result (λ stop. OnRefusal stop (IsRefused R S F (Tells (origin_of input)) (from_at input at)))
 comes_refused of agree input at least (Ok p) h = tt

@@ -29,15 +29,18 @@ use Rattle.parse_decls.proofs.Coming.{told_fails, comes_at, behind_at, within_at
 -- what reading goes on as behind the `=`
 abbrev pub declared_run : Input → ℕ → Declared → List Name → List Token → ℕ → Out Declaration
 declared_run input n name parameters ts k =
-    unless_stuck (stays (Lines n) ts) ts (then_do (run_body k (origin_of input) n ts) (λ body rest. got (record { name = name; parameters = parameters; body = body }) rest))
+    unless_stuck (stays (Lines n) ts) ts
+    (then_do (run_body k (origin_of input) n ts) (λ body rest. got (record { name = name; parameters = parameters; body = body }) rest))
 
 -- ---- what a declared type is
 
 pub body_empty : (x : Origin) (n : ℕ) (ts : List Token) → ts ≡ [] → (stop : Stop) → Told x (stuck_at ts) stop → Fails (λ k. run_body k x n ts) x stop
-body_empty x n ts e stop t = subst (λ all. Fails (λ k. run_body k x n all) x stop) (sym e) (told_fails x settles_got stop (subst (λ all. Told x (stuck_at all) stop) e t))
+body_empty x n ts e stop t = subst (λ all. Fails (λ k. run_body k x n all) x stop) (sym e)
+    (told_fails x settles_got stop (subst (λ all. Told x (stuck_at all) stop) e t))
 
 -- the first token is there, and what the body begins with
-pub body_leads : (x : Origin) (n : ℕ) (ts us : List Token) (tok : Token) (lead : BodyLead) (p : Place) → ts ≡ tok ∷ us → body_lead (Lines n) ts ≡ lead → p ≡ place_at x tok
+pub body_leads : (x : Origin) (n : ℕ) (ts us : List Token) (tok : Token) (lead : BodyLead) (p : Place) → ts ≡ tok ∷ us → body_lead (Lines n) ts ≡ lead
+    → p ≡ place_at x tok
     → Leads (λ k. run_body_by k lead x n p ts) (λ k. run_body k x n ts)
 body_leads x n ts us tok lead p s e q o h =
     subst (λ all. Settles (λ k. run_body k x n all) o) (sym s)
@@ -45,18 +48,26 @@ body_leads x n ts us tok lead p s e q o h =
     (subst (λ all. Settles (λ k. run_body_by k lead x n (place_at x tok) all) o) s
     (subst (λ r. Settles (λ k. run_body_by k lead x n r ts) o) q h)))
 
-pub object_comes : (input : Input) (n at : ℕ) (p : Place) (r : Result (Reading TypeBody) Stop) → Comes body_of (λ k. run_object k (origin_of input) n p false (from_at input (at + 1))) input (at + 1) r → Comes body_of (λ k. run_body_by k B.Object (origin_of input) n p (from_at input at)) input (at + 1) r
+pub object_comes : (input : Input) (n at : ℕ) (p : Place) (r : Result (Reading TypeBody) Stop)
+    → Comes body_of (λ k. run_object k (origin_of input) n p false (from_at input (at + 1))) input (at + 1) r
+    → Comes body_of (λ k. run_body_by k B.Object (origin_of input) n p (from_at input at)) input (at + 1) r
 object_comes input n at p r h = comes_at body_of (λ ts k. run_object k (origin_of input) n p false ts) input (at + 1) r (behind_at at input.tokens.now) h
 
-pub ref_object_comes : (input : Input) (n at : ℕ) (p : Place) (r : Result (Reading TypeBody) Stop) → Comes body_of (λ k. run_object k (origin_of input) n p true (from_at input (at + 1 + 1))) input (at + 1 + 1) r
+pub ref_object_comes : (input : Input) (n at : ℕ) (p : Place) (r : Result (Reading TypeBody) Stop)
+    → Comes body_of (λ k. run_object k (origin_of input) n p true (from_at input (at + 1 + 1))) input (at + 1 + 1) r
     → Comes body_of (λ k. run_body_by k B.RefObject (origin_of input) n p (from_at input at)) input (at + 1 + 1) r
 ref_object_comes input n at p r h =
-    comes_at body_of (λ ts k. run_object k (origin_of input) n p true ts) input (at + 1 + 1) r (ap behind (behind_at at input.tokens.now) ∙ behind_at (at + 1) input.tokens.now) h
+    comes_at body_of (λ ts k. run_object k (origin_of input) n p true ts) input (at + 1 + 1) r (ap behind (behind_at at input.tokens.now)
+    ∙ behind_at (at + 1) input.tokens.now) h
 
-pub enum_comes : (input : Input) (n at : ℕ) (p : Place) (r : Result (Reading TypeBody) Stop) → Comes body_of (λ k. run_enum k (origin_of input) n p (from_at input (at + 1))) input (suc (at + 1)) r → Comes body_of (λ k. run_body_by k B.Enum (origin_of input) n p (from_at input at)) input (suc (at + 1)) r
+pub enum_comes : (input : Input) (n at : ℕ) (p : Place) (r : Result (Reading TypeBody) Stop)
+    → Comes body_of (λ k. run_enum k (origin_of input) n p (from_at input (at + 1))) input (suc (at + 1)) r
+    → Comes body_of (λ k. run_body_by k B.Enum (origin_of input) n p (from_at input at)) input (suc (at + 1)) r
 enum_comes input n at p r h = comes_at body_of (λ ts k. run_enum k (origin_of input) n p ts) input (suc (at + 1)) r (behind_at at input.tokens.now) h
 
-pub distinct_comes : (input : Input) (n at : ℕ) (p : Place) (r : Result (Reading TypeBody) Stop) → Comes body_of (λ k. run_distinct k (origin_of input) n p (from_at input (at + 1))) input (suc (at + 1)) r → Comes body_of (λ k. run_body_by k B.Distinct (origin_of input) n p (from_at input at)) input (suc (at + 1)) r
+pub distinct_comes : (input : Input) (n at : ℕ) (p : Place) (r : Result (Reading TypeBody) Stop)
+    → Comes body_of (λ k. run_distinct k (origin_of input) n p (from_at input (at + 1))) input (suc (at + 1)) r
+    → Comes body_of (λ k. run_body_by k B.Distinct (origin_of input) n p (from_at input at)) input (suc (at + 1)) r
 distinct_comes input n at p r h = comes_at body_of (λ ts k. run_distinct k (origin_of input) n p ts) input (suc (at + 1)) r (behind_at at input.tokens.now) h
 
 -- `object` stands behind `ref`
@@ -69,7 +80,8 @@ lead_object i us (T.Key K.Ref) e = if_object (object_at i us) e
 lead_object i us _ e = cc
 
 -- so both stand within the tokens
-pub ref_object_within : (i : Layout) (at : ℕ) (ts us : List Token) (tok : Token) → drop at ts ≡ tok ∷ us → us ≡ drop (at + 1) ts → body_lead i (drop at ts) ≡ B.RefObject → at + 1 < length ts
+pub ref_object_within : (i : Layout) (at : ℕ) (ts us : List Token) (tok : Token) → drop at ts ≡ tok ∷ us → us ≡ drop (at + 1) ts → body_lead i (drop at ts)
+    ≡ B.RefObject → at + 1 < length ts
 ref_object_within i at ts us tok s u e =
     let o = lead_object i us tok.kind (ap (body_lead i) (sym s) ∙ e) in
     within_at (object_at i) refl (at + 1) ts (ap (object_at i) (sym u) ∙ o)

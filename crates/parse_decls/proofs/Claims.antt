@@ -27,7 +27,8 @@ deep_fault : {A : Type 0} {run : ℕ → List Token → Out A} {R D : A → List
     → (ts : List Token) → IsDeep (λ k. run k ts) → (at : List Token) × F (too_deep at) ts
 deep_fault p ts w = elim (p.stops w.runs.steps ts (too_deep w.at) (at_last w.runs)) [ inl t ↦ not_tired_deep t | inr f ↦ (w.at, f) ]
 
-pub agrees : {A : Type 0} {run : ℕ → List Token → Out A} {R D : A → List Token → List Token → Type 0} {F : Why → List Token → Type 0} → Parses run R D F → Agree R D F (λ ts k. run k ts)
+pub agrees : {A : Type 0} {run : ℕ → List Token → Out A} {R D : A → List Token → List Token → Type 0} {F : Why → List Token → Type 0} → Parses run R D F
+    → Agree R D F (λ ts k. run k ts)
 agrees {A} {run} {R} {D} {F} p = record {
   sound = λ a ts rest h. p.sound h.steps ts a rest (at_last h);
   complete = λ a ts rest d. p.complete a ts rest d;
@@ -60,12 +61,21 @@ is_only p tokens from a next h = λ b rest d. reads_once p a b (drop from tokens
 reads_none : {A : Type 0} {run : ℕ → List Token → Out A} {R D : A → List Token → List Token → Type 0} {F : Why → List Token → Type 0} → Parses run R D F
     → (ts : List Token) (why : Why) → Settles (λ k. run k ts) (bad why) → (why ≡ tired → ⊥) → ReadsNone R D ts why
 reads_none p ts (too_deep at) h f = λ a rest d. got_bad (settles_one (p.complete a ts rest d) h)
-reads_none p ts (left_out at) h f = λ a rest d. elim (p.deep a ts rest d) [ inl c ↦ got_bad (settles_one (p.complete a ts rest c) h) | inr w ↦ (let e = bad_one (settles_one w.runs h) in cc) ]
-reads_none p ts (stuck at) h f = λ a rest d. elim (p.deep a ts rest d) [ inl c ↦ got_bad (settles_one (p.complete a ts rest c) h) | inr w ↦ (let e = bad_one (settles_one w.runs h) in cc) ]
+reads_none p ts (left_out at) h f = λ a rest d. elim (p.deep a ts rest d) [
+  | inl c ↦ got_bad (settles_one (p.complete a ts rest c) h)
+  | inr w ↦
+      (let e = bad_one (settles_one w.runs h) in cc)
+]
+reads_none p ts (stuck at) h f = λ a rest d. elim (p.deep a ts rest d) [
+  | inl c ↦ got_bad (settles_one (p.complete a ts rest c) h)
+  | inr w ↦
+      (let e = bad_one (settles_one w.runs h) in cc)
+]
 reads_none p ts tired h f = f refl
 
 pub is_refused : {A : Type 0} {run : ℕ → List Token → Out A} {R D : A → List Token → List Token → Type 0} {F : Why → List Token → Type 0} → Parses run R D F
-    → (Tells : Why → Code → Place → Type 0) (ts : List Token) (why : Why) (code : Code) (at : Place) → Settles (λ k. run k ts) (bad why) → Tells why code at → (Tells tired code at → ⊥) → IsRefused R D F Tells ts code at
+    → (Tells : Why → Code → Place → Type 0) (ts : List Token) (why : Why) (code : Code) (at : Place) → Settles (λ k. run k ts) (bad why) → Tells why code at
+    → (Tells tired code at → ⊥) → IsRefused R D F Tells ts code at
 is_refused {F = F} p Tells ts why code at h t n =
     record { why = why; fault = fault (p.stops h.steps ts why (at_last h)); none = reads_none p ts why h not_tired; tells = t }
   where

@@ -7,7 +7,8 @@ use Rattle.parse_decls.specs.Ends.{HasPlace, Ends, e_read, e_not, enough, Advanc
 use Rattle.parse_decls.specs.Outcome.{Why, tired, Out}
 use Rattle.parse_decls.specs.Run.{run_names, run_def, run_def_block, run_types, run_head}
 use Rattle.parse_decls.specs.Grammar.{Names}
-use Rattle.parse_decls.specs.Faults.{FaultsNames, ShortDefinition, FaultsDefinition, ShortDefinitionBlock, FaultsDefinitionBlock, ShortDeclarations, FaultsDeclarations, ShortHead, FaultsHead}
+use Rattle.parse_decls.specs.Faults.{FaultsNames, ShortDefinition, FaultsDefinition, ShortDefinitionBlock, FaultsDefinitionBlock, ShortDeclarations}
+use Rattle.parse_decls.specs.Faults.{FaultsDeclarations, ShortHead, FaultsHead}
 use Rattle.parse_decls.proofs.Declarations.{declarations}
 use Rattle.parse_decls.proofs.Definitions.{definition, definition_block}
 use Rattle.parse_decls.proofs.Ending.{wider, ends_names, ends_def, ends_def_block, ends_types, ends_head}

@@ -24,9 +24,15 @@ use Rattle.parse_decls.specs.declared.look.TypeLead.{TypeLead}
 use Rattle.parse_decls.specs.declared.look.TypeLead.TheVariants as L
 use Rattle.parse_decls.specs.declared.look.BodyLead.{BodyLead}
 use Rattle.parse_decls.specs.declared.look.BodyLead.TheVariants as B
-use Rattle.parse_decls.specs.Look.{behind, deeper_at, stands_at, level_at, past_star, proc_name_on, opens_at, equals_at, of_at, separator_at, is_pragma_close, pragmas_at, pragma_named, type_lead, type_at, mode_at, past_if_mode, past_mode, body_lead, member_at}
+use Rattle.parse_decls.specs.Look.{behind, deeper_at, stands_at, level_at, past_star, proc_name_on, opens_at, equals_at, of_at, separator_at, is_pragma_close}
+use Rattle.parse_decls.specs.Look.{pragmas_at, pragma_named, type_lead, type_at, mode_at, past_if_mode, past_mode, body_lead, member_at}
 use Rattle.parse_decls.specs.Outcome.{Out, got, bad, then_do, too_deep, left_out, stuck, stuck_at, unless_stuck, of_expr}
-use Rattle.parse_decls.specs.Run.{most_levels, run_named, run_name, run_more_names, run_names, run_shown, run_declared, run_more_declared, run_declareds, run_generics, run_known, run_pragma_name, run_pragma, run_more_pragmas, run_pragmas, length_of, run_length, run_type, run_sort, run_inside, run_arguments, run_part, run_parts, run_written, run_typed, run_annotation, run_given, run_defined, run_def, run_defs, run_def_block, run_parent, run_field, run_fields, run_field_block, run_object, run_more_members, run_members, run_body_by, run_body, run_declaration, run_declarations, run_types, run_param, run_more_params, run_params, run_head}
+use Rattle.parse_decls.specs.Run.{most_levels, run_named, run_name, run_more_names, run_names, run_shown, run_declared, run_more_declared, run_declareds}
+use Rattle.parse_decls.specs.Run.{run_generics, run_known, run_pragma_name, run_pragma, run_more_pragmas, run_pragmas, length_of, run_length, run_type}
+use Rattle.parse_decls.specs.Run.{run_sort, run_inside, run_arguments, run_part, run_parts, run_written, run_typed, run_annotation, run_given, run_defined}
+use Rattle.parse_decls.specs.Run.{run_def, run_defs, run_def_block, run_parent, run_field, run_fields, run_field_block, run_object, run_more_members}
+use Rattle.parse_decls.specs.Run.{run_members, run_body_by, run_body, run_declaration, run_declarations, run_types, run_param, run_more_params, run_params}
+use Rattle.parse_decls.specs.Run.{run_head}
 use Rattle.parse_decls.specs.Ends.{Ends, e_read, e_not}
 
 -- ---- steps put together

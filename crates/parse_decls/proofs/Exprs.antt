@@ -19,25 +19,30 @@ use Rattle.parse_decls.proofs.Productions.{Parses, placed, bad_one}
 settles_of : {X : Type 0} {f : ℕ → E.Out X} {o : E.Out X} (whole : List Token) → E.Settles f o → Settles (λ k. of_expr whole (f k)) (of_expr whole o)
 settles_of whole h = record { steps = h.steps; same = λ k le. ap (λ o. of_expr whole o) (h.same k le) }
 
-within_sound : {x : Origin} {i : Layout} {n : ℕ} {t : Term} {rest : List Token} (whole : List Token) (k : ℕ) (ts : List Token) (o : E.Out Term) → run_expr k x i n ts ≡ o → of_expr whole o ≡ got t rest
+within_sound : {x : Origin} {i : Layout} {n : ℕ} {t : Term} {rest : List Token} (whole : List Token) (k : ℕ) (ts : List Token) (o : E.Out Term)
+    → run_expr k x i n ts ≡ o → of_expr whole o ≡ got t rest
     → ShortExpr x i n t ts rest
 within_sound {x} {i} {n} {t} {rest} whole k ts (E.got a mid) q e =
     let g : (a ≡ t) × (mid ≡ rest) = got_one e in
     let s = sound_expr k x i n ts q in
-    subst (λ r. ShortExpr x i n t ts r) g.1 (subst (λ u. ShortExpr x i n u ts mid) g.0 (record { reads = record { spells = s.spells; stops = s.stops }; few = s.few }))
+    subst (λ r. ShortExpr x i n t ts r) g.1
+    (subst (λ u. ShortExpr x i n u ts mid) g.0 (record { reads = record { spells = s.spells; stops = s.stops }; few = s.few }))
 within_sound whole k ts (E.bad why) q e = got_bad (sym e)
 
-within_stops : {x : Origin} {i : Layout} {n : ℕ} {why : Why} (whole : List Token) (k : ℕ) (ts : List Token) (o : E.Out Term) → run_expr k x i n ts ≡ o → of_expr whole o ≡ bad why
+within_stops : {x : Origin} {i : Layout} {n : ℕ} {why : Why} (whole : List Token) (k : ℕ) (ts : List Token) (o : E.Out Term) → run_expr k x i n ts ≡ o
+    → of_expr whole o ≡ bad why
     → (why ≡ tired) ⊎ FaultsWithin x i whole n why ts
 within_stops whole k ts (E.got a mid) q e = got_bad e
 within_stops {x} {i} {n} whole k ts (E.bad E.deep) q e = inr (record { fault = F.too_deep; is = faults_expr F.too_deep k x i n ts q; at = sym (bad_one e) })
-within_stops {x} {i} {n} whole k ts (E.bad (E.stuck rest)) q e = inr (record { fault = F.stuck_at rest; is = faults_expr (F.stuck_at rest) k x i n ts q; at = sym (bad_one e) })
+within_stops {x} {i} {n} whole k ts (E.bad (E.stuck rest)) q e =
+    inr (record { fault = F.stuck_at rest; is = faults_expr (F.stuck_at rest) k x i n ts q; at = sym (bad_one e) })
 within_stops whole k ts (E.bad E.tired) q e = inl (sym (bad_one e))
 
 to_why : {run : ℕ → Out Term} {w v : Why} → w ≡ v → Settles run (bad v) → Settles run (bad w)
 to_why e h = record { steps = h.steps; same = λ k le. h.same k le ∙ ap bad (sym e) }
 
-fault_runs : {x : Origin} {i : Layout} {n : ℕ} (whole ts : List Token) (fault : F.Fault) → F.FaultsExpr x fault i n ts → Settles (λ k. of_expr whole (run_expr k x i n ts)) (bad (of_fault whole fault))
+fault_runs : {x : Origin} {i : Layout} {n : ℕ} (whole ts : List Token) (fault : F.Fault) → F.FaultsExpr x fault i n ts
+    → Settles (λ k. of_expr whole (run_expr k x i n ts)) (bad (of_fault whole fault))
 fault_runs whole ts F.too_deep w = settles_of whole (fails_expr w)
 fault_runs whole ts (F.stuck_at rest) w = settles_of whole (fails_expr w)
 
@@ -52,7 +57,8 @@ few_or_many zero (suc n) = inl (omega arith)
 few_or_many (suc m) (suc n) = elim (few_or_many m n) [ inl h ↦ inl (omega (arith, h)) | inr h ↦ inr (omega (arith, h)) ]
 
 -- an expression of at most n levels, in what begins at whole
-pub within : (x : Origin) (i : Layout) (whole : List Token) (n : ℕ) → Parses (λ k ts. of_expr whole (run_expr k x i n ts)) (IsExpr x i) (ShortExpr x i n) (FaultsWithin x i whole n)
+pub within : (x : Origin) (i : Layout) (whole : List Token) (n : ℕ) → Parses (λ k ts. of_expr whole (run_expr k x i n ts)) (IsExpr x i) (ShortExpr x i n)
+    (FaultsWithin x i whole n)
 within x i whole n = let agree = expr_agrees x i n in record {
   sound = λ k ts t rest e. within_sound whole k ts (run_expr k x i n ts) refl e;
   complete = λ t ts rest d. settles_of whole (complete_expr d.reads.spells d.reads.stops n d.few);

@@ -36,7 +36,9 @@ mode_leads input names mid begins e o h = settles_at (of_run input names (mode_a
 
 -- what reading goes on as behind the parenthesis
 abbrev pub inside_run : Input → List Token → ℕ → Out (List Parameters)
-inside_run input ts k = if closes_at Round ts then got [] (behind ts) else then_do (run_param k (origin_of input) ts) (λ one mid. run_more_params k (origin_of input) (one ∷ []) mid)
+inside_run input ts k = if closes_at Round ts then got [] (behind ts) else then_do (run_param k (origin_of input) ts)
+    (λ one mid. run_more_params k (origin_of input) (one ∷ []) mid)
 
-pub inside_leads : (input : Input) (i : Layout) (at : ℕ) → opens_at i Round (from_at input at) ≡ true → Leads (inside_run input (from_at input (at + 1))) (λ k. run_params k (origin_of input) i (from_at input at))
+pub inside_leads : (input : Input) (i : Layout) (at : ℕ) → opens_at i Round (from_at input at) ≡ true → Leads (inside_run input (from_at input (at + 1)))
+    (λ k. run_params k (origin_of input) i (from_at input at))
 inside_leads input i at e o h = settles_if (λ k. got [] (from_at input at)) e (settles_at (inside_run input) (behind_at at input.tokens.now) h)

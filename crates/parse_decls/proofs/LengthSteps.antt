@@ -32,7 +32,11 @@ pub types_found : (input : Input) (whole : List Token) (n at : ℕ) {a : Term} {
     → E.Settles (λ k. run_expr k (origin_of input) Brackets most_levels (from_at input at)) (E.got a mid)
     → comma_at Brackets mid ≡ false → at < length input.tokens.now → Found (tried_run input whole n at) input at None at
 types_found input whole n at {a} {mid} h c w =
-    record { runs = settles_length whole n (from_at input at) h (length_none whole n (from_at input at) a mid c); goes = omega arith; within = omega (arith, w) }
+    record {
+      runs = settles_length whole n (from_at input at) h (length_none whole n (from_at input at) a mid c);
+      goes = omega arith;
+      within = omega (arith, w);
+    }
 
 pub length_found : (input : Input) (whole : List Token) (n at next : ℕ) {a : Term}
     → E.Settles (λ k. run_expr k (origin_of input) Brackets most_levels (from_at input at)) (E.got a (from_at input next))
@@ -111,7 +115,8 @@ pub due_found : (input : Input) (whole : List Token) (n at next least : ℕ) (a 
     → Found (λ k. run_length k (origin_of input) whole n (from_at input at)) input at (Some a) (next + 1)
 due_found input whole n at next least a e f c le = record {
   runs = leads_on (leads_then comma_run f.runs) (due_leads input whole n at e) _
-      (settles_unless {f = λ k. got (Some a) (behind (from_at input next))} (from_at input next) c (record { steps = 0; same = λ k z. ap (got (Some a)) (behind_at next input.tokens.now) }));
+      (settles_unless {f = λ k. got (Some a) (behind (from_at input next))} (from_at input next) c
+      (record { steps = 0; same = λ k z. ap (got (Some a)) (behind_at next input.tokens.now) }));
   goes = (let g = f.goes in omega (arith, g, le));
   within = (let w = within_at (comma_at Brackets) refl next input.tokens.now c in omega (arith, w));
 }

@@ -17,7 +17,8 @@ use Rattle.parse_decls.specs.Run.{most_levels, length_of, run_due_length, run_le
 use Rattle.parse_decls.specs.Grammar.{NoLength, n_stops, n_more}
 use Rattle.parse_decls.specs.Faults.{ShortExpr, ShortTerm, FaultsWithin, FaultsLength, f_no_length, f_no_comma, f_opened, f_high}
 use Rattle.parse_decls.proofs.Settling.{got_one, got_bad, if_split, Branch}
-use Rattle.parse_decls.proofs.Productions.{IsDeep, Parses, bad_one, settles_why, restated, just, Just, shifted, Then, FaultsThen, seq, Guarded, FaultsGuarded, guarded, Either, FaultsEither, either}
+use Rattle.parse_decls.proofs.Productions.{IsDeep, Parses, bad_one, settles_why, restated, just, Just, shifted, Then, FaultsThen, seq, Guarded, FaultsGuarded}
+use Rattle.parse_decls.proofs.Productions.{guarded, Either, FaultsEither, either}
 use Rattle.parse_decls.proofs.Pieces.{along}
 use Rattle.parse_decls.proofs.Exprs.{within, few_or_many}
 
@@ -150,7 +151,8 @@ tried x whole n le = record {
     stops : (k : ℕ) (ts : List Token) (o : E.Out Term) → run_expr k x Brackets most_levels ts ≡ o → {why : Why} → length_of whole n ts o ≡ bad why
         → (why ≡ tired) ⊎ FaultsTried x whole n why ts
     stops k ts (E.got t mid) q e =
-        inr (stops_read t (reads k ts q) (if_split (comma_at Brackets mid) (if nat_lt n (levels t) then bad (too_deep whole) else got (Some t) (behind mid)) (got None ts) e))
+        inr (stops_read t (reads k ts q) (if_split (comma_at Brackets mid) (if nat_lt n (levels t) then bad (too_deep whole) else got (Some t) (behind mid))
+        (got None ts) e))
     stops k ts (E.bad E.deep) q e = inr (y_opened (faults_expr F.too_deep k x Brackets most_levels ts q) (sym (bad_one e)))
     stops k ts (E.bad (E.stuck rest)) q e = got_bad e
     stops k ts (E.bad E.tired) q e = inl (sym (bad_one e))

@@ -3,7 +3,8 @@ use Rattle.std.proofs.Common.{◌≡◌, ℕ, zero, suc, List, [], ◌∷◌, Bo
 use Rattle.std.specs.Prelude.{◌⊎◌, if◌then◌else◌}
 use Rattle.indent_scanner.specs.declared.token.Token.{Token}
 use Rattle.parse_decls.specs.Outcome.{Why, too_deep, stuck_at, tired, Out, got, bad, then_do, unless_stuck, Settles}
-use Rattle.parse_decls.proofs.Settling.{Led, then_got, then_bad, unless_got, unless_bad, IsStuck, GoesOn, settles_suc, settles_is, settles_then, settles_bad, settles_unless, settles_stuck, got_one, got_bad, settles_if, settles_else, Branch, if_split}
+use Rattle.parse_decls.proofs.Settling.{Led, then_got, then_bad, unless_got, unless_bad, IsStuck, GoesOn, settles_suc, settles_is, settles_then, settles_bad}
+use Rattle.parse_decls.proofs.Settling.{settles_unless, settles_stuck, got_one, got_bad, settles_if, settles_else, Branch, if_split}
 
 -- the computation comes to a level too many
 pub record IsDeep {X : Type 0} (run : ℕ → Out X) : Type 0 where
@@ -12,7 +13,8 @@ pub record IsDeep {X : Type 0} (run : ℕ → Out X) : Type 0 where
 
 -- what the computation reads is exactly what is Done; what the grammar reads is Done, or has a level too many; and where it
 -- can't go on it says so
-pub record Parses {A : Type 0} (run : ℕ → List Token → Out A) (Reads Done : A → List Token → List Token → Type 0) (Fault : Why → List Token → Type 0) : Type 0 where
+pub record Parses {A : Type 0} (run : ℕ → List Token → Out A) (Reads Done : A → List Token → List Token → Type 0) (Fault : Why → List Token → Type 0) :
+    Type 0 where
   pub sound : (k : ℕ) (ts : List Token) (a : A) (rest : List Token) → run k ts ≡ got a rest → Done a ts rest
   pub complete : (a : A) (ts rest : List Token) → Done a ts rest → Settles (λ k. run k ts) (got a rest)
   pub deep : (a : A) (ts rest : List Token) → Reads a ts rest → Done a ts rest ⊎ IsDeep (λ k. run k ts)
@@ -77,7 +79,8 @@ just v = record {
 
 -- ---- from another place
 
-pub shifted : {A : Type 0} {f : ℕ → List Token → Out A} {R D : A → List Token → List Token → Type 0} {F : Why → List Token → Type 0} (past : List Token → List Token) → Parses f R D F
+pub shifted : {A : Type 0} {f : ℕ → List Token → Out A} {R D : A → List Token → List Token → Type 0} {F : Why → List Token → Type 0}
+    (past : List Token → List Token) → Parses f R D F
     → Parses (λ k ts. f k (past ts)) (λ a ts rest. R a (past ts) rest) (λ a ts rest. D a (past ts) rest) (λ why ts. F why (past ts))
 shifted past p = record {
   sound = λ k ts. p.sound k (past ts);
@@ -88,7 +91,8 @@ shifted past p = record {
 }
 
 -- one that depends on where it begins
-pub placed : {A : Type 0} {f : List Token → ℕ → List Token → Out A} {R D : List Token → A → List Token → List Token → Type 0} {F : List Token → Why → List Token → Type 0}
+pub placed : {A : Type 0} {f : List Token → ℕ → List Token → Out A} {R D : List Token → A → List Token → List Token → Type 0}
+    {F : List Token → Why → List Token → Type 0}
     → ((at : List Token) → Parses (f at) (R at) (D at) (F at))
     → Parses (λ k ts. f ts k ts) (λ a ts rest. R ts a ts rest) (λ a ts rest. D ts a ts rest) (λ why ts. F ts why ts)
 placed p = record {
@@ -104,10 +108,12 @@ placed p = record {
 abbrev pub Then : {A B : Type 0} → (A → List Token → List Token → Type 0) → (A → B → List Token → List Token → Type 0) → B → List Token → List Token → Type 0
 Then {A = A} R S b ts rest = (a : A) × (mid : List Token) × R a ts mid × S a b mid rest
 
-abbrev pub FaultsThen : {A : Type 0} → (A → List Token → List Token → Type 0) → (Why → List Token → Type 0) → (A → Why → List Token → Type 0) → Why → List Token → Type 0
+abbrev pub FaultsThen : {A : Type 0} → (A → List Token → List Token → Type 0) → (Why → List Token → Type 0) → (A → Why → List Token → Type 0) → Why
+    → List Token → Type 0
 FaultsThen {A = A} D F G why ts = F why ts ⊎ ((a : A) × (mid : List Token) × D a ts mid × G a why mid)
 
-pub seq : {A B : Type 0} {f : ℕ → List Token → Out A} {g : A → ℕ → List Token → Out B} {R D : A → List Token → List Token → Type 0} {S E : A → B → List Token → List Token → Type 0}
+pub seq : {A B : Type 0} {f : ℕ → List Token → Out A} {g : A → ℕ → List Token → Out B} {R D : A → List Token → List Token → Type 0}
+    {S E : A → B → List Token → List Token → Type 0}
     {F : Why → List Token → Type 0} {G : A → Why → List Token → Type 0} → Parses f R D F → ((a : A) → Parses (g a) (S a) (E a) (G a))
     → Parses (λ k ts. then_do (f k ts) (λ a mid. g a k mid)) (Then R S) (Then D E) (FaultsThen D F G)
 seq {A} {B} {f} {g} {R} {D} {S} {E} {F} {G} p q = record {
@@ -140,7 +146,8 @@ seq {A} {B} {f} {g} {R} {D} {S} {E} {F} {G} p q = record {
     next_stops why a ts mid d (inl t) = inl t
     next_stops why a ts mid d (inr w) = inr (inr (a, mid, d, w))
 
-    one_stops : (k : ℕ) (ts : List Token) (why : Why) → (f k ts ≡ bad why) ⊎ Led (f k ts) (λ a mid. g a k mid) (bad why) → (why ≡ tired) ⊎ FaultsThen D F G why ts
+    one_stops : (k : ℕ) (ts : List Token) (why : Why) → (f k ts ≡ bad why) ⊎ Led (f k ts) (λ a mid. g a k mid) (bad why)
+        → (why ≡ tired) ⊎ FaultsThen D F G why ts
     one_stops k ts why (inl h) = first_stops why ts (p.stops k ts why h)
     one_stops k ts why (inr led) = next_stops why led.value ts led.mid (p.sound k ts led.value led.mid led.first) ((q led.value).stops k led.mid why led.next)
 
@@ -155,7 +162,8 @@ seq {A} {B} {f} {g} {R} {D} {S} {E} {F} {G} p q = record {
 abbrev pub Mapped : {A B : Type 0} → (A → B) → (A → List Token → List Token → Type 0) → B → List Token → List Token → Type 0
 Mapped {A = A} h R b ts rest = (a : A) × (b ≡ h a) × R a ts rest
 
-pub mapped : {A B : Type 0} {f : ℕ → List Token → Out A} {R D : A → List Token → List Token → Type 0} {F : Why → List Token → Type 0} (h : A → B) → Parses f R D F
+pub mapped : {A B : Type 0} {f : ℕ → List Token → Out A} {R D : A → List Token → List Token → Type 0} {F : Why → List Token → Type 0} (h : A → B)
+    → Parses f R D F
     → Parses (λ k ts. then_do (f k ts) (λ a rest. got (h a) rest)) (Mapped h R) (Mapped h D) F
 mapped {A} {B} {f} {R} {D} {F} h p = restated (seq p (λ a. just (h a))) done from reads fault (λ why ts w. inl w)
   where
@@ -183,7 +191,8 @@ Guarded b R a ts rest = (b ts ≡ true) × R a ts rest
 abbrev pub FaultsGuarded : (List Token → Bool) → (Why → List Token → Type 0) → Why → List Token → Type 0
 FaultsGuarded b F why ts = ((b ts ≡ false) × (why ≡ stuck_at ts)) ⊎ ((b ts ≡ true) × F why ts)
 
-pub guarded : {A : Type 0} {f : ℕ → List Token → Out A} {R D : A → List Token → List Token → Type 0} {F : Why → List Token → Type 0} (b : List Token → Bool) → Parses f R D F
+pub guarded : {A : Type 0} {f : ℕ → List Token → Out A} {R D : A → List Token → List Token → Type 0} {F : Why → List Token → Type 0} (b : List Token → Bool)
+    → Parses f R D F
     → Parses (λ k ts. unless_stuck (b ts) ts (f k ts)) (Guarded b R) (Guarded b D) (FaultsGuarded b F)
 guarded {A} {f} {R} {D} {F} b p = record {
   sound = λ k ts a rest e. let g : (b ts ≡ true) × (f k ts ≡ got a rest) = unless_got (b ts) ts (f k ts) e in (g.0, p.sound k ts a rest g.1);
@@ -213,7 +222,8 @@ Either b R S a ts rest = ((b ts ≡ true) × R a ts rest) ⊎ ((b ts ≡ false) 
 abbrev pub FaultsEither : (List Token → Bool) → (F G : Why → List Token → Type 0) → Why → List Token → Type 0
 FaultsEither b F G why ts = ((b ts ≡ true) × F why ts) ⊎ ((b ts ≡ false) × G why ts)
 
-pub either : {A : Type 0} {f g : ℕ → List Token → Out A} {R D S E : A → List Token → List Token → Type 0} {F G : Why → List Token → Type 0} (b : List Token → Bool) → Parses f R D F → Parses g S E G
+pub either : {A : Type 0} {f g : ℕ → List Token → Out A} {R D S E : A → List Token → List Token → Type 0} {F G : Why → List Token → Type 0}
+    (b : List Token → Bool) → Parses f R D F → Parses g S E G
     → Parses (λ k ts. if b ts then f k ts else g k ts) (Either b R S) (Either b D E) (FaultsEither b F G)
 either {A} {f} {g} {R} {D} {S} {E} {F} {G} b p q = record {
   sound = λ k ts a rest e. one_sound k ts a rest (if_split (b ts) (f k ts) (g k ts) e);
@@ -223,7 +233,8 @@ either {A} {f} {g} {R} {D} {S} {E} {F} {G} b p q = record {
   faults = faults;
 }
   where
-    one_sound : (k : ℕ) (ts : List Token) (a : A) (rest : List Token) → Branch (b ts) true (f k ts) (got a rest) ⊎ Branch (b ts) false (g k ts) (got a rest) → Either b D E a ts rest
+    one_sound : (k : ℕ) (ts : List Token) (a : A) (rest : List Token) → Branch (b ts) true (f k ts) (got a rest) ⊎ Branch (b ts) false (g k ts) (got a rest)
+        → Either b D E a ts rest
     one_sound k ts a rest (inl h) = inl (h.is, p.sound k ts a rest h.same)
     one_sound k ts a rest (inr h) = inr (h.is, q.sound k ts a rest h.same)
 
@@ -231,11 +242,13 @@ either {A} {f} {g} {R} {D} {S} {E} {F} {G} b p q = record {
     complete a ts rest (inl d) = settles_if (λ k. g k ts) d.0 (p.complete a ts rest d.1)
     complete a ts rest (inr d) = settles_else (λ k. f k ts) d.0 (q.complete a ts rest d.1)
 
-    here : (a : A) (ts rest : List Token) → b ts ≡ true → D a ts rest ⊎ IsDeep (λ k. f k ts) → Either b D E a ts rest ⊎ IsDeep (λ k. if b ts then f k ts else g k ts)
+    here : (a : A) (ts rest : List Token) → b ts ≡ true → D a ts rest ⊎ IsDeep (λ k. f k ts) → Either b D E a ts rest ⊎ IsDeep
+        (λ k. if b ts then f k ts else g k ts)
     here a ts rest e (inl d) = inl (inl (e, d))
     here a ts rest e (inr h) = inr (record { at = h.at; runs = settles_if (λ k. g k ts) e h.runs })
 
-    there : (a : A) (ts rest : List Token) → b ts ≡ false → E a ts rest ⊎ IsDeep (λ k. g k ts) → Either b D E a ts rest ⊎ IsDeep (λ k. if b ts then f k ts else g k ts)
+    there : (a : A) (ts rest : List Token) → b ts ≡ false → E a ts rest ⊎ IsDeep (λ k. g k ts) → Either b D E a ts rest ⊎ IsDeep
+        (λ k. if b ts then f k ts else g k ts)
     there a ts rest e (inl d) = inl (inr (e, d))
     there a ts rest e (inr h) = inr (record { at = h.at; runs = settles_else (λ k. f k ts) e h.runs })
 
@@ -251,7 +264,8 @@ either {A} {f} {g} {R} {D} {S} {E} {F} {G} b p q = record {
     stops_there why ts e (inl t) = inl t
     stops_there why ts e (inr w) = inr (inr (e, w))
 
-    one_stops : (k : ℕ) (ts : List Token) (why : Why) → Branch (b ts) true (f k ts) (bad why) ⊎ Branch (b ts) false (g k ts) (bad why) → (why ≡ tired) ⊎ FaultsEither b F G why ts
+    one_stops : (k : ℕ) (ts : List Token) (why : Why) → Branch (b ts) true (f k ts) (bad why) ⊎ Branch (b ts) false (g k ts) (bad why)
+        → (why ≡ tired) ⊎ FaultsEither b F G why ts
     one_stops k ts why (inl h) = stops_here why ts h.is (p.stops k ts why h.same)
     one_stops k ts why (inr h) = stops_there why ts h.is (q.stops k ts why h.same)
 
@@ -280,8 +294,10 @@ abbrev pub FaultsHeaded : (Token → Why → List Token → Type 0) → Why → 
 FaultsHeaded F why [] = why ≡ stuck_at []
 FaultsHeaded F why (tok ∷ ts) = F tok why ts
 
-pub headed : {A : Type 0} {g : Token → ℕ → List Token → Out A} {R D : Token → A → List Token → List Token → Type 0} {F : Token → Why → List Token → Type 0} (f : ℕ → List Token → Out A)
-    → ((tok : Token) → Parses (g tok) (R tok) (D tok) (F tok)) → ((k : ℕ) → f k [] ≡ bad (stuck_at [])) → ((k : ℕ) (tok : Token) (ts : List Token) → f k (tok ∷ ts) ≡ g tok k ts)
+pub headed : {A : Type 0} {g : Token → ℕ → List Token → Out A} {R D : Token → A → List Token → List Token → Type 0} {F : Token → Why → List Token → Type 0}
+    (f : ℕ → List Token → Out A)
+    → ((tok : Token) → Parses (g tok) (R tok) (D tok) (F tok)) → ((k : ℕ) → f k [] ≡ bad (stuck_at []))
+    → ((k : ℕ) (tok : Token) (ts : List Token) → f k (tok ∷ ts) ≡ g tok k ts)
     → Parses f (Headed R) (Headed D) (FaultsHeaded F)
 headed {A} {g} {R} {D} {F} f p n e = record { sound = sound; complete = complete; deep = deep; stops = stops; faults = faults }
   where

@@ -18,7 +18,9 @@ use Rattle.parse_exprs.specs.Look.{Origin, comma_at, name_on, kind_at, closes_at
 use Rattle.parse_exprs.specs.Input.{origin_of, from_at}
 use Rattle.parse_decls.specs.Look.{behind, is_pragma_close, stands_at, separator_at, member_at, more_members_at, past_comma}
 use Rattle.parse_decls.specs.Outcome.{Out, got, bad, then_do, unless_stuck, Settles}
-use Rattle.parse_decls.specs.Run.{run_name, run_more_names, run_shown, run_more_declared, run_pragma, run_more_pragmas, run_type, run_arguments, Typed, run_part, run_parts, run_defined, run_defs, run_field, run_fields, run_declaration, run_declarations, run_param, run_more_params, run_more_members}
+use Rattle.parse_decls.specs.Run.{run_name, run_more_names, run_shown, run_more_declared, run_pragma, run_more_pragmas, run_type, run_arguments, Typed}
+use Rattle.parse_decls.specs.Run.{run_part, run_parts, run_defined, run_defs, run_field, run_fields, run_declaration, run_declarations, run_param}
+use Rattle.parse_decls.specs.Run.{run_more_params, run_more_members}
 use Rattle.parse_decls.specs.Gives.{Fails, Found, Leads, SoFar}
 use Rattle.parse_decls.proofs.Settling.{settles_suc, settles_then, settles_if, settles_else, settles_bad}
 use Rattle.parse_decls.proofs.Coming.{fails_by}
@@ -31,36 +33,49 @@ pub record Loop (S A X : Type 0) : Type 0 where
   pub step : List Token → ℕ → Out A
   pub add : S → A → S
   pub finish : S → List Token → ℕ → Out X
-  pub law : (some : S) (ts : List Token) (k : ℕ) → run some ts (suc k) ≡ (if test ts then then_do (step (skip ts) k) (λ one mid. run (add some one) mid k) else finish some ts k)
+  pub law : (some : S) (ts : List Token) (k : ℕ) → run some ts (suc k) ≡ (if test ts then then_do (step (skip ts) k) (λ one mid. run (add some one) mid k)
+      else finish some ts k)
 
-pub loop_on : {S A X : Type 0} (l : Loop S A X) (whole : ℕ → Out X) (input : Input) (least most : ℕ) (some all : S) (next at : ℕ) (one : A) (after : ℕ) → l.skip (from_at input next) ≡ from_at input at → most ≡ suc at → next ≤ at
-    → SoFar (l.run some (from_at input next)) whole input least next → l.test (from_at input next) ≡ true → Found (l.step (from_at input at)) input most one after → all ≡ l.add some one
+pub loop_on : {S A X : Type 0} (l : Loop S A X) (whole : ℕ → Out X) (input : Input) (least most : ℕ) (some all : S) (next at : ℕ) (one : A) (after : ℕ)
+    → l.skip (from_at input next) ≡ from_at input at → most ≡ suc at → next ≤ at
+    → SoFar (l.run some (from_at input next)) whole input least next → l.test (from_at input next) ≡ true
+    → Found (l.step (from_at input at)) input most one after → all ≡ l.add some one
     → SoFar (l.run all (from_at input after)) whole input least after
 loop_on l whole input least most some all next at one after s m n so e f a = record {
   leads = λ o h. so.leads o (settles_suc
       (settles_if (l.finish some (from_at input next)) e
-      (settles_then (λ k one mid. l.run (l.add some one) mid k) (subst (λ ts. Settles (l.step ts) (got one (from_at input after))) (sym s) f.runs) (subst (λ x. Settles (l.run x (from_at input after)) o) a h)))
+      (settles_then (λ k one mid. l.run (l.add some one) mid k) (subst (λ ts. Settles (l.step ts) (got one (from_at input after))) (sym s) f.runs)
+      (subst (λ x. Settles (l.run x (from_at input after)) o) a h)))
       (λ k. l.law some (from_at input next) k));
   goes = omega (arith, m, n, so.goes, f.goes);
   within = f.within;
 }
 
-pub loop_fails : {S A X : Type 0} (l : Loop S A X) (whole : ℕ → Out X) (input : Input) (least : ℕ) (some : S) (next at : ℕ) (stop : Stop) → l.skip (from_at input next) ≡ from_at input at
-    → SoFar (l.run some (from_at input next)) whole input least next → l.test (from_at input next) ≡ true → Fails (l.step (from_at input at)) (origin_of input) stop → Fails whole (origin_of input) stop
+pub loop_fails : {S A X : Type 0} (l : Loop S A X) (whole : ℕ → Out X) (input : Input) (least : ℕ) (some : S) (next at : ℕ) (stop : Stop)
+    → l.skip (from_at input next) ≡ from_at input at
+    → SoFar (l.run some (from_at input next)) whole input least next → l.test (from_at input next) ≡ true
+    → Fails (l.step (from_at input at)) (origin_of input) stop → Fails whole (origin_of input) stop
 loop_fails l whole input least some next at stop s so e f = fails_by (l.step (from_at input at)) whole (origin_of input)
     (λ why h. so.leads _ (settles_suc
     (settles_if (l.finish some (from_at input next)) e
     (settles_bad (λ k one mid. l.run (l.add some one) mid k) (subst (λ ts. Settles (l.step ts) (bad why)) (sym s) h)))
     (λ k. l.law some (from_at input next) k))) stop f
 
-pub begins : {S A X : Type 0} (l : Loop S A X) (whole : ℕ → Out X) (input : Input) (least : ℕ) (some all : S) (next : ℕ) → all ≡ some → Leads (l.run some (from_at input next)) whole → least ≤ next → next ≤ length input.tokens.now
+pub begins : {S A X : Type 0} (l : Loop S A X) (whole : ℕ → Out X) (input : Input) (least : ℕ) (some all : S) (next : ℕ) → all ≡ some
+    → Leads (l.run some (from_at input next)) whole → least ≤ next → next ≤ length input.tokens.now
     → SoFar (l.run all (from_at input next)) whole input least next
-begins l whole input least some all next e h g w = record { leads = λ o s. h o (subst (λ x. Settles (l.run x (from_at input next)) o) e s); goes = g; within = w }
+begins l whole input least some all next e h g w = record {
+  leads = λ o s. h o (subst (λ x. Settles (l.run x (from_at input next)) o) e s);
+  goes = g;
+  within = w;
+}
 
 pub loop_ends : {S A X : Type 0} (l : Loop S A X) (whole : ℕ → Out X) (input : Input) (least : ℕ) (some : S) (next : ℕ)
-    → SoFar (l.run some (from_at input next)) whole input least next → l.test (from_at input next) ≡ false → SoFar (l.finish some (from_at input next)) whole input least next
+    → SoFar (l.run some (from_at input next)) whole input least next → l.test (from_at input next) ≡ false
+    → SoFar (l.finish some (from_at input next)) whole input least next
 loop_ends l whole input least some next so e = record {
-  leads = λ o h. so.leads o (settles_suc (settles_else (λ k. then_do (l.step (l.skip (from_at input next)) k) (λ one mid. l.run (l.add some one) mid k)) e h) (λ k. l.law some (from_at input next) k));
+  leads = λ o h. so.leads o (settles_suc (settles_else (λ k. then_do (l.step (l.skip (from_at input next)) k) (λ one mid. l.run (l.add some one) mid k)) e h)
+      (λ k. l.law some (from_at input next) k));
   goes = so.goes;
   within = so.within;
 }
@@ -183,7 +198,8 @@ params_loop x = record {
   law = λ some ts k. refl;
 }
 
-pub either_way : {X : Type 0} (go : List Token → X) (stop : X) (c m : Bool) (a b : List Token) → (if c then go a else if m then go b else stop) ≡ (if c || m then go (if c then a else b) else stop)
+pub either_way : {X : Type 0} (go : List Token → X) (stop : X) (c m : Bool) (a b : List Token) → (if c then go a else if m then go b else stop)
+    ≡ (if c || m then go (if c then a else b) else stop)
 either_way go stop true m a b = refl
 either_way go stop false true a b = refl
 either_way go stop false false a b = refl
@@ -196,5 +212,6 @@ members_loop x m = record {
   step = λ ts k. run_name x Brackets ts;
   add = λ some one. some ++ one ∷ [];
   finish = λ some ts k. got some ts;
-  law = λ some ts k. either_way (λ at. then_do (run_name x Brackets at) (λ name mid. run_more_members k x m (some ++ name ∷ []) mid)) (got some ts) (comma_at (Lines m) ts) (member_at m ts) (behind ts) ts;
+  law = λ some ts k. either_way (λ at. then_do (run_name x Brackets at) (λ name mid. run_more_members k x m (some ++ name ∷ []) mid)) (got some ts)
+      (comma_at (Lines m) ts) (member_at m ts) (behind ts) ts;
 }

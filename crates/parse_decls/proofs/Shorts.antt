@@ -7,22 +7,26 @@ use Rattle.parse_decls.specs.Grammar.{Each, e_over, e_next, Listed, e_first, May
 use Rattle.parse_decls.specs.Faults.{Short}
 use Rattle.parse_decls.proofs.TypeLists.{both_few, left_few, right_few}
 
-pub each_short : {A : Type 0} {n : ℕ} {f : A → ℕ} {goes : List Token → Bool} {past : List Token → List Token} {R : A → List Token → List Token → Type 0} {all : List A} {ts rest : List Token}
+pub each_short : {A : Type 0} {n : ℕ} {f : A → ℕ} {goes : List Token → Bool} {past : List Token → List Token} {R : A → List Token → List Token → Type 0}
+    {all : List A} {ts rest : List Token}
     → Each goes past (Short n f R) all ts rest → Short n (highest f) (Each goes past R) all ts rest
 each_short (e_over h) = record { reads = e_over h; few = omega arith }
 each_short (e_next h d t) = let r = each_short t in record { reads = e_next h d.reads r.reads; few = both_few d.few r.few }
 
-pub short_each : {A : Type 0} {n : ℕ} {f : A → ℕ} {goes : List Token → Bool} {past : List Token → List Token} {R : A → List Token → List Token → Type 0} {all : List A} {ts rest : List Token}
+pub short_each : {A : Type 0} {n : ℕ} {f : A → ℕ} {goes : List Token → Bool} {past : List Token → List Token} {R : A → List Token → List Token → Type 0}
+    {all : List A} {ts rest : List Token}
     → Each goes past R all ts rest → highest f all ≤ n → Each goes past (Short n f R) all ts rest
 short_each (e_over h) a = e_over h
 short_each {f = f} (e_next {a = one} {all = all} h d t) a =
     e_next h (record { reads = d; few = left_few (highest f all) a }) (short_each {f = f} t (right_few (f one) a))
 
-pub listed_short : {A : Type 0} {n : ℕ} {f : A → ℕ} {goes : List Token → Bool} {past : List Token → List Token} {R : A → List Token → List Token → Type 0} {all : List A} {ts rest : List Token}
+pub listed_short : {A : Type 0} {n : ℕ} {f : A → ℕ} {goes : List Token → Bool} {past : List Token → List Token} {R : A → List Token → List Token → Type 0}
+    {all : List A} {ts rest : List Token}
     → Listed (Short n f R) goes past (Short n f R) all ts rest → Short n (highest f) (Listed R goes past R) all ts rest
 listed_short (e_first d t) = let r = each_short t in record { reads = e_first d.reads r.reads; few = both_few d.few r.few }
 
-pub short_listed : {A : Type 0} {n : ℕ} {f : A → ℕ} {goes : List Token → Bool} {past : List Token → List Token} {R : A → List Token → List Token → Type 0} {all : List A} {ts rest : List Token}
+pub short_listed : {A : Type 0} {n : ℕ} {f : A → ℕ} {goes : List Token → Bool} {past : List Token → List Token} {R : A → List Token → List Token → Type 0}
+    {all : List A} {ts rest : List Token}
     → Listed R goes past R all ts rest → highest f all ≤ n → Listed (Short n f R) goes past (Short n f R) all ts rest
 short_listed {f = f} (e_first {a = one} {all = all} d t) a =
     e_first (record { reads = d; few = left_few (highest f all) a }) (short_each {f = f} t (right_few (f one) a))

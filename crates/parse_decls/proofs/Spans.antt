@@ -27,8 +27,16 @@ use Rattle.parse_decls.specs.declared.look.TypeLead.{TypeLead}
 use Rattle.parse_decls.specs.declared.look.TypeLead.TheVariants as L
 use Rattle.parse_decls.specs.declared.look.BodyLead.{BodyLead}
 use Rattle.parse_decls.specs.declared.look.BodyLead.TheVariants as B
-use Rattle.parse_decls.specs.Look.{behind, level_at, star_at, past_star, proc_name_on, is_quoted, opens_at, is_bracket, equals_at, of_at, is_of, separator_at, is_pragma_open, is_pragma_close, pragmas_at, type_lead, type_lead_of, named_lead, mode_at, mode_of, past_mode, past_if_mode, is_object, object_at, body_lead, body_lead_of}
-use Rattle.parse_decls.specs.Grammar.{Each, e_over, e_next, Listed, e_first, Perhaps, e_missing, e_present, Maybe, e_none, e_some, Closed, IsName, n_name, Names, IsDeclared, n_declared, Declareds, Generics, IsPragma, n_pragma, Pragmas, HoldsTypes, h_name, h_array, IsType, t_name, t_generic, t_array, t_ref, t_empty, t_tuple, IsTypes, t_last, t_next, IsField, t_field, IsFields, t_last_field, t_next_field, IsTyped, Annotation, Given, IsDefined, Definitions, IsDefinitionBlock, Parent, IsFieldLines, o_over, o_field, FieldBlock, IsMembers, o_line, o_block, IsBody, o_object, o_ref_object, o_enum, o_distinct, o_alias, IsDeclaration, IsDeclarations, o_declarations, o_declaration, IsParameter, IsParameters, h_none, h_some, ParameterList, IsHead}
+use Rattle.parse_decls.specs.Look.{behind, level_at, star_at, past_star, proc_name_on, is_quoted, opens_at, is_bracket, equals_at, of_at, is_of, separator_at}
+use Rattle.parse_decls.specs.Look.{is_pragma_open, is_pragma_close, pragmas_at, type_lead, type_lead_of, named_lead, mode_at, mode_of, past_mode, past_if_mode}
+use Rattle.parse_decls.specs.Look.{is_object, object_at, body_lead, body_lead_of}
+use Rattle.parse_decls.specs.Grammar.{Each, e_over, e_next, Listed, e_first, Perhaps, e_missing, e_present, Maybe, e_none, e_some, Closed, IsName, n_name}
+use Rattle.parse_decls.specs.Grammar.{Names, IsDeclared, n_declared, Declareds, Generics, IsPragma, n_pragma, Pragmas, HoldsTypes, h_name, h_array, IsType}
+use Rattle.parse_decls.specs.Grammar.{t_name, t_generic, t_array, t_ref, t_empty, t_tuple, IsTypes, t_last, t_next, IsField, t_field, IsFields, t_last_field}
+use Rattle.parse_decls.specs.Grammar.{t_next_field, IsTyped, Annotation, Given, IsDefined, Definitions, IsDefinitionBlock, Parent, IsFieldLines, o_over}
+use Rattle.parse_decls.specs.Grammar.{o_field, FieldBlock, IsMembers, o_line, o_block, IsBody, o_object, o_ref_object, o_enum, o_distinct, o_alias}
+use Rattle.parse_decls.specs.Grammar.{IsDeclaration, IsDeclarations, o_declarations, o_declaration, IsParameter, IsParameters, h_none, h_some, ParameterList}
+use Rattle.parse_decls.specs.Grammar.{IsHead}
 
 -- from ts to rest there are at least n tokens, none of which is the end
 pub record Takes (n : ℕ) (ts rest : List Token) : Type 0 where
@@ -97,7 +105,9 @@ bracket_no_end Square = refl
 
 opens_takes : (i : Layout) (b : Bracket) (ts : List Token) → opens_at i b ts ≡ true → Takes 1 ts (behind ts)
 opens_takes i b [] h = cc
-opens_takes i b (tok ∷ ts) h = takes_token (no_end (λ k. is_bracket b (bracket_of k)) tok.kind (bracket_no_end b) (both_of (goes_on i tok.indent) (is_bracket b (bracket_of tok.kind)) h).1)
+opens_takes i b (tok ∷ ts) h =
+    takes_token (no_end (λ k. is_bracket b (bracket_of k)) tok.kind (bracket_no_end b)
+    (both_of (goes_on i tok.indent) (is_bracket b (bracket_of tok.kind)) h).1)
 
 closes_takes : (b : Bracket) (ts : List Token) → closes_at b ts ≡ true → Takes 1 ts (behind ts)
 closes_takes b ts h = takes_kind (is_punct (closing b)) ts refl h
@@ -115,15 +125,21 @@ some_if a false e = cc
 
 name_takes : (i : Layout) (ts : List Token) (one : Token) → name_on i ts ≡ Some one → Takes 1 ts (behind ts)
 name_takes i [] one h = cc
-name_takes i (tok ∷ ts) one h = takes_token (no_end is_name tok.kind refl (both_of (goes_on i tok.indent) (is_name tok.kind) (some_if tok (goes_on i tok.indent && is_name tok.kind) h)).1)
+name_takes i (tok ∷ ts) one h =
+    takes_token (no_end is_name tok.kind refl (both_of (goes_on i tok.indent) (is_name tok.kind) (some_if tok (goes_on i tok.indent && is_name tok.kind) h)).1)
 
 proc_name_takes : (i : Layout) (ts : List Token) (one : Token) → proc_name_on i ts ≡ Some one → Takes 1 ts (behind ts)
 proc_name_takes i [] one h = cc
 proc_name_takes i (tok ∷ ts) one h =
-    takes_token (no_end (λ k. is_name k || is_quoted k) tok.kind refl (both_of (goes_on i tok.indent) (is_name tok.kind || is_quoted tok.kind) (some_if tok (goes_on i tok.indent && (is_name tok.kind || is_quoted tok.kind)) h)).1)
+    takes_token (no_end (λ k. is_name k || is_quoted k) tok.kind refl
+    (both_of (goes_on i tok.indent) (is_name tok.kind || is_quoted tok.kind)
+    (some_if tok (goes_on i tok.indent && (is_name tok.kind || is_quoted tok.kind)) h)).1)
 
 star_by : (i : Layout) (tok : Token) (ts : List Token) (x : Origin) (c : Bool) → star_at x i (tok ∷ ts) ≡ c → Takes 0 (tok ∷ ts) (if c then ts else tok ∷ ts)
-star_by i tok ts x true e = takes_less (takes_token (no_end (λ k. is_run (codes "*") k (spelling x tok)) tok.kind refl (both_of (goes_on i tok.indent) (is_run (codes "*") tok.kind (spelling x tok)) e).1)) (omega arith)
+star_by i tok ts x true e =
+    takes_less (takes_token
+    (no_end (λ k. is_run (codes "*") k (spelling x tok)) tok.kind refl (both_of (goes_on i tok.indent) (is_run (codes "*") tok.kind (spelling x tok)) e).1))
+    (omega arith)
 star_by i tok ts x false e = takes_none
 
 star_takes : (x : Origin) (i : Layout) (ts : List Token) → Takes 0 ts (past_star x i ts)
@@ -158,21 +174,25 @@ counts_one = record { none = refl; more = λ a all. omega arith }
 counts_total : {A : Type 0} (f : A → ℕ) → Counts f (total f)
 counts_total f = record { none = refl; more = λ a all. refl }
 
-each_takes : {A : Type 0} {f : A → ℕ} {m : List A → ℕ} {goes : List Token → Bool} {past : List Token → List Token} {R : A → List Token → List Token → Type 0} {all : List A} {ts rest : List Token} → Counts f m
+each_takes : {A : Type 0} {f : A → ℕ} {m : List A → ℕ} {goes : List Token → Bool} {past : List Token → List Token} {R : A → List Token → List Token → Type 0}
+    {all : List A} {ts rest : List Token} → Counts f m
     → ((ts : List Token) → goes ts ≡ true → Takes 0 ts (past ts)) → ((a : A) (ts rest : List Token) → R a ts rest → Takes (f a) ts rest)
     → Each goes past R all ts rest → Takes (m all) ts rest
 each_takes c g r (e_over h) = takes_less takes_none (let n = c.none in omega (arith, n))
 each_takes {m = m} {past = past} c g r (e_next {a = a} {all = all} {ts = ts} {mid = mid} h d t) =
     takes_less (takes_then (g ts h) (takes_then (r a (past ts) mid d) (each_takes {m = m} c g r t))) (let n = c.more a all in omega (arith, n))
 
-listed_takes : {A : Type 0} {f : A → ℕ} {m : List A → ℕ} {goes : List Token → Bool} {past : List Token → List Token} {P R : A → List Token → List Token → Type 0} {all : List A} {ts rest : List Token} → Counts f m
-    → ((ts : List Token) → goes ts ≡ true → Takes 0 ts (past ts)) → ((a : A) (ts rest : List Token) → P a ts rest → Takes (f a) ts rest) → ((a : A) (ts rest : List Token) → R a ts rest → Takes (f a) ts rest)
+listed_takes : {A : Type 0} {f : A → ℕ} {m : List A → ℕ} {goes : List Token → Bool} {past : List Token → List Token}
+    {P R : A → List Token → List Token → Type 0} {all : List A} {ts rest : List Token} → Counts f m
+    → ((ts : List Token) → goes ts ≡ true → Takes 0 ts (past ts)) → ((a : A) (ts rest : List Token) → P a ts rest → Takes (f a) ts rest)
+    → ((a : A) (ts rest : List Token) → R a ts rest → Takes (f a) ts rest)
     → Listed P goes past R all ts rest → Takes (m all) ts rest
 listed_takes {m = m} c g p r (e_first {a = a} {all = all} {ts = ts} {mid = mid} d t) =
     takes_less (takes_then (p a ts mid d) (each_takes {m = m} c g r t)) (let n = c.more a all in omega (arith, n))
 
 closed_takes : {A : Type 0} {n : ℕ} {closes : List Token → Bool} {R : A → List Token → List Token → Type 0} {a : A} {ts rest : List Token}
-    → Takes 1 ts (behind ts) → ((ts : List Token) → closes ts ≡ true → Takes 1 ts (behind ts)) → ((ts rest : List Token) → R a ts rest → Takes n ts rest) → Closed closes R a ts rest → Takes n ts rest
+    → Takes 1 ts (behind ts) → ((ts : List Token) → closes ts ≡ true → Takes 1 ts (behind ts)) → ((ts rest : List Token) → R a ts rest → Takes n ts rest)
+    → Closed closes R a ts rest → Takes n ts rest
 closed_takes {ts = ts} o c r d = takes_at d.next (takes_less (takes_then o (takes_then (r (behind ts) d.end d.inside) (c d.end d.closed))) (omega arith))
 
 perhaps_takes : {A : Type 0} {f : A → ℕ} {goes : List Token → Bool} {none : A} {R : A → List Token → List Token → Type 0} {a : A} {ts rest : List Token}
@@ -193,14 +213,18 @@ is_name_takes {i = i} a ts rest (n_name {tok = tok} {ts = ts'} h) = name_takes i
 pub names_takes : {x : Origin} {i : Layout} {all : List Name} {ts rest : List Token} → Names x i all ts rest → Takes (length all) ts rest
 names_takes {i = i} d = listed_takes {m = length} counts_one (λ ts h. takes_less (comma_takes i ts h) (omega arith)) is_name_takes is_name_takes d
 
-declared_takes : {x : Origin} {i : Layout} {on : List Token → Option Token} → ((ts : List Token) (one : Token) → on ts ≡ Some one → Takes 1 ts (behind ts)) → (a : Declared) (ts rest : List Token) → IsDeclared x i on a ts rest → Takes 1 ts rest
+declared_takes : {x : Origin} {i : Layout} {on : List Token → Option Token} → ((ts : List Token) (one : Token) → on ts ≡ Some one → Takes 1 ts (behind ts))
+    → (a : Declared) (ts rest : List Token) → IsDeclared x i on a ts rest → Takes 1 ts rest
 declared_takes {x} {i} n a ts rest (n_declared {tok = tok} {ts = ts'} h) = takes_less (takes_then (n ts' tok h) (star_takes x i (behind ts'))) (omega arith)
 
-pub declareds_takes : {x : Origin} (first : Layout) {i : Layout} {all : List Declared} {ts rest : List Token} → Declareds x first i all ts rest → Takes (length all) ts rest
-declareds_takes first {i = i} d = listed_takes {m = length} counts_one (λ ts h. takes_less (comma_takes i ts h) (omega arith)) (declared_takes (name_takes first)) (declared_takes (name_takes Brackets)) d
+pub declareds_takes : {x : Origin} (first : Layout) {i : Layout} {all : List Declared} {ts rest : List Token} → Declareds x first i all ts rest
+    → Takes (length all) ts rest
+declareds_takes first {i = i} d = listed_takes {m = length} counts_one (λ ts h. takes_less (comma_takes i ts h) (omega arith))
+    (declared_takes (name_takes first)) (declared_takes (name_takes Brackets)) d
 
 generics_takes : {x : Origin} (i : Layout) {all : List Name} {ts rest : List Token} → Generics x i all ts rest → Takes (length all) ts rest
-generics_takes i d = perhaps_takes {f = length} refl (λ a ts rest h e. closed_takes (opens_takes i Square ts h) (closes_takes Square) (λ ts rest n. names_takes n) e) d
+generics_takes i d = perhaps_takes {f = length} refl (λ a ts rest h e. closed_takes (opens_takes i Square ts h) (closes_takes Square)
+    (λ ts rest n. names_takes n) e) d
 
 pragma_takes : {x : Origin} (a : Pragma) (ts rest : List Token) → IsPragma x a ts rest → Takes 1 ts rest
 pragma_takes a ts rest (n_pragma {tok = tok} {ts = ts'} h k) = name_takes Brackets ts' tok h
@@ -240,18 +264,24 @@ mutual
   type_takes (t_generic {end = end} q d t c) =
       takes_less (takes_then (holds_takes q) (takes_then (type_takes d) (takes_then (types_takes t) (closes_takes Square end c)))) (omega arith)
   type_takes {x} {i} (t_array {tok = tok} {ts = ts} {mid = mid} {end = end} q d c t e) =
-      takes_less (takes_then (lead_takes x i tok ts q (λ e. cc)) (takes_then (array_takes x i tok ts q) (takes_then (takes_expr d) (takes_then (comma_takes Brackets mid c) (takes_then (type_takes t) (closes_takes Square end e)))))) (omega arith)
+      takes_less (takes_then (lead_takes x i tok ts q (λ e. cc))
+      (takes_then (array_takes x i tok ts q)
+      (takes_then (takes_expr d) (takes_then (comma_takes Brackets mid c) (takes_then (type_takes t) (closes_takes Square end e)))))) (omega arith)
   type_takes {x} {i} (t_ref {tok = tok} {ts = ts} q s d) = takes_less (takes_then (lead_takes x i tok ts q (λ e. cc)) (type_takes d)) (omega arith)
-  type_takes {x} {i} (t_empty {tok = tok} {ts = ts} q o c) = takes_less (takes_then (lead_takes x i tok ts q (λ e. cc)) (takes_then (opens_takes i Square ts o) (closes_takes Square (behind ts) c))) (omega arith)
+  type_takes {x} {i} (t_empty {tok = tok} {ts = ts} q o c) =
+      takes_less (takes_then (lead_takes x i tok ts q (λ e. cc)) (takes_then (opens_takes i Square ts o) (closes_takes Square (behind ts) c))) (omega arith)
   type_takes {x} {i} (t_tuple {tok = tok} {ts = ts} {end = end} q o n d t c) =
-      takes_less (takes_then (lead_takes x i tok ts q (λ e. cc)) (takes_then (opens_takes i Square ts o) (takes_then (field_takes d) (takes_then (fields_takes t) (closes_takes Square end c))))) (omega arith)
+      takes_less (takes_then (lead_takes x i tok ts q (λ e. cc))
+      (takes_then (opens_takes i Square ts o) (takes_then (field_takes d) (takes_then (fields_takes t) (closes_takes Square end c))))) (omega arith)
 
   types_takes : {x : Origin} {all : Arguments} {ts rest : List Token} → IsTypes x all ts rest → Takes (argument_nodes all) ts rest
   types_takes (t_last n) = takes_none
   types_takes (t_next {ts = ts} g d t) = takes_less (takes_then (comma_takes Brackets ts g) (takes_then (type_takes d) (types_takes t))) (omega arith)
 
-  field_takes : {x : Origin} {names : List Declared} {a : Written} {ts rest : List Token} → IsField x names a ts rest → Takes (length names + type_nodes a) ts rest
-  field_takes (t_field {mid = mid} n c d) = takes_less (takes_then (declareds_takes Brackets n) (takes_then (colon_takes Brackets mid c) (type_takes d))) (omega arith)
+  field_takes : {x : Origin} {names : List Declared} {a : Written} {ts rest : List Token} → IsField x names a ts rest
+      → Takes (length names + type_nodes a) ts rest
+  field_takes (t_field {mid = mid} n c d) = takes_less (takes_then (declareds_takes Brackets n) (takes_then (colon_takes Brackets mid c) (type_takes d)))
+      (omega arith)
 
   fields_takes : {x : Origin} {all : Fields} {ts rest : List Token} → IsFields x all ts rest → Takes (field_nodes all) ts rest
   fields_takes (t_last_field n) = takes_none
@@ -268,14 +298,18 @@ annotation_takes i d = maybe_takes {f = type_nodes} (λ a ts rest h t. typed_tak
 given_takes : {x : Origin} (i : Layout) {o : Option Term} {ts rest : List Token} → Given x i o ts rest → Takes (if_there nodes o) ts rest
 given_takes i d = maybe_takes {f = nodes} (λ a ts rest h v. takes_less (takes_then (equals_takes i ts h) (takes_expr v.value)) (omega arith)) d
 
-pub definition_takes : {x : Origin} {first i : Layout} (d : Definition) (ts rest : List Token) → IsDefined x first i d ts rest → Takes (definition_nodes d) ts rest
+pub definition_takes : {x : Origin} {first i : Layout} (d : Definition) (ts rest : List Token) → IsDefined x first i d ts rest
+    → Takes (definition_nodes d) ts rest
 definition_takes {first = first} {i = i} d ts rest r =
-    takes_less (takes_then (declareds_takes first r.names) (takes_then (all_pragmas_takes i r.pragmas) (takes_then (annotation_takes i r.annotation) (given_takes i r.value)))) (omega arith)
+    takes_less (takes_then (declareds_takes first r.names)
+    (takes_then (all_pragmas_takes i r.pragmas) (takes_then (annotation_takes i r.annotation) (given_takes i r.value)))) (omega arith)
 
-pub definitions_takes : {x : Origin} {n : ℕ} {all : List Definition} {ts rest : List Token} → Definitions x n all ts rest → Takes (total definition_nodes all) ts rest
+pub definitions_takes : {x : Origin} {n : ℕ} {all : List Definition} {ts rest : List Token} → Definitions x n all ts rest
+    → Takes (total definition_nodes all) ts rest
 definitions_takes d = each_takes {m = total definition_nodes} (counts_total definition_nodes) (λ ts h. takes_none) definition_takes d
 
-pub definition_block_takes : {x : Origin} {n : ℕ} (all : List Definition) (ts rest : List Token) → IsDefinitionBlock x n all ts rest → Takes (total definition_nodes all) ts rest
+pub definition_block_takes : {x : Origin} {n : ℕ} (all : List Definition) (ts rest : List Token) → IsDefinitionBlock x n all ts rest
+    → Takes (total definition_nodes all) ts rest
 definition_block_takes all ts rest d = definitions_takes d.lines
 
 -- ---- declarations of types
@@ -285,7 +319,8 @@ parent_takes i d = maybe_takes {f = count_one} (λ a ts rest h n. takes_less (ta
 
 field_lines_takes : {x : Origin} {n : ℕ} {all : Fields} {ts rest : List Token} → IsFieldLines x n all ts rest → Takes (field_nodes all) ts rest
 field_lines_takes (o_over h) = takes_none
-field_lines_takes (o_field {a = a} {mid = mid} {end = end} g n d t) = takes_less (takes_then (declareds_takes Brackets n) (takes_then (typed_takes a mid end d) (field_lines_takes t))) (omega arith)
+field_lines_takes (o_field {a = a} {mid = mid} {end = end} g n d t) =
+    takes_less (takes_then (declareds_takes Brackets n) (takes_then (typed_takes a mid end d) (field_lines_takes t))) (omega arith)
 
 field_block_takes : {x : Origin} (n : ℕ) {all : Fields} {ts rest : List Token} → FieldBlock x n all ts rest → Takes (field_nodes all) ts rest
 field_block_takes n d = perhaps_takes {f = field_nodes} refl (λ a ts rest h t. field_lines_takes t) d
@@ -296,7 +331,8 @@ member_or m ts false e = takes_none
 
 members_takes : {x : Origin} {n : ℕ} {all : List Name} {ts rest : List Token} → IsMembers x n all ts rest → Takes (length all) ts rest
 members_takes (o_line h d) = names_takes d
-members_takes (o_block {ts = at} h d) = listed_takes {m = length} counts_one (λ ts g. member_or (level_at at) ts (comma_at (Lines (level_at at)) ts) refl) is_name_takes is_name_takes d
+members_takes (o_block {ts = at} h d) = listed_takes {m = length} counts_one (λ ts g. member_or (level_at at) ts (comma_at (Lines (level_at at)) ts) refl)
+    is_name_takes is_name_takes d
 
 body_lead_takes : {l : BodyLead} (n : ℕ) (tok : Token) (ts : List Token) → body_lead (Lines n) (tok ∷ ts) ≡ l → (l ≡ B.Alias → ⊥) → Takes 1 (tok ∷ ts) ts
 body_lead_takes n tok ts q h = takes_token (λ e. h (sym q ∙ ap (body_lead_of (Lines n) ts) e))
@@ -314,37 +350,50 @@ ref_object n ts (T.Key _) e = cc
 ref_object n ts _ e = cc
 
 body_takes : {x : Origin} {n : ℕ} {b : Body} {ts rest : List Token} → IsBody x n b ts rest → Takes (body_nodes b) ts rest
-body_takes {n = n} (o_object {tok = tok} {ts = ts} q p f) = takes_less (takes_then (body_lead_takes n tok ts q (λ e. cc)) (takes_then (parent_takes (Lines n) p) (field_block_takes n f))) (omega arith)
+body_takes {n = n} (o_object {tok = tok} {ts = ts} q p f) =
+    takes_less (takes_then (body_lead_takes n tok ts q (λ e. cc)) (takes_then (parent_takes (Lines n) p) (field_block_takes n f))) (omega arith)
 body_takes {n = n} (o_ref_object {tok = tok} {ts = ts} q p f) =
-    takes_less (takes_then (body_lead_takes n tok ts q (λ e. cc)) (takes_then (object_takes (Lines n) ts (ref_object n ts tok.kind q)) (takes_then (parent_takes (Lines n) p) (field_block_takes n f)))) (omega arith)
+    takes_less (takes_then (body_lead_takes n tok ts q (λ e. cc))
+    (takes_then (object_takes (Lines n) ts (ref_object n ts tok.kind q)) (takes_then (parent_takes (Lines n) p) (field_block_takes n f)))) (omega arith)
 body_takes {n = n} (o_enum {tok = tok} {ts = ts} q d) = takes_less (takes_then (body_lead_takes n tok ts q (λ e. cc)) (members_takes d)) (omega arith)
 body_takes {n = n} (o_distinct {tok = tok} {ts = ts} q s d) = takes_less (takes_then (body_lead_takes n tok ts q (λ e. cc)) (type_takes d)) (omega arith)
 body_takes (o_alias q d) = type_takes d
 
-pub declaration_takes : {x : Origin} {first : Layout} {n : ℕ} (d : Declaration) (ts rest : List Token) → IsDeclaration x first n d ts rest → Takes (declaration_nodes d) ts rest
+pub declaration_takes : {x : Origin} {first : Layout} {n : ℕ} (d : Declaration) (ts rest : List Token) → IsDeclaration x first n d ts rest
+    → Takes (declaration_nodes d) ts rest
 declaration_takes {first = first} {n = n} d ts rest r =
-    takes_less (takes_then (declared_takes (name_takes first) d.name ts r.past_name r.name) (takes_then (generics_takes (Lines n) r.parameters) (takes_then (equals_takes (Lines n) r.past_parameters r.equals) (body_takes r.body)))) (omega arith)
+    takes_less (takes_then (declared_takes (name_takes first) d.name ts r.past_name r.name)
+    (takes_then (generics_takes (Lines n) r.parameters) (takes_then (equals_takes (Lines n) r.past_parameters r.equals) (body_takes r.body))))
+    (omega arith)
 
-pub declarations_takes : {x : Origin} {n : ℕ} (all : List Declaration) (ts rest : List Token) → IsDeclarations x n all ts rest → Takes (total declaration_nodes all) ts rest
-declarations_takes all ts rest (o_declarations h d) = each_takes {m = total declaration_nodes} (counts_total declaration_nodes) (λ ts g. takes_none) declaration_takes d
+pub declarations_takes : {x : Origin} {n : ℕ} (all : List Declaration) (ts rest : List Token) → IsDeclarations x n all ts rest
+    → Takes (total declaration_nodes all) ts rest
+declarations_takes all ts rest (o_declarations h d) = each_takes {m = total declaration_nodes} (counts_total declaration_nodes)
+    (λ ts g. takes_none) declaration_takes d
 declarations_takes all ts rest (o_declaration {d = one} h d) = takes_less (declaration_takes one ts rest d) (omega arith)
 
 -- ---- heads of procedures
 
 parameter_takes : {x : Origin} (p : Parameters) (ts rest : List Token) → IsParameter x p ts rest → Takes (parameter_nodes p) ts rest
 parameter_takes {x} p ts rest r =
-    takes_less (takes_then (names_takes r.names) (takes_then (colon_takes Brackets r.past_names r.colon) (takes_then (mode_takes x (behind r.past_names)) (type_takes r.of)))) (omega arith)
+    takes_less (takes_then (names_takes r.names)
+    (takes_then (colon_takes Brackets r.past_names r.colon) (takes_then (mode_takes x (behind r.past_names)) (type_takes r.of)))) (omega arith)
 
-parameters_takes : {x : Origin} {all : List Parameters} {ts rest : List Token} → Takes 1 ts (behind ts) → IsParameters x all ts rest → Takes (total parameter_nodes all) ts rest
+parameters_takes : {x : Origin} {all : List Parameters} {ts rest : List Token} → Takes 1 ts (behind ts) → IsParameters x all ts rest
+    → Takes (total parameter_nodes all) ts rest
 parameters_takes o (h_none {ts = ts} c) = takes_less (takes_then o (closes_takes Round (behind ts) c)) (omega arith)
-parameters_takes o (h_some c d) = closed_takes o (closes_takes Round) (λ ts rest n. listed_takes {m = total parameter_nodes} (counts_total parameter_nodes) (λ ts h. takes_less (separator_takes ts h) (omega arith)) parameter_takes parameter_takes n) d
+parameters_takes o (h_some c d) = closed_takes o (closes_takes Round) (λ ts rest n. listed_takes {m = total parameter_nodes} (counts_total parameter_nodes)
+    (λ ts h. takes_less (separator_takes ts h) (omega arith)) parameter_takes parameter_takes n) d
 
-parameter_list_takes : {x : Origin} (i : Layout) {all : List Parameters} {ts rest : List Token} → ParameterList x i all ts rest → Takes (total parameter_nodes all) ts rest
+parameter_list_takes : {x : Origin} (i : Layout) {all : List Parameters} {ts rest : List Token} → ParameterList x i all ts rest
+    → Takes (total parameter_nodes all) ts rest
 parameter_list_takes i d = perhaps_takes {f = total parameter_nodes} refl (λ a ts rest h e. parameters_takes (opens_takes i Round ts h) e) d
 
 pub head_takes : {x : Origin} {i : Layout} (h : Head) (ts rest : List Token) → IsHead x i h ts rest → Takes (head_nodes h) ts rest
 head_takes {i = i} h ts rest r =
-    takes_less (takes_then (declared_takes (proc_name_takes i) h.name ts r.past_name r.name) (takes_then (generics_takes i r.generics) (takes_then (parameter_list_takes i r.params) (takes_then (annotation_takes i r.gives) (all_pragmas_takes i r.pragmas))))) (omega arith)
+    takes_less (takes_then (declared_takes (proc_name_takes i) h.name ts r.past_name r.name)
+    (takes_then (generics_takes i r.generics)
+    (takes_then (parameter_list_takes i r.params) (takes_then (annotation_takes i r.gives) (all_pragmas_takes i r.pragmas))))) (omega arith)
 
 -- ---- at places of all tokens
 

@@ -2,7 +2,8 @@
 use Rattle.std.proofs.Common.{◌≡◌, ℕ, ◌≤◌, List, [], ◌∷◌, refl, ap, ◌∙◌, arith}
 use Rattle.std.specs.Prelude.{max}
 use Rattle.indent_scanner.specs.declared.token.Token.{Token}
-use Rattle.nim_tree.specs.Types.{Written, Arguments, no_arguments, argument, Fields, no_fields, fields, and_argument, and_field, type_levels, most_type_levels, field_levels}
+use Rattle.nim_tree.specs.Types.{Written, Arguments, no_arguments, argument, Fields, no_fields, fields, and_argument, and_field, type_levels, most_type_levels}
+use Rattle.nim_tree.specs.Types.{field_levels}
 use Rattle.parse_exprs.specs.declared.layout.Layout.TheVariants.{Brackets}
 use Rattle.parse_exprs.specs.Look.{Origin, comma_at}
 use Rattle.parse_decls.specs.Look.{behind}
@@ -26,7 +27,8 @@ abbrev pub arguments_from : List Written → Arguments
 arguments_from [] = no_arguments
 arguments_from (a ∷ all) = argument a (arguments_from all)
 
-first_argument : (a : Written) (some : Arguments) (all : List Written) → gathered and_argument (argument a some) all ≡ argument a (gathered and_argument some all)
+first_argument : (a : Written) (some : Arguments) (all : List Written) → gathered and_argument (argument a some) all
+    ≡ argument a (gathered and_argument some all)
 first_argument a some [] = refl
 first_argument a some (b ∷ all) = first_argument a (and_argument some b) all
 
@@ -42,7 +44,8 @@ pub types_each : {x : Origin} {all : Arguments} {ts rest : List Token} → IsTyp
 types_each (t_last n) = ([], refl, e_over n)
 types_each (t_next {a = a} g d t) = let r = types_each t in (a ∷ r.0, ap (argument a) r.1, e_next g d r.2)
 
-pub types_short : {x : Origin} {n : ℕ} {all : List Written} {ts rest : List Token} → Each (comma_at Brackets) behind (Short n type_levels (IsType x Brackets)) all ts rest
+pub types_short : {x : Origin} {n : ℕ} {all : List Written} {ts rest : List Token} → Each (comma_at Brackets) behind (Short n type_levels (IsType x Brackets))
+    all ts rest
     → Short n most_type_levels (IsTypes x) (arguments_from all) ts rest
 types_short (e_over n) = record { reads = t_last n; few = omega arith }
 types_short (e_next g d t) = let r = types_short t in record { reads = t_next g d.reads r.reads; few = both_few d.few r.few }
@@ -63,7 +66,8 @@ fields_from (one ∷ all) = fields one.names one.of (fields_from all)
 abbrev pub add_field : Fields → Typed → Fields
 add_field some one = and_field some one.names one.of
 
-first_field : (one : Typed) (some : Fields) (all : List Typed) → gathered add_field (fields one.names one.of some) all ≡ fields one.names one.of (gathered add_field some all)
+first_field : (one : Typed) (some : Fields) (all : List Typed) → gathered add_field (fields one.names one.of some) all ≡ fields one.names one.of
+    (gathered add_field some all)
 first_field one some [] = refl
 first_field one some (b ∷ all) = first_field one (add_field some b) all
 

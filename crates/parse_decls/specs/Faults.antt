@@ -21,10 +21,13 @@ use Rattle.parse_exprs.specs.Grammar.{IsExpr}
 use Rattle.parse_exprs.specs.Faults as F
 use Rattle.parse_decls.specs.declared.look.TypeLead.TheVariants as L
 use Rattle.parse_decls.specs.declared.look.BodyLead.TheVariants as B
-use Rattle.parse_decls.specs.Look.{behind, deeper_at, stands_at, level_at, proc_name_on, opens_at, equals_at, of_at, separator_at, is_pragma_close, pragmas_at, pragma_named, type_lead, type_at, past_mode, body_lead, more_members_at, past_comma}
+use Rattle.parse_decls.specs.Look.{behind, deeper_at, stands_at, level_at, proc_name_on, opens_at, equals_at, of_at, separator_at, is_pragma_close, pragmas_at}
+use Rattle.parse_decls.specs.Look.{pragma_named, type_lead, type_at, past_mode, body_lead, more_members_at, past_comma}
 use Rattle.parse_decls.specs.Outcome.{Why, too_deep, left_out, stuck_at}
 use Rattle.parse_decls.specs.Run.{most_levels}
-use Rattle.parse_decls.specs.Grammar.{Listed, Names, Declareds, IsName, IsDeclared, Generics, IsPragma, Pragmas, HoldsTypes, IsType, IsTypes, IsField, IsFields, IsTyped, Annotation, IsDefined, IsDefinitionBlock, Parent, IsDeclaration, IsDeclarations, IsParameter, ParameterList, IsHead}
+use Rattle.parse_decls.specs.Grammar.{Listed, Names, Declareds, IsName, IsDeclared, Generics, IsPragma, Pragmas, HoldsTypes, IsType, IsTypes, IsField, IsFields}
+use Rattle.parse_decls.specs.Grammar.{IsTyped, Annotation, IsDefined, IsDefinitionBlock, Parent, IsDeclaration, IsDeclarations, IsParameter, ParameterList}
+use Rattle.parse_decls.specs.Grammar.{IsHead}
 
 -- this is read, and has at most n levels
 pub record Short {A : Type 0} (n : ℕ) (levels : A → ℕ) (Reads : A → List Token → List Token → Type 0) (a : A) (ts rest : List Token) : Type 0 where

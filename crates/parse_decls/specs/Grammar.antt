@@ -22,7 +22,8 @@ use Rattle.nim_tree.specs.declared.name.Declared.{Declared}
 use Rattle.nim_tree.specs.declared.name.Pragma.{Pragma}
 use Rattle.nim_tree.specs.declared.name.PragmaKind.{PragmaKind}
 use Rattle.nim_tree.specs.Terms.{Term, levels}
-use Rattle.nim_tree.specs.Types.{Written, named, array, ref_to, tuple_of, Arguments, no_arguments, argument, Fields, no_fields, fields, Body, object, enum, distinct, alias, Declaration}
+use Rattle.nim_tree.specs.Types.{Written, named, array, ref_to, tuple_of, Arguments, no_arguments, argument, Fields, no_fields, fields, Body, object, enum}
+use Rattle.nim_tree.specs.Types.{distinct, alias, Declaration}
 use Rattle.nim_tree.specs.Statements.{Definition, Parameters, Head}
 use Rattle.parse_exprs.specs.declared.layout.Layout.{Layout}
 use Rattle.parse_exprs.specs.declared.layout.Layout.TheVariants.{Brackets, Lines}
@@ -32,7 +33,9 @@ use Rattle.parse_exprs.specs.Grammar.{IsExpr}
 use Rattle.parse_exprs.specs.Faults.{FaultsExpr, stuck_at}
 use Rattle.parse_decls.specs.declared.look.TypeLead.TheVariants as L
 use Rattle.parse_decls.specs.declared.look.BodyLead.TheVariants as B
-use Rattle.parse_decls.specs.Look.{behind, deeper_at, stands_at, level_at, name_of, declared_of, star_at, past_star, proc_name_on, is_quoted, opens_at, equals_at, of_at, separator_at, is_pragma_close, pragmas_at, pragma_named, pragma_of, type_lead, type_at, mode_at, past_mode, body_lead, more_members_at, past_comma}
+use Rattle.parse_decls.specs.Look.{behind, deeper_at, stands_at, level_at, name_of, declared_of, star_at, past_star, proc_name_on, is_quoted, opens_at}
+use Rattle.parse_decls.specs.Look.{equals_at, of_at, separator_at, is_pragma_close, pragmas_at, pragma_named, pragma_of, type_lead, type_at, mode_at, past_mode}
+use Rattle.parse_decls.specs.Look.{body_lead, more_members_at, past_comma}
 use Rattle.parse_decls.specs.Run.{most_levels}
 
 -- ---- repetitions and optional parts

@@ -9,7 +9,8 @@ use Rattle.nim_tree.specs.declared.name.Declared.{Declared}
 use Rattle.nim_tree.specs.declared.name.Pragma.{Pragma}
 use Rattle.nim_tree.specs.declared.name.PragmaKind.{PragmaKind}
 use Rattle.nim_tree.specs.Terms.{Term, levels}
-use Rattle.nim_tree.specs.Types.{Written, named, array, ref_to, tuple_of, Arguments, no_arguments, argument, and_argument, Fields, no_fields, fields, and_field, Body, object, enum, distinct, alias, Declaration}
+use Rattle.nim_tree.specs.Types.{Written, named, array, ref_to, tuple_of, Arguments, no_arguments, argument, and_argument, Fields, no_fields, fields, and_field}
+use Rattle.nim_tree.specs.Types.{Body, object, enum, distinct, alias, Declaration}
 use Rattle.nim_tree.specs.Statements.{Definition, Parameters, Head}
 use Rattle.parse_exprs.specs.declared.layout.Layout.{Layout}
 use Rattle.parse_exprs.specs.declared.layout.Layout.TheVariants.{Brackets, Lines}
@@ -21,7 +22,9 @@ use Rattle.parse_decls.specs.declared.look.TypeLead.{TypeLead}
 use Rattle.parse_decls.specs.declared.look.TypeLead.TheVariants as L
 use Rattle.parse_decls.specs.declared.look.BodyLead.{BodyLead}
 use Rattle.parse_decls.specs.declared.look.BodyLead.TheVariants as B
-use Rattle.parse_decls.specs.Look.{behind, deeper_at, stands_at, level_at, name_of, declared_of, star_at, past_star, proc_name_on, is_quoted, opens_at, equals_at, of_at, separator_at, is_pragma_close, pragmas_at, pragma_named, pragma_of, type_lead, type_at, mode_at, past_mode, body_lead, member_at}
+use Rattle.parse_decls.specs.Look.{behind, deeper_at, stands_at, level_at, name_of, declared_of, star_at, past_star, proc_name_on, is_quoted, opens_at}
+use Rattle.parse_decls.specs.Look.{equals_at, of_at, separator_at, is_pragma_close, pragmas_at, pragma_named, pragma_of, type_lead, type_at, mode_at, past_mode}
+use Rattle.parse_decls.specs.Look.{body_lead, member_at}
 use Rattle.parse_decls.specs.Outcome.{Out, got, bad, then_do, too_deep, left_out, stuck_at, tired, unless_stuck, of_expr}
 
 -- the most levels of an expression or a written type

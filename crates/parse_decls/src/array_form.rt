@@ -26,7 +26,10 @@ fn try_length(
     requires order { whole ≤ at }
     requires within { at < length input.now.tokens.now }
     requires few { length input.now.tokens.now < 2 ^ 32 }
-    ensures { Comes (λ value. option_map term_of value) (λ k. length_of (from_at input.now whole) left (from_at input.now at) (run_expr k (origin_of input.now) Brackets most_levels (from_at input.now at))) input.now at result }
+    ensures { Comes (λ value. option_map term_of value)
+        (λ k. length_of (from_at input.now whole) left (from_at input.now at)
+        (run_expr k (origin_of input.now) Brackets most_levels (from_at input.now at))) input.now
+        at result }
 {
     match expr_within(
         alloc,
@@ -74,7 +77,9 @@ pub(crate) fn read_length(
 ) -> Result<Reading<Option<Expr>>, Stop>
     requires order { whole ≤ at }
     requires few { length input.now.tokens.now < 2 ^ 32 }
-    ensures { Comes (λ value. option_map term_of value) (λ k. run_length k (origin_of input.now) (from_at input.now whole) left (from_at input.now at)) input.now at result }
+    ensures { Comes (λ value. option_map term_of value)
+        (λ k. run_length k (origin_of input.now) (from_at input.now whole) left (from_at input.now at))
+        input.now at result }
 {
     if type_at(input, at) {
         return try_length(alloc, input, at, whole, left);

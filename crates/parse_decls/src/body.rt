@@ -2,7 +2,8 @@
 ghost use Rattle.std.specs.Prelude.{◌≡◌, ◌≤◌, ◌<◌, ◌^◌, [], ◌∷◌, suc, length};
 ghost use Rattle.nim_tree.specs.Types.{fields_of, body_of, no_fields};
 ghost use Rattle.parse_exprs.specs.Input.{origin_of, from_at};
-ghost use Rattle.parse_decls.specs.Run.{run_parent, run_field, run_fields, run_field_block, run_object, run_more_members, run_members, run_enum, run_distinct, run_alias, run_body};
+ghost use Rattle.parse_decls.specs.Run.{run_parent, run_field, run_fields, run_field_block, run_object};
+ghost use Rattle.parse_decls.specs.Run.{run_more_members, run_members, run_enum, run_distinct, run_alias, run_body};
 ghost use Rattle.parse_decls.specs.Gives.{Comes, typed_of};
 
 use crate::look::{
@@ -132,7 +133,9 @@ fn read_more_members(
     spaces: u32,
 ) -> Result<Reading<Vec<Name>>, Stop>
     requires within { first.next ≤ length input.now.tokens.now }
-    ensures { Comes (λ all. all.items) (λ k. run_more_members k (origin_of input.now) spaces (first.value ∷ []) (from_at input.now first.next)) input.now first.next result }
+    ensures { Comes (λ all. all.items)
+        (λ k. run_more_members k (origin_of input.now) spaces (first.value ∷ [])
+        (from_at input.now first.next)) input.now first.next result }
 {
     let mut all = and_one(Vec::new(alloc), first.value)?;
     let mut next = first.next;

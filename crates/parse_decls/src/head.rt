@@ -46,7 +46,9 @@ fn read_more_params(
 ) -> Result<Reading<Vec<Param>>, Stop>
     requires within { first.next ≤ length input.now.tokens.now }
     requires few { length input.now.tokens.now < 2 ^ 32 }
-    ensures { Comes (λ all. map parameters_of all.items) (λ k. run_more_params k (origin_of input.now) (parameters_of first.value ∷ []) (from_at input.now first.next)) input.now first.next result }
+    ensures { Comes (λ all. map parameters_of all.items)
+        (λ k. run_more_params k (origin_of input.now) (parameters_of first.value ∷ [])
+        (from_at input.now first.next)) input.now first.next result }
 {
     let mut all = and_one(Vec::new(alloc), first.value)?;
     let mut next = first.next;

@@ -13,8 +13,6 @@ mod name;
 mod parse;
 mod pragmas;
 mod reading;
-#[cfg(test)]
-mod tests;
 mod total;
 mod values;
 mod written;

@@ -2,7 +2,12 @@
 ghost use Rattle.std.specs.Prelude.{◌≡◌, ◌≤◌, ◌+◌, ◌<◌, length, codes};
 ghost use Rattle.parse_exprs.specs.Look.{kind_at, is_run};
 ghost use Rattle.parse_exprs.specs.Input.{origin_of, from_at};
-ghost use Rattle.parse_decls.specs.Look.{spaces_at, deeper_at, equals, stands_at, level_at, is_end, star_at, past_star, is_quoted, proc_name_on, is_bracket, opens_at, equals_at, is_of, of_at, separator_at, is_pragma_open, is_pragma_close, pragmas_at, pragma_named, named_lead, type_lead, begins_type, type_at, mode_of, mode_at, past_mode, is_object, object_at, body_lead_of, body_lead, member_at, more_members_at, past_comma};
+ghost use Rattle.parse_decls.specs.Look.{spaces_at, deeper_at, equals, stands_at, level_at, is_end, star_at, past_star};
+ghost use Rattle.parse_decls.specs.Look.{is_quoted, proc_name_on, is_bracket, opens_at, equals_at, is_of, of_at};
+ghost use Rattle.parse_decls.specs.Look.{separator_at, is_pragma_open, is_pragma_close, pragmas_at, pragma_named};
+ghost use Rattle.parse_decls.specs.Look.{named_lead, type_lead, begins_type, type_at, mode_of, mode_at, past_mode};
+ghost use Rattle.parse_decls.specs.Look.{is_object, object_at, body_lead_of, body_lead, member_at, more_members_at};
+ghost use Rattle.parse_decls.specs.Look.{past_comma};
 
 use indent_scanner::{Key, Tok, Token, is_named};
 use nim_tree::{ParamMode, PragmaKind};

@@ -29,14 +29,12 @@ pub(crate) fn make_array(
     ensures ok { IfOk result (λ tree. written_of tree ≡ array at (term_of length) (written_of element)) }
     ensures err { IfErr result (λ stop. stop ≡ Memory) }
 {
-    match Box::new(alloc, element) {
-        Ok(element) => Ok(TypeTree::Array {
-            at,
-            length,
-            element,
-        }),
-        Err(_) => Err(Stop::Memory),
-    }
+    let element = Box::new(alloc, element)?;
+    Ok(TypeTree::Array {
+        at,
+        length,
+        element,
+    })
 }
 
 /// A reference to a type.
@@ -44,10 +42,8 @@ pub(crate) fn make_ref(alloc: Global, at: Place, target: TypeTree) -> Result<Typ
     ensures ok { IfOk result (λ tree. written_of tree ≡ ref_to at (written_of target)) }
     ensures err { IfErr result (λ stop. stop ≡ Memory) }
 {
-    match Box::new(alloc, target) {
-        Ok(target) => Ok(TypeTree::Ref { at, target }),
-        Err(_) => Err(Stop::Memory),
-    }
+    let target = Box::new(alloc, target)?;
+    Ok(TypeTree::Ref { at, target })
 }
 
 /// A tuple.

@@ -15,22 +15,12 @@ use nim_tree::{Declared, Name};
 use parse_exprs::{Bracket, Input, Layout};
 use std::alloc::Global;
 
-/// The bytes of a name.
-pub(crate) fn bytes_of(alloc: Global, spelling: &[u8]) -> Result<Bytes, Stop>
-    ensures ok { IfOk result (λ bytes. bytes ≡ spelling.now) }
-    ensures err { IfErr result (λ stop. stop ≡ Memory) }
-{
-    let mut bytes = Bytes::new(alloc);
-    bytes.append(spelling)?;
-    Ok(bytes)
-}
-
 // The name that a token is.
 fn name_of(alloc: Global, input: &Input, token: Token) -> Result<Name, Stop>
     ensures ok { IfOk result (λ name. name ≡ name_of (origin_of input.now) token) }
     ensures err { IfErr result (λ stop. stop ≡ Memory) }
 {
-    let text = bytes_of(alloc, input.spelling(token))?;
+    let text = Bytes::from_slice(alloc, input.spelling(token))?;
     Ok(Name {
         at: input.place_at(token),
         text,
@@ -80,7 +70,7 @@ fn declared_of(alloc: Global, input: &Input, token: Token, shown: bool) -> Resul
     ensures ok { IfOk result (λ name. name ≡ declared_of (origin_of input.now) token (is_quoted token.kind) shown) }
     ensures err { IfErr result (λ stop. stop ≡ Memory) }
 {
-    let text = bytes_of(alloc, input.spelling(token))?;
+    let text = Bytes::from_slice(alloc, input.spelling(token))?;
     Ok(Declared {
         at: input.place_at(token),
         text,
@@ -119,7 +109,9 @@ pub(crate) fn read_declared(
     before: Layout,
     layout: Layout,
 ) -> Result<Reading<Declared>, Stop>
-    ensures { Comes (λ name. name) (λ k. run_shown (origin_of input.now) layout (name_on before (from_at input.now at)) (from_at input.now at)) input.now (suc at) result }
+    ensures { Comes (λ name. name)
+        (λ k. run_shown (origin_of input.now) layout (name_on before (from_at input.now at))
+        (from_at input.now at)) input.now (suc at) result }
 {
     let name = input.name_on(at, before);
     read_shown(alloc, input, at, name, layout)
@@ -132,7 +124,9 @@ pub(crate) fn read_proc_name(
     at: usize,
     layout: Layout,
 ) -> Result<Reading<Declared>, Stop>
-    ensures { Comes (λ name. name) (λ k. run_shown (origin_of input.now) layout (proc_name_on layout (from_at input.now at)) (from_at input.now at)) input.now (suc at) result }
+    ensures { Comes (λ name. name)
+        (λ k. run_shown (origin_of input.now) layout (proc_name_on layout (from_at input.now at))
+        (from_at input.now at)) input.now (suc at) result }
 {
     let name = proc_name_on(input, at, layout);
     read_shown(alloc, input, at, name, layout)

@@ -9,7 +9,9 @@ ghost use Rattle.parse_exprs.specs.Parsed.{HasNoEnd};
 ghost use Rattle.parse_exprs.specs.declared.layout.Layout.TheVariants.{Lines};
 ghost use Rattle.parse_decls.specs.Run.{run_names, run_def, run_def_block, run_types, run_head};
 ghost use Rattle.parse_decls.specs.Grammar.{Names, IsDefinition, IsDefinitionBlock, IsDeclarations, IsHead};
-ghost use Rattle.parse_decls.specs.Faults.{FaultsNames, ShortDefinition, FaultsDefinition, ShortDefinitionBlock, FaultsDefinitionBlock, ShortDeclarations, FaultsDeclarations, ShortHead, FaultsHead};
+ghost use Rattle.parse_decls.specs.Faults.{FaultsNames, ShortDefinition, FaultsDefinition, ShortDefinitionBlock};
+ghost use Rattle.parse_decls.specs.Faults.{FaultsDefinitionBlock, ShortDeclarations, FaultsDeclarations, ShortHead};
+ghost use Rattle.parse_decls.specs.Faults.{FaultsHead};
 ghost use Rattle.parse_decls.specs.Claims.{IsOnly, IsRefused};
 ghost use Rattle.parse_decls.specs.Gives.{Comes, Tells};
 
@@ -38,7 +40,11 @@ pub fn names(
     ensures only { IfOk result (λ p. IsOnly (Names (origin_of input.now) layout) input.now.tokens.now at p.value.items p.next) }
     ensures size { IfOk result (λ p. length p.value.items ≤ p.next - at) }
     ensures inside { IfOk result (λ p. HasNoEnd input.now.tokens.now at p.next) }
-    ensures refused { IfErr result (λ stop. OnRefusal stop (IsRefused (Names (origin_of input.now) layout) (Names (origin_of input.now) layout) (FaultsNames (origin_of input.now) layout) (Tells (origin_of input.now)) (from_at input.now at))) }
+    ensures refused { IfErr result
+        (λ stop. OnRefusal stop
+        (IsRefused (Names (origin_of input.now) layout) (Names (origin_of input.now) layout)
+        (FaultsNames (origin_of input.now) layout) (Tells (origin_of input.now))
+        (from_at input.now at))) }
 {
     read_names(alloc, input, at, layout)
 }
@@ -55,11 +61,18 @@ pub fn definition(
 ) -> Result<Reading<Def>, Stop>
     requires few { length input.now.tokens.now < 2 ^ 32 }
     ensures runs { Comes definition_of (λ k. run_def k (origin_of input.now) (Lines spaces) (from_at input.now at)) input.now (suc at) result }
-    ensures reads { IfOk result (λ p. ShortDefinition (origin_of input.now) (Lines spaces) (definition_of p.value) (from_at input.now at) (from_at input.now p.next)) }
+    ensures reads { IfOk result
+        (λ p. ShortDefinition (origin_of input.now) (Lines spaces) (definition_of p.value)
+        (from_at input.now at) (from_at input.now p.next)) }
     ensures only { IfOk result (λ p. IsOnly (IsDefinition (origin_of input.now) (Lines spaces)) input.now.tokens.now at (definition_of p.value) p.next) }
     ensures size { IfOk result (λ p. definition_nodes (definition_of p.value) ≤ p.next - at) }
     ensures inside { IfOk result (λ p. HasNoEnd input.now.tokens.now at p.next) }
-    ensures refused { IfErr result (λ stop. OnRefusal stop (IsRefused (IsDefinition (origin_of input.now) (Lines spaces)) (ShortDefinition (origin_of input.now) (Lines spaces)) (FaultsDefinition (origin_of input.now) (Lines spaces)) (Tells (origin_of input.now)) (from_at input.now at))) }
+    ensures refused { IfErr result
+        (λ stop. OnRefusal stop
+        (IsRefused (IsDefinition (origin_of input.now) (Lines spaces))
+        (ShortDefinition (origin_of input.now) (Lines spaces))
+        (FaultsDefinition (origin_of input.now) (Lines spaces)) (Tells (origin_of input.now))
+        (from_at input.now at))) }
 {
     read_definition(alloc, input, at, Layout::Lines(spaces))
 }
@@ -77,11 +90,18 @@ pub fn definition_block(
     requires few { length input.now.tokens.now < 2 ^ 32 }
     requires within { at ≤ length input.now.tokens.now }
     ensures runs { Comes (λ all. map definition_of all.items) (λ k. run_def_block k (origin_of input.now) spaces (from_at input.now at)) input.now at result }
-    ensures reads { IfOk result (λ p. ShortDefinitionBlock (origin_of input.now) spaces (map definition_of p.value.items) (from_at input.now at) (from_at input.now p.next)) }
+    ensures reads { IfOk result
+        (λ p. ShortDefinitionBlock (origin_of input.now) spaces (map definition_of p.value.items)
+        (from_at input.now at) (from_at input.now p.next)) }
     ensures only { IfOk result (λ p. IsOnly (IsDefinitionBlock (origin_of input.now) spaces) input.now.tokens.now at (map definition_of p.value.items) p.next) }
     ensures size { IfOk result (λ p. total definition_nodes (map definition_of p.value.items) ≤ p.next - at) }
     ensures inside { IfOk result (λ p. HasNoEnd input.now.tokens.now at p.next) }
-    ensures refused { IfErr result (λ stop. OnRefusal stop (IsRefused (IsDefinitionBlock (origin_of input.now) spaces) (ShortDefinitionBlock (origin_of input.now) spaces) (FaultsDefinitionBlock (origin_of input.now) spaces) (Tells (origin_of input.now)) (from_at input.now at))) }
+    ensures refused { IfErr result
+        (λ stop. OnRefusal stop
+        (IsRefused (IsDefinitionBlock (origin_of input.now) spaces)
+        (ShortDefinitionBlock (origin_of input.now) spaces)
+        (FaultsDefinitionBlock (origin_of input.now) spaces) (Tells (origin_of input.now))
+        (from_at input.now at))) }
 {
     read_definition_block(alloc, input, at, spaces)
 }
@@ -99,11 +119,18 @@ pub fn type_declarations(
     requires few { length input.now.tokens.now < 2 ^ 32 }
     requires within { at ≤ length input.now.tokens.now }
     ensures runs { Comes (λ all. map declaration_of all.items) (λ k. run_types k (origin_of input.now) spaces (from_at input.now at)) input.now at result }
-    ensures reads { IfOk result (λ p. ShortDeclarations (origin_of input.now) spaces (map declaration_of p.value.items) (from_at input.now at) (from_at input.now p.next)) }
+    ensures reads { IfOk result
+        (λ p. ShortDeclarations (origin_of input.now) spaces (map declaration_of p.value.items)
+        (from_at input.now at) (from_at input.now p.next)) }
     ensures only { IfOk result (λ p. IsOnly (IsDeclarations (origin_of input.now) spaces) input.now.tokens.now at (map declaration_of p.value.items) p.next) }
     ensures size { IfOk result (λ p. total declaration_nodes (map declaration_of p.value.items) ≤ p.next - at) }
     ensures inside { IfOk result (λ p. HasNoEnd input.now.tokens.now at p.next) }
-    ensures refused { IfErr result (λ stop. OnRefusal stop (IsRefused (IsDeclarations (origin_of input.now) spaces) (ShortDeclarations (origin_of input.now) spaces) (FaultsDeclarations (origin_of input.now) spaces) (Tells (origin_of input.now)) (from_at input.now at))) }
+    ensures refused { IfErr result
+        (λ stop. OnRefusal stop
+        (IsRefused (IsDeclarations (origin_of input.now) spaces)
+        (ShortDeclarations (origin_of input.now) spaces)
+        (FaultsDeclarations (origin_of input.now) spaces) (Tells (origin_of input.now))
+        (from_at input.now at))) }
 {
     read_types(alloc, input, at, spaces)
 }
@@ -123,7 +150,12 @@ pub fn procedure_head(
     ensures only { IfOk result (λ p. IsOnly (IsHead (origin_of input.now) (Lines spaces)) input.now.tokens.now at (head_of p.value) p.next) }
     ensures size { IfOk result (λ p. head_nodes (head_of p.value) ≤ p.next - at) }
     ensures inside { IfOk result (λ p. HasNoEnd input.now.tokens.now at p.next) }
-    ensures refused { IfErr result (λ stop. OnRefusal stop (IsRefused (IsHead (origin_of input.now) (Lines spaces)) (ShortHead (origin_of input.now) (Lines spaces)) (FaultsHead (origin_of input.now) (Lines spaces)) (Tells (origin_of input.now)) (from_at input.now at))) }
+    ensures refused { IfErr result
+        (λ stop. OnRefusal stop
+        (IsRefused (IsHead (origin_of input.now) (Lines spaces))
+        (ShortHead (origin_of input.now) (Lines spaces))
+        (FaultsHead (origin_of input.now) (Lines spaces)) (Tells (origin_of input.now))
+        (from_at input.now at))) }
 {
     read_head(alloc, input, at, Layout::Lines(spaces))
 }

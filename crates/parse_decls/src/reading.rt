@@ -21,10 +21,8 @@ pub fn and_one<T: Drop>(list: Vec<T>, one: T) -> Result<Vec<T>, Stop>
     ensures err { IfErr result (λ stop. stop ≡ Memory) }
 {
     let mut all = list;
-    match all.push(one) {
-        Ok(()) => Ok(all),
-        Err(_) => Err(Stop::Memory),
-    }
+    all.push(one)?;
+    Ok(all)
 }
 
 /// The refusal of what the language leaves out: E23 at the token there.

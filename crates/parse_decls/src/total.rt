@@ -6,7 +6,9 @@ ghost use Rattle.parse_exprs.specs.Look.{Origin};
 ghost use Rattle.parse_decls.specs.Ends.{Advances, AlwaysEnds, Decided};
 ghost use Rattle.parse_decls.specs.Run.{run_names, run_def, run_def_block, run_types, run_head};
 ghost use Rattle.parse_decls.specs.Grammar.{Names};
-ghost use Rattle.parse_decls.specs.Faults.{FaultsNames, ShortDefinition, FaultsDefinition, ShortDefinitionBlock, FaultsDefinitionBlock, ShortDeclarations, FaultsDeclarations, ShortHead, FaultsHead};
+ghost use Rattle.parse_decls.specs.Faults.{FaultsNames, ShortDefinition, FaultsDefinition, ShortDefinitionBlock};
+ghost use Rattle.parse_decls.specs.Faults.{FaultsDefinitionBlock, ShortDeclarations, FaultsDeclarations, ShortHead};
+ghost use Rattle.parse_decls.specs.Faults.{FaultsHead};
 
 /// Each list of tokens begins with names, with a definition, with a block of them, with declarations of types, or with the head
 /// of a procedure, of at most 64 levels; or it is said why not, and at which token.

@@ -25,7 +25,10 @@ pub(crate) const MOST_LEVELS: u32 = 64;
 // Why the part at `at` of what begins at `whole` isn't read: of a level too many the whole is told.
 fn refused_within(input: &Input, at: usize, whole: usize, stop: Stop) -> Stop
     requires within { whole < length input.now.tokens.now }
-    ensures { (run : List One → ℕ → Out Term) → OnRefusal stop (RunsInto run (origin_of input.now) (from_at input.now at)) → Fails (λ k. of_expr (from_at input.now whole) (run (from_at input.now at) k)) (origin_of input.now) result }
+    ensures { (run : List One → ℕ → Out Term)
+        → OnRefusal stop (RunsInto run (origin_of input.now) (from_at input.now at))
+        → Fails (λ k. of_expr (from_at input.now whole) (run (from_at input.now at) k))
+        (origin_of input.now) result }
 {
     match stop {
         Stop::Refused { code, at: place } => match code {
@@ -47,7 +50,9 @@ pub(crate) fn read_within(
 ) -> Result<Reading<Expr>, Stop>
     requires order { whole ≤ at }
     requires few { length input.now.tokens.now < 2 ^ 32 }
-    ensures { Comes term_of (λ k. of_expr (from_at input.now whole) (run_expr k (origin_of input.now) layout left (from_at input.now at))) input.now (suc at) result }
+    ensures { Comes term_of
+        (λ k. of_expr (from_at input.now whole)
+        (run_expr k (origin_of input.now) layout left (from_at input.now at))) input.now (suc at) result }
 {
     let tokens = input.tokens;
     if at >= tokens.len() {
@@ -79,7 +84,10 @@ pub fn read_value(
     layout: Layout,
 ) -> Result<Reading<Expr>, Stop>
     requires few { length input.now.tokens.now < 2 ^ 32 }
-    ensures { Comes term_of (λ k. of_expr (from_at input.now at) (run_expr k (origin_of input.now) layout most_levels (from_at input.now at))) input.now (suc at) result }
+    ensures { Comes term_of
+        (λ k. of_expr (from_at input.now at)
+        (run_expr k (origin_of input.now) layout most_levels (from_at input.now at))) input.now
+        (suc at) result }
 {
     read_within(alloc, input, at, layout, at, MOST_LEVELS)
 }
@@ -92,7 +100,10 @@ pub fn read_callee(
     spaces: u32,
 ) -> Result<Reading<Expr>, Stop>
     requires few { length input.now.tokens.now < 2 ^ 32 }
-    ensures { Comes term_of (λ k. of_expr (from_at input.now at) (run_primary k (origin_of input.now) (Lines spaces) true most_levels (from_at input.now at))) input.now (suc at) result }
+    ensures { Comes term_of
+        (λ k. of_expr (from_at input.now at)
+        (run_primary k (origin_of input.now) (Lines spaces) true most_levels (from_at input.now at)))
+        input.now (suc at) result }
 {
     let tokens = input.tokens;
     if at >= tokens.len() {

@@ -14,10 +14,10 @@ ghost use Rattle.parse_decls.specs.Gives.{Comes, Told, typed_of};
 use crate::array_form::read_length;
 use crate::look::{TypeLead, opens_at, type_at, type_lead};
 use crate::make::{make_array, make_named, make_ref, make_tuple};
-use crate::name::{bytes_of, read_declareds};
+use crate::name::read_declareds;
 use crate::reading::{Reading, and_one, stuck, too_deep};
 use crate::values::MOST_LEVELS;
-use arc_base::Stop;
+use arc_base::{Bytes, Stop};
 use indent_scanner::Token;
 use nim_tree::{Expr, Field, TypeTree};
 use parse_exprs::{Bracket, Input, Layout};
@@ -26,7 +26,9 @@ use std::alloc::Global;
 // Why nothing is read where no level is left.
 fn no_level(input: &Input, at: usize, whole: usize) -> Stop
     requires order { whole ≤ at }
-    ensures { Told (origin_of input.now) (if type_at (from_at input.now at) then too_deep (from_at input.now whole) else stuck_at (from_at input.now at)) result }
+    ensures { Told (origin_of input.now)
+        (if type_at (from_at input.now at) then too_deep (from_at input.now whole)
+        else stuck_at (from_at input.now at)) result }
 {
     if type_at(input, at) {
         return too_deep(input, whole);
@@ -76,13 +78,15 @@ fn read_named(
     requires order { whole ≤ at }
     requires within { at < length input.now.tokens.now }
     requires few { length input.now.tokens.now < 2 ^ 32 }
-    ensures { Comes written_of (λ k. run_sort k L.Name (origin_of input.now) layout (from_at input.now whole) left token (from_at input.now (at + 1))) input.now (suc at) result }
+    ensures { Comes written_of
+        (λ k. run_sort k L.Name (origin_of input.now) layout (from_at input.now whole) left token
+        (from_at input.now (at + 1))) input.now (suc at) result }
 {
     let behind = at + 1;
     if opens_at(input, behind, layout, Bracket::Square) {
         return read_inside(alloc, input, behind + 1, token, whole, left);
     }
-    let text = bytes_of(alloc, input.spelling(token))?;
+    let text = Bytes::from_slice(alloc, input.spelling(token))?;
     Ok(Reading {
         value: make_named(input.place_at(token), text, Vec::new(alloc)),
         next: behind,
@@ -101,9 +105,11 @@ fn read_inside(
 ) -> Result<Reading<TypeTree>, Stop>
     requires order { whole ≤ at }
     requires few { length input.now.tokens.now < 2 ^ 32 }
-    ensures { Comes written_of (λ k. run_inside k None (origin_of input.now) (from_at input.now whole) left token (from_at input.now at)) input.now (suc at) result }
+    ensures { Comes written_of
+        (λ k. run_inside k None (origin_of input.now) (from_at input.now whole) left token
+        (from_at input.now at)) input.now (suc at) result }
 {
-    let text = bytes_of(alloc, input.spelling(token))?;
+    let text = Bytes::from_slice(alloc, input.spelling(token))?;
     let first = read_type(alloc, input, at, Layout::Brackets, whole, left)?;
     let arguments = read_arguments(alloc, input, first, whole, left)?;
     if !input.closes_at(Bracket::Square, arguments.next) {
@@ -127,7 +133,10 @@ fn read_arguments(
     requires order { whole ≤ first.next }
     requires within { first.next ≤ length input.now.tokens.now }
     requires few { length input.now.tokens.now < 2 ^ 32 }
-    ensures { Comes (λ all. arguments_of all.items) (λ k. run_arguments k (origin_of input.now) (from_at input.now whole) left (argument (written_of first.value) no_arguments) (from_at input.now first.next)) input.now first.next result }
+    ensures { Comes (λ all. arguments_of all.items)
+        (λ k. run_arguments k (origin_of input.now) (from_at input.now whole) left
+        (argument (written_of first.value) no_arguments) (from_at input.now first.next)) input.now
+        first.next result }
 {
     let mut arguments = and_one(Vec::new(alloc), first.value)?;
     let mut next = first.next;
@@ -156,7 +165,9 @@ fn read_array(
     requires order { whole ≤ at }
     requires within { at < length input.now.tokens.now }
     requires few { length input.now.tokens.now < 2 ^ 32 }
-    ensures { Comes written_of (λ k. run_sort k L.Array (origin_of input.now) layout (from_at input.now whole) left token (from_at input.now (at + 1))) input.now (suc at) result }
+    ensures { Comes written_of
+        (λ k. run_sort k L.Array (origin_of input.now) layout (from_at input.now whole) left token
+        (from_at input.now (at + 1))) input.now (suc at) result }
 {
     let inside = at + 2;
     let length = read_length(alloc, input, inside, whole, left)?;
@@ -180,7 +191,9 @@ fn read_element(
 ) -> Result<Reading<TypeTree>, Stop>
     requires order { whole ≤ at }
     requires few { length input.now.tokens.now < 2 ^ 32 }
-    ensures { Comes written_of (λ k. run_inside k (Some (term_of count)) (origin_of input.now) (from_at input.now whole) left token (from_at input.now at)) input.now (suc at) result }
+    ensures { Comes written_of
+        (λ k. run_inside k (Some (term_of count)) (origin_of input.now) (from_at input.now whole) left token
+        (from_at input.now at)) input.now (suc at) result }
 {
     let element = read_type(alloc, input, at, Layout::Brackets, whole, left)?;
     if !input.closes_at(Bracket::Square, element.next) {
@@ -206,7 +219,9 @@ fn read_ref(
     requires order { whole ≤ at }
     requires within { at < length input.now.tokens.now }
     requires few { length input.now.tokens.now < 2 ^ 32 }
-    ensures { Comes written_of (λ k. run_sort k L.Ref (origin_of input.now) layout (from_at input.now whole) left token (from_at input.now (at + 1))) input.now (suc at) result }
+    ensures { Comes written_of
+        (λ k. run_sort k L.Ref (origin_of input.now) layout (from_at input.now whole) left token
+        (from_at input.now (at + 1))) input.now (suc at) result }
 {
     let behind = at + 1;
     if !input.stays(behind, layout) {
@@ -233,7 +248,9 @@ fn read_tuple(
     requires order { whole ≤ at }
     requires within { at < length input.now.tokens.now }
     requires few { length input.now.tokens.now < 2 ^ 32 }
-    ensures { Comes written_of (λ k. run_sort k L.Tuple (origin_of input.now) layout (from_at input.now whole) left token (from_at input.now (at + 1))) input.now (suc at) result }
+    ensures { Comes written_of
+        (λ k. run_sort k L.Tuple (origin_of input.now) layout (from_at input.now whole) left token
+        (from_at input.now (at + 1))) input.now (suc at) result }
 {
     let open = at + 1;
     if !opens_at(input, open, layout, Bracket::Square) {
@@ -296,7 +313,10 @@ fn read_parts(
     requires order { whole ≤ first.next }
     requires within { first.next ≤ length input.now.tokens.now }
     requires few { length input.now.tokens.now < 2 ^ 32 }
-    ensures { Comes (λ all. fields_of all.items) (λ k. run_parts k (origin_of input.now) (from_at input.now whole) left (fields first.value.names.items (written_of first.value.of) no_fields) (from_at input.now first.next)) input.now first.next result }
+    ensures { Comes (λ all. fields_of all.items)
+        (λ k. run_parts k (origin_of input.now) (from_at input.now whole) left
+        (fields first.value.names.items (written_of first.value.of) no_fields)
+        (from_at input.now first.next)) input.now first.next result }
 {
     let mut fields = and_one(Vec::new(alloc), first.value)?;
     let mut next = first.next;

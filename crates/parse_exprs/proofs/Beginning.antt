@@ -14,9 +14,15 @@ use Rattle.parse_exprs.specs.declared.layout.Layout.TheVariants.{Brackets}
 use Rattle.parse_exprs.specs.declared.input.Bracket.{Bracket}
 use Rattle.parse_exprs.specs.declared.input.Bracket.TheVariants.{Square}
 use Rattle.parse_exprs.specs.declared.input.Lead.TheVariants as L
-use Rattle.parse_exprs.specs.Look.{Origin, spelling, place_at, op_levels, single_of, single, sign_named, sign_of, is_at_sign, bracket_of, bracket_at, square_at, is_square, lead_of, lead_at, first_of_at, branch_at, is_else, else_on, branch_goes_on, colon_at}
-use Rattle.parse_exprs.specs.Grammar.{Spells, p_unary, p_binary, SpellsMore, p_none, p_more, SpellsUnary, p_sign, p_plain, SpellsPrimary, p_primary, SpellsSuffixes, p_done, p_suffix, SpellsSuffix, p_field, p_applied, SpellsAtom, p_token, p_group, p_sequence, SpellsEnclosed, p_empty, p_parts, SpellsMoreParts, p_over, p_part, SpellsValue, p_value, p_own_line, SpellsElifs, p_no_elif, p_elif, SpellsElse, p_else, SpellsBranches, p_branches, SpellsLabels, p_last_label, p_label, SpellsOfs, p_last_of, p_next_of, SpellsOtherwise, p_no_else, p_with_else, Stops}
-use Rattle.parse_exprs.proofs.Stopping.{none_some, none_of, both, operator_stops, fewer, comma_stops, label_comma_stops, colon_stops, elif_stops, else_stops, of_stops}
+use Rattle.parse_exprs.specs.Look.{Origin, spelling, place_at, op_levels, single_of, single, sign_named, sign_of, is_at_sign, bracket_of, bracket_at, square_at}
+use Rattle.parse_exprs.specs.Look.{is_square, lead_of, lead_at, first_of_at, branch_at, is_else, else_on, branch_goes_on, colon_at}
+use Rattle.parse_exprs.specs.Grammar.{Spells, p_unary, p_binary, SpellsMore, p_none, p_more, SpellsUnary, p_sign, p_plain, SpellsPrimary, p_primary}
+use Rattle.parse_exprs.specs.Grammar.{SpellsSuffixes, p_done, p_suffix, SpellsSuffix, p_field, p_applied, SpellsAtom, p_token, p_group, p_sequence}
+use Rattle.parse_exprs.specs.Grammar.{SpellsEnclosed, p_empty, p_parts, SpellsMoreParts, p_over, p_part, SpellsValue, p_value, p_own_line, SpellsElifs}
+use Rattle.parse_exprs.specs.Grammar.{p_no_elif, p_elif, SpellsElse, p_else, SpellsBranches, p_branches, SpellsLabels, p_last_label, p_label, SpellsOfs}
+use Rattle.parse_exprs.specs.Grammar.{p_last_of, p_next_of, SpellsOtherwise, p_no_else, p_with_else, Stops}
+use Rattle.parse_exprs.proofs.Stopping.{none_some, none_of, both, operator_stops, fewer, comma_stops, label_comma_stops, colon_stops, elif_stops, else_stops}
+use Rattle.parse_exprs.proofs.Stopping.{of_stops}
 use Rattle.parse_exprs.proofs.Levels.{most_and, levels_and, applied_levels}
 
 -- ---- no token is two things
@@ -62,7 +68,8 @@ at_bracket x tok e = none_of (bracket_of tok.kind) (λ b h. at_no_bracket (spell
 pub point_bracket : (k : Tok) → k ≡ T.Punct 46 → bracket_of k ≡ None
 point_bracket k e = ap bracket_of e
 
-pub enclosed_bracket : {x : Origin} {b : Bracket} {m : Bool} {parts : Parts} {ts rest : List Token} → SpellsEnclosed x b m parts ts rest → bracket_at ts ≡ Some b
+pub enclosed_bracket : {x : Origin} {b : Bracket} {m : Bool} {parts : Parts} {ts rest : List Token} → SpellsEnclosed x b m parts ts rest
+    → bracket_at ts ≡ Some b
 enclosed_bracket (p_empty h c) = h
 enclosed_bracket (p_parts h o d c) = h
 
@@ -77,8 +84,10 @@ IsUnsigned x [] = ⊥
 IsUnsigned x (tok ∷ ts) = sign_of tok.kind (spelling x tok) ≡ None
 
 atom_unsigned : {x : Origin} {i : Layout} {t : Term} {ts rest : List Token} → SpellsAtom x i t ts rest → IsUnsigned x ts
-atom_unsigned {x = x} (p_token {tok = tok} h) = none_of (sign_of tok.kind (spelling x tok)) (λ op e. single_no_sign (place_at x tok) (spelling x tok) tok.kind h e)
-atom_unsigned {x = x} (p_group {tok = tok} m d g) = none_of (sign_of tok.kind (spelling x tok)) (λ op e. bracket_no_sign (spelling x tok) tok.kind (enclosed_bracket d) e)
+atom_unsigned {x = x} (p_token {tok = tok} h) = none_of (sign_of tok.kind (spelling x tok))
+    (λ op e. single_no_sign (place_at x tok) (spelling x tok) tok.kind h e)
+atom_unsigned {x = x} (p_group {tok = tok} m d g) = none_of (sign_of tok.kind (spelling x tok))
+    (λ op e. bracket_no_sign (spelling x tok) tok.kind (enclosed_bracket d) e)
 atom_unsigned {x = x} (p_sequence {tok = tok} h on d) = none_of (sign_of tok.kind (spelling x tok)) (λ op e. at_no_sign (spelling x tok) tok.kind h e)
 
 pub primary_unsigned : {x : Origin} {i : Layout} {c : Bool} {t : Term} {ts rest : List Token} → SpellsPrimary x i c t ts rest → IsUnsigned x ts
@@ -123,7 +132,8 @@ pub more_stops : {x : Origin} {i : Layout} {l : ℕ} {a t : Term} {ts rest : Lis
 more_stops p_none s = fewer s
 more_stops {x = x} {i = i} {l = l} (p_more {op = op} {tok = tok} {ts = ts} h d c) s = operator_stops x i l op tok ts h
 
-pub parts_stop : {x : Origin} {m : Bool} {some parts : Parts} {ts rest : List Token} → SpellsMoreParts x m some parts ts rest → Stops x Brackets op_levels rest → Stops x Brackets op_levels ts
+pub parts_stop : {x : Origin} {m : Bool} {some parts : Parts} {ts rest : List Token} → SpellsMoreParts x m some parts ts rest → Stops x Brackets op_levels rest
+    → Stops x Brackets op_levels ts
 parts_stop (p_over h) s = s
 parts_stop {x = x} {ts = ts} (p_part h d c) s = comma_stops x Brackets op_levels ts h
 
@@ -136,25 +146,30 @@ value_colon (p_value h on d) = h
 value_colon (p_own_line h on d c) = h
 
 -- an `else` before a value has its colon
-pub else_of : {x : Origin} {i : Layout} {v : Term} {ts rest : List Token} (tok : Token) → branch_at i is_else (tok ∷ ts) ≡ true → SpellsValue x i v ts rest → else_on i (tok ∷ ts) ≡ true
+pub else_of : {x : Origin} {i : Layout} {v : Term} {ts rest : List Token} (tok : Token) → branch_at i is_else (tok ∷ ts) ≡ true → SpellsValue x i v ts rest
+    → else_on i (tok ∷ ts) ≡ true
 else_of {i = i} {ts = ts} tok h d = both (branch_goes_on i tok.indent && is_else tok.kind) (colon_at i ts) h (value_colon d)
 
 pub else_word : {x : Origin} {i : Layout} {v : Term} {ts rest : List Token} → SpellsElse x i v ts rest → Stops x i op_levels ts
 else_word {x = x} {i = i} {ts = ts} (p_else h d) = else_stops x i i op_levels ts h
 
-pub elifs_stop : {x : Origin} {i : Layout} {some all : Choices} {ts rest : List Token} → SpellsElifs x i some all ts rest → Stops x i op_levels rest → Stops x i op_levels ts
+pub elifs_stop : {x : Origin} {i : Layout} {some all : Choices} {ts rest : List Token} → SpellsElifs x i some all ts rest → Stops x i op_levels rest
+    → Stops x i op_levels ts
 elifs_stop (p_no_elif h) s = s
 elifs_stop {x = x} {i = i} {ts = ts} (p_elif h d c) s = elif_stops x i i op_levels ts h
 
-pub ofs_stop : {x : Origin} {i : Layout} {some all : Choices} {ts rest : List Token} → SpellsOfs x i some all ts rest → Stops x i op_levels rest → Stops x i op_levels ts
+pub ofs_stop : {x : Origin} {i : Layout} {some all : Choices} {ts rest : List Token} → SpellsOfs x i some all ts rest → Stops x i op_levels rest
+    → Stops x i op_levels ts
 ofs_stop (p_last_of h) s = s
 ofs_stop {x = x} {i = i} {ts = ts} (p_next_of h d c) s = of_stops x i i op_levels ts h
 
-pub otherwise_stops : {x : Origin} {i : Layout} {at : Place} {s t : Term} {all : Choices} {ts rest : List Token} → SpellsOtherwise x i at s all t ts rest → Stops x i op_levels rest → Stops x i op_levels ts
+pub otherwise_stops : {x : Origin} {i : Layout} {at : Place} {s t : Term} {all : Choices} {ts rest : List Token} → SpellsOtherwise x i at s all t ts rest
+    → Stops x i op_levels rest → Stops x i op_levels ts
 otherwise_stops (p_no_else h) s = s
 otherwise_stops {x = x} {i = i} {ts = ts} (p_with_else h d) s = else_stops x i i op_levels ts h
 
-pub labels_stop : {x : Origin} {i : Layout} {some all : Parts} {ts rest : List Token} → SpellsLabels x i some all ts rest → Stops x i op_levels rest → Stops x i op_levels ts
+pub labels_stop : {x : Origin} {i : Layout} {some all : Parts} {ts rest : List Token} → SpellsLabels x i some all ts rest → Stops x i op_levels rest
+    → Stops x i op_levels ts
 labels_stop (p_last_label h) s = s
 labels_stop {x = x} {i = i} {ts = ts} (p_label h d c) s = label_comma_stops x i i op_levels ts h
 
@@ -175,7 +190,8 @@ pub suffixes_grow : {x : Origin} {i : Layout} {c : Bool} {a t : Term} {ts rest :
 suffixes_grow p_done = omega arith
 suffixes_grow (p_suffix on d c) = let h = suffix_grows d in let g = suffixes_grow c in omega (arith, h, g)
 
-pub parts_grow : {x : Origin} {m : Bool} {some parts : Parts} {ts rest : List Token} → SpellsMoreParts x m some parts ts rest → most_levels some ≤ most_levels parts
+pub parts_grow : {x : Origin} {m : Bool} {some parts : Parts} {ts rest : List Token} → SpellsMoreParts x m some parts ts rest
+    → most_levels some ≤ most_levels parts
 parts_grow (p_over h) = omega arith
 parts_grow {some = some} (p_part {b = b} h d c) = let g = parts_grow c in let e = most_and some b in omega (arith, g, e)
 
@@ -185,13 +201,20 @@ labels_grow {some = some} (p_label {a = a} h d c) = let g = labels_grow c in let
 
 pub elifs_grow : {x : Origin} {i : Layout} {some all : Choices} {ts rest : List Token} → SpellsElifs x i some all ts rest → levels_in some ≤ levels_in all
 elifs_grow (p_no_elif h) = omega arith
-elifs_grow {x = x} {some = some} (p_elif {tests = tests} {v = v} {tok = tok} h d c) = let g = elifs_grow c in let e = levels_and some (place_at x tok) tests v in omega (arith, g, e)
+elifs_grow {x = x} {some = some} (p_elif {tests = tests} {v = v} {tok = tok} h d c) =
+    let g = elifs_grow c in
+    let e = levels_and some (place_at x tok) tests v in
+    omega (arith, g, e)
 
 pub ofs_grow : {x : Origin} {i : Layout} {some all : Choices} {ts rest : List Token} → SpellsOfs x i some all ts rest → levels_in some ≤ levels_in all
 ofs_grow (p_last_of h) = omega arith
-ofs_grow {x = x} {some = some} (p_next_of {tests = tests} {v = v} {tok = tok} h d c) = let g = ofs_grow c in let e = levels_and some (place_at x tok) tests v in omega (arith, g, e)
+ofs_grow {x = x} {some = some} (p_next_of {tests = tests} {v = v} {tok = tok} h d c) =
+    let g = ofs_grow c in
+    let e = levels_and some (place_at x tok) tests v in
+    omega (arith, g, e)
 
-pub otherwise_levels : {x : Origin} {i : Layout} {at : Place} {s t : Term} {all : Choices} {ts rest : List Token} → SpellsOtherwise x i at s all t ts rest → max (levels s) (levels_in all) < levels t
+pub otherwise_levels : {x : Origin} {i : Layout} {at : Place} {s t : Term} {all : Choices} {ts rest : List Token} → SpellsOtherwise x i at s all t ts rest
+    → max (levels s) (levels_in all) < levels t
 otherwise_levels (p_no_else h) = omega arith
 otherwise_levels (p_with_else h d) = omega arith
 

@@ -5,9 +5,11 @@ use Rattle.arc_base.specs.declared.place.Place.{Place}
 use Rattle.indent_scanner.specs.declared.token.Token.{Token}
 use Rattle.nim_tree.specs.Terms.{Term, if_term, case_term, case_else, range, Parts, no_parts, part, and_part, Choices, no_choices, choice, and_choice, place_of}
 use Rattle.parse_exprs.specs.declared.layout.Layout.{Layout}
-use Rattle.parse_exprs.specs.Look.{Origin, place_at, stays, branch_at, is_elif, is_else, is_of, first_of_at, branch_layout, colon_at, comma_at, past_colon, dots_at, past_start, else_on, deeper_line_at, line_layout, closed_at}
+use Rattle.parse_exprs.specs.Look.{Origin, place_at, stays, branch_at, is_elif, is_else, is_of, first_of_at, branch_layout, colon_at, comma_at, past_colon}
+use Rattle.parse_exprs.specs.Look.{dots_at, past_start, else_on, deeper_line_at, line_layout, closed_at}
 use Rattle.parse_exprs.specs.Outcome.{deep, stuck, Out, got, bad, then_do, unless_stuck, Settles}
-use Rattle.parse_exprs.specs.Run.{behind, Tail, run_expr, run_if, run_tail, run_value, run_own_line, run_elifs, run_else, run_case, run_branches, run_of, run_labels, run_label, run_ofs, run_otherwise}
+use Rattle.parse_exprs.specs.Run.{behind, Tail, run_expr, run_if, run_tail, run_value, run_own_line, run_elifs, run_else, run_case, run_branches, run_of}
+use Rattle.parse_exprs.specs.Run.{run_labels, run_label, run_ofs, run_otherwise}
 use Rattle.parse_exprs.specs.Gives.{Leads}
 use Rattle.parse_exprs.proofs.Settling.{settles_suc, settles_got, settles_then, settles_bad, settles_unless, settles_stuck, settles_if, settles_else}
 use Rattle.parse_exprs.proofs.Coming.{Passes}
@@ -72,17 +74,22 @@ module _ (x : Origin) (i : Layout) where
         pub tail_value_bad : Passes (λ k. run_value k x i n mid) (λ k. run_tail k x i n ts)
         tail_value_bad why h = settles_suc (settles_unless ts s (settles_then tail_next g (settles_bad (λ k. tail_last c) h))) tail_step
 
-        pub tail_got : (v : Term) (rest : List Token) → Settles (λ k. run_value k x i n mid) (got v rest) → Settles (λ k. run_tail k x i n ts) (got (record { tests = part c no_parts; value = v }) rest)
+        pub tail_got : (v : Term) (rest : List Token) → Settles (λ k. run_value k x i n mid) (got v rest)
+            → Settles (λ k. run_tail k x i n ts) (got (record { tests = part c no_parts; value = v }) rest)
         tail_got v rest h = settles_suc (settles_unless ts s (settles_then tail_next g (settles_then (λ k. tail_last c) h settles_got))) tail_step
 
   -- ---- `elif`
   pub elifs_end : (n : ℕ) (some : Choices) (ts : List Token) → branch_at i is_elif ts ≡ false → Settles (λ k. run_elifs k x i n some ts) (got some ts)
   elifs_end n some [] e = settles_suc settles_got (λ k. refl)
-  elifs_end n some (tok ∷ ts) e = settles_suc (settles_else (λ k. then_do (run_tail k x i n ts) (λ one mid. run_elifs k x i n (and_choice some (place_at x tok) one.tests one.value) mid)) e settles_got) (λ k. refl)
+  elifs_end n some (tok ∷ ts) e =
+      settles_suc (settles_else (λ k. then_do (run_tail k x i n ts) (λ one mid. run_elifs k x i n (and_choice some (place_at x tok) one.tests one.value) mid)) e
+      settles_got) (λ k. refl)
 
   module _ (n : ℕ) (some : Choices) (tok : Token) (ts all : List Token) (is : all ≡ tok ∷ ts) (e : branch_at i is_elif all ≡ true) where
-    elifs_leads : Leads (λ k. then_do (run_tail k x i n ts) (λ one mid. run_elifs k x i n (and_choice some (place_at x tok) one.tests one.value) mid)) (λ k. run_elifs k x i n some all)
-    elifs_leads o h = settles_suc (settles_if (λ k. got some (tok ∷ ts)) (ap (branch_at i is_elif) (sym is) ∙ e) h) (λ k. ap (λ us. run_elifs (suc k) x i n some us) is)
+    elifs_leads : Leads (λ k. then_do (run_tail k x i n ts) (λ one mid. run_elifs k x i n (and_choice some (place_at x tok) one.tests one.value) mid))
+        (λ k. run_elifs k x i n some all)
+    elifs_leads o h = settles_suc (settles_if (λ k. got some (tok ∷ ts)) (ap (branch_at i is_elif) (sym is) ∙ e) h)
+        (λ k. ap (λ us. run_elifs (suc k) x i n some us) is)
 
     pub elifs_bad : Passes (λ k. run_tail k x i n ts) (λ k. run_elifs k x i n some all)
     elifs_bad why h = elifs_leads (bad why) (settles_bad (λ k one mid. run_elifs k x i n (and_choice some (place_at x tok) one.tests one.value) mid) h)
@@ -126,11 +133,13 @@ module _ (x : Origin) (i : Layout) where
       pub if_elifs_bad : Passes (λ k. run_elifs k x i n (choice (place_at x tok) one.tests one.value no_choices) mid) (λ k. run_if k x i m all)
       if_elifs_bad why h = settles_suc (settles_then if_next g (settles_bad if_else h)) if_step
 
-      module _ (bs : Choices) (end : List Token) (b : Settles (λ k. run_elifs k x i n (choice (place_at x tok) one.tests one.value no_choices) mid) (got bs end)) where
+      module _ (bs : Choices) (end : List Token) (b : Settles (λ k. run_elifs k x i n (choice (place_at x tok) one.tests one.value no_choices) mid)
+          (got bs end)) where
         pub if_else_bad : Passes (λ k. run_else k x i n end) (λ k. run_if k x i m all)
         if_else_bad why h = settles_suc (settles_then if_next g (settles_then if_else b (settles_bad (λ k. if_last bs) h))) if_step
 
-        pub if_got : (e : Term) (rest : List Token) → Settles (λ k. run_else k x i n end) (got e rest) → Settles (λ k. run_if k x i m all) (got (if_term (place_at x tok) bs e) rest)
+        pub if_got : (e : Term) (rest : List Token) → Settles (λ k. run_else k x i n end) (got e rest)
+            → Settles (λ k. run_if k x i m all) (got (if_term (place_at x tok) bs e) rest)
         if_got e rest h = settles_suc (settles_then if_next g (settles_then if_else b (settles_then (λ k. if_last bs) h settles_got))) if_step
 
   -- ---- labels
@@ -149,7 +158,9 @@ module _ (x : Origin) (i : Layout) where
 
     module _ (a : Term) (mid : List Token) (g : Settles (λ k. run_expr k x i n ts) (got a mid)) where
       pub label_one : dots_at x i mid ≡ false → Settles (λ k. run_label k x i n ts) (got a mid)
-      label_one e = settles_suc (settles_then label_next g (settles_else (λ k. unless_stuck (stays i (behind mid)) (behind mid) (label_high a mid k)) e settles_got)) (λ k. refl)
+      label_one e =
+          settles_suc (settles_then label_next g (settles_else (λ k. unless_stuck (stays i (behind mid)) (behind mid) (label_high a mid k)) e settles_got))
+          (λ k. refl)
 
       module _ (e : dots_at x i mid ≡ true) where
         label_on : Leads (λ k. unless_stuck (stays i (behind mid)) (behind mid) (label_high a mid k)) (λ k. run_label k x i n ts)
@@ -162,7 +173,8 @@ module _ (x : Origin) (i : Layout) where
           pub label_high_bad : Passes (λ k. run_expr k x i n (behind mid)) (λ k. run_label k x i n ts)
           label_high_bad why h = label_on (bad why) (settles_unless (behind mid) s (settles_bad (λ k. label_last a) h))
 
-          pub label_got : (b : Term) (rest : List Token) → Settles (λ k. run_expr k x i n (behind mid)) (got b rest) → Settles (λ k. run_label k x i n ts) (got (range (place_of a) a b) rest)
+          pub label_got : (b : Term) (rest : List Token) → Settles (λ k. run_expr k x i n (behind mid)) (got b rest)
+              → Settles (λ k. run_label k x i n ts) (got (range (place_of a) a b) rest)
           label_got b rest h = label_on (got (range (place_of a) a b) rest) (settles_unless (behind mid) s (settles_then (λ k. label_last a) h settles_got))
 
   module _ (n : ℕ) (some : Parts) (ts : List Token) where
@@ -176,7 +188,8 @@ module _ (x : Origin) (i : Layout) where
       pub labels_bad : Passes (λ k. run_label k x i n (behind ts)) (λ k. run_labels k x i n some ts)
       labels_bad why h = settles_suc (settles_if (λ k. got some ts) e (settles_bad labels_next h)) (λ k. refl)
 
-      pub labels_on : (a : Term) (mid : List Token) → Settles (λ k. run_label k x i n (behind ts)) (got a mid) → Leads (λ k. run_labels k x i n (and_part some a) mid) (λ k. run_labels k x i n some ts)
+      pub labels_on : (a : Term) (mid : List Token) → Settles (λ k. run_label k x i n (behind ts)) (got a mid)
+          → Leads (λ k. run_labels k x i n (and_part some a) mid) (λ k. run_labels k x i n some ts)
       labels_on a mid h = λ o g. settles_suc (settles_if (λ k. got some ts) e (settles_then labels_next h g)) (λ k. refl)
 
   -- ---- `of`
@@ -206,18 +219,26 @@ module _ (x : Origin) (i : Layout) where
 
         module _ (labels : Parts) (end : List Token) (b : Settles (λ k. run_labels k x j n (part a no_parts) mid) (got labels end)) where
           pub of_value_bad : Passes (λ k. run_value k x i n end) (λ k. run_of k x i n ts)
-          of_value_bad why h = settles_suc (settles_unless ts s (settles_then (of_next j) g (settles_then of_value b (settles_bad (λ k. of_last labels) h)))) of_step
+          of_value_bad why h = settles_suc (settles_unless ts s (settles_then (of_next j) g (settles_then of_value b (settles_bad (λ k. of_last labels) h))))
+              of_step
 
-          pub of_got : (v : Term) (rest : List Token) → Settles (λ k. run_value k x i n end) (got v rest) → Settles (λ k. run_of k x i n ts) (got (record { tests = labels; value = v }) rest)
-          of_got v rest h = settles_suc (settles_unless ts s (settles_then (of_next j) g (settles_then of_value b (settles_then (λ k. of_last labels) h settles_got)))) of_step
+          pub of_got : (v : Term) (rest : List Token) → Settles (λ k. run_value k x i n end) (got v rest)
+              → Settles (λ k. run_of k x i n ts) (got (record { tests = labels; value = v }) rest)
+          of_got v rest h =
+              settles_suc (settles_unless ts s (settles_then (of_next j) g (settles_then of_value b (settles_then (λ k. of_last labels) h settles_got))))
+              of_step
 
   pub ofs_end : (n : ℕ) (some : Choices) (ts : List Token) → branch_at i is_of ts ≡ false → Settles (λ k. run_ofs k x i n some ts) (got some ts)
   ofs_end n some [] e = settles_suc settles_got (λ k. refl)
-  ofs_end n some (tok ∷ ts) e = settles_suc (settles_else (λ k. then_do (run_of k x i n ts) (λ one mid. run_ofs k x i n (and_choice some (place_at x tok) one.tests one.value) mid)) e settles_got) (λ k. refl)
+  ofs_end n some (tok ∷ ts) e =
+      settles_suc (settles_else (λ k. then_do (run_of k x i n ts) (λ one mid. run_ofs k x i n (and_choice some (place_at x tok) one.tests one.value) mid)) e
+      settles_got) (λ k. refl)
 
   module _ (n : ℕ) (some : Choices) (tok : Token) (ts all : List Token) (is : all ≡ tok ∷ ts) (e : branch_at i is_of all ≡ true) where
-    ofs_leads : Leads (λ k. then_do (run_of k x i n ts) (λ one mid. run_ofs k x i n (and_choice some (place_at x tok) one.tests one.value) mid)) (λ k. run_ofs k x i n some all)
-    ofs_leads o h = settles_suc (settles_if (λ k. got some (tok ∷ ts)) (ap (branch_at i is_of) (sym is) ∙ e) h) (λ k. ap (λ us. run_ofs (suc k) x i n some us) is)
+    ofs_leads : Leads (λ k. then_do (run_of k x i n ts) (λ one mid. run_ofs k x i n (and_choice some (place_at x tok) one.tests one.value) mid))
+        (λ k. run_ofs k x i n some all)
+    ofs_leads o h = settles_suc (settles_if (λ k. got some (tok ∷ ts)) (ap (branch_at i is_of) (sym is) ∙ e) h)
+        (λ k. ap (λ us. run_ofs (suc k) x i n some us) is)
 
     pub ofs_bad : Passes (λ k. run_of k x i n ts) (λ k. run_ofs k x i n some all)
     ofs_bad why h = ofs_leads (bad why) (settles_bad (λ k one mid. run_ofs k x i n (and_choice some (place_at x tok) one.tests one.value) mid) h)
@@ -238,17 +259,20 @@ module _ (x : Origin) (i : Layout) where
       pub otherwise_bad : Passes (λ k. run_value k x i n (behind ts)) (λ k. run_otherwise k x i n at s bs ts)
       otherwise_bad why h = settles_suc (settles_if (λ k. got (case_term at s bs) ts) e (settles_bad (λ k. otherwise_last) h)) (λ k. refl)
 
-      pub otherwise_got : (v : Term) (rest : List Token) → Settles (λ k. run_value k x i n (behind ts)) (got v rest) → Settles (λ k. run_otherwise k x i n at s bs ts) (got (case_else at s bs v) rest)
+      pub otherwise_got : (v : Term) (rest : List Token) → Settles (λ k. run_value k x i n (behind ts)) (got v rest)
+          → Settles (λ k. run_otherwise k x i n at s bs ts) (got (case_else at s bs v) rest)
       otherwise_got v rest h = settles_suc (settles_if (λ k. got (case_term at s bs) ts) e (settles_then (λ k. otherwise_last) h settles_got)) (λ k. refl)
 
-  pub branches_stuck : (n : ℕ) (at : Place) (s : Term) (ts : List Token) → first_of_at i ts ≡ false → Settles (λ k. run_branches k x i n at s ts) (bad (stuck ts))
+  pub branches_stuck : (n : ℕ) (at : Place) (s : Term) (ts : List Token) → first_of_at i ts ≡ false → Settles (λ k. run_branches k x i n at s ts)
+      (bad (stuck ts))
   branches_stuck n at s [] e = settles_suc settles_got (λ k. refl)
   branches_stuck n at s (tok ∷ ts) e = settles_suc (settles_stuck (λ k.
       then_do (run_of k x (branch_layout i tok.indent) n ts) (λ one mid.
       then_do (run_ofs k x (branch_layout i tok.indent) n (choice (place_at x tok) one.tests one.value no_choices) mid) (λ bs end.
       run_otherwise k x (branch_layout i tok.indent) n at s bs end))) (tok ∷ ts) e) (λ k. refl)
 
-  module _ (n : ℕ) (at : Place) (s : Term) (tok : Token) (ts all : List Token) (is : all ≡ tok ∷ ts) (e : first_of_at i all ≡ true) (j : Layout) (inner : branch_layout i tok.indent ≡ j) where
+  module _ (n : ℕ) (at : Place) (s : Term) (tok : Token) (ts all : List Token) (is : all ≡ tok ∷ ts) (e : first_of_at i all ≡ true) (j : Layout)
+      (inner : branch_layout i tok.indent ≡ j) where
     abbrev branches_last : ℕ → Choices → List Token → Out Term
     branches_last k bs end = run_otherwise k x j n at s bs end
 
@@ -258,7 +282,8 @@ module _ (x : Origin) (i : Layout) where
     branches_leads : Leads (λ k. then_do (run_of k x j n ts) (branches_next k)) (λ k. run_branches k x i n at s all)
     branches_leads o h = settles_suc (settles_unless (tok ∷ ts) (ap (first_of_at i) (sym is) ∙ e) h) (λ k. ap (λ us. run_branches (suc k) x i n at s us) is
         ∙ ap (λ w. unless_stuck (first_of_at i (tok ∷ ts)) (tok ∷ ts) (
-        then_do (run_of k x w n ts) (λ one mid. then_do (run_ofs k x w n (choice (place_at x tok) one.tests one.value no_choices) mid) (λ bs end. run_otherwise k x w n at s bs end)))) inner)
+        then_do (run_of k x w n ts) (λ one mid. then_do (run_ofs k x w n (choice (place_at x tok) one.tests one.value no_choices) mid)
+        (λ bs end. run_otherwise k x w n at s bs end)))) inner)
 
     pub branches_bad : Passes (λ k. run_of k x j n ts) (λ k. run_branches k x i n at s all)
     branches_bad why h = branches_leads (bad why) (settles_bad branches_next h)
@@ -267,7 +292,8 @@ module _ (x : Origin) (i : Layout) where
       pub branches_ofs_bad : Passes (λ k. run_ofs k x j n (choice (place_at x tok) one.tests one.value no_choices) mid) (λ k. run_branches k x i n at s all)
       branches_ofs_bad why h = branches_leads (bad why) (settles_then branches_next g (settles_bad branches_last h))
 
-      pub branches_on : (bs : Choices) (end : List Token) → Settles (λ k. run_ofs k x j n (choice (place_at x tok) one.tests one.value no_choices) mid) (got bs end)
+      pub branches_on : (bs : Choices) (end : List Token) → Settles (λ k. run_ofs k x j n (choice (place_at x tok) one.tests one.value no_choices) mid)
+          (got bs end)
           → Leads (λ k. run_otherwise k x j n at s bs end) (λ k. run_branches k x i n at s all)
       branches_on bs end b = λ o h. branches_leads o (settles_then branches_next g (settles_then branches_last b h))
 
@@ -282,14 +308,17 @@ module _ (x : Origin) (i : Layout) where
     case_next k s mid = run_branches k x i n (place_at x tok) s (past_colon i mid)
 
     pub case_no_stay : stays i ts ≡ false → Settles (λ k. run_case k x i m all) (bad (stuck ts))
-    case_no_stay s = settles_suc (settles_stuck (λ k. then_do (run_expr k x (past_start i) n ts) (case_next k)) ts s) (λ k. ap₂ (λ j us. run_case (suc k) x i j us) (sym same) is)
+    case_no_stay s = settles_suc (settles_stuck (λ k. then_do (run_expr k x (past_start i) n ts) (case_next k)) ts s)
+        (λ k. ap₂ (λ j us. run_case (suc k) x i j us) (sym same) is)
 
     module _ (s : stays i ts ≡ true) (j : Layout) (past : past_start i ≡ j) where
       case_step : (k : ℕ) → run_case (suc k) x i m all ≡ unless_stuck (stays i ts) ts (then_do (run_expr k x j n ts) (case_next k))
-      case_step k = ap₂ (λ w us. run_case (suc k) x i w us) (sym same) is ∙ ap (λ w. unless_stuck (stays i ts) ts (then_do (run_expr k x w n ts) (case_next k))) past
+      case_step k = ap₂ (λ w us. run_case (suc k) x i w us) (sym same) is
+          ∙ ap (λ w. unless_stuck (stays i ts) ts (then_do (run_expr k x w n ts) (case_next k))) past
 
       pub case_bad : Passes (λ k. run_expr k x j n ts) (λ k. run_case k x i m all)
       case_bad why h = settles_suc (settles_unless ts s (settles_bad case_next h)) case_step
 
-      pub case_on : (a : Term) (mid : List Token) → Settles (λ k. run_expr k x j n ts) (got a mid) → Leads (λ k. run_branches k x i n (place_at x tok) a (past_colon i mid)) (λ k. run_case k x i m all)
+      pub case_on : (a : Term) (mid : List Token) → Settles (λ k. run_expr k x j n ts) (got a mid)
+          → Leads (λ k. run_branches k x i n (place_at x tok) a (past_colon i mid)) (λ k. run_case k x i m all)
       case_on a mid g = λ o h. settles_suc (settles_unless ts s (settles_then case_next g h)) case_step

@@ -7,21 +7,37 @@ use Rattle.indent_scanner.specs.declared.token.Token.{Token}
 use Rattle.nim_tree.specs.declared.expr.UnaryOp.{UnaryOp}
 use Rattle.nim_tree.specs.declared.expr.BinaryOp.{BinaryOp}
 use Rattle.nim_tree.specs.declared.name.Name.{Name}
-use Rattle.nim_tree.specs.Terms.{Term, binary, Parts, no_parts, part, and_part, Choices, no_choices, choice, and_choice, range, place_of, levels, most_levels, levels_in}
+use Rattle.nim_tree.specs.Terms.{Term, binary, Parts, no_parts, part, and_part, Choices, no_choices, choice, and_choice, range, place_of, levels, most_levels}
+use Rattle.nim_tree.specs.Terms.{levels_in}
 use Rattle.parse_exprs.specs.declared.layout.Layout.{Layout}
 use Rattle.parse_exprs.specs.declared.layout.Layout.TheVariants.{Brackets}
 use Rattle.parse_exprs.specs.declared.input.Bracket.{Bracket}
 use Rattle.parse_exprs.specs.declared.input.Bracket.TheVariants.{Round, Square}
 use Rattle.parse_exprs.specs.declared.input.Lead.{Lead}
 use Rattle.parse_exprs.specs.declared.input.Lead.TheVariants as L
-use Rattle.parse_exprs.specs.Look.{Origin, spelling, place_at, op_at, op_levels, single, grouped, object, as_name, applied, sign_of, is_at_sign, is_name, is_punct, kind_at, name_on, named_part_at, bracket_at, square_at, closes_at, names_in, names_behind, suffix_at, stays, operand_at, lead_at, branch_at, is_elif, is_else, is_of, first_of_at, branch_layout, colon_at, comma_at, past_colon, dots_at, at_start, past_start, no_command_on, else_on, deeper_line_at, line_layout, closed_at}
+use Rattle.parse_exprs.specs.Look.{Origin, spelling, place_at, op_at, op_levels, single, grouped, object, as_name, applied, sign_of, is_at_sign, is_name}
+use Rattle.parse_exprs.specs.Look.{is_punct, kind_at, name_on, named_part_at, bracket_at, square_at, closes_at, names_in, names_behind, suffix_at, stays}
+use Rattle.parse_exprs.specs.Look.{operand_at, lead_at, branch_at, is_elif, is_else, is_of, first_of_at, branch_layout, colon_at, comma_at, past_colon, dots_at}
+use Rattle.parse_exprs.specs.Look.{at_start, past_start, no_command_on, else_on, deeper_line_at, line_layout, closed_at}
 use Rattle.parse_exprs.specs.Outcome.{Why, deep, stuck, tired, Out, got, bad, then_do, unless_stuck}
-use Rattle.parse_exprs.specs.Run.{behind, made, run_field, run_expr, run_lead, run_level, run_chain, run_more, run_unary, run_signed, run_primary, run_suffixes, run_suffix, run_applied, run_atom, run_group, run_enclosed, run_list, run_parts, run_part, run_if, run_tail, run_value, run_own_line, run_elifs, run_else, run_case, run_branches, run_of, run_labels, run_label, run_ofs, run_otherwise}
+use Rattle.parse_exprs.specs.Run.{behind, made, run_field, run_expr, run_lead, run_level, run_chain, run_more, run_unary, run_signed, run_primary, run_suffixes}
+use Rattle.parse_exprs.specs.Run.{run_suffix, run_applied, run_atom, run_group, run_enclosed, run_list, run_parts, run_part, run_if, run_tail, run_value}
+use Rattle.parse_exprs.specs.Run.{run_own_line, run_elifs, run_else, run_case, run_branches, run_of, run_labels, run_label, run_ofs, run_otherwise}
 use Rattle.parse_exprs.specs.Grammar.{SpellsExpr, SpellsOf, SpellsOfs, SpellsEnclosed, p_empty, p_parts, SpellsParts, p_first, SpellsMoreParts, p_over, p_part}
-use Rattle.parse_exprs.specs.Faults.{Done, Fault, too_deep, stuck_at, FaultsExpr, f_operators, f_no_if, f_if, f_no_case, f_case, Faults, f_tight, f_operand, f_more, FaultsMore, f_operator, f_next, f_beyond, FaultsUnary, f_no_level, f_no_operand, f_nothing, f_sign_line, f_sign, f_plain, f_command, FaultsPrimary, f_atom, f_behind, FaultsSuffixes, f_full, f_suffix, f_further, f_field, f_applied, FaultsAtom, f_no_atom, f_other, f_no_square, f_not_square, f_sequence, f_empty, f_group, FaultsEnclosed, f_list, f_no_end, FaultsListed, f_part, f_parts, FaultsParts, f_next_part, f_later_part, FaultsPart, f_unnamed, f_no_name, f_name_alone, f_named, f_tail, f_elifs, f_else, FaultsTail, f_tail_line, f_condition, f_tail_value, FaultsValue, f_no_colon, f_value_line, f_value, f_own_line, f_not_closed, FaultsElifs, f_elif, f_next_elif, FaultsElse, f_no_else, f_else_value, f_case_line, f_subject, f_branches, FaultsBranches, f_no_of, f_first_of, f_ofs, f_otherwise, FaultsOf, f_of_line, f_label, f_labels, f_of_value, FaultsLabels, f_next_label, f_later_label, FaultsLabel, f_one, f_range_line, f_range, FaultsOfs, f_of, f_next_of}
+use Rattle.parse_exprs.specs.Faults.{Done, Fault, too_deep, stuck_at, FaultsExpr, f_operators, f_no_if, f_if, f_no_case, f_case, Faults, f_tight, f_operand}
+use Rattle.parse_exprs.specs.Faults.{f_more, FaultsMore, f_operator, f_next, f_beyond, FaultsUnary, f_no_level, f_no_operand, f_nothing, f_sign_line, f_sign}
+use Rattle.parse_exprs.specs.Faults.{f_plain, f_command, FaultsPrimary, f_atom, f_behind, FaultsSuffixes, f_full, f_suffix, f_further, f_field, f_applied}
+use Rattle.parse_exprs.specs.Faults.{FaultsAtom, f_no_atom, f_other, f_no_square, f_not_square, f_sequence, f_empty, f_group, FaultsEnclosed, f_list, f_no_end}
+use Rattle.parse_exprs.specs.Faults.{FaultsListed, f_part, f_parts, FaultsParts, f_next_part, f_later_part, FaultsPart, f_unnamed, f_no_name, f_name_alone}
+use Rattle.parse_exprs.specs.Faults.{f_named, f_tail, f_elifs, f_else, FaultsTail, f_tail_line, f_condition, f_tail_value, FaultsValue, f_no_colon}
+use Rattle.parse_exprs.specs.Faults.{f_value_line, f_value, f_own_line, f_not_closed, FaultsElifs, f_elif, f_next_elif, FaultsElse, f_no_else, f_else_value}
+use Rattle.parse_exprs.specs.Faults.{f_case_line, f_subject, f_branches, FaultsBranches, f_no_of, f_first_of, f_ofs, f_otherwise, FaultsOf, f_of_line, f_label}
+use Rattle.parse_exprs.specs.Faults.{f_labels, f_of_value, FaultsLabels, f_next_label, f_later_label, FaultsLabel, f_one, f_range_line, f_range, FaultsOfs}
+use Rattle.parse_exprs.specs.Faults.{f_of, f_next_of}
 use Rattle.parse_exprs.proofs.Settling.{then_bad, unless_bad, got_bad, if_split}
 use Rattle.parse_exprs.proofs.Stopping.{both_of, punct_is, false_true}
-use Rattle.parse_exprs.proofs.Sound.{sound_expr, sound_level, sound_primary, sound_atom, sound_applied, sound_enclosed, sound_list, sound_part, sound_tail, sound_elifs, sound_of, sound_ofs, sound_label, sound_labels}
+use Rattle.parse_exprs.proofs.Sound.{sound_expr, sound_level, sound_primary, sound_atom, sound_applied, sound_enclosed, sound_list, sound_part, sound_tail}
+use Rattle.parse_exprs.proofs.Sound.{sound_elifs, sound_of, sound_ofs, sound_label, sound_labels}
 
 -- the reason, as a computation says it
 abbrev pub why_of : Fault → Why
@@ -54,7 +70,8 @@ record Free {X : Type 0} (n m : ℕ) (go o : Out X) : Type 0 where
   pub few : m ≤ n
   pub same : go ≡ o
 
-limit_bad : {X : Type 0} (why : Fault) (n m : ℕ) (go : Out X) → (if nat_lt n m then bad deep else go) ≡ bad (why_of why) → Over n m why ⊎ Free n m go (bad (why_of why))
+limit_bad : {X : Type 0} (why : Fault) (n m : ℕ) (go : Out X) → (if nat_lt n m then bad deep else go) ≡ bad (why_of why)
+    → Over n m why ⊎ Free n m go (bad (why_of why))
 limit_bad {X} why n m go e = elim (if_split (nat_lt n m) (bad deep) go e) as (λ w. Over n m why ⊎ Free n m go (bad (why_of why))) [
   | inl h ↦ inl (record { full = ltb-true n m h.is; deep = is_deep why h.same })
   | inr h ↦ inr (record { few = ltb-false n m h.is; same = h.same })
@@ -64,7 +81,8 @@ made_bad : (why : Fault) (o : Option Term) (at rest : List Token) → made o at 
 made_bad why None at rest e = (refl, is_stuck why e)
 made_bad why (Some t) at rest e = got_bad e
 
-field_bad : (why : Fault) (o : Option Token) (x : Origin) (a : Term) (tok : Token) (ts : List Token) → run_field o x a (tok ∷ ts) ≡ bad (why_of why) → (o ≡ None) × (why ≡ stuck_at ts)
+field_bad : (why : Fault) (o : Option Token) (x : Origin) (a : Term) (tok : Token) (ts : List Token) → run_field o x a (tok ∷ ts) ≡ bad (why_of why)
+    → (o ≡ None) × (why ≡ stuck_at ts)
 field_bad why None x a tok ts e = (refl, is_stuck why e)
 field_bad why (Some name) x a tok ts e = got_bad e
 
@@ -74,14 +92,16 @@ and_full : (some : Parts) (a : Term) → and_part some a ≡ no_parts → ⊥
 and_full no_parts a e = cc
 and_full (part b some) a e = cc
 
-more_full : {x : Origin} {m : Bool} {some parts : Parts} {ts rest : List Token} → SpellsMoreParts x m some parts ts rest → (some ≡ no_parts → ⊥) → parts ≡ no_parts → ⊥
+more_full : {x : Origin} {m : Bool} {some parts : Parts} {ts rest : List Token} → SpellsMoreParts x m some parts ts rest → (some ≡ no_parts → ⊥)
+    → parts ≡ no_parts → ⊥
 more_full (p_over h) f e = f e
 more_full {some = some} (p_part {b = b} h d c) f e = more_full c (and_full some b) e
 
 parts_full : {x : Origin} {m : Bool} {parts : Parts} {ts rest : List Token} → SpellsParts x m parts ts rest → parts ≡ no_parts → ⊥
 parts_full (p_first d c) e = more_full c (λ h. cc) e
 
-closed_empty : {x : Origin} {b : Bracket} {m : Bool} {parts : Parts} {ts rest : List Token} → SpellsEnclosed x b m parts ts rest → parts ≡ no_parts → closes_at b (behind ts) ≡ true
+closed_empty : {x : Origin} {b : Bracket} {m : Bool} {parts : Parts} {ts rest : List Token} → SpellsEnclosed x b m parts ts rest → parts ≡ no_parts
+    → closes_at b (behind ts) ≡ true
 closed_empty (p_empty h c) e = c
 closed_empty (p_parts h o d c) e = absurd (parts_full d e)
 
@@ -102,7 +122,8 @@ no_name : (ts : List Token) → closes_at Round ts ≡ true → named_part_at ts
 no_name [] e = refl
 no_name (tok ∷ ts) e = ap (λ k. is_name k && kind_at (is_punct 58) ts) (punct_is 41 tok.kind e)
 
-applied_some : {C : Type 0} {x : Origin} {tok : Token} {ts rest : List Token} {parts : Parts} (b : Bracket) (m : Bool) (a : Term) → names_behind a b ts ≡ m → SpellsEnclosed x b m parts (tok ∷ ts) rest
+applied_some : {C : Type 0} {x : Origin} {tok : Token} {ts rest : List Token} {parts : Parts} (b : Bracket) (m : Bool) (a : Term) → names_behind a b ts ≡ m
+    → SpellsEnclosed x b m parts (tok ∷ ts) rest
     → applied b m a parts ≡ None → C
 applied_some Square m a is d e = cc
 applied_some Round false a is d e = cc
@@ -112,18 +133,22 @@ applied_some {ts = ts} {parts = parts} Round true a is d e =
 
 -- ---- what a token alone tells
 
-faults_none : (why : Fault) (b : Bool) (x : Origin) (i : Layout) (ts : List Token) → operand_at x ts ≡ b → ◌≡◌ {A = Out Term} (bad (if b then deep else stuck ts)) (bad (why_of why)) → FaultsUnary x why i zero ts
+faults_none : (why : Fault) (b : Bool) (x : Origin) (i : Layout) (ts : List Token) → operand_at x ts ≡ b
+    → ◌≡◌ {A = Out Term} (bad (if b then deep else stuck ts)) (bad (why_of why)) → FaultsUnary x why i zero ts
 faults_none why true x i ts is e = f_no_level is (is_deep why e)
 faults_none why false x i ts is e = f_no_operand is (is_stuck why e)
 
-faults_empty : (why : Fault) (b : Bracket) (x : Origin) (i : Layout) (n : ℕ) (tok : Token) (ts : List Token) → b ≡ Round → bracket_at (tok ∷ ts) ≡ Some b → closes_at b ts ≡ true → why ≡ stuck_at ts → FaultsAtom x why i n (tok ∷ ts)
+faults_empty : (why : Fault) (b : Bracket) (x : Origin) (i : Layout) (n : ℕ) (tok : Token) (ts : List Token) → b ≡ Round → bracket_at (tok ∷ ts) ≡ Some b
+    → closes_at b ts ≡ true → why ≡ stuck_at ts → FaultsAtom x why i n (tok ∷ ts)
 faults_empty why b x i n tok ts is h c w =
     subst (λ b. bracket_at (tok ∷ ts) ≡ Some b → closes_at b ts ≡ true → FaultsAtom x why i n (tok ∷ ts)) (sym is) (λ h c. f_empty h c w) h c
 
 -- behind the first value of a label
-faults_range : (why : Fault) (k : ℕ) (x : Origin) (i : Layout) (n : ℕ) (a : Term) (ts mid : List Token) → Done x i op_levels n (levels a) (SpellsExpr x i a ts mid) mid
+faults_range : (why : Fault) (k : ℕ) (x : Origin) (i : Layout) (n : ℕ) (a : Term) (ts mid : List Token)
+    → Done x i op_levels n (levels a) (SpellsExpr x i a ts mid) mid
     → ((rest : List Token) → run_expr k x i n rest ≡ bad (why_of why) → FaultsExpr x why i n rest)
-    → (if dots_at x i mid then unless_stuck (stays i (behind mid)) (behind mid) (then_do (run_expr k x i n (behind mid)) (λ b rest. got (range (place_of a) a b) rest)) else got a mid) ≡ bad (why_of why)
+    → (if dots_at x i mid then unless_stuck (stays i (behind mid)) (behind mid)
+    (then_do (run_expr k x i n (behind mid)) (λ b rest. got (range (place_of a) a b) rest)) else got a mid) ≡ bad (why_of why)
     → FaultsLabel x why i n ts
 faults_range why k x i n a ts [] d more e = got_bad e
 faults_range why k x i n a ts (tok ∷ mid) d more e =
@@ -131,7 +156,11 @@ faults_range why k x i n a ts (tok ∷ mid) d more e =
     elim (if_split (dots_at x i (tok ∷ mid)) (unless_stuck (stays i mid) mid go) (got a (tok ∷ mid)) e) as (λ w. FaultsLabel x why i n ts) [
       | inl h ↦ elim (unless_bad (stays i mid) mid go h.same) as (λ w. FaultsLabel x why i n ts) [
         | inl s ↦ f_range_line d h.is s.not (stuck_is why s.at)
-        | inr on ↦ elim (then_bad (run_expr k x i n mid) (λ b rest. got (range (place_of a) a b) rest) on.same) as (λ w. FaultsLabel x why i n ts) [ inl g ↦ f_range d h.is on.is (more mid g) | inr f ↦ got_bad f.next ]
+        | inr on ↦ elim (then_bad (run_expr k x i n mid) (λ b rest. got (range (place_of a) a b) rest) on.same) as (λ w. FaultsLabel x why i n ts) [
+          | inl g ↦
+              f_range d h.is on.is (more mid g)
+          | inr f ↦ got_bad f.next
+        ]
       ]
       | inr h ↦ got_bad h.same
     ]
@@ -141,7 +170,8 @@ mutual
   faults_expr why zero x i n ts e = not_tired why e
   faults_expr why (suc k) x i n ts e = faults_lead why k (lead_at ts) x i n ts refl e
 
-  faults_lead : (why : Fault) (k : ℕ) (lead : Lead) (x : Origin) (i : Layout) (n : ℕ) (ts : List Token) → lead_at ts ≡ lead → run_lead k lead x i n ts ≡ bad (why_of why) → FaultsExpr x why i n ts
+  faults_lead : (why : Fault) (k : ℕ) (lead : Lead) (x : Origin) (i : Layout) (n : ℕ) (ts : List Token) → lead_at ts ≡ lead → run_lead k lead x i n ts
+      ≡ bad (why_of why) → FaultsExpr x why i n ts
   faults_lead why zero lead x i n ts is e = not_tired why e
   faults_lead why (suc k) L.Operand x i n ts is e = f_operators is (faults_level why k x i op_levels n ts e)
   faults_lead why (suc k) L.If x i n ts is e = faults_if why k x i n ts is e
@@ -158,11 +188,13 @@ mutual
         | inr f ↦ f_more (sound_level k x i l n ts f.first) (faults_chain why k x (past_start i) l n f.value f.mid f.next)
       ]
 
-  faults_chain : (why : Fault) (k : ℕ) (x : Origin) (i : Layout) (l n : ℕ) (a : Term) (ts : List Token) → run_chain k x i l n a ts ≡ bad (why_of why) → FaultsMore x why i l n a ts
+  faults_chain : (why : Fault) (k : ℕ) (x : Origin) (i : Layout) (l n : ℕ) (a : Term) (ts : List Token) → run_chain k x i l n a ts ≡ bad (why_of why)
+      → FaultsMore x why i l n a ts
   faults_chain why zero x i l n a ts e = not_tired why e
   faults_chain why (suc k) x i l n a ts e = faults_more why k (op_at x i l ts) x i l n a ts refl e
 
-  faults_more : (why : Fault) (k : ℕ) (op : Option BinaryOp) (x : Origin) (i : Layout) (l n : ℕ) (a : Term) (ts : List Token) → op_at x i l ts ≡ op → run_more k op x i l n a ts ≡ bad (why_of why) → FaultsMore x why i l n a ts
+  faults_more : (why : Fault) (k : ℕ) (op : Option BinaryOp) (x : Origin) (i : Layout) (l n : ℕ) (a : Term) (ts : List Token) → op_at x i l ts ≡ op
+      → run_more k op x i l n a ts ≡ bad (why_of why) → FaultsMore x why i l n a ts
   faults_more why zero op x i l n a ts is e = not_tired why e
   faults_more why (suc k) None x i l n a ts is e = got_bad e
   faults_more why (suc k) (Some op) x i l zero a ts is e = f_operator is (omega arith) (is_deep why e)
@@ -183,7 +215,8 @@ mutual
   faults_unary why (suc k) x i (suc n) [] e = f_nothing (is_stuck why e)
   faults_unary why (suc k) x i (suc n) (tok ∷ ts) e = faults_signed why k (sign_of tok.kind (spelling x tok)) x i n tok ts refl e
 
-  faults_signed : (why : Fault) (k : ℕ) (op : Option UnaryOp) (x : Origin) (i : Layout) (n : ℕ) (tok : Token) (ts : List Token) → sign_of tok.kind (spelling x tok) ≡ op
+  faults_signed : (why : Fault) (k : ℕ) (op : Option UnaryOp) (x : Origin) (i : Layout) (n : ℕ) (tok : Token) (ts : List Token)
+      → sign_of tok.kind (spelling x tok) ≡ op
       → run_signed k op x i n tok ts ≡ bad (why_of why) → FaultsUnary x why i (suc n) (tok ∷ ts)
   faults_signed why zero op x i n tok ts is e = not_tired why e
   faults_signed why (suc k) None x i n tok ts is e =
@@ -197,12 +230,17 @@ mutual
   faults_signed why (suc k) (Some op) x i n tok ts is e =
       elim (unless_bad (stays i ts) ts _ e) as (λ w. FaultsUnary x why i (suc n) (tok ∷ ts)) [
         | inl s ↦ f_sign_line is s.not (stuck_is why s.at)
-        | inr g ↦ elim (then_bad (run_unary k x (past_start i) n ts) _ g.same) as (λ w. FaultsUnary x why i (suc n) (tok ∷ ts)) [ inl h ↦ f_sign is g.is (faults_unary why k x (past_start i) n ts h) | inr f ↦ got_bad f.next ]
+        | inr g ↦ elim (then_bad (run_unary k x (past_start i) n ts) _ g.same) as (λ w. FaultsUnary x why i (suc n) (tok ∷ ts)) [
+          | inl h ↦
+              f_sign is g.is (faults_unary why k x (past_start i) n ts h)
+          | inr f ↦ got_bad f.next
+        ]
       ]
 
   -- ---- what stands behind an atom
 
-  pub faults_primary : (why : Fault) (k : ℕ) (x : Origin) (i : Layout) (c : Bool) (n : ℕ) (ts : List Token) → run_primary k x i c (suc n) ts ≡ bad (why_of why) → FaultsPrimary x why i c n ts
+  pub faults_primary : (why : Fault) (k : ℕ) (x : Origin) (i : Layout) (c : Bool) (n : ℕ) (ts : List Token) → run_primary k x i c (suc n) ts ≡ bad (why_of why)
+      → FaultsPrimary x why i c n ts
   faults_primary why zero x i c n ts e = not_tired why e
   faults_primary why (suc k) x i c n ts e =
       elim (then_bad (run_atom k x i (suc n) ts) _ e) as (λ w. FaultsPrimary x why i c n ts) [
@@ -210,12 +248,18 @@ mutual
         | inr f ↦ (let d = sound_atom k x i n ts f.first in f_behind d.spells d.few (faults_suffixes why k x i c n f.value f.mid f.next))
       ]
 
-  faults_suffixes : (why : Fault) (k : ℕ) (x : Origin) (i : Layout) (c : Bool) (n : ℕ) (a : Term) (ts : List Token) → run_suffixes k x i c (suc n) a ts ≡ bad (why_of why) → FaultsSuffixes x why i c n a ts
+  faults_suffixes : (why : Fault) (k : ℕ) (x : Origin) (i : Layout) (c : Bool) (n : ℕ) (a : Term) (ts : List Token) → run_suffixes k x i c (suc n) a ts
+      ≡ bad (why_of why) → FaultsSuffixes x why i c n a ts
   faults_suffixes why zero x i c n a ts e = not_tired why e
   faults_suffixes why (suc k) x i c n a ts e =
-      elim (if_split (suffix_at i c ts) _ _ e) as (λ w. FaultsSuffixes x why i c n a ts) [ inl h ↦ faults_suffix why k x i c n a ts h.is h.same | inr h ↦ got_bad h.same ]
+      elim (if_split (suffix_at i c ts) _ _ e) as (λ w. FaultsSuffixes x why i c n a ts) [
+        | inl h ↦ faults_suffix why k x i c n a ts h.is h.same
+        | inr h ↦
+            got_bad h.same
+      ]
 
-  faults_suffix : (why : Fault) (k : ℕ) (x : Origin) (i : Layout) (c : Bool) (n : ℕ) (a : Term) (ts : List Token) → suffix_at i c ts ≡ true → run_suffix k x i c (suc n) a ts ≡ bad (why_of why)
+  faults_suffix : (why : Fault) (k : ℕ) (x : Origin) (i : Layout) (c : Bool) (n : ℕ) (a : Term) (ts : List Token) → suffix_at i c ts ≡ true
+      → run_suffix k x i c (suc n) a ts ≡ bad (why_of why)
       → FaultsSuffixes x why i c n a ts
   faults_suffix why zero x i c n a ts on e = not_tired why e
   faults_suffix why (suc k) x i c n a ts on e =
@@ -223,11 +267,13 @@ mutual
         | inl o ↦ f_full on (let h = o.full in omega (arith, h)) o.deep
         | inr g ↦ elim (then_bad (run_applied k (bracket_at ts) x i n a ts) _ g.same) as (λ w. FaultsSuffixes x why i c n a ts) [
           | inl h ↦ faults_applied why k (bracket_at ts) x i c n a ts refl on g.few h
-          | inr f ↦ (let d = sound_applied k (bracket_at ts) x i c n a ts refl on g.few f.first in f_further on g.few d.spells d.few (faults_suffixes why k x i c n f.value f.mid f.next))
+          | inr f ↦ (let d = sound_applied k (bracket_at ts) x i c n a ts refl on g.few f.first in
+              f_further on g.few d.spells d.few (faults_suffixes why k x i c n f.value f.mid f.next))
         ]
       ]
 
-  faults_applied : (why : Fault) (k : ℕ) (b : Option Bracket) (x : Origin) (i : Layout) (c : Bool) (n : ℕ) (a : Term) (ts : List Token) → bracket_at ts ≡ b → suffix_at i c ts ≡ true → levels a ≤ n
+  faults_applied : (why : Fault) (k : ℕ) (b : Option Bracket) (x : Origin) (i : Layout) (c : Bool) (n : ℕ) (a : Term) (ts : List Token) → bracket_at ts ≡ b
+      → suffix_at i c ts ≡ true → levels a ≤ n
       → run_applied k b x i n a ts ≡ bad (why_of why) → FaultsSuffixes x why i c n a ts
   faults_applied why zero b x i c n a ts is on few e = not_tired why e
   faults_applied why (suc k) None x i c n a [] is on few e = cc
@@ -236,15 +282,18 @@ mutual
   faults_applied why (suc k) (Some b) x i c n a (tok ∷ ts) is on few e =
       elim (then_bad (run_enclosed k x b (names_behind a b ts) n (tok ∷ ts)) _ e) as (λ w. FaultsSuffixes x why i c n a (tok ∷ ts)) [
         | inl h ↦ f_suffix on few (f_applied is (faults_enclosed why k x b (names_behind a b ts) n tok ts h))
-        | inr f ↦ applied_some b (names_behind a b ts) a refl (sound_enclosed k x b (names_behind a b ts) n (tok ∷ ts) is f.first).spells (made_bad why _ ts f.mid f.next).0
+        | inr f ↦ applied_some b (names_behind a b ts) a refl (sound_enclosed k x b (names_behind a b ts) n (tok ∷ ts) is f.first).spells
+            (made_bad why _ ts f.mid f.next).0
       ]
 
-  faults_atom : (why : Fault) (k : ℕ) (x : Origin) (i : Layout) (n : ℕ) (ts : List Token) → run_atom k x i (suc n) ts ≡ bad (why_of why) → FaultsAtom x why i n ts
+  faults_atom : (why : Fault) (k : ℕ) (x : Origin) (i : Layout) (n : ℕ) (ts : List Token) → run_atom k x i (suc n) ts ≡ bad (why_of why)
+      → FaultsAtom x why i n ts
   faults_atom why zero x i n ts e = not_tired why e
   faults_atom why (suc k) x i n [] e = f_no_atom (is_stuck why e)
   faults_atom why (suc k) x i n (tok ∷ ts) e = faults_group why k (single x tok) (bracket_at (tok ∷ ts)) x i n tok ts refl refl e
 
-  faults_group : (why : Fault) (k : ℕ) (o : Option Term) (b : Option Bracket) (x : Origin) (i : Layout) (n : ℕ) (tok : Token) (ts : List Token) → single x tok ≡ o → bracket_at (tok ∷ ts) ≡ b
+  faults_group : (why : Fault) (k : ℕ) (o : Option Term) (b : Option Bracket) (x : Origin) (i : Layout) (n : ℕ) (tok : Token) (ts : List Token)
+      → single x tok ≡ o → bracket_at (tok ∷ ts) ≡ b
       → run_group k o b x i (suc n) tok ts ≡ bad (why_of why) → FaultsAtom x why i n (tok ∷ ts)
   faults_group why zero o b x i n tok ts is h e = not_tired why e
   faults_group why (suc k) (Some u) b x i n tok ts is h e = got_bad e
@@ -279,7 +328,8 @@ mutual
 
   -- ---- parts in brackets
 
-  faults_enclosed : (why : Fault) (k : ℕ) (x : Origin) (b : Bracket) (m : Bool) (n : ℕ) (tok : Token) (ts : List Token) → run_enclosed k x b m n (tok ∷ ts) ≡ bad (why_of why) → FaultsEnclosed x why b m n ts
+  faults_enclosed : (why : Fault) (k : ℕ) (x : Origin) (b : Bracket) (m : Bool) (n : ℕ) (tok : Token) (ts : List Token) → run_enclosed k x b m n (tok ∷ ts)
+      ≡ bad (why_of why) → FaultsEnclosed x why b m n ts
   faults_enclosed why zero x b m n tok ts e = not_tired why e
   faults_enclosed why (suc k) x b m n tok ts e =
       elim (if_split (closes_at b ts) _ _ e) as (λ w. FaultsEnclosed x why b m n ts) [
@@ -301,7 +351,8 @@ mutual
         | inr f ↦ f_parts (sound_part k x m n ts f.first) (faults_parts why k x m n (part f.value no_parts) f.mid f.next)
       ]
 
-  faults_parts : (why : Fault) (k : ℕ) (x : Origin) (m : Bool) (n : ℕ) (some : Parts) (ts : List Token) → run_parts k x m n some ts ≡ bad (why_of why) → FaultsParts x why m n ts
+  faults_parts : (why : Fault) (k : ℕ) (x : Origin) (m : Bool) (n : ℕ) (some : Parts) (ts : List Token) → run_parts k x m n some ts ≡ bad (why_of why)
+      → FaultsParts x why m n ts
   faults_parts why zero x m n some ts e = not_tired why e
   faults_parts why (suc k) x m n some [] e = got_bad e
   faults_parts why (suc k) x m n some (tok ∷ ts) e =
@@ -336,7 +387,8 @@ mutual
 
   -- ---- branches
 
-  faults_if : (why : Fault) (k : ℕ) (x : Origin) (i : Layout) (n : ℕ) (ts : List Token) → lead_at ts ≡ L.If → run_if k x i n ts ≡ bad (why_of why) → FaultsExpr x why i n ts
+  faults_if : (why : Fault) (k : ℕ) (x : Origin) (i : Layout) (n : ℕ) (ts : List Token) → lead_at ts ≡ L.If → run_if k x i n ts ≡ bad (why_of why)
+      → FaultsExpr x why i n ts
   faults_if why zero x i n ts is e = not_tired why e
   faults_if why (suc k) x i zero ts is e = f_no_if is (is_deep why e)
   faults_if why (suc k) x i (suc n) [] is e = cc
@@ -349,7 +401,8 @@ mutual
             elim (then_bad (run_elifs k x i n first f.mid) _ f.next) as (λ w. FaultsExpr x why i (suc n) (tok ∷ ts)) [
               | inl h ↦ f_if is (f_elifs d (faults_elifs why k x i n first f.mid h))
               | inr g ↦ elim (then_bad (run_else k x i n g.mid) _ g.next) as (λ w. FaultsExpr x why i (suc n) (tok ∷ ts)) [
-                | inl h ↦ f_if is (f_else d (sound_elifs k x i n first f.mid (let p = d.few in omega (arith, p)) d.stops g.first) (faults_else why k x i n g.mid h))
+                | inl h ↦ f_if is (f_else d (sound_elifs k x i n first f.mid (let p = d.few in omega (arith, p)) d.stops g.first)
+                    (faults_else why k x i n g.mid h))
                 | inr h ↦ got_bad h.next
               ]
             ])
@@ -396,14 +449,16 @@ mutual
         ]
       ]
 
-  faults_elifs : (why : Fault) (k : ℕ) (x : Origin) (i : Layout) (n : ℕ) (some : Choices) (ts : List Token) → run_elifs k x i n some ts ≡ bad (why_of why) → FaultsElifs x why i n ts
+  faults_elifs : (why : Fault) (k : ℕ) (x : Origin) (i : Layout) (n : ℕ) (some : Choices) (ts : List Token) → run_elifs k x i n some ts ≡ bad (why_of why)
+      → FaultsElifs x why i n ts
   faults_elifs why zero x i n some ts e = not_tired why e
   faults_elifs why (suc k) x i n some [] e = got_bad e
   faults_elifs why (suc k) x i n some (tok ∷ ts) e =
       elim (if_split (branch_at i is_elif (tok ∷ ts)) _ _ e) as (λ w. FaultsElifs x why i n (tok ∷ ts)) [
         | inl h ↦ elim (then_bad (run_tail k x i n ts) _ h.same) as (λ w. FaultsElifs x why i n (tok ∷ ts)) [
           | inl g ↦ f_elif h.is (faults_tail why k x i n ts g)
-          | inr f ↦ f_next_elif h.is (sound_tail k x i n ts f.first) (faults_elifs why k x i n (and_choice some (place_at x tok) f.value.tests f.value.value) f.mid f.next)
+          | inr f ↦ f_next_elif h.is (sound_tail k x i n ts f.first)
+              (faults_elifs why k x i n (and_choice some (place_at x tok) f.value.tests f.value.value) f.mid f.next)
         ]
         | inr h ↦ got_bad h.same
       ]
@@ -417,7 +472,8 @@ mutual
         | inr g ↦ f_else_value g.is (faults_value why k x i n ts g.same)
       ]
 
-  faults_case : (why : Fault) (k : ℕ) (x : Origin) (i : Layout) (n : ℕ) (ts : List Token) → lead_at ts ≡ L.Case → run_case k x i n ts ≡ bad (why_of why) → FaultsExpr x why i n ts
+  faults_case : (why : Fault) (k : ℕ) (x : Origin) (i : Layout) (n : ℕ) (ts : List Token) → lead_at ts ≡ L.Case → run_case k x i n ts ≡ bad (why_of why)
+      → FaultsExpr x why i n ts
   faults_case why zero x i n ts is e = not_tired why e
   faults_case why (suc k) x i zero ts is e = f_no_case is (is_deep why e)
   faults_case why (suc k) x i (suc n) [] is e = cc
@@ -426,11 +482,13 @@ mutual
         | inl s ↦ f_case is (f_case_line s.not (stuck_is why s.at))
         | inr on ↦ elim (then_bad (run_expr k x (past_start i) n ts) _ on.same) as (λ w. FaultsExpr x why i (suc n) (tok ∷ ts)) [
           | inl h ↦ f_case is (f_subject on.is (faults_expr why k x (past_start i) n ts h))
-          | inr f ↦ f_case is (f_branches on.is (sound_expr k x (past_start i) n ts f.first) (faults_branches why k x i n (place_at x tok) f.value (past_colon i f.mid) f.next))
+          | inr f ↦ f_case is
+              (f_branches on.is (sound_expr k x (past_start i) n ts f.first) (faults_branches why k x i n (place_at x tok) f.value (past_colon i f.mid) f.next))
         ]
       ]
 
-  faults_branches : (why : Fault) (k : ℕ) (x : Origin) (i : Layout) (n : ℕ) (at : Place) (s : Term) (ts : List Token) → run_branches k x i n at s ts ≡ bad (why_of why) → FaultsBranches x why i n ts
+  faults_branches : (why : Fault) (k : ℕ) (x : Origin) (i : Layout) (n : ℕ) (at : Place) (s : Term) (ts : List Token) → run_branches k x i n at s ts
+      ≡ bad (why_of why) → FaultsBranches x why i n ts
   faults_branches why zero x i n at s ts e = not_tired why e
   faults_branches why (suc k) x i n at s [] e = f_no_of refl (is_stuck why e)
   faults_branches why (suc k) x i n at s (tok ∷ ts) e =
@@ -462,14 +520,16 @@ mutual
               elim (then_bad (run_labels k x (past_start i) n (part f.value no_parts) f.mid) _ f.next) as (λ w. FaultsOf x why i n ts) [
                 | inl h ↦ f_labels on.is d (faults_labels why k x (past_start i) n (part f.value no_parts) f.mid h)
                 | inr g ↦ elim (then_bad (run_value k x i n g.mid) _ g.next) as (λ w. FaultsOf x why i n ts) [
-                  | inl h ↦ f_of_value on.is d (sound_labels k x (past_start i) n (part f.value no_parts) f.mid (let p = d.few in omega (arith, p)) d.stops g.first) (faults_value why k x i n g.mid h)
+                  | inl h ↦ f_of_value on.is d (sound_labels k x (past_start i) n (part f.value no_parts) f.mid (let p = d.few in omega (arith, p)) d.stops
+                      g.first) (faults_value why k x i n g.mid h)
                   | inr h ↦ got_bad h.next
                 ]
               ])
         ]
       ]
 
-  faults_labels : (why : Fault) (k : ℕ) (x : Origin) (i : Layout) (n : ℕ) (some : Parts) (ts : List Token) → run_labels k x i n some ts ≡ bad (why_of why) → FaultsLabels x why i n ts
+  faults_labels : (why : Fault) (k : ℕ) (x : Origin) (i : Layout) (n : ℕ) (some : Parts) (ts : List Token) → run_labels k x i n some ts ≡ bad (why_of why)
+      → FaultsLabels x why i n ts
   faults_labels why zero x i n some ts e = not_tired why e
   faults_labels why (suc k) x i n some [] e = got_bad e
   faults_labels why (suc k) x i n some (tok ∷ ts) e =
@@ -489,21 +549,25 @@ mutual
         | inr f ↦ faults_range why k x i n f.value ts f.mid (sound_expr k x i n ts f.first) (λ rest g. faults_expr why k x i n rest g) f.next
       ]
 
-  faults_ofs : (why : Fault) (k : ℕ) (x : Origin) (i : Layout) (n : ℕ) (some : Choices) (ts : List Token) → run_ofs k x i n some ts ≡ bad (why_of why) → FaultsOfs x why i n ts
+  faults_ofs : (why : Fault) (k : ℕ) (x : Origin) (i : Layout) (n : ℕ) (some : Choices) (ts : List Token) → run_ofs k x i n some ts ≡ bad (why_of why)
+      → FaultsOfs x why i n ts
   faults_ofs why zero x i n some ts e = not_tired why e
   faults_ofs why (suc k) x i n some [] e = got_bad e
   faults_ofs why (suc k) x i n some (tok ∷ ts) e =
       elim (if_split (branch_at i is_of (tok ∷ ts)) _ _ e) as (λ w. FaultsOfs x why i n (tok ∷ ts)) [
         | inl h ↦ elim (then_bad (run_of k x i n ts) _ h.same) as (λ w. FaultsOfs x why i n (tok ∷ ts)) [
           | inl g ↦ f_of h.is (faults_of why k x i n ts g)
-          | inr f ↦ f_next_of h.is (sound_of k x i n ts f.first) (faults_ofs why k x i n (and_choice some (place_at x tok) f.value.tests f.value.value) f.mid f.next)
+          | inr f ↦ f_next_of h.is (sound_of k x i n ts f.first)
+              (faults_ofs why k x i n (and_choice some (place_at x tok) f.value.tests f.value.value) f.mid f.next)
         ]
         | inr h ↦ got_bad h.same
       ]
 
-  faults_otherwise : (why : Fault) (k : ℕ) (x : Origin) (i : Layout) (n : ℕ) (at : Place) (s : Term) (tok : Token) (ts : List Token) (tests : Parts) (v : Term) (all : Choices) (mid end : List Token) → first_of_at i (tok ∷ ts) ≡ true
+  faults_otherwise : (why : Fault) (k : ℕ) (x : Origin) (i : Layout) (n : ℕ) (at : Place) (s : Term) (tok : Token) (ts : List Token) (tests : Parts) (v : Term)
+      (all : Choices) (mid end : List Token) → first_of_at i (tok ∷ ts) ≡ true
       → Done x (branch_layout i tok.indent) op_levels n (max (most_levels tests) (levels v)) (SpellsOf x (branch_layout i tok.indent) tests v ts mid) mid
-      → Done x (branch_layout i tok.indent) op_levels n (levels_in all) (SpellsOfs x (branch_layout i tok.indent) (choice (place_at x tok) tests v no_choices) all mid end) end
+      → Done x (branch_layout i tok.indent) op_levels n (levels_in all)
+      (SpellsOfs x (branch_layout i tok.indent) (choice (place_at x tok) tests v no_choices) all mid end) end
       → run_otherwise k x (branch_layout i tok.indent) n at s all end ≡ bad (why_of why) → FaultsBranches x why i n (tok ∷ ts)
   faults_otherwise why zero x i n at s tok ts tests v all mid end on d c e = not_tired why e
   faults_otherwise why (suc k) x i n at s tok ts tests v all mid [] on d c e = got_bad e

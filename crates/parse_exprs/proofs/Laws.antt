@@ -17,7 +17,8 @@ use Rattle.parse_exprs.specs.Outcome.{Out, got, bad, deep, stuck, tired, Settles
 use Rattle.parse_exprs.specs.Run.{run_expr, run_primary}
 use Rattle.parse_exprs.specs.Grammar.{IsExpr, IsCallee}
 use Rattle.parse_exprs.specs.Faults.{Fault, too_deep, stuck_at}
-use Rattle.parse_exprs.specs.Parsed.{Reads, ReadsCallee, ExprFaults, CalleeFaults, ExprRun, CalleeRun, IsRead, IsOnly, HasNone, IsRefused, RunsInto, Runs, Agree}
+use Rattle.parse_exprs.specs.Parsed.{Reads, ReadsCallee, ExprFaults, CalleeFaults, ExprRun, CalleeRun, IsRead, IsOnly, HasNone, IsRefused, RunsInto, Runs}
+use Rattle.parse_exprs.specs.Parsed.{Agree}
 use Rattle.parse_exprs.proofs.Settling.{settles_one, got_one, got_bad}
 use Rattle.parse_exprs.proofs.Sound.{sound_expr, sound_primary}
 use Rattle.parse_exprs.proofs.Complete.{complete_expr, complete_primary}
@@ -46,7 +47,8 @@ opens low high (alike e) h f = absurd (f (sym e ∙ h))
 
 -- ---- expressions
 
-expr_high : (x : Origin) (i : Layout) (n : ℕ) (t : Term) (ts rest : List Token) → IsExpr x i t ts rest → n < levels t → Settles (λ k. run_expr k x i n ts) (bad deep)
+expr_high : (x : Origin) (i : Layout) (n : ℕ) (t : Term) (ts rest : List Token) → IsExpr x i t ts rest → n < levels t
+    → Settles (λ k. run_expr k x i n ts) (bad deep)
 expr_high x i n t ts rest d lt =
     let all = complete_expr d.spells d.stops (levels t) (omega arith) in
     record {
@@ -55,7 +57,8 @@ expr_high x i n t ts rest d lt =
           (λ e. let few = (sound_expr k x i n ts e).few in omega (arith, few, lt));
     }
 
-expr_steady : (x : Origin) (i : Layout) (n k : ℕ) (ts : List Token) (o : Out Term) → run_expr k x i n ts ≡ o → (o ≡ bad tired → ⊥) → Settles (λ k. run_expr k x i n ts) o
+expr_steady : (x : Origin) (i : Layout) (n k : ℕ) (ts : List Token) (o : Out Term) → run_expr k x i n ts ≡ o → (o ≡ bad tired → ⊥)
+    → Settles (λ k. run_expr k x i n ts) o
 expr_steady x i n k ts (got t rest) e f = let d = sound_expr k x i n ts e in complete_expr d.spells d.stops n d.few
 expr_steady x i n k ts (bad deep) e f = fails_expr (faults_expr too_deep k x i n ts e)
 expr_steady x i n k ts (bad (stuck rest)) e f = fails_expr (faults_expr (stuck_at rest) k x i n ts e)
@@ -68,7 +71,11 @@ expr_agrees x i n = record {
   deep = λ ts. (λ f. fails_expr f, λ h. faults_expr too_deep h.steps x i n ts (at_last h));
   stuck = λ ts rest. (λ f. fails_expr f, λ h. faults_expr (stuck_at rest) h.steps x i n ts (at_last h));
   high = λ t ts rest d. (
-    λ f. elim (below_or n (levels t)) as (λ w. n < levels t) [ inl lt ↦ lt | inr le ↦ got_bad (settles_one (complete_expr d.spells d.stops n le) (fails_expr f)) ],
+    λ f. elim (below_or n (levels t)) as (λ w. n < levels t) [
+      | inl lt ↦ lt
+      | inr le ↦
+          got_bad (settles_one (complete_expr d.spells d.stops n le) (fails_expr f))
+    ],
     λ lt. let h = expr_high x i n t ts rest d lt in faults_expr too_deep h.steps x i n ts (at_last h),
   );
   steady = λ k ts o e f. expr_steady x i n k ts o e f;
@@ -76,16 +83,19 @@ expr_agrees x i n = record {
 
 -- ---- an atom with what stands behind it
 
-callee_high : (x : Origin) (spaces : ℕ) (t : Term) (ts rest : List Token) → IsCallee x (Lines spaces) t ts rest → 64 < levels t → Settles (λ k. run_primary k x (Lines spaces) true 64 ts) (bad deep)
+callee_high : (x : Origin) (spaces : ℕ) (t : Term) (ts rest : List Token) → IsCallee x (Lines spaces) t ts rest → 64 < levels t
+    → Settles (λ k. run_primary k x (Lines spaces) true 64 ts) (bad deep)
 callee_high x spaces t ts rest d lt =
     let all = complete_primary d.spells d.stops (levels t) (omega arith) in
     record {
       steps = all.steps;
-      same = λ k le. opens (run_primary k x (Lines spaces) true 64 ts) (run_primary k x (Lines spaces) true (suc (levels t)) ts) (kept_primary k x (Lines spaces) true 64 (suc (levels t)) ts (omega (arith, lt))) (all.same k le)
+      same = λ k le. opens (run_primary k x (Lines spaces) true 64 ts) (run_primary k x (Lines spaces) true (suc (levels t)) ts)
+          (kept_primary k x (Lines spaces) true 64 (suc (levels t)) ts (omega (arith, lt))) (all.same k le)
           (λ e. let few = (sound_primary k x (Lines spaces) true 63 ts e).few in omega (arith, few, lt));
     }
 
-callee_steady : (x : Origin) (spaces k : ℕ) (ts : List Token) (o : Out Term) → run_primary k x (Lines spaces) true 64 ts ≡ o → (o ≡ bad tired → ⊥) → Settles (λ k. run_primary k x (Lines spaces) true 64 ts) o
+callee_steady : (x : Origin) (spaces k : ℕ) (ts : List Token) (o : Out Term) → run_primary k x (Lines spaces) true 64 ts ≡ o → (o ≡ bad tired → ⊥)
+    → Settles (λ k. run_primary k x (Lines spaces) true 64 ts) o
 callee_steady x spaces k ts (got t rest) e f = let d = sound_primary k x (Lines spaces) true 63 ts e in complete_primary d.spells d.stops 63 d.few
 callee_steady x spaces k ts (bad deep) e f = fails_primary (faults_primary too_deep k x (Lines spaces) true 63 ts e)
 callee_steady x spaces k ts (bad (stuck rest)) e f = fails_primary (faults_primary (stuck_at rest) k x (Lines spaces) true 63 ts e)
@@ -93,12 +103,17 @@ callee_steady x spaces k ts (bad tired) e f = absurd (f refl)
 
 pub callee_agrees : (x : Origin) (spaces : ℕ) → Agree (ReadsCallee x spaces) (CalleeFaults x spaces) (CalleeRun x spaces) 64
 callee_agrees x spaces = record {
-  sound = λ t ts rest h. (let d = sound_primary h.steps x (Lines spaces) true 63 ts (at_last h) in record { reads = record { spells = d.spells; stops = d.stops }; few = d.few });
+  sound = λ t ts rest h. (let d = sound_primary h.steps x (Lines spaces) true 63 ts (at_last h) in
+      record { reads = record { spells = d.spells; stops = d.stops }; few = d.few });
   complete = λ t ts rest d few. complete_primary d.spells d.stops 63 few;
   deep = λ ts. (λ f. fails_primary f, λ h. faults_primary too_deep h.steps x (Lines spaces) true 63 ts (at_last h));
   stuck = λ ts rest. (λ f. fails_primary f, λ h. faults_primary (stuck_at rest) h.steps x (Lines spaces) true 63 ts (at_last h));
   high = λ t ts rest d. (
-    λ f. elim (below_or 64 (levels t)) as (λ w. 64 < levels t) [ inl lt ↦ lt | inr le ↦ got_bad (settles_one (complete_primary d.spells d.stops 63 le) (fails_primary f)) ],
+    λ f. elim (below_or 64 (levels t)) as (λ w. 64 < levels t) [
+      | inl lt ↦ lt
+      | inr le ↦
+          got_bad (settles_one (complete_primary d.spells d.stops 63 le) (fails_primary f))
+    ],
     λ lt. let h = callee_high x spaces t ts rest d lt in faults_primary too_deep h.steps x (Lines spaces) true 63 ts (at_last h),
   );
   steady = λ k ts o e f. callee_steady x spaces k ts o e f;
@@ -117,7 +132,8 @@ callee_once {t = t} {u = u} d e =
     got_one (settles_one (complete_primary d.spells d.stops n (omega arith)) (complete_primary e.spells e.stops n (omega arith)))
 
 -- each reading of the same tokens is the one that the computation comes to
-only_one : (sought : Term → List Token → List Token → Type 0) (faults : Fault → List Token → Type 0) (run : List Token → ℕ → Out Term) (n : ℕ) → Agree sought faults run n
+only_one : (sought : Term → List Token → List Token → Type 0) (faults : Fault → List Token → Type 0) (run : List Token → ℕ → Out Term) (n : ℕ)
+    → Agree sought faults run n
     → (t u : Term) (ts r s : List Token) → Settles (run ts) (got t r) → sought u ts s → (u ≡ t) × (s ≡ r)
 only_one sought faults run n all t u ts r s h d =
     elim (below_or n (levels u)) as (λ w. (u ≡ t) × (s ≡ r)) [
@@ -125,17 +141,22 @@ only_one sought faults run n all t u ts r s h d =
       | inr le ↦ got_one (settles_one (all.complete u ts s d le) h)
     ]
 
-pub is_read : (sought : Term → List Token → List Token → Type 0) (faults : Fault → List Token → Type 0) (run : List Token → ℕ → Out Term) (n : ℕ) → Agree sought faults run n
-    → (tokens : List Token) (at : ℕ) (p : Parsed) → Settles (run (drop at tokens)) (got (term_of p.tree) (drop p.next tokens)) → at < p.next → p.next ≤ length tokens → IsRead sought n tokens at p
+pub is_read : (sought : Term → List Token → List Token → Type 0) (faults : Fault → List Token → Type 0) (run : List Token → ℕ → Out Term) (n : ℕ)
+    → Agree sought faults run n
+    → (tokens : List Token) (at : ℕ) (p : Parsed) → Settles (run (drop at tokens)) (got (term_of p.tree) (drop p.next tokens)) → at < p.next
+    → p.next ≤ length tokens → IsRead sought n tokens at p
 is_read sought faults run n all tokens at p h goes within =
     let d = all.sound (term_of p.tree) (drop at tokens) (drop p.next tokens) h in record { reads = d.reads; few = d.few; goes = goes; within = within }
 
-pub is_only : (sought : Term → List Token → List Token → Type 0) (faults : Fault → List Token → Type 0) (run : List Token → ℕ → Out Term) (n : ℕ) → Agree sought faults run n
+pub is_only : (sought : Term → List Token → List Token → Type 0) (faults : Fault → List Token → Type 0) (run : List Token → ℕ → Out Term) (n : ℕ)
+    → Agree sought faults run n
     → (tokens : List Token) (at : ℕ) (p : Parsed) → Settles (run (drop at tokens)) (got (term_of p.tree) (drop p.next tokens)) → IsOnly sought tokens at p
 is_only sought faults run n all tokens at p h = λ t rest d. only_one sought faults run n all (term_of p.tree) t (drop at tokens) (drop p.next tokens) rest h d
 
-pub has_none : (sought : Term → List Token → List Token → Type 0) (faults : Fault → List Token → Type 0) (run : List Token → ℕ → Out Term) (n : ℕ) → Agree sought faults run n
-    → (x : Origin) (ts rest : List Token) (at : Place) → Settles (run ts) (bad (stuck rest)) → left_out_at rest ≡ false → at ≡ next_at x rest → HasNone sought faults x ts at
+pub has_none : (sought : Term → List Token → List Token → Type 0) (faults : Fault → List Token → Type 0) (run : List Token → ℕ → Out Term) (n : ℕ)
+    → Agree sought faults run n
+    → (x : Origin) (ts rest : List Token) (at : Place) → Settles (run ts) (bad (stuck rest)) → left_out_at rest ≡ false → at ≡ next_at x rest
+    → HasNone sought faults x ts at
 has_none sought faults run n all x ts rest at h used next = record {
   rest = rest;
   stuck = (all.stuck ts rest).1 h;
@@ -155,18 +176,22 @@ has_none sought faults run n all x ts rest at h used next = record {
     not_left_out r s e h k = cc
 
 -- a refusal is for the reason that the computation comes to
-refused_for : (sought : Term → List Token → List Token → Type 0) (faults : Fault → List Token → Type 0) (run : List Token → ℕ → Out Term) (n : ℕ) → Agree sought faults run n
+refused_for : (sought : Term → List Token → List Token → Type 0) (faults : Fault → List Token → Type 0) (run : List Token → ℕ → Out Term) (n : ℕ)
+    → Agree sought faults run n
     → (x : Origin) (ts : List Token) (code : Code) (at : Place) → RunsInto run x ts code at → IsRefused sought faults x ts code at
 refused_for sought faults run n all x ts Syntax at h = has_none sought faults run n all x ts h.rest at h.runs h.used h.next
 refused_for sought faults run n all x ts NestTooDeep at h = record { deep = (all.deep ts).1 h.runs; first = h.first }
-refused_for sought faults run n all x ts LeftOut at h = record { rest = h.rest; left_out = record { stuck = (all.stuck ts h.rest).1 h.runs; left_out = h.left_out }; first = h.first }
+refused_for sought faults run n all x ts LeftOut at h =
+    record { rest = h.rest; left_out = record { stuck = (all.stuck ts h.rest).1 h.runs; left_out = h.left_out }; first = h.first }
 refused_for sought faults run n all x ts _ at h = absurd h
 
-stopped : (sought : Term → List Token → List Token → Type 0) (faults : Fault → List Token → Type 0) (run : List Token → ℕ → Out Term) (n : ℕ) → Agree sought faults run n
+stopped : (sought : Term → List Token → List Token → Type 0) (faults : Fault → List Token → Type 0) (run : List Token → ℕ → Out Term) (n : ℕ)
+    → Agree sought faults run n
     → (x : Origin) (ts : List Token) (stop : Stop) → OnRefusal stop (RunsInto run x ts) → OnRefusal stop (IsRefused sought faults x ts)
 stopped sought faults run n all x ts (Refused code at) h = refused_for sought faults run n all x ts code at h
 stopped sought faults run n all x ts Memory h = tt
 
-pub refused : (sought : Term → List Token → List Token → Type 0) (faults : Fault → List Token → Type 0) (run : List Token → ℕ → Out Term) (n : ℕ) → Agree sought faults run n
+pub refused : (sought : Term → List Token → List Token → Type 0) (faults : Fault → List Token → Type 0) (run : List Token → ℕ → Out Term) (n : ℕ)
+    → Agree sought faults run n
     → (x : Origin) (tokens : List Token) (at : ℕ) (stop : Stop) → Runs run x tokens at (Err stop) → OnRefusal stop (IsRefused sought faults x (drop at tokens))
 refused sought faults run n all x tokens at stop h = stopped sought faults run n all x (drop at tokens) stop h

@@ -6,7 +6,9 @@ use Rattle.indent_scanner.specs.declared.token.Token.{Token}
 use Rattle.indent_scanner.specs.declared.token.Key.TheVariants as K
 use Rattle.indent_scanner.specs.declared.token.Tok.{Tok}
 use Rattle.indent_scanner.specs.declared.token.Tok.TheVariants as T
-use Rattle.nim_tree.specs.Terms.{Term, int, char, text, name, quoted, nil, paren, tuple, array, sequence, construct, named, field, call, index, unary, binary, if_term, case_term, case_else, range, Parts, no_parts, part, and_part, Choices, no_choices, choice, and_choice, levels, most_levels, levels_in}
+use Rattle.nim_tree.specs.Terms.{Term, int, char, text, name, quoted, nil, paren, tuple, array, sequence, construct, named, field, call, index, unary, binary}
+use Rattle.nim_tree.specs.Terms.{if_term, case_term, case_else, range, Parts, no_parts, part, and_part, Choices, no_choices, choice, and_choice, levels}
+use Rattle.nim_tree.specs.Terms.{most_levels, levels_in}
 use Rattle.parse_exprs.specs.declared.input.Bracket.{Bracket}
 use Rattle.parse_exprs.specs.declared.input.Bracket.TheVariants.{Round, Square}
 use Rattle.parse_exprs.specs.Look.{Origin, spelling, place_at, single_of, single, grouped, applied}
@@ -38,7 +40,8 @@ pub most_and : (ps : Parts) (a : Term) → most_levels (and_part ps a) ≡ max (
 most_and no_parts a = omega arith
 most_and (part b ps) a = let h = most_and ps a in omega (arith, h)
 
-pub levels_and : (cs : Choices) (at : Place) (tests : Parts) (a : Term) → levels_in (and_choice cs at tests a) ≡ max (levels_in cs) (max (most_levels tests) (levels a))
+pub levels_and : (cs : Choices) (at : Place) (tests : Parts) (a : Term) → levels_in (and_choice cs at tests a) ≡ max (levels_in cs)
+    (max (most_levels tests) (levels a))
 levels_and no_choices at tests a = omega arith
 levels_and (choice p ps b cs) at tests a = let h = levels_and cs at tests a in omega (arith, h)
 

@@ -26,6 +26,7 @@ is_several at [] h = refl
 is_several at (a ∷ []) h = absurd (h refl)
 is_several at (a ∷ b ∷ rest) h = refl
 
-pub and_branch_last : (some : List Choice) (last : Choice) → choices_of (some ++ last ∷ []) ≡ and_choice (choices_of some) last.at (parts_of last.tests.items) (term_of last.value)
+pub and_branch_last : (some : List Choice) (last : Choice) → choices_of (some ++ last ∷ []) ≡ and_choice (choices_of some) last.at (parts_of last.tests.items)
+    (term_of last.value)
 and_branch_last [] last = refl
 and_branch_last (first ∷ some) last = ap (choice first.at (parts_of first.tests.items) (term_of first.value)) (and_branch_last some last)

@@ -22,7 +22,8 @@ then_bad {why = why} (bad other) go e = inl (same e)
     same : {X Y : Type 0} {v w : Why} → ◌≡◌ {A = Out Y} (bad v) (bad w) → ◌≡◌ {A = Out X} (bad v) (bad w)
     same e = cc
 
-pub unless_got : {Y : Type 0} {t : Y} {rest : List Token} (b : Bool) (ts : List Token) (go : Out Y) → unless_stuck b ts go ≡ got t rest → (b ≡ true) × (go ≡ got t rest)
+pub unless_got : {Y : Type 0} {t : Y} {rest : List Token} (b : Bool) (ts : List Token) (go : Out Y) → unless_stuck b ts go ≡ got t rest
+    → (b ≡ true) × (go ≡ got t rest)
 unless_got true ts go e = (refl, e)
 unless_got false ts go e = cc
 
@@ -57,14 +58,16 @@ settles_got = record { steps = 0; same = λ k le. refl }
 pub settles_is : {X : Type 0} {f g : ℕ → Out X} {o : Out X} → Settles f o → ((k : ℕ) → g k ≡ f k) → Settles g o
 settles_is h e = record { steps = h.steps; same = λ k le. e k ∙ h.same k le }
 
-pub settles_then : {X Y : Type 0} {f : ℕ → Out X} {a : X} {mid : List Token} {o : Out Y} (go : ℕ → X → List Token → Out Y) → Settles f (got a mid) → Settles (λ k. go k a mid) o
+pub settles_then : {X Y : Type 0} {f : ℕ → Out X} {a : X} {mid : List Token} {o : Out Y} (go : ℕ → X → List Token → Out Y) → Settles f (got a mid)
+    → Settles (λ k. go k a mid) o
     → Settles (λ k. then_do (f k) (go k)) o
 settles_then go h g = record {
   steps = max h.steps g.steps;
   same = λ k le. ap (λ w. then_do w (go k)) (h.same k (omega (arith, le))) ∙ g.same k (omega (arith, le));
 }
 
-pub settles_bad : {X Y : Type 0} {f : ℕ → Out X} {why : Why} (go : ℕ → X → List Token → Out Y) → Settles f (bad why) → Settles (λ k. then_do (f k) (go k)) (bad why)
+pub settles_bad : {X Y : Type 0} {f : ℕ → Out X} {why : Why} (go : ℕ → X → List Token → Out Y) → Settles f (bad why)
+    → Settles (λ k. then_do (f k) (go k)) (bad why)
 settles_bad go h = record { steps = h.steps; same = λ k le. ap (λ w. then_do w (go k)) (h.same k le) }
 
 pub settles_unless : {Y : Type 0} {f : ℕ → Out Y} {o : Out Y} {b : Bool} (ts : List Token) → b ≡ true → Settles f o → Settles (λ k. unless_stuck b ts (f k)) o

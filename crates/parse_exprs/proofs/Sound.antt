@@ -8,20 +8,32 @@ use Rattle.indent_scanner.specs.declared.token.Tok.TheVariants as T
 use Rattle.indent_scanner.specs.declared.token.Token.{Token}
 use Rattle.nim_tree.specs.declared.expr.UnaryOp.{UnaryOp}
 use Rattle.nim_tree.specs.declared.expr.BinaryOp.{BinaryOp}
-use Rattle.nim_tree.specs.Terms.{Term, field, binary, range, Parts, no_parts, part, and_part, Choices, no_choices, choice, and_choice, place_of, levels, most_levels, levels_in}
+use Rattle.nim_tree.specs.Terms.{Term, field, binary, range, Parts, no_parts, part, and_part, Choices, no_choices, choice, and_choice, place_of, levels}
+use Rattle.nim_tree.specs.Terms.{most_levels, levels_in}
 use Rattle.parse_exprs.specs.declared.layout.Layout.{Layout}
 use Rattle.parse_exprs.specs.declared.layout.Layout.TheVariants.{Brackets}
 use Rattle.parse_exprs.specs.declared.input.Bracket.{Bracket}
 use Rattle.parse_exprs.specs.declared.input.Bracket.TheVariants.{Square}
 use Rattle.parse_exprs.specs.declared.input.Lead.{Lead}
 use Rattle.parse_exprs.specs.declared.input.Lead.TheVariants as L
-use Rattle.parse_exprs.specs.Look.{Origin, spelling, place_at, goes_on, op_at, op_levels, single, grouped, applied, sign_of, is_at_sign, is_punct, bracket_of, bracket_at, kind_at, closes_at, names_in, names_behind, name_on, is_suffix, is_apart, suffix_at, stays, square_at, is_square, lead_at, branch_at, is_elif, is_else, is_of, first_of_at, branch_layout, colon_at, comma_at, past_colon, dots_at, is_name, at_start, past_start, no_command_on, else_on, deeper_line_at, line_layout, closed_at}
+use Rattle.parse_exprs.specs.Look.{Origin, spelling, place_at, goes_on, op_at, op_levels, single, grouped, applied, sign_of, is_at_sign, is_punct, bracket_of}
+use Rattle.parse_exprs.specs.Look.{bracket_at, kind_at, closes_at, names_in, names_behind, name_on, is_suffix, is_apart, suffix_at, stays, square_at, is_square}
+use Rattle.parse_exprs.specs.Look.{lead_at, branch_at, is_elif, is_else, is_of, first_of_at, branch_layout, colon_at, comma_at, past_colon, dots_at, is_name}
+use Rattle.parse_exprs.specs.Look.{at_start, past_start, no_command_on, else_on, deeper_line_at, line_layout, closed_at}
 use Rattle.parse_exprs.specs.Outcome.{Out, got, bad, deep}
-use Rattle.parse_exprs.specs.Run.{Tail, behind, made, run_field, run_expr, run_lead, run_level, run_chain, run_more, run_unary, run_signed, run_primary, run_suffixes, run_suffix, run_applied, run_atom, run_group, run_enclosed, run_list, run_parts, run_part, run_if, run_tail, run_value, run_own_line, run_elifs, run_else, run_case, run_branches, run_of, run_labels, run_label, run_ofs, run_otherwise}
-use Rattle.parse_exprs.specs.Grammar.{SpellsExpr, p_operators, p_if, p_case, Spells, p_unary, p_binary, SpellsMore, p_none, p_more, SpellsUnary, p_sign, p_plain, SpellsPrimary, p_primary, SpellsSuffixes, p_done, p_suffix, SpellsSuffix, p_field, p_applied, SpellsAtom, p_token, p_group, p_sequence, SpellsEnclosed, p_empty, p_parts, SpellsParts, p_first, SpellsMoreParts, p_over, p_part, SpellsPart, p_unnamed, p_named, SpellsTail, p_tail, SpellsValue, p_value, p_own_line, SpellsElifs, p_no_elif, p_elif, SpellsElse, p_else, SpellsBranches, p_branches, SpellsOf, p_of, SpellsLabels, p_last_label, p_label, SpellsLabel, p_one, p_range, SpellsOfs, p_last_of, p_next_of, SpellsOtherwise, p_no_else, p_with_else, Stops}
+use Rattle.parse_exprs.specs.Run.{Tail, behind, made, run_field, run_expr, run_lead, run_level, run_chain, run_more, run_unary, run_signed, run_primary}
+use Rattle.parse_exprs.specs.Run.{run_suffixes, run_suffix, run_applied, run_atom, run_group, run_enclosed, run_list, run_parts, run_part, run_if, run_tail}
+use Rattle.parse_exprs.specs.Run.{run_value, run_own_line, run_elifs, run_else, run_case, run_branches, run_of, run_labels, run_label, run_ofs, run_otherwise}
+use Rattle.parse_exprs.specs.Grammar.{SpellsExpr, p_operators, p_if, p_case, Spells, p_unary, p_binary, SpellsMore, p_none, p_more, SpellsUnary, p_sign}
+use Rattle.parse_exprs.specs.Grammar.{p_plain, SpellsPrimary, p_primary, SpellsSuffixes, p_done, p_suffix, SpellsSuffix, p_field, p_applied, SpellsAtom}
+use Rattle.parse_exprs.specs.Grammar.{p_token, p_group, p_sequence, SpellsEnclosed, p_empty, p_parts, SpellsParts, p_first, SpellsMoreParts, p_over, p_part}
+use Rattle.parse_exprs.specs.Grammar.{SpellsPart, p_unnamed, p_named, SpellsTail, p_tail, SpellsValue, p_value, p_own_line, SpellsElifs, p_no_elif, p_elif}
+use Rattle.parse_exprs.specs.Grammar.{SpellsElse, p_else, SpellsBranches, p_branches, SpellsOf, p_of, SpellsLabels, p_last_label, p_label, SpellsLabel, p_one}
+use Rattle.parse_exprs.specs.Grammar.{p_range, SpellsOfs, p_last_of, p_next_of, SpellsOtherwise, p_no_else, p_with_else, Stops}
 use Rattle.parse_exprs.specs.Faults.{Done}
 use Rattle.parse_exprs.proofs.Settling.{then_got, unless_got, got_one, if_split}
-use Rattle.parse_exprs.proofs.Stopping.{both_of, punct_is, one_more, suffix_stops, branch_stops, start_stops, stops_start, line_stops, command_stops, else_with_colon}
+use Rattle.parse_exprs.proofs.Stopping.{both_of, punct_is, one_more, suffix_stops, branch_stops, start_stops, stops_start, line_stops, command_stops}
+use Rattle.parse_exprs.proofs.Stopping.{else_with_colon}
 use Rattle.parse_exprs.proofs.Levels.{most_and, levels_and, single_level, grouped_levels, applied_levels}
 
 -- of at most n levels
@@ -44,7 +56,11 @@ pub record Free {X : Type 0} (n m : ℕ) (go o : Out X) : Type 0 where
   pub same : go ≡ o
 
 pub limit_got : {X : Type 0} {t : X} {rest : List Token} (n m : ℕ) (go : Out X) → (if nat_lt n m then bad deep else go) ≡ got t rest → Free n m go (got t rest)
-limit_got {X} {t} {rest} n m go e = elim (if_split (nat_lt n m) (bad deep) go e) as (λ w. Free n m go (got t rest)) [ inl h ↦ (let f = h.same in cc) | inr h ↦ record { few = ltb-false n m h.is; same = h.same } ]
+limit_got {X} {t} {rest} n m go e = elim (if_split (nat_lt n m) (bad deep) go e) as (λ w. Free n m go (got t rest)) [
+  | inl h ↦ (let f = h.same in cc)
+  | inr h ↦
+      record { few = ltb-false n m h.is; same = h.same }
+]
 
 made_got : {t : Term} {rest : List Token} (o : Option Term) (at mid : List Token) → made o at mid ≡ got t rest → (o ≡ Some t) × (mid ≡ rest)
 made_got None at mid e = cc
@@ -64,11 +80,13 @@ record NameHere (i : Layout) (here tok : Token) : Type 0 where
   pub on : goes_on i here.indent ≡ true
   pub name : here.kind ≡ T.Name
 
-name_here : (i : Layout) (b : Bool) (here tok : Token) → (goes_on i here.indent && is_name here.kind) ≡ b → (if b then Some here else None) ≡ Some tok → NameHere i here tok
+name_here : (i : Layout) (b : Bool) (here tok : Token) → (goes_on i here.indent && is_name here.kind) ≡ b → (if b then Some here else None) ≡ Some tok
+    → NameHere i here tok
 name_here i true here tok h e = let g = both_of (goes_on i here.indent) (is_name here.kind) h in record { same = cc; on = g.0; name = name_is here.kind g.1 }
 name_here i false here tok h e = cc
 
-sound_field : {t : Term} {rest : List Token} (x : Origin) (i : Layout) (c : Bool) (n : ℕ) (a : Term) (ts : List Token) (o : Option Token) → bracket_at ts ≡ None → suffix_at i c ts ≡ true → levels a ≤ n
+sound_field : {t : Term} {rest : List Token} (x : Origin) (i : Layout) (c : Bool) (n : ℕ) (a : Term) (ts : List Token) (o : Option Token) → bracket_at ts ≡ None
+    → suffix_at i c ts ≡ true → levels a ≤ n
     → name_on i (behind ts) ≡ o → run_field o x a ts ≡ got t rest → Read (suc n) (levels t) (SpellsSuffix x i a t ts rest)
 sound_field x i c n a ts None is on few h e = cc
 sound_field x i c n a [] (Some tok) is on few h e = cc
@@ -76,7 +94,8 @@ sound_field x i c n a (dot ∷ []) (Some tok) is on few h e = cc
 sound_field x i c n a (dot ∷ here ∷ ts) (Some tok) is on few h e =
     let g = name_here i _ here tok refl h in
     let s = both_of (is_suffix dot.kind) (not (is_apart c dot)) (both_of (goes_on i dot.indent) (is_suffix dot.kind && not (is_apart c dot)) on).1 in
-    same_got (λ t rest. Read (suc n) (levels t) (SpellsSuffix x i a t (dot ∷ here ∷ ts) rest)) (ap (λ w. got (field (place_of a) a (spelling x w)) ts) g.same ∙ e)
+    same_got (λ t rest. Read (suc n) (levels t) (SpellsSuffix x i a t (dot ∷ here ∷ ts) rest))
+    (ap (λ w. got (field (place_of a) a (spelling x w)) ts) g.same ∙ e)
     (record { spells = p_field (point_of dot.kind s.0 is) g.on g.name; few = omega (arith, few) })
 
 pub square_is : (ts : List Token) (o : Option Bracket) → bracket_at ts ≡ o → is_square o ≡ true → bracket_at ts ≡ Some Square
@@ -85,25 +104,35 @@ square_is ts _ h e = cc
 
 -- ---- brackets
 
-sound_empty : {parts : Parts} {rest : List Token} (x : Origin) (b : Bracket) (m : Bool) (n : ℕ) (tok : Token) (ts : List Token) → bracket_at (tok ∷ ts) ≡ Some b → closes_at b ts ≡ true
+sound_empty : {parts : Parts} {rest : List Token} (x : Origin) (b : Bracket) (m : Bool) (n : ℕ) (tok : Token) (ts : List Token) → bracket_at (tok ∷ ts) ≡ Some b
+    → closes_at b ts ≡ true
     → got no_parts (behind ts) ≡ got parts rest → Read n (most_levels parts) (SpellsEnclosed x b m parts (tok ∷ ts) rest)
 sound_empty x b m n tok [] is h e = cc
 sound_empty x b m n tok (end ∷ ts) is h e =
-    same_got (λ parts rest. Read n (most_levels parts) (SpellsEnclosed x b m parts (tok ∷ end ∷ ts) rest)) e (record { spells = p_empty is h; few = omega arith })
+    same_got (λ parts rest. Read n (most_levels parts) (SpellsEnclosed x b m parts (tok ∷ end ∷ ts) rest)) e
+    (record { spells = p_empty is h; few = omega arith })
 
-sound_closed : {parts : Parts} {rest : List Token} (x : Origin) (b : Bracket) (m : Bool) (n : ℕ) (tok : Token) (ts : List Token) (all : Parts) (mid : List Token) → bracket_at (tok ∷ ts) ≡ Some b → closes_at b ts ≡ false
+sound_closed : {parts : Parts} {rest : List Token} (x : Origin) (b : Bracket) (m : Bool) (n : ℕ) (tok : Token) (ts : List Token) (all : Parts)
+    (mid : List Token) → bracket_at (tok ∷ ts) ≡ Some b → closes_at b ts ≡ false
     → Done x Brackets op_levels n (most_levels all) (SpellsParts x m all ts mid) mid → closes_at b mid ≡ true → got all (behind mid) ≡ got parts rest
     → Read n (most_levels parts) (SpellsEnclosed x b m parts (tok ∷ ts) rest)
 sound_closed x b m n tok ts all [] is h d k e = cc
 sound_closed x b m n tok ts all (end ∷ mid) is h d k e =
-    same_got (λ parts rest. Read n (most_levels parts) (SpellsEnclosed x b m parts (tok ∷ ts) rest)) e (record { spells = p_parts is h d.spells k; few = d.few })
+    same_got (λ parts rest. Read n (most_levels parts) (SpellsEnclosed x b m parts (tok ∷ ts) rest)) e
+    (record { spells = p_parts is h d.spells k; few = d.few })
 
 -- ---- a range
 
-ranged : (x : Origin) (i : Layout) (n : ℕ) (a b : Term) (ts mid rest : List Token) → Done x i op_levels n (levels a) (SpellsExpr x i a ts mid) mid → dots_at x i mid ≡ true → stays i (behind mid) ≡ true
-    → Done x i op_levels n (levels b) (SpellsExpr x i b (behind mid) rest) rest → Done x i op_levels n (levels (range (place_of a) a b)) (SpellsLabel x i (range (place_of a) a b) ts rest) rest
+ranged : (x : Origin) (i : Layout) (n : ℕ) (a b : Term) (ts mid rest : List Token) → Done x i op_levels n (levels a) (SpellsExpr x i a ts mid) mid
+    → dots_at x i mid ≡ true → stays i (behind mid) ≡ true
+    → Done x i op_levels n (levels b) (SpellsExpr x i b (behind mid) rest) rest → Done x i op_levels n (levels (range (place_of a) a b))
+    (SpellsLabel x i (range (place_of a) a b) ts rest) rest
 ranged x i n a b ts [] rest d h on c = cc
-ranged x i n a b ts (tok ∷ mid) rest d h on c = record { spells = p_range d.spells h on c.spells; few = (let p = d.few in let q = c.few in omega (arith, p, q)); stops = c.stops }
+ranged x i n a b ts (tok ∷ mid) rest d h on c = record {
+  spells = p_range d.spells h on c.spells;
+  few = (let p = d.few in let q = c.few in omega (arith, p, q));
+  stops = c.stops;
+}
 
 -- a value on lines of its own
 pub record OwnLine (x : Origin) (i : Layout) (n : ℕ) (v : Term) (ts rest : List Token) : Type 0 where
@@ -117,10 +146,13 @@ mutual
   sound_expr zero x i n ts e = cc
   sound_expr (suc k) x i n ts e = sound_lead k (lead_at ts) x i n ts refl e
 
-  sound_lead : {t : Term} {rest : List Token} (k : ℕ) (lead : Lead) (x : Origin) (i : Layout) (n : ℕ) (ts : List Token) → lead_at ts ≡ lead → run_lead k lead x i n ts ≡ got t rest
+  sound_lead : {t : Term} {rest : List Token} (k : ℕ) (lead : Lead) (x : Origin) (i : Layout) (n : ℕ) (ts : List Token) → lead_at ts ≡ lead
+      → run_lead k lead x i n ts ≡ got t rest
       → Done x i op_levels n (levels t) (SpellsExpr x i t ts rest) rest
   sound_lead zero lead x i n ts is e = cc
-  sound_lead (suc k) L.Operand x i n ts is e = let h = sound_level k x i op_levels n ts e in record { spells = p_operators h.spells; few = h.few; stops = h.stops }
+  sound_lead (suc k) L.Operand x i n ts is e =
+      let h = sound_level k x i op_levels n ts e in
+      record { spells = p_operators h.spells; few = h.few; stops = h.stops }
   sound_lead (suc k) L.If x i n ts is e = sound_if k x i n ts is e
   sound_lead (suc k) L.Case x i n ts is e = sound_case k x i n ts is e
 
@@ -136,16 +168,19 @@ mutual
       let c = sound_chain k x (past_start i) l n f.value f.mid d.few (stops_start x i l f.mid d.stops) f.next in
       record { spells = p_binary d.spells c.spells; few = c.few; stops = start_stops x i (suc l) rest c.stops }
 
-  sound_chain : {t : Term} {rest : List Token} (k : ℕ) (x : Origin) (i : Layout) (l n : ℕ) (a : Term) (ts : List Token) → levels a ≤ n → Stops x i l ts → run_chain k x i l n a ts ≡ got t rest
+  sound_chain : {t : Term} {rest : List Token} (k : ℕ) (x : Origin) (i : Layout) (l n : ℕ) (a : Term) (ts : List Token) → levels a ≤ n → Stops x i l ts
+      → run_chain k x i l n a ts ≡ got t rest
       → Done x i (suc l) n (levels t) (SpellsMore x i l a t ts rest) rest
   sound_chain zero x i l n a ts few s e = cc
   sound_chain (suc k) x i l n a ts few s e = sound_more k (op_at x i l ts) x i l n a ts refl few s e
 
-  sound_more : {t : Term} {rest : List Token} (k : ℕ) (op : Option BinaryOp) (x : Origin) (i : Layout) (l n : ℕ) (a : Term) (ts : List Token) → op_at x i l ts ≡ op → levels a ≤ n → Stops x i l ts
+  sound_more : {t : Term} {rest : List Token} (k : ℕ) (op : Option BinaryOp) (x : Origin) (i : Layout) (l n : ℕ) (a : Term) (ts : List Token)
+      → op_at x i l ts ≡ op → levels a ≤ n → Stops x i l ts
       → run_more k op x i l n a ts ≡ got t rest → Done x i (suc l) n (levels t) (SpellsMore x i l a t ts rest) rest
   sound_more zero op x i l n a ts is few s e = cc
   sound_more (suc k) None x i l n a ts is few s e =
-      same_got (λ t rest. Done x i (suc l) n (levels t) (SpellsMore x i l a t ts rest) rest) e (record { spells = p_none; few = few; stops = one_more x i l ts s is })
+      same_got (λ t rest. Done x i (suc l) n (levels t) (SpellsMore x i l a t ts rest) rest) e
+      (record { spells = p_none; few = few; stops = one_more x i l ts s is })
   sound_more (suc k) (Some op) x i l zero a ts is few s e = cc
   sound_more (suc k) (Some op) x i l (suc n) a [] is few s e = cc
   sound_more (suc k) (Some op) x i l (suc n) a (tok ∷ ts) is few s e =
@@ -162,7 +197,8 @@ mutual
   sound_unary (suc k) x i (suc n) [] e = cc
   sound_unary (suc k) x i (suc n) (tok ∷ ts) e = sound_signed k (sign_of tok.kind (spelling x tok)) x i n tok ts refl e
 
-  sound_signed : {t : Term} {rest : List Token} (k : ℕ) (op : Option UnaryOp) (x : Origin) (i : Layout) (n : ℕ) (tok : Token) (ts : List Token) → sign_of tok.kind (spelling x tok) ≡ op
+  sound_signed : {t : Term} {rest : List Token} (k : ℕ) (op : Option UnaryOp) (x : Origin) (i : Layout) (n : ℕ) (tok : Token) (ts : List Token)
+      → sign_of tok.kind (spelling x tok) ≡ op
       → run_signed k op x i n tok ts ≡ got t rest → Done x i 0 (suc n) (levels t) (SpellsUnary x i t (tok ∷ ts) rest) rest
   sound_signed zero op x i n tok ts is e = cc
   sound_signed (suc k) None x i n tok ts is e =
@@ -180,7 +216,8 @@ mutual
 
   -- ---- what stands behind an atom
 
-  pub sound_primary : {t : Term} {rest : List Token} (k : ℕ) (x : Origin) (i : Layout) (c : Bool) (n : ℕ) (ts : List Token) → run_primary k x i c (suc n) ts ≡ got t rest
+  pub sound_primary : {t : Term} {rest : List Token} (k : ℕ) (x : Origin) (i : Layout) (c : Bool) (n : ℕ) (ts : List Token) → run_primary k x i c (suc n) ts
+      ≡ got t rest
       → Behind i c (suc n) (levels t) (SpellsPrimary x i c t ts rest) rest
   sound_primary zero x i c n ts e = cc
   sound_primary (suc k) x i c n ts e =
@@ -189,16 +226,19 @@ mutual
       let s = sound_suffixes k x i c n f.value f.mid d.few f.next in
       record { spells = p_primary d.spells s.spells; few = s.few; stops = s.stops }
 
-  sound_suffixes : {t : Term} {rest : List Token} (k : ℕ) (x : Origin) (i : Layout) (c : Bool) (n : ℕ) (a : Term) (ts : List Token) → levels a ≤ suc n → run_suffixes k x i c (suc n) a ts ≡ got t rest
+  sound_suffixes : {t : Term} {rest : List Token} (k : ℕ) (x : Origin) (i : Layout) (c : Bool) (n : ℕ) (a : Term) (ts : List Token) → levels a ≤ suc n
+      → run_suffixes k x i c (suc n) a ts ≡ got t rest
       → Behind i c (suc n) (levels t) (SpellsSuffixes x i c a t ts rest) rest
   sound_suffixes zero x i c n a ts few e = cc
   sound_suffixes {t} {rest} (suc k) x i c n a ts few e =
       elim (if_split (suffix_at i c ts) _ _ e) as (λ w. Behind i c (suc n) (levels t) (SpellsSuffixes x i c a t ts rest) rest) [
         | inl h ↦ sound_suffix k x i c n a ts h.is h.same
-        | inr h ↦ same_got (λ t rest. Behind i c (suc n) (levels t) (SpellsSuffixes x i c a t ts rest) rest) h.same (record { spells = p_done; few = few; stops = h.is })
+        | inr h ↦ same_got (λ t rest. Behind i c (suc n) (levels t) (SpellsSuffixes x i c a t ts rest) rest) h.same
+            (record { spells = p_done; few = few; stops = h.is })
       ]
 
-  sound_suffix : {t : Term} {rest : List Token} (k : ℕ) (x : Origin) (i : Layout) (c : Bool) (n : ℕ) (a : Term) (ts : List Token) → suffix_at i c ts ≡ true → run_suffix k x i c (suc n) a ts ≡ got t rest
+  sound_suffix : {t : Term} {rest : List Token} (k : ℕ) (x : Origin) (i : Layout) (c : Bool) (n : ℕ) (a : Term) (ts : List Token) → suffix_at i c ts ≡ true
+      → run_suffix k x i c (suc n) a ts ≡ got t rest
       → Behind i c (suc n) (levels t) (SpellsSuffixes x i c a t ts rest) rest
   sound_suffix zero x i c n a ts on e = cc
   sound_suffix (suc k) x i c n a ts on e =
@@ -208,7 +248,8 @@ mutual
       let s = sound_suffixes k x i c n f.value f.mid d.few f.next in
       record { spells = p_suffix on d.spells s.spells; few = s.few; stops = s.stops }
 
-  pub sound_applied : {t : Term} {rest : List Token} (k : ℕ) (b : Option Bracket) (x : Origin) (i : Layout) (c : Bool) (n : ℕ) (a : Term) (ts : List Token) → bracket_at ts ≡ b → suffix_at i c ts ≡ true → levels a ≤ n
+  pub sound_applied : {t : Term} {rest : List Token} (k : ℕ) (b : Option Bracket) (x : Origin) (i : Layout) (c : Bool) (n : ℕ) (a : Term) (ts : List Token)
+      → bracket_at ts ≡ b → suffix_at i c ts ≡ true → levels a ≤ n
       → run_applied k b x i n a ts ≡ got t rest → Read (suc n) (levels t) (SpellsSuffix x i a t ts rest)
   sound_applied zero b x i c n a ts is on few e = cc
   sound_applied (suc k) None x i c n a ts is on few e = sound_field x i c n a ts (name_on i (behind ts)) is on few refl e
@@ -227,11 +268,13 @@ mutual
   sound_atom (suc k) x i n [] e = cc
   sound_atom (suc k) x i n (tok ∷ ts) e = sound_group k (single x tok) (bracket_at (tok ∷ ts)) x i n tok ts refl refl e
 
-  sound_group : {t : Term} {rest : List Token} (k : ℕ) (o : Option Term) (b : Option Bracket) (x : Origin) (i : Layout) (n : ℕ) (tok : Token) (ts : List Token) → single x tok ≡ o → bracket_at (tok ∷ ts) ≡ b
+  sound_group : {t : Term} {rest : List Token} (k : ℕ) (o : Option Term) (b : Option Bracket) (x : Origin) (i : Layout) (n : ℕ) (tok : Token) (ts : List Token)
+      → single x tok ≡ o → bracket_at (tok ∷ ts) ≡ b
       → run_group k o b x i (suc n) tok ts ≡ got t rest → Read (suc n) (levels t) (SpellsAtom x i t (tok ∷ ts) rest)
   sound_group zero o b x i n tok ts is h e = cc
   sound_group (suc k) (Some u) b x i n tok ts is h e =
-      same_got (λ t rest. Read (suc n) (levels t) (SpellsAtom x i t (tok ∷ ts) rest)) e (record { spells = p_token is; few = (let one = single_level x tok u is in omega (arith, one)) })
+      same_got (λ t rest. Read (suc n) (levels t) (SpellsAtom x i t (tok ∷ ts) rest)) e
+      (record { spells = p_token is; few = (let one = single_level x tok u is in omega (arith, one)) })
   sound_group {t} (suc k) None (Some b) x i n tok ts is h e =
       let m = names_in b ts in
       let f = then_got _ _ e in
@@ -250,7 +293,8 @@ mutual
 
   -- ---- parts in brackets
 
-  pub sound_enclosed : {parts : Parts} {rest : List Token} (k : ℕ) (x : Origin) (b : Bracket) (m : Bool) (n : ℕ) (ts : List Token) → bracket_at ts ≡ Some b → run_enclosed k x b m n ts ≡ got parts rest
+  pub sound_enclosed : {parts : Parts} {rest : List Token} (k : ℕ) (x : Origin) (b : Bracket) (m : Bool) (n : ℕ) (ts : List Token) → bracket_at ts ≡ Some b
+      → run_enclosed k x b m n ts ≡ got parts rest
       → Read n (most_levels parts) (SpellsEnclosed x b m parts ts rest)
   sound_enclosed zero x b m n ts is e = cc
   sound_enclosed (suc k) x b m n [] is e = cc
@@ -273,19 +317,24 @@ mutual
       let c = sound_parts k x m n (part f.value no_parts) f.mid (let p = d.few in omega (arith, p)) d.stops f.next in
       record { spells = p_first d.spells c.spells; few = c.few; stops = c.stops }
 
-  sound_parts : {parts : Parts} {rest : List Token} (k : ℕ) (x : Origin) (m : Bool) (n : ℕ) (some : Parts) (ts : List Token) → most_levels some ≤ n → Stops x Brackets op_levels ts
+  sound_parts : {parts : Parts} {rest : List Token} (k : ℕ) (x : Origin) (m : Bool) (n : ℕ) (some : Parts) (ts : List Token) → most_levels some ≤ n
+      → Stops x Brackets op_levels ts
       → run_parts k x m n some ts ≡ got parts rest → Done x Brackets op_levels n (most_levels parts) (SpellsMoreParts x m some parts ts rest) rest
   sound_parts zero x m n some ts few s e = cc
   sound_parts (suc k) x m n some [] few s e =
-      same_got (λ parts rest. Done x Brackets op_levels n (most_levels parts) (SpellsMoreParts x m some parts [] rest) rest) e (record { spells = p_over refl; few = few; stops = s })
+      same_got (λ parts rest. Done x Brackets op_levels n (most_levels parts) (SpellsMoreParts x m some parts [] rest) rest) e
+      (record { spells = p_over refl; few = few; stops = s })
   sound_parts {parts} {rest} (suc k) x m n some (tok ∷ ts) few s e =
-      elim (if_split (kind_at (is_punct 44) (tok ∷ ts)) _ _ e) as (λ w. Done x Brackets op_levels n (most_levels parts) (SpellsMoreParts x m some parts (tok ∷ ts) rest) rest) [
+      elim (if_split (kind_at (is_punct 44) (tok ∷ ts)) _ _ e) as (λ w. Done x Brackets op_levels n (most_levels parts)
+      (SpellsMoreParts x m some parts (tok ∷ ts) rest) rest) [
         | inl h ↦ (
             let f = then_got _ _ h.same in
             let d = sound_part k x m n ts f.first in
-            let c = sound_parts k x m n (and_part some f.value) f.mid (let p = most_and some f.value in let q = d.few in omega (arith, p, q, few)) d.stops f.next in
+            let c = sound_parts k x m n (and_part some f.value) f.mid (let p = most_and some f.value in let q = d.few in omega (arith, p, q, few))
+            d.stops f.next in
             record { spells = p_part h.is d.spells c.spells; few = c.few; stops = c.stops })
-        | inr h ↦ same_got (λ parts rest. Done x Brackets op_levels n (most_levels parts) (SpellsMoreParts x m some parts (tok ∷ ts) rest) rest) h.same (record { spells = p_over h.is; few = few; stops = s })
+        | inr h ↦ same_got (λ parts rest. Done x Brackets op_levels n (most_levels parts) (SpellsMoreParts x m some parts (tok ∷ ts) rest) rest) h.same
+            (record { spells = p_over h.is; few = few; stops = s })
       ]
 
   pub sound_part : {t : Term} {rest : List Token} (k : ℕ) (x : Origin) (m : Bool) (n : ℕ) (ts : List Token) → run_part k x m n ts ≡ got t rest
@@ -344,7 +393,8 @@ mutual
             record { spells = p_own_line g.0 o.deeper o.value.spells o.closed; few = o.value.few; stops = line_stops x i ts op_levels rest o.value.stops })
       ]
 
-  pub sound_own_line : {t : Term} {rest : List Token} (k : ℕ) (x : Origin) (i : Layout) (n : ℕ) (ts : List Token) → run_own_line k x i n ts ≡ got t rest → OwnLine x i n t ts rest
+  pub sound_own_line : {t : Term} {rest : List Token} (k : ℕ) (x : Origin) (i : Layout) (n : ℕ) (ts : List Token) → run_own_line k x i n ts ≡ got t rest
+      → OwnLine x i n t ts rest
   sound_own_line zero x i n ts e = cc
   sound_own_line (suc k) x i n ts e =
       let g = unless_got (deeper_line_at i ts) ts _ e in
@@ -353,20 +403,24 @@ mutual
       let h = unless_got (closed_at (line_layout i ts) f.mid) f.mid _ f.next in
       same_got (λ t rest. OwnLine x i n t ts rest) h.1 (record { deeper = g.0; value = d; closed = h.0 })
 
-  pub sound_elifs : {all : Choices} {rest : List Token} (k : ℕ) (x : Origin) (i : Layout) (n : ℕ) (some : Choices) (ts : List Token) → levels_in some ≤ n → Stops x i op_levels ts
+  pub sound_elifs : {all : Choices} {rest : List Token} (k : ℕ) (x : Origin) (i : Layout) (n : ℕ) (some : Choices) (ts : List Token) → levels_in some ≤ n
+      → Stops x i op_levels ts
       → run_elifs k x i n some ts ≡ got all rest → Done x i op_levels n (levels_in all) (SpellsElifs x i some all ts rest) rest
   sound_elifs zero x i n some ts few s e = cc
   sound_elifs (suc k) x i n some [] few s e =
-      same_got (λ all rest. Done x i op_levels n (levels_in all) (SpellsElifs x i some all [] rest) rest) e (record { spells = p_no_elif refl; few = few; stops = s })
+      same_got (λ all rest. Done x i op_levels n (levels_in all) (SpellsElifs x i some all [] rest) rest) e
+      (record { spells = p_no_elif refl; few = few; stops = s })
   sound_elifs {all} {rest} (suc k) x i n some (tok ∷ ts) few s e =
       elim (if_split (branch_at i is_elif (tok ∷ ts)) _ _ e) as (λ w. Done x i op_levels n (levels_in all) (SpellsElifs x i some all (tok ∷ ts) rest) rest) [
         | inl h ↦ (
             let f = then_got _ _ h.same in
             let d = sound_tail k x i n ts f.first in
             let some_more = levels_and some (place_at x tok) f.value.tests f.value.value in
-            let c = sound_elifs k x i n (and_choice some (place_at x tok) f.value.tests f.value.value) f.mid (let q = d.few in omega (arith, some_more, q, few)) d.stops f.next in
+            let c = sound_elifs k x i n (and_choice some (place_at x tok) f.value.tests f.value.value) f.mid (let q = d.few in omega (arith, some_more, q, few))
+            d.stops f.next in
             record { spells = p_elif h.is d.spells c.spells; few = c.few; stops = c.stops })
-        | inr h ↦ same_got (λ all rest. Done x i op_levels n (levels_in all) (SpellsElifs x i some all (tok ∷ ts) rest) rest) h.same (record { spells = p_no_elif h.is; few = few; stops = s })
+        | inr h ↦ same_got (λ all rest. Done x i op_levels n (levels_in all) (SpellsElifs x i some all (tok ∷ ts) rest) rest) h.same
+            (record { spells = p_no_elif h.is; few = few; stops = s })
       ]
 
   pub sound_else : {t : Term} {rest : List Token} (k : ℕ) (x : Origin) (i : Layout) (n : ℕ) (ts : List Token) → run_else k x i n ts ≡ got t rest
@@ -378,7 +432,8 @@ mutual
       let d = sound_value k x i n ts g.1 in
       record { spells = p_else g.0 d.spells; few = d.few; stops = d.stops }
 
-  sound_case : {t : Term} {rest : List Token} (k : ℕ) (x : Origin) (i : Layout) (n : ℕ) (ts : List Token) → lead_at ts ≡ L.Case → run_case k x i n ts ≡ got t rest
+  sound_case : {t : Term} {rest : List Token} (k : ℕ) (x : Origin) (i : Layout) (n : ℕ) (ts : List Token) → lead_at ts ≡ L.Case
+      → run_case k x i n ts ≡ got t rest
       → Done x i op_levels n (levels t) (SpellsExpr x i t ts rest) rest
   sound_case zero x i n ts is e = cc
   sound_case (suc k) x i zero ts is e = cc
@@ -390,7 +445,8 @@ mutual
       let b = sound_branches k x i n (place_at x tok) f.value (past_colon i f.mid) d.few f.next in
       record { spells = p_case is on.0 d.spells b.spells; few = b.few; stops = b.stops }
 
-  sound_branches : {t : Term} {rest : List Token} (k : ℕ) (x : Origin) (i : Layout) (n : ℕ) (at : Place) (s : Term) (ts : List Token) → levels s ≤ n → run_branches k x i n at s ts ≡ got t rest
+  sound_branches : {t : Term} {rest : List Token} (k : ℕ) (x : Origin) (i : Layout) (n : ℕ) (at : Place) (s : Term) (ts : List Token) → levels s ≤ n
+      → run_branches k x i n at s ts ≡ got t rest
       → Done x i op_levels (suc n) (levels t) (SpellsBranches x i at s t ts rest) rest
   sound_branches zero x i n at s ts few e = cc
   sound_branches (suc k) x i n at s [] few e = cc
@@ -418,19 +474,23 @@ mutual
       same_got (λ one rest. Done x i op_levels n (max (most_levels one.tests) (levels one.value)) (SpellsOf x i one.tests one.value ts rest) rest) h.next
       (record { spells = p_of on.0 d.spells c.spells v.spells; few = (let p = c.few in let q = v.few in omega (arith, p, q)); stops = v.stops })
 
-  pub sound_labels : {all : Parts} {rest : List Token} (k : ℕ) (x : Origin) (i : Layout) (n : ℕ) (some : Parts) (ts : List Token) → most_levels some ≤ n → Stops x i op_levels ts
+  pub sound_labels : {all : Parts} {rest : List Token} (k : ℕ) (x : Origin) (i : Layout) (n : ℕ) (some : Parts) (ts : List Token) → most_levels some ≤ n
+      → Stops x i op_levels ts
       → run_labels k x i n some ts ≡ got all rest → Done x i op_levels n (most_levels all) (SpellsLabels x i some all ts rest) rest
   sound_labels zero x i n some ts few s e = cc
   sound_labels (suc k) x i n some [] few s e =
-      same_got (λ all rest. Done x i op_levels n (most_levels all) (SpellsLabels x i some all [] rest) rest) e (record { spells = p_last_label refl; few = few; stops = s })
+      same_got (λ all rest. Done x i op_levels n (most_levels all) (SpellsLabels x i some all [] rest) rest) e
+      (record { spells = p_last_label refl; few = few; stops = s })
   sound_labels {all} {rest} (suc k) x i n some (tok ∷ ts) few s e =
       elim (if_split (comma_at i (tok ∷ ts)) _ _ e) as (λ w. Done x i op_levels n (most_levels all) (SpellsLabels x i some all (tok ∷ ts) rest) rest) [
         | inl h ↦ (
             let f = then_got _ _ h.same in
             let d = sound_label k x i n ts f.first in
-            let c = sound_labels k x i n (and_part some f.value) f.mid (let p = most_and some f.value in let q = d.few in omega (arith, p, q, few)) d.stops f.next in
+            let c = sound_labels k x i n (and_part some f.value) f.mid (let p = most_and some f.value in let q = d.few in omega (arith, p, q, few))
+            d.stops f.next in
             record { spells = p_label h.is d.spells c.spells; few = c.few; stops = c.stops })
-        | inr h ↦ same_got (λ all rest. Done x i op_levels n (most_levels all) (SpellsLabels x i some all (tok ∷ ts) rest) rest) h.same (record { spells = p_last_label h.is; few = few; stops = s })
+        | inr h ↦ same_got (λ all rest. Done x i op_levels n (most_levels all) (SpellsLabels x i some all (tok ∷ ts) rest) rest) h.same
+            (record { spells = p_last_label h.is; few = few; stops = s })
       ]
 
   pub sound_label : {t : Term} {rest : List Token} (k : ℕ) (x : Origin) (i : Layout) (n : ℕ) (ts : List Token) → run_label k x i n ts ≡ got t rest
@@ -444,37 +504,50 @@ mutual
             let on = unless_got (stays i (behind f.mid)) (behind f.mid) _ h.same in
             let g = then_got _ _ on.1 in
             let b = sound_expr k x i n (behind f.mid) g.first in
-            same_got (λ t rest. Done x i op_levels n (levels t) (SpellsLabel x i t ts rest) rest) g.next (ranged x i n f.value g.value ts f.mid g.mid d h.is on.0 b))
-        | inr h ↦ same_got (λ t rest. Done x i op_levels n (levels t) (SpellsLabel x i t ts rest) rest) h.same (record { spells = p_one d.spells h.is; few = d.few; stops = d.stops })
+            same_got (λ t rest. Done x i op_levels n (levels t) (SpellsLabel x i t ts rest) rest) g.next
+            (ranged x i n f.value g.value ts f.mid g.mid d h.is on.0 b))
+        | inr h ↦ same_got (λ t rest. Done x i op_levels n (levels t) (SpellsLabel x i t ts rest) rest) h.same
+            (record { spells = p_one d.spells h.is; few = d.few; stops = d.stops })
       ]
 
-  pub sound_ofs : {all : Choices} {rest : List Token} (k : ℕ) (x : Origin) (i : Layout) (n : ℕ) (some : Choices) (ts : List Token) → levels_in some ≤ n → Stops x i op_levels ts
+  pub sound_ofs : {all : Choices} {rest : List Token} (k : ℕ) (x : Origin) (i : Layout) (n : ℕ) (some : Choices) (ts : List Token) → levels_in some ≤ n
+      → Stops x i op_levels ts
       → run_ofs k x i n some ts ≡ got all rest → Done x i op_levels n (levels_in all) (SpellsOfs x i some all ts rest) rest
   sound_ofs zero x i n some ts few s e = cc
   sound_ofs (suc k) x i n some [] few s e =
-      same_got (λ all rest. Done x i op_levels n (levels_in all) (SpellsOfs x i some all [] rest) rest) e (record { spells = p_last_of refl; few = few; stops = s })
+      same_got (λ all rest. Done x i op_levels n (levels_in all) (SpellsOfs x i some all [] rest) rest) e
+      (record { spells = p_last_of refl; few = few; stops = s })
   sound_ofs {all} {rest} (suc k) x i n some (tok ∷ ts) few s e =
       elim (if_split (branch_at i is_of (tok ∷ ts)) _ _ e) as (λ w. Done x i op_levels n (levels_in all) (SpellsOfs x i some all (tok ∷ ts) rest) rest) [
         | inl h ↦ (
             let f = then_got _ _ h.same in
             let d = sound_of k x i n ts f.first in
             let some_more = levels_and some (place_at x tok) f.value.tests f.value.value in
-            let c = sound_ofs k x i n (and_choice some (place_at x tok) f.value.tests f.value.value) f.mid (let q = d.few in omega (arith, some_more, q, few)) d.stops f.next in
+            let c = sound_ofs k x i n (and_choice some (place_at x tok) f.value.tests f.value.value) f.mid (let q = d.few in omega (arith, some_more, q, few))
+            d.stops f.next in
             record { spells = p_next_of h.is d.spells c.spells; few = c.few; stops = c.stops })
-        | inr h ↦ same_got (λ all rest. Done x i op_levels n (levels_in all) (SpellsOfs x i some all (tok ∷ ts) rest) rest) h.same (record { spells = p_last_of h.is; few = few; stops = s })
+        | inr h ↦ same_got (λ all rest. Done x i op_levels n (levels_in all) (SpellsOfs x i some all (tok ∷ ts) rest) rest) h.same
+            (record { spells = p_last_of h.is; few = few; stops = s })
       ]
 
-  sound_otherwise : {t : Term} {rest : List Token} (k : ℕ) (x : Origin) (i : Layout) (n : ℕ) (at : Place) (s : Term) (all : Choices) (ts : List Token) → levels s ≤ n → levels_in all ≤ n → Stops x i op_levels ts
+  sound_otherwise : {t : Term} {rest : List Token} (k : ℕ) (x : Origin) (i : Layout) (n : ℕ) (at : Place) (s : Term) (all : Choices) (ts : List Token)
+      → levels s ≤ n → levels_in all ≤ n → Stops x i op_levels ts
       → run_otherwise k x i n at s all ts ≡ got t rest → Done x i op_levels (suc n) (levels t) (SpellsOtherwise x i at s all t ts rest) rest
   sound_otherwise zero x i n at s all ts few fewer stops e = cc
   sound_otherwise (suc k) x i n at s all [] few fewer stops e =
-      same_got (λ t rest. Done x i op_levels (suc n) (levels t) (SpellsOtherwise x i at s all t [] rest) rest) e (record { spells = p_no_else refl; few = omega (arith, few, fewer); stops = stops })
+      same_got (λ t rest. Done x i op_levels (suc n) (levels t) (SpellsOtherwise x i at s all t [] rest) rest) e
+      (record { spells = p_no_else refl; few = omega (arith, few, fewer); stops = stops })
   sound_otherwise {t} {rest} (suc k) x i n at s all (tok ∷ ts) few fewer stops e =
       elim (if_split (else_on i (tok ∷ ts)) _ _ e) as (λ w. Done x i op_levels (suc n) (levels t) (SpellsOtherwise x i at s all t (tok ∷ ts) rest) rest) [
         | inl h ↦ (
             let f = then_got _ _ h.same in
             let d = sound_value k x i n ts f.first in
             same_got (λ t rest. Done x i op_levels (suc n) (levels t) (SpellsOtherwise x i at s all t (tok ∷ ts) rest) rest) f.next
-            (record { spells = p_with_else (else_with_colon i (tok ∷ ts) h.is) d.spells; few = (let p = d.few in omega (arith, p, few, fewer)); stops = d.stops }))
-        | inr h ↦ same_got (λ t rest. Done x i op_levels (suc n) (levels t) (SpellsOtherwise x i at s all t (tok ∷ ts) rest) rest) h.same (record { spells = p_no_else h.is; few = omega (arith, few, fewer); stops = stops })
+            (record {
+              spells = p_with_else (else_with_colon i (tok ∷ ts) h.is) d.spells;
+              few = (let p = d.few in omega (arith, p, few, fewer));
+              stops = d.stops;
+            }))
+        | inr h ↦ same_got (λ t rest. Done x i op_levels (suc n) (levels t) (SpellsOtherwise x i at s all t (tok ∷ ts) rest) rest) h.same
+            (record { spells = p_no_else h.is; few = omega (arith, few, fewer); stops = stops })
       ]

@@ -14,8 +14,14 @@ use Rattle.parse_exprs.specs.declared.layout.Layout.{Layout}
 use Rattle.parse_exprs.specs.declared.input.Bracket.{Bracket}
 use Rattle.parse_exprs.specs.declared.input.Bracket.TheVariants.{Round, Square}
 use Rattle.parse_exprs.specs.declared.input.Lead.TheVariants as L
-use Rattle.parse_exprs.specs.Look.{Origin, spelling, goes_on, branch_goes_on, first_goes_on, op_of, of_level, op_at, place_at, single_of, single, grouped, applied, sign_of, is_punct, is_run, is_at_sign, bracket_of, closing, lead_of, is_elif, is_else, is_of, colon_at, past_colon}
-use Rattle.parse_exprs.specs.Grammar.{SpellsExpr, p_operators, p_if, p_case, Spells, p_unary, p_binary, SpellsMore, p_none, p_more, SpellsUnary, p_sign, p_plain, SpellsPrimary, p_primary, SpellsSuffixes, p_done, p_suffix, SpellsSuffix, p_field, p_applied, SpellsAtom, p_token, p_group, p_sequence, SpellsEnclosed, p_empty, p_parts, SpellsParts, p_first, SpellsMoreParts, p_over, p_part, SpellsPart, p_unnamed, p_named, SpellsTail, p_tail, SpellsValue, p_value, p_own_line, SpellsElifs, p_no_elif, p_elif, SpellsElse, p_else, SpellsBranches, p_branches, SpellsOf, p_of, SpellsLabels, p_last_label, p_label, SpellsLabel, p_one, p_range, SpellsOfs, p_last_of, p_next_of, SpellsOtherwise, p_no_else, p_with_else}
+use Rattle.parse_exprs.specs.Look.{Origin, spelling, goes_on, branch_goes_on, first_goes_on, op_of, of_level, op_at, place_at, single_of, single, grouped}
+use Rattle.parse_exprs.specs.Look.{applied, sign_of, is_punct, is_run, is_at_sign, bracket_of, closing, lead_of, is_elif, is_else, is_of, colon_at, past_colon}
+use Rattle.parse_exprs.specs.Grammar.{SpellsExpr, p_operators, p_if, p_case, Spells, p_unary, p_binary, SpellsMore, p_none, p_more, SpellsUnary, p_sign}
+use Rattle.parse_exprs.specs.Grammar.{p_plain, SpellsPrimary, p_primary, SpellsSuffixes, p_done, p_suffix, SpellsSuffix, p_field, p_applied, SpellsAtom}
+use Rattle.parse_exprs.specs.Grammar.{p_token, p_group, p_sequence, SpellsEnclosed, p_empty, p_parts, SpellsParts, p_first, SpellsMoreParts, p_over, p_part}
+use Rattle.parse_exprs.specs.Grammar.{SpellsPart, p_unnamed, p_named, SpellsTail, p_tail, SpellsValue, p_value, p_own_line, SpellsElifs, p_no_elif, p_elif}
+use Rattle.parse_exprs.specs.Grammar.{SpellsElse, p_else, SpellsBranches, p_branches, SpellsOf, p_of, SpellsLabels, p_last_label, p_label, SpellsLabel, p_one}
+use Rattle.parse_exprs.specs.Grammar.{p_range, SpellsOfs, p_last_of, p_next_of, SpellsOtherwise, p_no_else, p_with_else}
 use Rattle.parse_exprs.specs.Parsed.{HasNoEnd}
 use Rattle.parse_exprs.proofs.Stopping.{none_some, false_true, both_of}
 
@@ -141,7 +147,8 @@ mutual
 
   more_spans : {x : Origin} {i : Layout} {l : ℕ} {a t : Term} {ts rest : List Token} → SpellsMore x i l a t ts rest → Spans (nodes a) (nodes t) ts rest
   more_spans p_none = no_spans
-  more_spans {x = x} {i = i} {l = l} (p_more {op = op} {tok = tok} {ts = ts} h d c) = within (token_spans (op_no_end x i l op tok ts h) (then_spans (level_spans d) (more_spans c))) (omega arith)
+  more_spans {x = x} {i = i} {l = l} (p_more {op = op} {tok = tok} {ts = ts} h d c) =
+      within (token_spans (op_no_end x i l op tok ts h) (then_spans (level_spans d) (more_spans c))) (omega arith)
 
   unary_spans : {x : Origin} {i : Layout} {t : Term} {ts rest : List Token} → SpellsUnary x i t ts rest → Spans 0 (nodes t) ts rest
   unary_spans {x = x} (p_sign {op = op} {tok = tok} h on d) = token_spans (sign_no_end op tok.kind (spelling x tok) h) (unary_spans d)
@@ -150,87 +157,119 @@ mutual
   pub primary_spans : {x : Origin} {i : Layout} {c : Bool} {t : Term} {ts rest : List Token} → SpellsPrimary x i c t ts rest → Spans 0 (nodes t) ts rest
   primary_spans (p_primary d c) = within (then_spans (atom_spans d) (suffixes_spans c)) (omega arith)
 
-  suffixes_spans : {x : Origin} {i : Layout} {c : Bool} {a t : Term} {ts rest : List Token} → SpellsSuffixes x i c a t ts rest → Spans (nodes a) (nodes t) ts rest
+  suffixes_spans : {x : Origin} {i : Layout} {c : Bool} {a t : Term} {ts rest : List Token} → SpellsSuffixes x i c a t ts rest
+      → Spans (nodes a) (nodes t) ts rest
   suffixes_spans p_done = no_spans
   suffixes_spans (p_suffix on d c) = within (then_spans (suffix_spans d) (suffixes_spans c)) (omega arith)
 
   suffix_spans : {x : Origin} {i : Layout} {a t : Term} {ts rest : List Token} → SpellsSuffix x i a t ts rest → Spans (nodes a) (nodes t) ts rest
-  suffix_spans (p_field {dot = dot} {tok = tok} p g n) = record { size = omega arith; free = step (punct_no_end dot.kind 46 p) (step (name_no_end tok.kind n) stop) }
-  suffix_spans {a = a} {t = t} (p_applied {m = m} {b = b} {parts = ps} k d e) = let h = applied_nodes b m a ps t e in within (enclosed_spans d) (omega (arith, h))
+  suffix_spans (p_field {dot = dot} {tok = tok} p g n) =
+      record { size = omega arith; free = step (punct_no_end dot.kind 46 p) (step (name_no_end tok.kind n) stop) }
+  suffix_spans {a = a} {t = t} (p_applied {m = m} {b = b} {parts = ps} k d e) =
+      let h = applied_nodes b m a ps t e in
+      within (enclosed_spans d) (omega (arith, h))
 
   atom_spans : {x : Origin} {i : Layout} {t : Term} {ts rest : List Token} → SpellsAtom x i t ts rest → Spans 0 (nodes t) ts rest
   atom_spans {x = x} {t = t} (p_token {tok = tok} h) =
-      record { size = (let one = single_node_of (place_at x tok) (spelling x tok) tok.kind t h in omega (arith, one)); free = step (single_no_end x tok t h) stop }
-  atom_spans {x = x} {t = t} (p_group {m = m} {b = b} {parts = ps} {tok = tok} k d g) = let h = grouped_nodes b m (place_at x tok) ps t g in within (enclosed_spans d) (omega (arith, h))
-  atom_spans {x = x} (p_sequence {tok = tok} h on d) = within (token_spans (test_no_end (λ k. is_at_sign k (spelling x tok)) tok.kind refl h) (enclosed_spans d)) (omega arith)
+      record {
+        size = (let one = single_node_of (place_at x tok) (spelling x tok) tok.kind t h in omega (arith, one));
+        free = step (single_no_end x tok t h) stop;
+      }
+  atom_spans {x = x} {t = t} (p_group {m = m} {b = b} {parts = ps} {tok = tok} k d g) =
+      let h = grouped_nodes b m (place_at x tok) ps t g in
+      within (enclosed_spans d) (omega (arith, h))
+  atom_spans {x = x} (p_sequence {tok = tok} h on d) =
+      within (token_spans (test_no_end (λ k. is_at_sign k (spelling x tok)) tok.kind refl h) (enclosed_spans d)) (omega arith)
 
-  enclosed_spans : {x : Origin} {b : Bracket} {m : Bool} {ps : Parts} {ts rest : List Token} → SpellsEnclosed x b m ps ts rest → Spans 0 (suc (nodes_in ps)) ts rest
+  enclosed_spans : {x : Origin} {b : Bracket} {m : Bool} {ps : Parts} {ts rest : List Token} → SpellsEnclosed x b m ps ts rest
+      → Spans 0 (suc (nodes_in ps)) ts rest
   enclosed_spans {b = b} (p_empty {tok = tok} {end = end} h c) =
       record { size = omega arith; free = step (bracket_no_end tok.kind h) (step (test_no_end (is_punct (closing b)) end.kind refl c) stop) }
   enclosed_spans {b = b} (p_parts {tok = tok} {end = end} h o d c) = let f = parts_spans d in
-      record { size = (let p = f.size in omega (arith, p)); free = step (bracket_no_end tok.kind h) (joined f.free (step (test_no_end (is_punct (closing b)) end.kind refl c) stop)) }
+      record {
+        size = (let p = f.size in omega (arith, p));
+        free = step (bracket_no_end tok.kind h)
+            (joined f.free (step (test_no_end (is_punct (closing b)) end.kind refl c) stop));
+      }
 
   parts_spans : {x : Origin} {m : Bool} {ps : Parts} {ts rest : List Token} → SpellsParts x m ps ts rest → Spans 0 (nodes_in ps) ts rest
   parts_spans (p_first d c) = within (then_spans (part_spans d) (more_parts_spans c)) (omega arith)
 
-  more_parts_spans : {x : Origin} {m : Bool} {some ps : Parts} {ts rest : List Token} → SpellsMoreParts x m some ps ts rest → Spans (nodes_in some) (nodes_in ps) ts rest
+  more_parts_spans : {x : Origin} {m : Bool} {some ps : Parts} {ts rest : List Token} → SpellsMoreParts x m some ps ts rest
+      → Spans (nodes_in some) (nodes_in ps) ts rest
   more_parts_spans (p_over h) = no_spans
   more_parts_spans {some = some} (p_part {b = b} {tok = tok} h d c) =
-      let e = nodes_and some b in within (token_spans (test_no_end (is_punct 44) tok.kind refl h) (then_spans (part_spans d) (more_parts_spans c))) (omega (arith, e))
+      let e = nodes_and some b in within (token_spans (test_no_end (is_punct 44) tok.kind refl h) (then_spans (part_spans d) (more_parts_spans c)))
+      (omega (arith, e))
 
   part_spans : {x : Origin} {m : Bool} {t : Term} {ts rest : List Token} → SpellsPart x m t ts rest → Spans 0 (nodes t) ts rest
   part_spans (p_unnamed d) = expr_spans d
-  part_spans (p_named {tok = tok} {colon = colon} h k d) = within (token_spans (name_no_end tok.kind h) (token_spans (punct_no_end colon.kind 58 k) (expr_spans d))) (omega arith)
+  part_spans (p_named {tok = tok} {colon = colon} h k d) =
+      within (token_spans (name_no_end tok.kind h) (token_spans (punct_no_end colon.kind 58 k) (expr_spans d))) (omega arith)
 
-  tail_spans : {x : Origin} {i : Layout} {tests : Parts} {v : Term} {ts rest : List Token} → SpellsTail x i tests v ts rest → Spans 0 (suc (nodes_in tests + nodes v)) ts rest
+  tail_spans : {x : Origin} {i : Layout} {tests : Parts} {v : Term} {ts rest : List Token} → SpellsTail x i tests v ts rest
+      → Spans 0 (suc (nodes_in tests + nodes v)) ts rest
   tail_spans (p_tail on d c) = within (then_spans (expr_spans d) (value_spans c)) (omega arith)
 
   value_spans : {x : Origin} {i : Layout} {v : Term} {ts rest : List Token} → SpellsValue x i v ts rest → Spans 0 (suc (nodes v)) ts rest
   value_spans {i = i} (p_value {tok = tok} h on d) = token_spans (behind_no_end (is_punct 58) (goes_on i tok.indent) tok.kind refl h) (expr_spans d)
   value_spans {i = i} (p_own_line {tok = tok} h on d c) = token_spans (behind_no_end (is_punct 58) (goes_on i tok.indent) tok.kind refl h) (expr_spans d)
 
-  elifs_spans : {x : Origin} {i : Layout} {some all : Choices} {ts rest : List Token} → SpellsElifs x i some all ts rest → Spans (nodes_of some) (nodes_of all) ts rest
+  elifs_spans : {x : Origin} {i : Layout} {some all : Choices} {ts rest : List Token} → SpellsElifs x i some all ts rest
+      → Spans (nodes_of some) (nodes_of all) ts rest
   elifs_spans (p_no_elif h) = no_spans
   elifs_spans {x = x} {i = i} {some = some} (p_elif {tests = tests} {v = v} {tok = tok} h d c) =
       let e = nodes_choice some (place_at x tok) tests v in
       within (token_spans (behind_no_end is_elif (branch_goes_on i tok.indent) tok.kind refl h) (then_spans (tail_spans d) (elifs_spans c))) (omega (arith, e))
 
   else_spans : {x : Origin} {i : Layout} {v : Term} {ts rest : List Token} → SpellsElse x i v ts rest → Spans 0 (nodes v) ts rest
-  else_spans {i = i} (p_else {tok = tok} h d) = within (token_spans (behind_no_end is_else (branch_goes_on i tok.indent) tok.kind refl h) (value_spans d)) (omega arith)
+  else_spans {i = i} (p_else {tok = tok} h d) = within (token_spans (behind_no_end is_else (branch_goes_on i tok.indent) tok.kind refl h) (value_spans d))
+      (omega arith)
 
-  branches_spans : {x : Origin} {i : Layout} {at : Place} {s t : Term} {ts rest : List Token} → SpellsBranches x i at s t ts rest → Spans (suc (nodes s)) (nodes t) ts rest
+  branches_spans : {x : Origin} {i : Layout} {at : Place} {s t : Term} {ts rest : List Token} → SpellsBranches x i at s t ts rest
+      → Spans (suc (nodes s)) (nodes t) ts rest
   branches_spans {i = i} (p_branches {tok = tok} on d c o) =
-      within (token_spans (behind_no_end is_of (first_goes_on i tok.indent) tok.kind refl on) (then_spans (of_spans d) (then_spans (ofs_spans c) (otherwise_spans o)))) (omega arith)
+      within (token_spans (behind_no_end is_of (first_goes_on i tok.indent) tok.kind refl on)
+      (then_spans (of_spans d) (then_spans (ofs_spans c) (otherwise_spans o)))) (omega arith)
 
-  of_spans : {x : Origin} {i : Layout} {tests : Parts} {v : Term} {ts rest : List Token} → SpellsOf x i tests v ts rest → Spans 0 (suc (nodes_in tests + nodes v)) ts rest
+  of_spans : {x : Origin} {i : Layout} {tests : Parts} {v : Term} {ts rest : List Token} → SpellsOf x i tests v ts rest
+      → Spans 0 (suc (nodes_in tests + nodes v)) ts rest
   of_spans (p_of on a c v) = within (then_spans (label_spans a) (then_spans (labels_spans c) (value_spans v))) (omega arith)
 
-  labels_spans : {x : Origin} {i : Layout} {some all : Parts} {ts rest : List Token} → SpellsLabels x i some all ts rest → Spans (nodes_in some) (nodes_in all) ts rest
+  labels_spans : {x : Origin} {i : Layout} {some all : Parts} {ts rest : List Token} → SpellsLabels x i some all ts rest
+      → Spans (nodes_in some) (nodes_in all) ts rest
   labels_spans (p_last_label h) = no_spans
   labels_spans {i = i} {some = some} (p_label {a = a} {tok = tok} h d c) =
-      let e = nodes_and some a in within (token_spans (behind_no_end (is_punct 44) (goes_on i tok.indent) tok.kind refl h) (then_spans (label_spans d) (labels_spans c))) (omega (arith, e))
+      let e = nodes_and some a in
+      within (token_spans (behind_no_end (is_punct 44) (goes_on i tok.indent) tok.kind refl h) (then_spans (label_spans d) (labels_spans c)))
+      (omega (arith, e))
 
   label_spans : {x : Origin} {i : Layout} {t : Term} {ts rest : List Token} → SpellsLabel x i t ts rest → Spans 0 (nodes t) ts rest
   label_spans (p_one d h) = expr_spans d
   label_spans {x = x} {i = i} (p_range {tok = tok} d h on c) =
-      within (then_spans (expr_spans d) (token_spans (behind_no_end (λ k. is_run (codes "..") k (spelling x tok)) (goes_on i tok.indent) tok.kind refl h) (expr_spans c))) (omega arith)
+      within (then_spans (expr_spans d) (token_spans (behind_no_end (λ k. is_run (codes "..") k (spelling x tok)) (goes_on i tok.indent) tok.kind refl h)
+      (expr_spans c))) (omega arith)
 
-  ofs_spans : {x : Origin} {i : Layout} {some all : Choices} {ts rest : List Token} → SpellsOfs x i some all ts rest → Spans (nodes_of some) (nodes_of all) ts rest
+  ofs_spans : {x : Origin} {i : Layout} {some all : Choices} {ts rest : List Token} → SpellsOfs x i some all ts rest
+      → Spans (nodes_of some) (nodes_of all) ts rest
   ofs_spans (p_last_of h) = no_spans
   ofs_spans {x = x} {i = i} {some = some} (p_next_of {tests = tests} {v = v} {tok = tok} h d c) =
       let e = nodes_choice some (place_at x tok) tests v in
       within (token_spans (behind_no_end is_of (branch_goes_on i tok.indent) tok.kind refl h) (then_spans (of_spans d) (ofs_spans c))) (omega (arith, e))
 
-  otherwise_spans : {x : Origin} {i : Layout} {at : Place} {s t : Term} {all : Choices} {ts rest : List Token} → SpellsOtherwise x i at s all t ts rest → Spans (suc (nodes s + nodes_of all)) (nodes t) ts rest
+  otherwise_spans : {x : Origin} {i : Layout} {at : Place} {s t : Term} {all : Choices} {ts rest : List Token} → SpellsOtherwise x i at s all t ts rest
+      → Spans (suc (nodes s + nodes_of all)) (nodes t) ts rest
   otherwise_spans (p_no_else h) = no_spans
-  otherwise_spans {i = i} (p_with_else {tok = tok} h d) = within (token_spans (behind_no_end is_else (branch_goes_on i tok.indent) tok.kind refl h) (value_spans d)) (omega arith)
+  otherwise_spans {i = i} (p_with_else {tok = tok} h d) =
+      within (token_spans (behind_no_end is_else (branch_goes_on i tok.indent) tok.kind refl h) (value_spans d)) (omega arith)
 
 -- ---- at places of all tokens
 
 head_once : {x y : Token} {r s : List Token} → x ∷ r ≡ y ∷ s → x ≡ y
 head_once p = cc
 
-free_at : {ts rest : List Token} → Free ts rest → (k : ℕ) (tok : Token) (after : List Token) → drop k ts ≡ tok ∷ after → length rest < length (drop k ts) → tok.kind ≡ T.End → ⊥
+free_at : {ts rest : List Token} → Free ts rest → (k : ℕ) (tok : Token) (after : List Token) → drop k ts ≡ tok ∷ after → length rest < length (drop k ts)
+    → tok.kind ≡ T.End → ⊥
 free_at {ts = ts} stop k tok after is lt e = let h = length-drop k ts in omega (arith, h, lt)
 free_at (step h f) zero tok after is lt e = h (ap (λ w. w.kind) (head_once is) ∙ e)
 free_at (step h f) (suc k) tok after is lt e = free_at f k tok after is lt e

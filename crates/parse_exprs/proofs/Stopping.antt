@@ -12,7 +12,10 @@ use Rattle.parse_exprs.specs.declared.layout.Layout.{Layout}
 use Rattle.parse_exprs.specs.declared.layout.Layout.TheVariants.{Brackets, Lines, Start}
 use Rattle.parse_exprs.specs.declared.input.Bracket.{Bracket}
 use Rattle.parse_exprs.specs.declared.input.Bracket.TheVariants.{Round, Square}
-use Rattle.parse_exprs.specs.Look.{Origin, spelling, goes_on, branch_goes_on, first_goes_on, branch_layout, op_of, op_named, level_of, of_level, op_at, is_punct, is_run, closing, closes_at, kind_at, is_suffix, is_apart, suffix_at, branch_at, is_elif, is_else, is_of, first_of_at, colon_at, comma_at, past_colon, dots_at, begins_branches, lead_of, begins, begins_operand, operand_on, at_start, past_start, no_command_on, else_on, is_deeper, deeper_line_at, line_layout, stays}
+use Rattle.parse_exprs.specs.Look.{Origin, spelling, goes_on, branch_goes_on, first_goes_on, branch_layout, op_of, op_named, level_of, of_level, op_at}
+use Rattle.parse_exprs.specs.Look.{is_punct, is_run, closing, closes_at, kind_at, is_suffix, is_apart, suffix_at, branch_at, is_elif, is_else, is_of}
+use Rattle.parse_exprs.specs.Look.{first_of_at, colon_at, comma_at, past_colon, dots_at, begins_branches, lead_of, begins, begins_operand, operand_on, at_start}
+use Rattle.parse_exprs.specs.Look.{past_start, no_command_on, else_on, is_deeper, deeper_line_at, line_layout, stays}
 use Rattle.parse_exprs.specs.Grammar.{Stops}
 
 pub none_some : {A C : Type 0} {x : A} (o : Option A) → o ≡ None → o ≡ Some x → C
@@ -65,11 +68,13 @@ none_either false = refl
 pub no_suffix_at : (i : Layout) (c : Bool) (tok : Token) (ts : List Token) → is_suffix tok.kind ≡ false → suffix_at i c (tok ∷ ts) ≡ false
 no_suffix_at i c tok ts h = ap (λ b. goes_on i tok.indent && (b && not (is_apart c tok))) h ∙ and_false (goes_on i tok.indent)
 
-pub operator_stops : (x : Origin) (i : Layout) (l : ℕ) (op : BinaryOp) (tok : Token) (ts : List Token) → op_at x i l (tok ∷ ts) ≡ Some op → Stops x i l (tok ∷ ts)
+pub operator_stops : (x : Origin) (i : Layout) (l : ℕ) (op : BinaryOp) (tok : Token) (ts : List Token) → op_at x i l (tok ∷ ts) ≡ Some op
+    → Stops x i l (tok ∷ ts)
 operator_stops x i l op tok ts e =
     let h = if_some (goes_on i tok.indent) e in
     record {
-      ops = λ k lt. ap (λ b. if b then of_level k (op_of tok.kind (spelling x tok)) else None) h.0 ∙ other_level l k (op_of tok.kind (spelling x tok)) op h.1 lt;
+      ops = λ k lt. ap (λ b. if b then of_level k (op_of tok.kind (spelling x tok)) else None) h.0
+          ∙ other_level l k (op_of tok.kind (spelling x tok)) op h.1 lt;
       suffix = no_suffix_at i false tok ts (no_suffix l op tok.kind (spelling x tok) h.1);
     }
 
@@ -91,7 +96,8 @@ suffix_stops x i rest h = record { ops = λ k lt. (let f : ⊥ = omega (arith, l
 -- ---- other tokens that end it
 
 -- a token that is neither operator nor bracket nor point
-quiet_stops : (x : Origin) (i : Layout) (l : ℕ) (tok : Token) (ts : List Token) → op_of tok.kind (spelling x tok) ≡ None → is_suffix tok.kind ≡ false → Stops x i l (tok ∷ ts)
+quiet_stops : (x : Origin) (i : Layout) (l : ℕ) (tok : Token) (ts : List Token) → op_of tok.kind (spelling x tok) ≡ None → is_suffix tok.kind ≡ false
+    → Stops x i l (tok ∷ ts)
 quiet_stops x i l tok ts e h = record {
   ops = λ k lt. ap (λ m. if goes_on i tok.indent then of_level k m else None) e ∙ none_either (goes_on i tok.indent);
   suffix = no_suffix_at i false tok ts h;
@@ -101,7 +107,8 @@ pub punct_is : (b : ℕ) (k : Tok) → is_punct b k ≡ true → k ≡ T.Punct b
 punct_is b (T.Punct c) e = ap T.Punct (eqb-true c b e)
 punct_is b _ e = cc
 
-punct_stops : (x : Origin) (i : Layout) (l b : ℕ) (tok : Token) (ts : List Token) → is_punct b tok.kind ≡ true → is_suffix (T.Punct b) ≡ false → Stops x i l (tok ∷ ts)
+punct_stops : (x : Origin) (i : Layout) (l b : ℕ) (tok : Token) (ts : List Token) → is_punct b tok.kind ≡ true → is_suffix (T.Punct b) ≡ false
+    → Stops x i l (tok ∷ ts)
 punct_stops x i l b tok ts e h =
     let is = punct_is b tok.kind e in
     quiet_stops x i l tok ts (ap (λ k. op_of k (spelling x tok)) is) (ap is_suffix is ∙ h)
@@ -178,7 +185,8 @@ dots_op _ bytes e = cc
 pub dots_stops : (x : Origin) (i j : Layout) (l : ℕ) (ts : List Token) → dots_at x i ts ≡ true → Stops x j l ts
 dots_stops x i j l [] e = cc
 dots_stops x i j l (tok ∷ ts) e =
-    let h = dots_op tok.kind (spelling x tok) (both_of (goes_on i tok.indent) (is_run (codes "..") tok.kind (spelling x tok)) e).1 in quiet_stops x j l tok ts h.0 h.1
+    let h = dots_op tok.kind (spelling x tok) (both_of (goes_on i tok.indent) (is_run (codes "..") tok.kind (spelling x tok)) e).1 in
+    quiet_stops x j l tok ts h.0 h.1
 
 -- ---- layouts in which the same tokens go on
 
@@ -257,7 +265,8 @@ open_operand x tok e =
     let is = punct_is 40 tok.kind e in
     ap (begins_operand x tok) is ∙ ap (λ k. begins_branches (lead_of k) || begins k (spelling x tok)) is
 
-no_more : (goes suffix space round operand : Bool) → (round ≡ true → operand ≡ true) → (goes && (suffix && not (true && (space && round)))) ≡ false → (goes && operand) ≡ false
+no_more : (goes suffix space round operand : Bool) → (round ≡ true → operand ≡ true) → (goes && (suffix && not (true && (space && round)))) ≡ false
+    → (goes && operand) ≡ false
     → (goes && (suffix && not (false && (space && round)))) ≡ false
 no_more false suffix space round operand f e h = refl
 no_more true suffix true false operand f e h = e
@@ -269,7 +278,8 @@ not_true true e = cc
 not_true false e = refl
 
 -- where neither a bracket or point nor an operand goes on, nothing that stands behind an atom does
-pub command_stops : (x : Origin) (i : Layout) (ts : List Token) → suffix_at i (at_start i) ts ≡ false → no_command_on x i ts ≡ true → suffix_at i false ts ≡ false
+pub command_stops : (x : Origin) (i : Layout) (ts : List Token) → suffix_at i (at_start i) ts ≡ false → no_command_on x i ts ≡ true
+    → suffix_at i false ts ≡ false
 command_stops x Brackets ts e h = e
 command_stops x (Lines n) ts e h = e
 command_stops x (Start n) [] e h = refl

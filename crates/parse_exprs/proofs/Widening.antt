@@ -16,9 +16,14 @@ use Rattle.parse_exprs.specs.declared.input.Bracket.{Bracket}
 use Rattle.parse_exprs.specs.declared.input.Bracket.TheVariants.{Square}
 use Rattle.parse_exprs.specs.declared.input.Lead.{Lead}
 use Rattle.parse_exprs.specs.declared.input.Lead.TheVariants as L
-use Rattle.parse_exprs.specs.Look.{Origin, spelling, place_at, op_at, op_levels, single_of, single, sign_of, is_at_sign, is_name, is_punct, kind_at, bracket_of, bracket_named, bracket_at, square_at, closes_at, names_in, names_behind, suffix_at, stays, begins_atom, begins, operand_at, lead_at, branch_at, is_elif, is_else, is_of, first_of_at, branch_layout, colon_at, comma_at, past_colon, dots_at, at_start, past_start, no_command_on, else_on, deeper_line_at, line_layout, closed_at}
+use Rattle.parse_exprs.specs.Look.{Origin, spelling, place_at, op_at, op_levels, single_of, single, sign_of, is_at_sign, is_name, is_punct, kind_at, bracket_of}
+use Rattle.parse_exprs.specs.Look.{bracket_named, bracket_at, square_at, closes_at, names_in, names_behind, suffix_at, stays, begins_atom, begins, operand_at}
+use Rattle.parse_exprs.specs.Look.{lead_at, branch_at, is_elif, is_else, is_of, first_of_at, branch_layout, colon_at, comma_at, past_colon, dots_at, at_start}
+use Rattle.parse_exprs.specs.Look.{past_start, else_on, deeper_line_at, line_layout}
 use Rattle.parse_exprs.specs.Outcome.{deep, stuck, tired, Out, got, bad, then_do, unless_stuck}
-use Rattle.parse_exprs.specs.Run.{behind, run_expr, run_lead, run_level, run_chain, run_more, run_unary, run_signed, run_primary, run_suffixes, run_suffix, run_applied, run_atom, run_group, run_enclosed, run_list, run_parts, run_part, run_if, run_tail, run_value, run_own_line, run_elifs, run_else, run_case, run_branches, run_of, run_labels, run_label, run_ofs, run_otherwise}
+use Rattle.parse_exprs.specs.Run.{behind, run_expr, run_lead, run_level, run_chain, run_more, run_unary, run_signed, run_primary, run_suffixes, run_suffix}
+use Rattle.parse_exprs.specs.Run.{run_applied, run_atom, run_group, run_enclosed, run_list, run_parts, run_part, run_if, run_tail, run_value, run_own_line}
+use Rattle.parse_exprs.specs.Run.{run_elifs, run_else, run_case, run_branches, run_of, run_labels, run_label, run_ofs, run_otherwise}
 
 -- what it comes to with more levels
 pub data Kept {X : Type 0} (o p : Out X) : Type 0 where
@@ -26,11 +31,13 @@ pub data Kept {X : Type 0} (o p : Out X) : Type 0 where
   early : p ≡ bad tired → Kept o p
   alike : p ≡ o → Kept o p
 
-kept_same : {X Y : Type 0} (o : Out X) (f g : X → List Token → Out Y) → ((a : X) (mid : List Token) → Kept (f a mid) (g a mid)) → Kept (then_do o f) (then_do o g)
+kept_same : {X Y : Type 0} (o : Out X) (f g : X → List Token → Out Y) → ((a : X) (mid : List Token) → Kept (f a mid) (g a mid))
+    → Kept (then_do o f) (then_do o g)
 kept_same (got a mid) f g h = h a mid
 kept_same (bad why) f g h = alike refl
 
-kept_then : {X Y : Type 0} {o p : Out X} (f g : X → List Token → Out Y) → Kept o p → ((a : X) (mid : List Token) → Kept (f a mid) (g a mid)) → Kept (then_do o f) (then_do p g)
+kept_then : {X Y : Type 0} {o p : Out X} (f g : X → List Token → Out Y) → Kept o p → ((a : X) (mid : List Token) → Kept (f a mid) (g a mid))
+    → Kept (then_do o f) (then_do p g)
 kept_then f g (opened e) h = opened (ap (λ w. then_do w f) e)
 kept_then f g (early e) h = early (ap (λ w. then_do w g) e)
 kept_then {o = o} f g (alike e) h = subst (λ w. Kept (then_do o f) (then_do w g)) (sym e) (kept_same o f g h)
@@ -99,14 +106,16 @@ no_bracket _ e = refl
 stuck_test : {X : Type 0} (b : Bool) (ts : List Token) (go : Out X) → b ≡ false → unless_stuck b ts go ≡ bad (stuck ts)
 stuck_test b ts go e = ap (λ c. unless_stuck c ts go) e
 
-kept_group : (k : ℕ) (o : Option Term) (b : Option Bracket) (x : Origin) (i : Layout) (n : ℕ) (tok : Token) (ts : List Token) → o ≡ None → b ≡ None → is_at_sign tok.kind (spelling x tok) ≡ false
+kept_group : (k : ℕ) (o : Option Term) (b : Option Bracket) (x : Origin) (i : Layout) (n : ℕ) (tok : Token) (ts : List Token) → o ≡ None → b ≡ None
+    → is_at_sign tok.kind (spelling x tok) ≡ false
     → Kept (bad (stuck (tok ∷ ts))) (run_group k o b x i (suc n) tok ts)
 kept_group zero o b x i n tok ts e h at = early refl
 kept_group (suc k) (Some t) b x i n tok ts e h at = cc
 kept_group (suc k) None (Some b) x i n tok ts e h at = cc
 kept_group (suc k) None None x i n tok ts e h at = alike (stuck_test (is_at_sign tok.kind (spelling x tok)) (tok ∷ ts) _ at)
 
-kept_atom_none : (k : ℕ) (x : Origin) (i : Layout) (c : Bool) (n : ℕ) (tok : Token) (ts : List Token) → begins tok.kind (spelling x tok) ≡ false → Kept (bad (stuck (tok ∷ ts))) (run_primary k x i c (suc n) (tok ∷ ts))
+kept_atom_none : (k : ℕ) (x : Origin) (i : Layout) (c : Bool) (n : ℕ) (tok : Token) (ts : List Token) → begins tok.kind (spelling x tok) ≡ false
+    → Kept (bad (stuck (tok ∷ ts))) (run_primary k x i c (suc n) (tok ∷ ts))
 kept_atom_none zero x i c n tok ts e = early refl
 kept_atom_none (suc zero) x i c n tok ts e = early refl
 kept_atom_none (suc (suc k)) x i c n tok ts e =
@@ -114,7 +123,8 @@ kept_atom_none (suc (suc k)) x i c n tok ts e =
     kept_last {o = bad (stuck (tok ∷ ts))} (λ a mid. run_suffixes (suc k) x i c (suc n) a mid)
     (kept_group k (single x tok) (bracket_at (tok ∷ ts)) x i n tok ts (no_single (place_at x tok) (spelling x tok) tok.kind h.0) (no_bracket tok.kind h.0) h.1)
 
-kept_signed_none : (k : ℕ) (o : Option UnaryOp) (x : Origin) (i : Layout) (n : ℕ) (tok : Token) (ts : List Token) → o ≡ None → begins tok.kind (spelling x tok) ≡ false
+kept_signed_none : (k : ℕ) (o : Option UnaryOp) (x : Origin) (i : Layout) (n : ℕ) (tok : Token) (ts : List Token) → o ≡ None
+    → begins tok.kind (spelling x tok) ≡ false
     → Kept (bad (stuck (tok ∷ ts))) (run_signed k o x i n tok ts)
 kept_signed_none zero o x i n tok ts e h = early refl
 kept_signed_none (suc k) (Some op) x i n tok ts e h = cc
@@ -126,7 +136,8 @@ kept_none (suc k) x i zero ts e = alike (ap (λ b. bad (if b then deep else stuc
 kept_none (suc k) x i (suc m) [] e = alike refl
 kept_none (suc k) x i (suc m) (tok ∷ ts) e = kept_signed_none k (sign_of tok.kind (spelling x tok)) x i m tok ts (no_sign tok.kind (spelling x tok) e) e
 
-kept_operand : (k : ℕ) (b : Bool) (x : Origin) (i : Layout) (m : ℕ) (ts : List Token) → operand_at x ts ≡ b → Kept (bad (if b then deep else stuck ts)) (run_unary k x i m ts)
+kept_operand : (k : ℕ) (b : Bool) (x : Origin) (i : Layout) (m : ℕ) (ts : List Token) → operand_at x ts ≡ b → Kept (bad (if b then deep else stuck ts))
+    (run_unary k x i m ts)
 kept_operand k true x i m ts e = opened refl
 kept_operand k false x i m ts e = kept_none k x i m ts e
 
@@ -156,13 +167,15 @@ mutual
   kept_chain zero x i l n m a ts le = early refl
   kept_chain (suc k) x i l n m a ts le = kept_more k (op_at x i l ts) x i l n m a ts le
 
-  kept_more : (k : ℕ) (op : Option BinaryOp) (x : Origin) (i : Layout) (l n m : ℕ) (a : Term) (ts : List Token) → n ≤ m → Kept (run_more k op x i l n a ts) (run_more k op x i l m a ts)
+  kept_more : (k : ℕ) (op : Option BinaryOp) (x : Origin) (i : Layout) (l n m : ℕ) (a : Term) (ts : List Token) → n ≤ m
+      → Kept (run_more k op x i l n a ts) (run_more k op x i l m a ts)
   kept_more zero op x i l n m a ts le = early refl
   kept_more (suc k) None x i l n m a ts le = alike refl
   kept_more (suc k) (Some op) x i l zero m a ts le = opened refl
   kept_more (suc k) (Some op) x i l (suc n) zero a ts le = no_less n le
   kept_more (suc k) (Some op) x i l (suc n) (suc m) a ts le =
-      kept_limit n m (levels a) (less n m le) (kept_then _ _ (kept_level k x i l n m (behind ts) (less n m le)) (λ b mid. kept_chain k x i l (suc n) (suc m) (binary (place_of a) op a b) mid le))
+      kept_limit n m (levels a) (less n m le)
+      (kept_then _ _ (kept_level k x i l n m (behind ts) (less n m le)) (λ b mid. kept_chain k x i l (suc n) (suc m) (binary (place_of a) op a b) mid le))
 
   kept_unary : (k : ℕ) (x : Origin) (i : Layout) (n m : ℕ) (ts : List Token) → n ≤ m → Kept (run_unary k x i n ts) (run_unary k x i m ts)
   kept_unary zero x i n m ts le = early refl
@@ -171,27 +184,33 @@ mutual
   kept_unary (suc k) x i (suc n) (suc m) [] le = alike refl
   kept_unary (suc k) x i (suc n) (suc m) (tok ∷ ts) le = kept_signed k (sign_of tok.kind (spelling x tok)) x i n m tok ts (less n m le)
 
-  kept_signed : (k : ℕ) (op : Option UnaryOp) (x : Origin) (i : Layout) (n m : ℕ) (tok : Token) (ts : List Token) → n ≤ m → Kept (run_signed k op x i n tok ts) (run_signed k op x i m tok ts)
+  kept_signed : (k : ℕ) (op : Option UnaryOp) (x : Origin) (i : Layout) (n m : ℕ) (tok : Token) (ts : List Token) → n ≤ m
+      → Kept (run_signed k op x i n tok ts) (run_signed k op x i m tok ts)
   kept_signed zero op x i n m tok ts le = early refl
   kept_signed (suc k) None x i n m tok ts le = kept_last _ (kept_primary k x i (at_start i) (suc n) (suc m) (tok ∷ ts) (omega (arith, le)))
   kept_signed (suc k) (Some op) x i n m tok ts le = kept_unless (stays i ts) ts (kept_last _ (kept_unary k x (past_start i) n m ts le))
 
-  pub kept_primary : (k : ℕ) (x : Origin) (i : Layout) (c : Bool) (n m : ℕ) (ts : List Token) → n ≤ m → Kept (run_primary k x i c n ts) (run_primary k x i c m ts)
+  pub kept_primary : (k : ℕ) (x : Origin) (i : Layout) (c : Bool) (n m : ℕ) (ts : List Token) → n ≤ m
+      → Kept (run_primary k x i c n ts) (run_primary k x i c m ts)
   kept_primary zero x i c n m ts le = early refl
   kept_primary (suc k) x i c n m ts le = kept_then _ _ (kept_atom k x i n m ts le) (λ a mid. kept_suffixes k x i c n m a mid le)
 
-  kept_suffixes : (k : ℕ) (x : Origin) (i : Layout) (c : Bool) (n m : ℕ) (a : Term) (ts : List Token) → n ≤ m → Kept (run_suffixes k x i c n a ts) (run_suffixes k x i c m a ts)
+  kept_suffixes : (k : ℕ) (x : Origin) (i : Layout) (c : Bool) (n m : ℕ) (a : Term) (ts : List Token) → n ≤ m
+      → Kept (run_suffixes k x i c n a ts) (run_suffixes k x i c m a ts)
   kept_suffixes zero x i c n m a ts le = early refl
   kept_suffixes (suc k) x i c n m a ts le = kept_if (suffix_at i c ts) (got a ts) (kept_suffix k x i c n m a ts le)
 
-  kept_suffix : (k : ℕ) (x : Origin) (i : Layout) (c : Bool) (n m : ℕ) (a : Term) (ts : List Token) → n ≤ m → Kept (run_suffix k x i c n a ts) (run_suffix k x i c m a ts)
+  kept_suffix : (k : ℕ) (x : Origin) (i : Layout) (c : Bool) (n m : ℕ) (a : Term) (ts : List Token) → n ≤ m
+      → Kept (run_suffix k x i c n a ts) (run_suffix k x i c m a ts)
   kept_suffix zero x i c n m a ts le = early refl
   kept_suffix (suc k) x i c zero m a ts le = opened refl
   kept_suffix (suc k) x i c (suc n) zero a ts le = no_less n le
   kept_suffix (suc k) x i c (suc n) (suc m) a ts le =
-      kept_limit n m (levels a) (less n m le) (kept_then _ _ (kept_applied k (bracket_at ts) x i n m a ts (less n m le)) (λ b mid. kept_suffixes k x i c (suc n) (suc m) b mid le))
+      kept_limit n m (levels a) (less n m le) (kept_then _ _ (kept_applied k (bracket_at ts) x i n m a ts (less n m le))
+      (λ b mid. kept_suffixes k x i c (suc n) (suc m) b mid le))
 
-  kept_applied : (k : ℕ) (b : Option Bracket) (x : Origin) (i : Layout) (n m : ℕ) (a : Term) (ts : List Token) → n ≤ m → Kept (run_applied k b x i n a ts) (run_applied k b x i m a ts)
+  kept_applied : (k : ℕ) (b : Option Bracket) (x : Origin) (i : Layout) (n m : ℕ) (a : Term) (ts : List Token) → n ≤ m
+      → Kept (run_applied k b x i n a ts) (run_applied k b x i m a ts)
   kept_applied zero b x i n m a ts le = early refl
   kept_applied (suc k) None x i n m a ts le = alike refl
   kept_applied (suc k) (Some b) x i n m a ts le = kept_last _ (kept_enclosed k x b (names_behind a b (behind ts)) n m ts le)
@@ -201,7 +220,8 @@ mutual
   kept_atom (suc k) x i n m [] le = alike refl
   kept_atom (suc k) x i n m (tok ∷ ts) le = kept_grouped k (single x tok) (bracket_at (tok ∷ ts)) x i n m tok ts le
 
-  kept_grouped : (k : ℕ) (o : Option Term) (b : Option Bracket) (x : Origin) (i : Layout) (n m : ℕ) (tok : Token) (ts : List Token) → n ≤ m → Kept (run_group k o b x i n tok ts) (run_group k o b x i m tok ts)
+  kept_grouped : (k : ℕ) (o : Option Term) (b : Option Bracket) (x : Origin) (i : Layout) (n m : ℕ) (tok : Token) (ts : List Token) → n ≤ m
+      → Kept (run_group k o b x i n tok ts) (run_group k o b x i m tok ts)
   kept_grouped zero o b x i n m tok ts le = early refl
   kept_grouped (suc k) (Some t) b x i n m tok ts le = alike refl
   kept_grouped (suc k) None None x i zero m tok ts le = opened refl
@@ -209,20 +229,25 @@ mutual
   kept_grouped (suc k) None b x i (suc n) zero tok ts le = no_less n le
   kept_grouped (suc k) None (Some b) x i (suc n) (suc m) tok ts le = kept_last _ (kept_enclosed k x b (names_in b ts) n m (tok ∷ ts) (less n m le))
   kept_grouped (suc k) None None x i (suc n) (suc m) tok ts le =
-      kept_unless (is_at_sign tok.kind (spelling x tok)) (tok ∷ ts) (kept_unless (stays i ts) ts (kept_unless (square_at ts) ts (kept_last _ (kept_enclosed k x Square false n m ts (less n m le)))))
+      kept_unless (is_at_sign tok.kind (spelling x tok)) (tok ∷ ts)
+      (kept_unless (stays i ts) ts (kept_unless (square_at ts) ts (kept_last _ (kept_enclosed k x Square false n m ts (less n m le)))))
 
-  kept_enclosed : (k : ℕ) (x : Origin) (b : Bracket) (names : Bool) (n m : ℕ) (ts : List Token) → n ≤ m → Kept (run_enclosed k x b names n ts) (run_enclosed k x b names m ts)
+  kept_enclosed : (k : ℕ) (x : Origin) (b : Bracket) (names : Bool) (n m : ℕ) (ts : List Token) → n ≤ m
+      → Kept (run_enclosed k x b names n ts) (run_enclosed k x b names m ts)
   kept_enclosed zero x b names n m ts le = early refl
-  kept_enclosed (suc k) x b names n m ts le = kept_else (closes_at b (behind ts)) (got no_parts (behind (behind ts))) (kept_last _ (kept_list k x names n m (behind ts) le))
+  kept_enclosed (suc k) x b names n m ts le = kept_else (closes_at b (behind ts)) (got no_parts (behind (behind ts)))
+      (kept_last _ (kept_list k x names n m (behind ts) le))
 
   kept_list : (k : ℕ) (x : Origin) (names : Bool) (n m : ℕ) (ts : List Token) → n ≤ m → Kept (run_list k x names n ts) (run_list k x names m ts)
   kept_list zero x names n m ts le = early refl
   kept_list (suc k) x names n m ts le = kept_then _ _ (kept_part k x names n m ts le) (λ a mid. kept_parts k x names n m (part a no_parts) mid le)
 
-  kept_parts : (k : ℕ) (x : Origin) (names : Bool) (n m : ℕ) (some : Parts) (ts : List Token) → n ≤ m → Kept (run_parts k x names n some ts) (run_parts k x names m some ts)
+  kept_parts : (k : ℕ) (x : Origin) (names : Bool) (n m : ℕ) (some : Parts) (ts : List Token) → n ≤ m
+      → Kept (run_parts k x names n some ts) (run_parts k x names m some ts)
   kept_parts zero x names n m some ts le = early refl
   kept_parts (suc k) x names n m some ts le =
-      kept_if (kind_at (is_punct 44) ts) (got some ts) (kept_then _ _ (kept_part k x names n m (behind ts) le) (λ a mid. kept_parts k x names n m (and_part some a) mid le))
+      kept_if (kind_at (is_punct 44) ts) (got some ts)
+      (kept_then _ _ (kept_part k x names n m (behind ts) le) (λ a mid. kept_parts k x names n m (and_part some a) mid le))
 
   kept_part : (k : ℕ) (x : Origin) (names : Bool) (n m : ℕ) (ts : List Token) → n ≤ m → Kept (run_part k x names n ts) (run_part k x names m ts)
   kept_part zero x names n m ts le = early refl
@@ -243,21 +268,25 @@ mutual
 
   kept_tail : (k : ℕ) (x : Origin) (i : Layout) (n m : ℕ) (ts : List Token) → n ≤ m → Kept (run_tail k x i n ts) (run_tail k x i m ts)
   kept_tail zero x i n m ts le = early refl
-  kept_tail (suc k) x i n m ts le = kept_unless (stays i ts) ts (kept_then _ _ (kept_expr k x (past_start i) n m ts le) (λ c mid. kept_last _ (kept_value k x i n m mid le)))
+  kept_tail (suc k) x i n m ts le =
+      kept_unless (stays i ts) ts (kept_then _ _ (kept_expr k x (past_start i) n m ts le) (λ c mid. kept_last _ (kept_value k x i n m mid le)))
 
   kept_value : (k : ℕ) (x : Origin) (i : Layout) (n m : ℕ) (ts : List Token) → n ≤ m → Kept (run_value k x i n ts) (run_value k x i m ts)
   kept_value zero x i n m ts le = early refl
-  kept_value (suc k) x i n m ts le = kept_unless (colon_at i ts) ts (kept_both (stays i (behind ts)) (kept_expr k x i n m (behind ts) le) (kept_own_line k x i n m (behind ts) le))
+  kept_value (suc k) x i n m ts le =
+      kept_unless (colon_at i ts) ts (kept_both (stays i (behind ts)) (kept_expr k x i n m (behind ts) le) (kept_own_line k x i n m (behind ts) le))
 
   kept_own_line : (k : ℕ) (x : Origin) (i : Layout) (n m : ℕ) (ts : List Token) → n ≤ m → Kept (run_own_line k x i n ts) (run_own_line k x i m ts)
   kept_own_line zero x i n m ts le = early refl
   kept_own_line (suc k) x i n m ts le = kept_unless (deeper_line_at i ts) ts (kept_last _ (kept_expr k x (line_layout i ts) n m ts le))
 
-  kept_elifs : (k : ℕ) (x : Origin) (i : Layout) (n m : ℕ) (some : Choices) (ts : List Token) → n ≤ m → Kept (run_elifs k x i n some ts) (run_elifs k x i m some ts)
+  kept_elifs : (k : ℕ) (x : Origin) (i : Layout) (n m : ℕ) (some : Choices) (ts : List Token) → n ≤ m
+      → Kept (run_elifs k x i n some ts) (run_elifs k x i m some ts)
   kept_elifs zero x i n m some ts le = early refl
   kept_elifs (suc k) x i n m some [] le = alike refl
   kept_elifs (suc k) x i n m some (tok ∷ ts) le =
-      kept_if (branch_at i is_elif (tok ∷ ts)) (got some (tok ∷ ts)) (kept_then _ _ (kept_tail k x i n m ts le) (λ one mid. kept_elifs k x i n m (and_choice some (place_at x tok) one.tests one.value) mid le))
+      kept_if (branch_at i is_elif (tok ∷ ts)) (got some (tok ∷ ts))
+      (kept_then _ _ (kept_tail k x i n m ts le) (λ one mid. kept_elifs k x i n m (and_choice some (place_at x tok) one.tests one.value) mid le))
 
   kept_the_else : (k : ℕ) (x : Origin) (i : Layout) (n m : ℕ) (ts : List Token) → n ≤ m → Kept (run_else k x i n ts) (run_else k x i m ts)
   kept_the_else zero x i n m ts le = early refl
@@ -269,9 +298,12 @@ mutual
   kept_case (suc k) x i (suc n) zero ts le = no_less n le
   kept_case (suc k) x i (suc n) (suc m) [] le = alike refl
   kept_case (suc k) x i (suc n) (suc m) (tok ∷ ts) le =
-      kept_unless (stays i ts) ts (kept_then _ _ (kept_expr k x (past_start i) n m ts (less n m le)) (λ s mid. kept_branches k x i n m (place_at x tok) s (past_colon i mid) (less n m le)))
+      kept_unless (stays i ts) ts
+      (kept_then _ _ (kept_expr k x (past_start i) n m ts (less n m le))
+      (λ s mid. kept_branches k x i n m (place_at x tok) s (past_colon i mid) (less n m le)))
 
-  kept_branches : (k : ℕ) (x : Origin) (i : Layout) (n m : ℕ) (at : Place) (s : Term) (ts : List Token) → n ≤ m → Kept (run_branches k x i n at s ts) (run_branches k x i m at s ts)
+  kept_branches : (k : ℕ) (x : Origin) (i : Layout) (n m : ℕ) (at : Place) (s : Term) (ts : List Token) → n ≤ m
+      → Kept (run_branches k x i n at s ts) (run_branches k x i m at s ts)
   kept_branches zero x i n m at s ts le = early refl
   kept_branches (suc k) x i n m at s [] le = alike refl
   kept_branches (suc k) x i n m at s (tok ∷ ts) le =
@@ -288,7 +320,8 @@ mutual
       kept_then _ _ (kept_labels k x (past_start i) n m (part a no_parts) mid le) (λ labels end.
       kept_last _ (kept_value k x i n m end le))))
 
-  kept_labels : (k : ℕ) (x : Origin) (i : Layout) (n m : ℕ) (some : Parts) (ts : List Token) → n ≤ m → Kept (run_labels k x i n some ts) (run_labels k x i m some ts)
+  kept_labels : (k : ℕ) (x : Origin) (i : Layout) (n m : ℕ) (some : Parts) (ts : List Token) → n ≤ m
+      → Kept (run_labels k x i n some ts) (run_labels k x i m some ts)
   kept_labels zero x i n m some ts le = early refl
   kept_labels (suc k) x i n m some ts le =
       kept_if (comma_at i ts) (got some ts) (kept_then _ _ (kept_label k x i n m (behind ts) le) (λ a mid. kept_labels k x i n m (and_part some a) mid le))
@@ -303,8 +336,10 @@ mutual
   kept_ofs zero x i n m some ts le = early refl
   kept_ofs (suc k) x i n m some [] le = alike refl
   kept_ofs (suc k) x i n m some (tok ∷ ts) le =
-      kept_if (branch_at i is_of (tok ∷ ts)) (got some (tok ∷ ts)) (kept_then _ _ (kept_of k x i n m ts le) (λ one mid. kept_ofs k x i n m (and_choice some (place_at x tok) one.tests one.value) mid le))
+      kept_if (branch_at i is_of (tok ∷ ts)) (got some (tok ∷ ts))
+      (kept_then _ _ (kept_of k x i n m ts le) (λ one mid. kept_ofs k x i n m (and_choice some (place_at x tok) one.tests one.value) mid le))
 
-  kept_otherwise : (k : ℕ) (x : Origin) (i : Layout) (n m : ℕ) (at : Place) (s : Term) (all : Choices) (ts : List Token) → n ≤ m → Kept (run_otherwise k x i n at s all ts) (run_otherwise k x i m at s all ts)
+  kept_otherwise : (k : ℕ) (x : Origin) (i : Layout) (n m : ℕ) (at : Place) (s : Term) (all : Choices) (ts : List Token) → n ≤ m
+      → Kept (run_otherwise k x i n at s all ts) (run_otherwise k x i m at s all ts)
   kept_otherwise zero x i n m at s all ts le = early refl
   kept_otherwise (suc k) x i n m at s all ts le = kept_if (else_on i ts) _ (kept_last _ (kept_value k x i n m (behind ts) le))

@@ -14,8 +14,12 @@ use Rattle.parse_exprs.specs.declared.layout.Layout.TheVariants.{Brackets}
 use Rattle.parse_exprs.specs.declared.input.Bracket.{Bracket}
 use Rattle.parse_exprs.specs.declared.input.Bracket.TheVariants.{Round, Square}
 use Rattle.parse_exprs.specs.declared.input.Lead.TheVariants as L
-use Rattle.parse_exprs.specs.Look.{Origin, spelling, op_at, op_levels, single, sign_of, is_at_sign, is_name, is_punct, kind_at, place_at, name_on, bracket_at, square_at, closes_at, names_in, names_behind, suffix_at, stays, operand_at, lead_at, branch_at, is_elif, is_else, is_of, first_of_at, branch_layout, colon_at, comma_at, past_colon, dots_at, at_start, past_start, no_command_on, else_on, deeper_line_at, line_layout, closed_at}
-use Rattle.parse_exprs.specs.Grammar.{SpellsExpr, Spells, SpellsPrimary, SpellsAtom, SpellsSuffix, SpellsParts, SpellsPart, SpellsTail, SpellsElifs, SpellsOf, SpellsOfs, SpellsLabel, SpellsLabels, Stops}
+use Rattle.parse_exprs.specs.Look.{Origin, spelling, op_at, op_levels, single, sign_of, is_at_sign, is_name, is_punct, kind_at, place_at, name_on, bracket_at}
+use Rattle.parse_exprs.specs.Look.{square_at, closes_at, names_in, names_behind, suffix_at, stays, operand_at, lead_at, branch_at, is_elif, is_else, is_of}
+use Rattle.parse_exprs.specs.Look.{first_of_at, branch_layout, colon_at, comma_at, past_colon, dots_at, at_start, past_start, no_command_on, else_on}
+use Rattle.parse_exprs.specs.Look.{deeper_line_at, line_layout, closed_at}
+use Rattle.parse_exprs.specs.Grammar.{SpellsExpr, Spells, SpellsPrimary, SpellsAtom, SpellsSuffix, SpellsParts, SpellsPart, SpellsTail, SpellsElifs, SpellsOf}
+use Rattle.parse_exprs.specs.Grammar.{SpellsOfs, SpellsLabel, SpellsLabels, Stops}
 
 pub data Fault : Type 0 where
   -- a level too many is opened
@@ -38,7 +42,8 @@ mutual
     f_no_if : {i : Layout} {ts : List Token} → lead_at ts ≡ L.If → why ≡ too_deep → FaultsExpr x why i zero ts
     f_if : {i : Layout} {n : ℕ} {tok : Token} {ts : List Token} → lead_at (tok ∷ ts) ≡ L.If → FaultsIf x why i n tok ts → FaultsExpr x why i (suc n) (tok ∷ ts)
     f_no_case : {i : Layout} {ts : List Token} → lead_at ts ≡ L.Case → why ≡ too_deep → FaultsExpr x why i zero ts
-    f_case : {i : Layout} {n : ℕ} {tok : Token} {ts : List Token} → lead_at (tok ∷ ts) ≡ L.Case → FaultsCase x why i n ts → FaultsExpr x why i (suc n) (tok ∷ ts)
+    f_case : {i : Layout} {n : ℕ} {tok : Token} {ts : List Token} → lead_at (tok ∷ ts) ≡ L.Case → FaultsCase x why i n ts
+        → FaultsExpr x why i (suc n) (tok ∷ ts)
 
   -- ---- operators
 
@@ -177,9 +182,11 @@ mutual
 
   -- behind a branch of `if`
   pub data FaultsElifs (x : Origin) (why : Fault) : Layout → ℕ → List Token → Type 0 where
-    f_elif : {i : Layout} {n : ℕ} {tok : Token} {ts : List Token} → branch_at i is_elif (tok ∷ ts) ≡ true → FaultsTail x why i n ts → FaultsElifs x why i n (tok ∷ ts)
+    f_elif : {i : Layout} {n : ℕ} {tok : Token} {ts : List Token} → branch_at i is_elif (tok ∷ ts) ≡ true → FaultsTail x why i n ts
+        → FaultsElifs x why i n (tok ∷ ts)
     f_next_elif : {i : Layout} {n : ℕ} {tests : Parts} {v : Term} {tok : Token} {ts mid : List Token} → branch_at i is_elif (tok ∷ ts) ≡ true
-        → Done x i op_levels n (max (most_levels tests) (levels v)) (SpellsTail x i tests v ts mid) mid → FaultsElifs x why i n mid → FaultsElifs x why i n (tok ∷ ts)
+        → Done x i op_levels n (max (most_levels tests) (levels v)) (SpellsTail x i tests v ts mid) mid → FaultsElifs x why i n mid
+        → FaultsElifs x why i n (tok ∷ ts)
 
   pub data FaultsElse (x : Origin) (why : Fault) : Layout → ℕ → List Token → Type 0 where
     f_no_else : {i : Layout} {n : ℕ} {ts : List Token} → branch_at i is_else ts ≡ false → why ≡ stuck_at ts → FaultsElse x why i n ts
@@ -201,7 +208,8 @@ mutual
     f_ofs : {i : Layout} {n : ℕ} {tests : Parts} {v : Term} {tok : Token} {ts mid : List Token} → first_of_at i (tok ∷ ts) ≡ true
         → Done x (branch_layout i tok.indent) op_levels n (max (most_levels tests) (levels v)) (SpellsOf x (branch_layout i tok.indent) tests v ts mid) mid
         → FaultsOfs x why (branch_layout i tok.indent) n mid → FaultsBranches x why i n (tok ∷ ts)
-    f_otherwise : {i : Layout} {n : ℕ} {tests : Parts} {v : Term} {all : Choices} {tok other : Token} {ts mid end : List Token} → first_of_at i (tok ∷ ts) ≡ true
+    f_otherwise : {i : Layout} {n : ℕ} {tests : Parts} {v : Term} {all : Choices} {tok other : Token} {ts mid end : List Token}
+        → first_of_at i (tok ∷ ts) ≡ true
         → Done x (branch_layout i tok.indent) op_levels n (max (most_levels tests) (levels v)) (SpellsOf x (branch_layout i tok.indent) tests v ts mid) mid
         → Done x (branch_layout i tok.indent) op_levels n (levels_in all)
         (SpellsOfs x (branch_layout i tok.indent) (choice (place_at x tok) tests v no_choices) all mid (other ∷ end)) (other ∷ end)
@@ -222,15 +230,18 @@ mutual
 
   -- behind a label
   pub data FaultsLabels (x : Origin) (why : Fault) : Layout → ℕ → List Token → Type 0 where
-    f_next_label : {i : Layout} {n : ℕ} {tok : Token} {ts : List Token} → comma_at i (tok ∷ ts) ≡ true → FaultsLabel x why i n ts → FaultsLabels x why i n (tok ∷ ts)
+    f_next_label : {i : Layout} {n : ℕ} {tok : Token} {ts : List Token} → comma_at i (tok ∷ ts) ≡ true → FaultsLabel x why i n ts
+        → FaultsLabels x why i n (tok ∷ ts)
     f_later_label : {i : Layout} {n : ℕ} {a : Term} {tok : Token} {ts mid : List Token} → comma_at i (tok ∷ ts) ≡ true
         → Done x i op_levels n (levels a) (SpellsLabel x i a ts mid) mid → FaultsLabels x why i n mid → FaultsLabels x why i n (tok ∷ ts)
 
   pub data FaultsLabel (x : Origin) (why : Fault) : Layout → ℕ → List Token → Type 0 where
     f_one : {i : Layout} {n : ℕ} {ts : List Token} → FaultsExpr x why i n ts → FaultsLabel x why i n ts
-    f_range_line : {i : Layout} {n : ℕ} {a : Term} {tok : Token} {ts mid : List Token} → Done x i op_levels n (levels a) (SpellsExpr x i a ts (tok ∷ mid)) (tok ∷ mid)
+    f_range_line : {i : Layout} {n : ℕ} {a : Term} {tok : Token} {ts mid : List Token} → Done x i op_levels n (levels a) (SpellsExpr x i a ts (tok ∷ mid))
+        (tok ∷ mid)
         → dots_at x i (tok ∷ mid) ≡ true → stays i mid ≡ false → why ≡ stuck_at mid → FaultsLabel x why i n ts
-    f_range : {i : Layout} {n : ℕ} {a : Term} {tok : Token} {ts mid : List Token} → Done x i op_levels n (levels a) (SpellsExpr x i a ts (tok ∷ mid)) (tok ∷ mid)
+    f_range : {i : Layout} {n : ℕ} {a : Term} {tok : Token} {ts mid : List Token} → Done x i op_levels n (levels a) (SpellsExpr x i a ts (tok ∷ mid))
+        (tok ∷ mid)
         → dots_at x i (tok ∷ mid) ≡ true → stays i mid ≡ true → FaultsExpr x why i n mid → FaultsLabel x why i n ts
 
   -- behind a branch of `case`

@@ -68,5 +68,6 @@ pub record Onward {X : Type 0} (part whole : ℕ → Out X) (input : Input) (lef
 
 -- one more operator or suffix behind a: run says what follows a tree
 abbrev pub Goes : (run : Term → List Token → ℕ → Out Term) → Input → (left : ℕ) → (a : Term) → (at : ℕ) → Result Reading Stuck → Type 0
-Goes run input left a at (Ok p) = Onward (run (term_of p.tree) (from_at input p.next)) (run a (from_at input at)) input left (suc at) (levels (term_of p.tree)) p.next p.depth
+Goes run input left a at (Ok p) = Onward (run (term_of p.tree) (from_at input p.next)) (run a (from_at input at)) input left (suc at) (levels (term_of p.tree))
+    p.next p.depth
 Goes run input left a at (Err e) = Fails (run a (from_at input at)) input e

@@ -37,13 +37,17 @@ use Rattle.indent_scanner.specs.declared.token.Tok.TheVariants as T
 use Rattle.indent_scanner.specs.declared.token.Token.{Token}
 use Rattle.nim_tree.specs.declared.expr.UnaryOp.{UnaryOp}
 use Rattle.nim_tree.specs.declared.expr.BinaryOp.{BinaryOp}
-use Rattle.nim_tree.specs.Terms.{Term, sequence, named, field, unary, binary, if_term, case_term, case_else, range, Parts, no_parts, part, and_part, Choices, no_choices, choice, and_choice, place_of}
+use Rattle.nim_tree.specs.Terms.{Term, sequence, named, field, unary, binary, if_term, case_term, case_else, range, Parts, no_parts, part, and_part, Choices}
+use Rattle.nim_tree.specs.Terms.{no_choices, choice, and_choice, place_of}
 use Rattle.parse_exprs.specs.declared.layout.Layout.{Layout}
 use Rattle.parse_exprs.specs.declared.layout.Layout.TheVariants.{Brackets}
 use Rattle.parse_exprs.specs.declared.input.Bracket.{Bracket}
 use Rattle.parse_exprs.specs.declared.input.Bracket.TheVariants.{Square}
 use Rattle.parse_exprs.specs.declared.input.Lead.TheVariants as L
-use Rattle.parse_exprs.specs.Look.{Origin, spelling, place_at, goes_on, op_at, op_levels, single, grouped, applied, sign_of, is_at_sign, is_punct, kind_at, bracket_at, closes_at, names_in, names_behind, suffix_at, stays, lead_at, branch_at, is_elif, is_else, is_of, first_of_at, branch_layout, colon_at, comma_at, past_colon, dots_at, at_start, past_start, no_command_on, else_on, deeper_line_at, line_layout, closed_at}
+use Rattle.parse_exprs.specs.Look.{Origin, spelling, place_at, goes_on, op_at, op_levels, single, grouped, applied, sign_of, is_at_sign, is_punct, kind_at}
+use Rattle.parse_exprs.specs.Look.{bracket_at, closes_at, names_in, names_behind, suffix_at, stays, lead_at, branch_at, is_elif, is_else, is_of, first_of_at}
+use Rattle.parse_exprs.specs.Look.{branch_layout, colon_at, comma_at, past_colon, dots_at, at_start, past_start, no_command_on, else_on, deeper_line_at}
+use Rattle.parse_exprs.specs.Look.{line_layout, closed_at}
 
 mutual
   -- SpellsExpr x i t ts rest: the tokens ts of x begin with those of t, and rest is what follows. i says whether it
@@ -61,7 +65,8 @@ mutual
   -- Spells x i l t ts rest: the same of a t whose loosest operators are those below the level l
   pub data Spells (x : Origin) : Layout → ℕ → Term → List Token → List Token → Type 0 where
     p_unary : {i : Layout} {t : Term} {ts rest : List Token} → SpellsUnary x i t ts rest → Spells x i zero t ts rest
-    p_binary : {i : Layout} {l : ℕ} {a t : Term} {ts mid rest : List Token} → Spells x i l a ts mid → SpellsMore x (past_start i) l a t mid rest → Spells x i (suc l) t ts rest
+    p_binary : {i : Layout} {l : ℕ} {a t : Term} {ts mid rest : List Token} → Spells x i l a ts mid → SpellsMore x (past_start i) l a t mid rest
+        → Spells x i (suc l) t ts rest
 
   -- what follows a: { operator operand }
   pub data SpellsMore (x : Origin) : Layout → ℕ → Term → Term → List Token → List Token → Type 0 where
@@ -73,11 +78,13 @@ mutual
   pub data SpellsUnary (x : Origin) : Layout → Term → List Token → List Token → Type 0 where
     p_sign : {i : Layout} {a : Term} {op : UnaryOp} {tok : Token} {ts rest : List Token} → sign_of tok.kind (spelling x tok) ≡ Some op
         → stays i ts ≡ true → SpellsUnary x (past_start i) a ts rest → SpellsUnary x i (unary (place_at x tok) op a) (tok ∷ ts) rest
-    p_plain : {i : Layout} {a : Term} {ts rest : List Token} → SpellsPrimary x i (at_start i) a ts rest → no_command_on x i rest ≡ true → SpellsUnary x i a ts rest
+    p_plain : {i : Layout} {a : Term} {ts rest : List Token} → SpellsPrimary x i (at_start i) a ts rest → no_command_on x i rest ≡ true
+        → SpellsUnary x i a ts rest
 
   -- the Bool says whether a command may begin behind it
   pub data SpellsPrimary (x : Origin) : Layout → Bool → Term → List Token → List Token → Type 0 where
-    p_primary : {i : Layout} {c : Bool} {a t : Term} {ts mid rest : List Token} → SpellsAtom x i a ts mid → SpellsSuffixes x i c a t mid rest → SpellsPrimary x i c t ts rest
+    p_primary : {i : Layout} {c : Bool} {a t : Term} {ts mid rest : List Token} → SpellsAtom x i a ts mid → SpellsSuffixes x i c a t mid rest
+        → SpellsPrimary x i c t ts rest
 
   -- what follows a: { suffix }
   pub data SpellsSuffixes (x : Origin) : Layout → Bool → Term → Term → List Token → List Token → Type 0 where
@@ -148,7 +155,8 @@ mutual
   -- SpellsBranches x i at s t ts rest: these are the branches of the `case` t, which begins at the place at and is over s.
   -- Where the first `of` begins a line, its level is that of the further words.
   pub data SpellsBranches (x : Origin) : Layout → Place → Term → Term → List Token → List Token → Type 0 where
-    p_branches : {i : Layout} {at : Place} {s v t : Term} {tests : Parts} {all : Choices} {tok : Token} {ts mid end rest : List Token} → first_of_at i (tok ∷ ts) ≡ true
+    p_branches : {i : Layout} {at : Place} {s v t : Term} {tests : Parts} {all : Choices} {tok : Token} {ts mid end rest : List Token}
+        → first_of_at i (tok ∷ ts) ≡ true
         → SpellsOf x (branch_layout i tok.indent) tests v ts mid
         → SpellsOfs x (branch_layout i tok.indent) (choice (place_at x tok) tests v no_choices) all mid end
         → SpellsOtherwise x (branch_layout i tok.indent) at s all t end rest → SpellsBranches x i at s t (tok ∷ ts) rest

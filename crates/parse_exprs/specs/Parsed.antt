@@ -78,7 +78,8 @@ IsFirst x (tok ∷ rest) at = at ≡ place_at x tok
 
 -- E4: there is nothing to be read, at the token that can't go on, and neither a level too many nor a keyword that is left
 -- out is the cause
-pub record HasNone (sought : Term → List Token → List Token → Type 0) (faults : Fault → List Token → Type 0) (x : Origin) (ts : List Token) (at : Place) : Type 0 where
+pub record HasNone (sought : Term → List Token → List Token → Type 0) (faults : Fault → List Token → Type 0) (x : Origin) (ts : List Token) (at : Place) :
+    Type 0 where
   pub rest : List Token
   pub stuck : faults (stuck_at rest) ts
   pub next : at ≡ next_at x rest
@@ -141,7 +142,8 @@ pub record Sound (sought : Term → List Token → List Token → Type 0) (most 
   pub few : levels t ≤ most
 
 -- what a computation of at most so many levels comes to
-pub record Agree (sought : Term → List Token → List Token → Type 0) (faults : Fault → List Token → Type 0) (run : List Token → ℕ → Out Term) (most : ℕ) : Type 0 where
+pub record Agree (sought : Term → List Token → List Token → Type 0) (faults : Fault → List Token → Type 0) (run : List Token → ℕ → Out Term) (most : ℕ) :
+    Type 0 where
   pub sound : (t : Term) (ts rest : List Token) → Settles (run ts) (got t rest) → Sound sought most t ts rest
   pub complete : (t : Term) (ts rest : List Token) → sought t ts rest → levels t ≤ most → Settles (run ts) (got t rest)
   pub deep : (ts : List Token) → faults too_deep ts ↔ Settles (run ts) (bad deep)

@@ -6,14 +6,18 @@ use Rattle.arc_base.specs.declared.place.Place.{Place}
 use Rattle.indent_scanner.specs.declared.token.Token.{Token}
 use Rattle.nim_tree.specs.declared.expr.UnaryOp.{UnaryOp}
 use Rattle.nim_tree.specs.declared.expr.BinaryOp.{BinaryOp}
-use Rattle.nim_tree.specs.Terms.{Term, field, unary, binary, sequence, named, if_term, case_term, case_else, range, Parts, no_parts, part, and_part, Choices, no_choices, choice, and_choice, place_of, levels}
+use Rattle.nim_tree.specs.Terms.{Term, field, unary, binary, sequence, named, if_term, case_term, case_else, range, Parts, no_parts, part, and_part, Choices}
+use Rattle.nim_tree.specs.Terms.{no_choices, choice, and_choice, place_of, levels}
 use Rattle.parse_exprs.specs.declared.layout.Layout.{Layout}
 use Rattle.parse_exprs.specs.declared.layout.Layout.TheVariants.{Brackets}
 use Rattle.parse_exprs.specs.declared.input.Bracket.{Bracket}
 use Rattle.parse_exprs.specs.declared.input.Bracket.TheVariants.{Square}
 use Rattle.parse_exprs.specs.declared.input.Lead.{Lead}
 use Rattle.parse_exprs.specs.declared.input.Lead.TheVariants as L
-use Rattle.parse_exprs.specs.Look.{Origin, spelling, place_at, op_at, op_levels, single, grouped, applied, sign_of, is_at_sign, is_punct, bracket_at, kind_at, closes_at, names_in, names_behind, name_on, suffix_at, stays, square_at, operand_at, lead_at, branch_at, is_elif, is_else, is_of, first_of_at, branch_layout, colon_at, comma_at, past_colon, dots_at, is_name, at_start, past_start, no_command_on, else_on, deeper_line_at, line_layout, closed_at}
+use Rattle.parse_exprs.specs.Look.{Origin, spelling, place_at, op_at, op_levels, single, grouped, applied, sign_of, is_at_sign, is_punct, bracket_at, kind_at}
+use Rattle.parse_exprs.specs.Look.{closes_at, names_in, names_behind, name_on, suffix_at, stays, square_at, operand_at, lead_at, branch_at, is_elif, is_else}
+use Rattle.parse_exprs.specs.Look.{is_of, first_of_at, branch_layout, colon_at, comma_at, past_colon, dots_at, is_name, at_start, past_start, no_command_on}
+use Rattle.parse_exprs.specs.Look.{else_on, deeper_line_at, line_layout, closed_at}
 use Rattle.parse_exprs.specs.Outcome.{deep, stuck, tired, Out, got, bad, then_do, unless_stuck}
 
 -- a condition or labels, and the value behind them
@@ -76,8 +80,10 @@ abbrev mutual
 
   pub run_signed : ℕ → Option UnaryOp → Origin → Layout → ℕ → Token → List Token → Out Term
   run_signed zero op x i n tok ts = bad tired
-  run_signed (suc k) None x i n tok ts = then_do (run_primary k x i (at_start i) (suc n) (tok ∷ ts)) (λ a rest. unless_stuck (no_command_on x i rest) rest (got a rest))
-  run_signed (suc k) (Some op) x i n tok ts = unless_stuck (stays i ts) ts (then_do (run_unary k x (past_start i) n ts) (λ a rest. got (unary (place_at x tok) op a) rest))
+  run_signed (suc k) None x i n tok ts = then_do (run_primary k x i (at_start i) (suc n) (tok ∷ ts))
+      (λ a rest. unless_stuck (no_command_on x i rest) rest (got a rest))
+  run_signed (suc k) (Some op) x i n tok ts =
+      unless_stuck (stays i ts) ts (then_do (run_unary k x (past_start i) n ts) (λ a rest. got (unary (place_at x tok) op a) rest))
 
   -- ---- what stands behind an atom; c says whether a command may begin
 
@@ -92,7 +98,8 @@ abbrev mutual
   pub run_suffix : ℕ → Origin → Layout → Bool → ℕ → Term → List Token → Out Term
   run_suffix zero x i c n a ts = bad tired
   run_suffix (suc k) x i c zero a ts = bad deep
-  run_suffix (suc k) x i c (suc n) a ts = if nat_lt n (levels a) then bad deep else then_do (run_applied k (bracket_at ts) x i n a ts) (λ b mid. run_suffixes k x i c (suc n) b mid)
+  run_suffix (suc k) x i c (suc n) a ts = if nat_lt n (levels a) then bad deep else then_do (run_applied k (bracket_at ts) x i n a ts)
+      (λ b mid. run_suffixes k x i c (suc n) b mid)
 
   pub run_applied : ℕ → Option Bracket → Origin → Layout → ℕ → Term → List Token → Out Term
   run_applied zero b x i n a ts = bad tired
@@ -186,7 +193,8 @@ abbrev mutual
   run_elifs zero x i n some ts = bad tired
   run_elifs (suc k) x i n some [] = got some []
   run_elifs (suc k) x i n some (tok ∷ ts) =
-      if branch_at i is_elif (tok ∷ ts) then then_do (run_tail k x i n ts) (λ one mid. run_elifs k x i n (and_choice some (place_at x tok) one.tests one.value) mid) else got some (tok ∷ ts)
+      if branch_at i is_elif (tok ∷ ts) then then_do (run_tail k x i n ts)
+      (λ one mid. run_elifs k x i n (and_choice some (place_at x tok) one.tests one.value) mid) else got some (tok ∷ ts)
 
   -- `else`, a colon and a value
   pub run_else : ℕ → Origin → Layout → ℕ → List Token → Out Term
@@ -232,13 +240,15 @@ abbrev mutual
   run_label zero x i n ts = bad tired
   run_label (suc k) x i n ts =
       then_do (run_expr k x i n ts) (λ a mid.
-      if dots_at x i mid then unless_stuck (stays i (behind mid)) (behind mid) (then_do (run_expr k x i n (behind mid)) (λ b rest. got (range (place_of a) a b) rest)) else got a mid)
+      if dots_at x i mid then unless_stuck (stays i (behind mid)) (behind mid)
+      (then_do (run_expr k x i n (behind mid)) (λ b rest. got (range (place_of a) a b) rest)) else got a mid)
 
   pub run_ofs : ℕ → Origin → Layout → ℕ → Choices → List Token → Out Choices
   run_ofs zero x i n some ts = bad tired
   run_ofs (suc k) x i n some [] = got some []
   run_ofs (suc k) x i n some (tok ∷ ts) =
-      if branch_at i is_of (tok ∷ ts) then then_do (run_of k x i n ts) (λ one mid. run_ofs k x i n (and_choice some (place_at x tok) one.tests one.value) mid) else got some (tok ∷ ts)
+      if branch_at i is_of (tok ∷ ts) then then_do (run_of k x i n ts) (λ one mid. run_ofs k x i n (and_choice some (place_at x tok) one.tests one.value) mid)
+      else got some (tok ∷ ts)
 
   -- `else` and its value, where there is one
   pub run_otherwise : ℕ → Origin → Layout → ℕ → Place → Term → Choices → List Token → Out Term

@@ -1,7 +1,12 @@
 // What stands at a place of the tokens.
 ghost use Rattle.std.specs.Prelude.{◌≡◌, ◌<◌, ◌≤◌, suc, ◌∷◌, [], length, IfSome, IfNone, is_some, max};
 ghost use Rattle.nim_tree.specs.Terms.{term_of};
-ghost use Rattle.parse_exprs.specs.Look.{op_at, next_at, expr_at, is_punct, is_at_sign, sign_of, bracket_at, square_at, closes_at, named_part_at, names_in, names_behind, name_on, suffix_at, stays, kind_at, operand_at, spelling, place_at, lead_at, branch_at, is_elif, is_else, is_of, first_of_at, colon_at, comma_at, past_colon, dots_at, left_out_at, is_name, is_left_out, as_name, line_spaces, operand_on, no_command_on, else_on, deeper_line_at, line_layout, closed_at};
+ghost use Rattle.parse_exprs.specs.Look.{op_at, next_at, expr_at, is_punct, is_at_sign, sign_of, bracket_at, square_at};
+ghost use Rattle.parse_exprs.specs.Look.{closes_at, named_part_at, names_in, names_behind, name_on, suffix_at, stays};
+ghost use Rattle.parse_exprs.specs.Look.{kind_at, operand_at, spelling, place_at, lead_at, branch_at, is_elif, is_else};
+ghost use Rattle.parse_exprs.specs.Look.{is_of, first_of_at, colon_at, comma_at, past_colon, dots_at, left_out_at};
+ghost use Rattle.parse_exprs.specs.Look.{is_name, is_left_out, as_name, line_spaces, operand_on, no_command_on};
+ghost use Rattle.parse_exprs.specs.Look.{else_on, deeper_line_at, line_layout, closed_at};
 ghost use Rattle.parse_exprs.specs.Input.{origin_of, from_at};
 
 use crate::kinds::{

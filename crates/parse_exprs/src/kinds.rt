@@ -1,6 +1,10 @@
 // What tokens are.
 ghost use Rattle.std.specs.Prelude.{◌≡◌, codes};
-ghost use Rattle.parse_exprs.specs.Look.{goes_on, branch_goes_on, first_goes_on, branch_layout, is_deeper, is_shallower, at_start, past_start, is_end, is_operator, op_named, op_of_key, op_of, level_of, of_level, sign_named, sign_of_key, sign_of, is_punct, is_name, is_run, is_at_sign, bracket_named, bracket_of, closing, is_suffix, is_apart, begins_atom, begins, lead_of, is_elif, is_else, is_of, is_left_out};
+ghost use Rattle.parse_exprs.specs.Look.{goes_on, branch_goes_on, first_goes_on, branch_layout, is_deeper};
+ghost use Rattle.parse_exprs.specs.Look.{is_shallower, at_start, past_start, is_end, is_operator, op_named, op_of_key};
+ghost use Rattle.parse_exprs.specs.Look.{op_of, level_of, of_level, sign_named, sign_of_key, sign_of, is_punct};
+ghost use Rattle.parse_exprs.specs.Look.{is_name, is_run, is_at_sign, bracket_named, bracket_of, closing, is_suffix};
+ghost use Rattle.parse_exprs.specs.Look.{is_apart, begins_atom, begins, lead_of, is_elif, is_else, is_of, is_left_out};
 
 use crate::input::{Bracket, Lead};
 use crate::layout::Layout;

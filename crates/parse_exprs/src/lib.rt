@@ -9,8 +9,6 @@ mod layout;
 mod make;
 mod parse;
 mod read;
-#[cfg(test)]
-mod tests;
 mod total;
 
 pub use input::{Bracket, Input, Lead};

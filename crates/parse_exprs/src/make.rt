@@ -1,6 +1,7 @@
 // Trees on the heap.
 ghost use Rattle.std.specs.Prelude.{◌≡◌, [], max, IfOk, IfErr};
-ghost use Rattle.nim_tree.specs.Terms.{term_of, parts_of, choices_of, and_part, and_choice, place_of, sequence, named, field, paren, unary, binary, if_term, case_term, case_else, range};
+ghost use Rattle.nim_tree.specs.Terms.{term_of, parts_of, choices_of, and_part, and_choice, place_of, sequence, named};
+ghost use Rattle.nim_tree.specs.Terms.{field, paren, unary, binary, if_term, case_term, case_else, range};
 ghost use Rattle.parse_exprs.specs.Look.{single_of, some_tuple, grouped, as_name, object, applied};
 ghost use Rattle.parse_exprs.specs.Gives.{tree_in};
 ghost use Rattle.parse_exprs.specs.declared.make.Stuck.TheVariants.{Memory};
@@ -9,7 +10,7 @@ use crate::input::Bracket;
 use arc_base::{Bytes, Place};
 use indent_scanner::{Key, Tok};
 use nim_tree::{BinaryOp, Choice, Expr, Name, UnaryOp};
-use std::alloc::Global;
+use std::alloc::{AllocFailed, Global};
 
 // A tree, the number of the token behind it, and its levels.
 #[derive(Drop)]
@@ -55,14 +56,19 @@ pub(crate) enum Stuck {
     Memory,
 }
 
-fn bytes_of(alloc: Global, spelling: &[u8]) -> Result<Bytes, Stuck>
-    ensures ok { IfOk result (λ bytes. bytes ≡ spelling.now) }
-    ensures err { IfErr result (λ e. e ≡ Memory) }
-{
-    let mut bytes = Bytes::new(alloc);
-    match bytes.append(spelling) {
-        Ok(()) => Ok(bytes),
-        Err(_) => Err(Stuck::Memory),
+impl From<arc_base::Memory> for Stuck {
+    ghost from_gives = { λ _ e. e ≡ Memory };
+
+    fn from(_: arc_base::Memory) -> Self {
+        Stuck::Memory
+    }
+}
+
+impl<T: Drop> From<AllocFailed<T>> for Stuck {
+    ghost from_gives = { λ _ e. e ≡ Memory };
+
+    fn from(_: AllocFailed<T>) -> Self {
+        Stuck::Memory
     }
 }
 
@@ -81,15 +87,15 @@ pub(crate) fn make_single(
         Tok::Char(value) => Expr::Char { at, value },
         Tok::Text => Expr::Text {
             at,
-            text: bytes_of(alloc, spelling)?,
+            text: Bytes::from_slice(alloc, spelling)?,
         },
         Tok::Name => Expr::Name {
             at,
-            text: bytes_of(alloc, spelling)?,
+            text: Bytes::from_slice(alloc, spelling)?,
         },
         Tok::Quoted => Expr::Quoted {
             at,
-            text: bytes_of(alloc, spelling)?,
+            text: Bytes::from_slice(alloc, spelling)?,
         },
         Tok::Key(Key::Nil) => Expr::Nil { at },
         _ => return Ok(None),
@@ -105,14 +111,12 @@ pub(crate) fn and_part(some: Several, last: Reading) -> Result<Several, Stuck>
     ensures err { IfErr result (λ e. e ≡ Memory) }
 {
     let mut parts = some.parts;
-    match parts.push(last.tree) {
-        Ok(()) => Ok(Several {
-            parts,
-            next: last.next,
-            depth: some.depth.max(last.depth),
-        }),
-        Err(_) => Err(Stuck::Memory),
-    }
+    parts.push(last.tree)?;
+    Ok(Several {
+        parts,
+        next: last.next,
+        depth: some.depth.max(last.depth),
+    })
 }
 
 // No parts yet.
@@ -158,7 +162,9 @@ pub(crate) fn with_value(tests: Several, value: Reading) -> Tail
 
 // One more branch.
 pub(crate) fn and_branch(some: Branches, at: Place, last: Tail) -> Result<Branches, Stuck>
-    ensures branches { IfOk result (λ all. choices_of all.branches.items ≡ and_choice (choices_of some.branches.items) at (parts_of last.tests.items) (term_of last.value)) }
+    ensures branches { IfOk result
+        (λ all. choices_of all.branches.items ≡ and_choice (choices_of some.branches.items) at
+        (parts_of last.tests.items) (term_of last.value)) }
     ensures next { IfOk result (λ all. all.next ≡ last.next) }
     ensures depth { IfOk result (λ all. all.depth ≡ max some.depth last.depth) }
     ensures err { IfErr result (λ e. e ≡ Memory) }
@@ -169,14 +175,12 @@ pub(crate) fn and_branch(some: Branches, at: Place, last: Tail) -> Result<Branch
         tests: last.tests,
         value: last.value,
     };
-    match branches.push(branch) {
-        Ok(()) => Ok(Branches {
-            branches,
-            next: last.next,
-            depth: some.depth.max(last.depth),
-        }),
-        Err(_) => Err(Stuck::Memory),
-    }
+    branches.push(branch)?;
+    Ok(Branches {
+        branches,
+        next: last.next,
+        depth: some.depth.max(last.depth),
+    })
 }
 
 // A part with a name of these bytes.
@@ -189,11 +193,9 @@ pub(crate) fn make_named(
     ensures ok { IfOk result (λ e. term_of e ≡ named at spelling.now (term_of value)) }
     ensures err { IfErr result (λ e. e ≡ Memory) }
 {
-    let text = bytes_of(alloc, spelling)?;
-    match Box::new(alloc, value) {
-        Ok(value) => Ok(Expr::Named { at, text, value }),
-        Err(_) => Err(Stuck::Memory),
-    }
+    let text = Bytes::from_slice(alloc, spelling)?;
+    let value = Box::new(alloc, value)?;
+    Ok(Expr::Named { at, text, value })
 }
 
 // A field of these bytes.
@@ -202,11 +204,9 @@ pub(crate) fn make_field(alloc: Global, base: Expr, spelling: &[u8]) -> Result<E
     ensures err { IfErr result (λ e. e ≡ Memory) }
 {
     let at = base.place();
-    let text = bytes_of(alloc, spelling)?;
-    match Box::new(alloc, base) {
-        Ok(base) => Ok(Expr::Field { at, base, text }),
-        Err(_) => Err(Stuck::Memory),
-    }
+    let text = Bytes::from_slice(alloc, spelling)?;
+    let base = Box::new(alloc, base)?;
+    Ok(Expr::Field { at, base, text })
 }
 
 // `@` and parts in brackets.
@@ -221,10 +221,8 @@ fn make_paren(alloc: Global, at: Place, inner: Expr) -> Result<Expr, Stuck>
     ensures ok { IfOk result (λ e. term_of e ≡ paren at (term_of inner)) }
     ensures err { IfErr result (λ e. e ≡ Memory) }
 {
-    match Box::new(alloc, inner) {
-        Ok(inner) => Ok(Expr::Paren { at, inner }),
-        Err(_) => Err(Stuck::Memory),
-    }
+    let inner = Box::new(alloc, inner)?;
+    Ok(Expr::Paren { at, inner })
 }
 
 fn make_tuple(at: Place, parts: Vec<Expr>) -> Option<Expr>
@@ -297,14 +295,14 @@ pub(crate) fn make_applied(
     let at = base.place();
     match bracket {
         Bracket::Round if names => Ok(make_object(base, parts)),
-        Bracket::Round => match Box::new(alloc, base) {
-            Ok(base) => Ok(Some(Expr::Call { at, base, parts })),
-            Err(_) => Err(Stuck::Memory),
-        },
-        Bracket::Square => match Box::new(alloc, base) {
-            Ok(base) => Ok(Some(Expr::Index { at, base, parts })),
-            Err(_) => Err(Stuck::Memory),
-        },
+        Bracket::Round => {
+            let base = Box::new(alloc, base)?;
+            Ok(Some(Expr::Call { at, base, parts }))
+        }
+        Bracket::Square => {
+            let base = Box::new(alloc, base)?;
+            Ok(Some(Expr::Index { at, base, parts }))
+        }
     }
 }
 
@@ -318,10 +316,8 @@ pub(crate) fn make_unary(
     ensures ok { IfOk result (λ e. term_of e ≡ unary at op (term_of operand)) }
     ensures err { IfErr result (λ e. e ≡ Memory) }
 {
-    match Box::new(alloc, operand) {
-        Ok(operand) => Ok(Expr::Unary { at, op, operand }),
-        Err(_) => Err(Stuck::Memory),
-    }
+    let operand = Box::new(alloc, operand)?;
+    Ok(Expr::Unary { at, op, operand })
 }
 
 // An operator between its operands.
@@ -335,18 +331,14 @@ pub(crate) fn make_binary(
     ensures err { IfErr result (λ e. e ≡ Memory) }
 {
     let at = left.place();
-    match Box::new(alloc, left) {
-        Ok(left) => match Box::new(alloc, right) {
-            Ok(right) => Ok(Expr::Binary {
-                at,
-                op,
-                left,
-                right,
-            }),
-            Err(_) => Err(Stuck::Memory),
-        },
-        Err(_) => Err(Stuck::Memory),
-    }
+    let left = Box::new(alloc, left)?;
+    let right = Box::new(alloc, right)?;
+    Ok(Expr::Binary {
+        at,
+        op,
+        left,
+        right,
+    })
 }
 
 // `if` and its branches, with the value of `else`.
@@ -359,14 +351,12 @@ pub(crate) fn make_if(
     ensures ok { IfOk result (λ e. term_of e ≡ if_term at (choices_of branches.items) (term_of otherwise)) }
     ensures err { IfErr result (λ e. e ≡ Memory) }
 {
-    match Box::new(alloc, otherwise) {
-        Ok(otherwise) => Ok(Expr::If {
-            at,
-            branches,
-            otherwise,
-        }),
-        Err(_) => Err(Stuck::Memory),
-    }
+    let otherwise = Box::new(alloc, otherwise)?;
+    Ok(Expr::If {
+        at,
+        branches,
+        otherwise,
+    })
 }
 
 // `case` and its branches.
@@ -379,15 +369,13 @@ pub(crate) fn make_case(
     ensures ok { IfOk result (λ e. term_of e ≡ case_term at (term_of selector) (choices_of branches.items)) }
     ensures err { IfErr result (λ e. e ≡ Memory) }
 {
-    match Box::new(alloc, selector) {
-        Ok(selector) => Ok(Expr::Case {
-            at,
-            selector,
-            branches,
-            otherwise: None,
-        }),
-        Err(_) => Err(Stuck::Memory),
-    }
+    let selector = Box::new(alloc, selector)?;
+    Ok(Expr::Case {
+        at,
+        selector,
+        branches,
+        otherwise: None,
+    })
 }
 
 // `case` and its branches, with the value of `else`.
@@ -401,18 +389,14 @@ pub(crate) fn make_case_else(
     ensures ok { IfOk result (λ e. term_of e ≡ case_else at (term_of selector) (choices_of branches.items) (term_of otherwise)) }
     ensures err { IfErr result (λ e. e ≡ Memory) }
 {
-    match Box::new(alloc, selector) {
-        Ok(selector) => match Box::new(alloc, otherwise) {
-            Ok(otherwise) => Ok(Expr::Case {
-                at,
-                selector,
-                branches,
-                otherwise: Some(otherwise),
-            }),
-            Err(_) => Err(Stuck::Memory),
-        },
-        Err(_) => Err(Stuck::Memory),
-    }
+    let selector = Box::new(alloc, selector)?;
+    let otherwise = Box::new(alloc, otherwise)?;
+    Ok(Expr::Case {
+        at,
+        selector,
+        branches,
+        otherwise: Some(otherwise),
+    })
 }
 
 // The ends of a label.
@@ -421,11 +405,7 @@ pub(crate) fn make_range(alloc: Global, low: Expr, high: Expr) -> Result<Expr, S
     ensures err { IfErr result (λ e. e ≡ Memory) }
 {
     let at = low.place();
-    match Box::new(alloc, low) {
-        Ok(low) => match Box::new(alloc, high) {
-            Ok(high) => Ok(Expr::Range { at, low, high }),
-            Err(_) => Err(Stuck::Memory),
-        },
-        Err(_) => Err(Stuck::Memory),
-    }
+    let low = Box::new(alloc, low)?;
+    let high = Box::new(alloc, high)?;
+    Ok(Expr::Range { at, low, high })
 }

@@ -12,7 +12,8 @@ ghost use Rattle.parse_exprs.specs.Look.{Origin, line_spaces};
 ghost use Rattle.parse_exprs.specs.Outcome.{Out};
 ghost use Rattle.parse_exprs.specs.Input.{origin_of, from_at};
 ghost use Rattle.parse_exprs.specs.Gives.{Fails};
-ghost use Rattle.parse_exprs.specs.Parsed.{origin, Reads, ReadsCallee, ExprFaults, CalleeFaults, ExprRun, CalleeRun, IsTooDeep, IsRead, IsOnly, HasNoEnd, IsRefused, RunsInto, Runs, Agree};
+ghost use Rattle.parse_exprs.specs.Parsed.{origin, Reads, ReadsCallee, ExprFaults, CalleeFaults, ExprRun, CalleeRun};
+ghost use Rattle.parse_exprs.specs.Parsed.{IsTooDeep, IsRead, IsOnly, HasNoEnd, IsRefused, RunsInto, Runs, Agree};
 
 use crate::input::Input;
 use crate::layout::Layout;
@@ -54,7 +55,11 @@ pub fn expr_within(
     ensures only { IfOk result (IsOnly (Reads (origin source.now «module») layout) tokens.now from) }
     ensures size { IfOk result (λ p. nodes (term_of p.tree) ≤ p.next - from) }
     ensures inside { IfOk result (λ p. HasNoEnd tokens.now from p.next) }
-    ensures refused { IfErr result (λ stop. OnRefusal stop (IsRefused (Reads (origin source.now «module») layout) (ExprFaults (origin source.now «module») layout most) (origin source.now «module») (drop from tokens.now))) }
+    ensures refused { IfErr result
+        (λ stop. OnRefusal stop
+        (IsRefused (Reads (origin source.now «module») layout)
+        (ExprFaults (origin source.now «module») layout most) (origin source.now «module»)
+        (drop from tokens.now))) }
     ensures runs { Runs (ExprRun (origin source.now «module») layout most) (origin source.now «module») tokens.now from result }
 {
     let input = Input {
@@ -89,7 +94,11 @@ pub fn callee(
     ensures only { IfOk result (IsOnly (ReadsCallee (origin source.now «module») spaces) tokens.now from) }
     ensures size { IfOk result (λ p. nodes (term_of p.tree) ≤ p.next - from) }
     ensures inside { IfOk result (λ p. HasNoEnd tokens.now from p.next) }
-    ensures refused { IfErr result (λ stop. OnRefusal stop (IsRefused (ReadsCallee (origin source.now «module») spaces) (CalleeFaults (origin source.now «module») spaces) (origin source.now «module») (drop from tokens.now))) }
+    ensures refused { IfErr result
+        (λ stop. OnRefusal stop
+        (IsRefused (ReadsCallee (origin source.now «module») spaces)
+        (CalleeFaults (origin source.now «module») spaces) (origin source.now «module»)
+        (drop from tokens.now))) }
     ensures runs { Runs (CalleeRun (origin source.now «module») spaces) (origin source.now «module») tokens.now from result }
 {
     let input = Input {
@@ -129,7 +138,11 @@ pub fn expr(
     ensures only { IfOk result (IsOnly (Reads (origin source.now «module») (Lines (line_spaces from tokens.now))) tokens.now from) }
     ensures size { IfOk result (λ p. nodes (term_of p.tree) ≤ p.next - from) }
     ensures inside { IfOk result (λ p. HasNoEnd tokens.now from p.next) }
-    ensures refused { IfErr result (λ stop. OnRefusal stop (IsRefused (Reads (origin source.now «module») (Lines (line_spaces from tokens.now))) (ExprFaults (origin source.now «module») (Lines (line_spaces from tokens.now)) 64) (origin source.now «module») (drop from tokens.now))) }
+    ensures refused { IfErr result
+        (λ stop. OnRefusal stop
+        (IsRefused (Reads (origin source.now «module») (Lines (line_spaces from tokens.now)))
+        (ExprFaults (origin source.now «module») (Lines (line_spaces from tokens.now)) 64)
+        (origin source.now «module») (drop from tokens.now))) }
     ensures runs { Runs (ExprRun (origin source.now «module») (Lines (line_spaces from tokens.now)) 64) (origin source.now «module») tokens.now from result }
 {
     let input = Input {
@@ -152,7 +165,8 @@ pub fn expr(
 // The answer where nothing was read.
 fn refusal(input: &Input, from: usize, stuck: Stuck) -> Stop
     requires { from < length input.now.tokens.now }
-    ensures { (run : List One → ℕ → Out Term) → Fails (run (from_at input.now from)) input.now stuck → OnRefusal result (RunsInto run (origin_of input.now) (from_at input.now from)) }
+    ensures { (run : List One → ℕ → Out Term) → Fails (run (from_at input.now from)) input.now stuck
+        → OnRefusal result (RunsInto run (origin_of input.now) (from_at input.now from)) }
 {
     match stuck {
         Stuck::Syntax(at) if input.left_out_at(at) => Stop::Refused {
@@ -183,7 +197,8 @@ pub fn one_callee()
 
 /// An expression has more levels than there may be exactly where it opens one too many.
 pub fn deep_exprs()
-    ensures { (x : Origin) (layout : Stands) (most : ℕ) (t : Term) (ts rest : List One) → Reads x layout t ts rest → IsTooDeep x layout most ts ↔ (most < levels t) }
+    ensures { (x : Origin) (layout : Stands) (most : ℕ) (t : Term) (ts rest : List One)
+        → Reads x layout t ts rest → IsTooDeep x layout most ts ↔ (most < levels t) }
 {}
 
 /// What an expression is, why there is none, and what a computation comes to agree.

@@ -11,7 +11,8 @@ use Rattle.nim_tree.specs.Terms.{Term, Parts, no_parts, part, and_part, levels}
 use Rattle.nim_tree.specs.Statements.{Statements, empty, and_statement, Branches, no_branches, Handlers, no_handlers}
 use Rattle.parse_exprs.specs.declared.layout.Layout.{Layout}
 use Rattle.parse_exprs.specs.declared.layout.Layout.TheVariants.{Brackets, Lines, Start}
-use Rattle.parse_exprs.specs.Look.{Origin, place_at, goes_on, stays, colon_at, comma_at, past_colon, dots_at, expr_at, lead_at, branch_at, is_elif, is_else, is_of, first_of_at, is_punct, operand_on}
+use Rattle.parse_exprs.specs.Look.{Origin, place_at, goes_on, stays, colon_at, comma_at, past_colon, dots_at, expr_at, lead_at, branch_at, is_elif, is_else}
+use Rattle.parse_exprs.specs.Look.{is_of, first_of_at, is_punct, operand_on}
 use Rattle.parse_exprs.specs.Ends as N
 use Rattle.parse_exprs.specs.Outcome as E
 use Rattle.parse_exprs.proofs.ForCallers.{exprs_end, callees_end}
@@ -19,15 +20,21 @@ use Rattle.parse_decls.specs.Ends.{HasPlace, Ends, e_read, e_not}
 use Rattle.parse_decls.specs.Look.{behind, deeper_at, stands_at, level_at, equals_at}
 use Rattle.parse_decls.specs.Outcome.{Why, too_deep, Out, got, bad, then_do, stuck_at}
 use Rattle.parse_decls.specs.Run.{most_levels}
-use Rattle.parse_decls.proofs.ForCallers.{names_end, definitions_end, definition_blocks_end, type_declarations_end, heads_end, wider, ends_then, ends_stuck, ends_unless, ends_if, ends_of, ends_expr, behind_within, ends_name}
+use Rattle.parse_decls.proofs.ForCallers.{names_end, definitions_end, definition_blocks_end, type_declarations_end, heads_end, wider, ends_then, ends_stuck}
+use Rattle.parse_decls.proofs.ForCallers.{ends_unless, ends_if, ends_of, ends_expr, behind_within, ends_name}
 use Rattle.parse_stmts.specs.declared.alone.TheConstants.{MOST_ALONE}
 use Rattle.parse_stmts.specs.declared.look.Lead.{Lead}
 use Rattle.parse_stmts.specs.declared.look.Lead.TheVariants as L
 use Rattle.parse_stmts.specs.declared.look.Simple.{Simple}
 use Rattle.parse_stmts.specs.declared.look.Simple.TheVariants as S
 use Rattle.parse_stmts.specs.Handling.{and_caught, are_some, have_some, hold_some}
-use Rattle.parse_stmts.specs.Look.{assigned_by, branch_level, end_at, on_line_at, ends_at, opens_block, line_over, lead, simple_of, atom_at, assign_on, is_in, is_as, is_except, is_finally, word_on, below_at, path_at}
-use Rattle.parse_stmts.specs.Run.{run_value, run_here, run_optional, run_module_name, run_more_modules, run_operands, run_command, run_assigned, run_expression, run_plain, run_bound, run_simple_by, run_simple, run_line, run_label, run_labels, run_course, run_types_of, run_binding, alone_in, run_alone, run_statements, run_statement, run_led, run_choice, run_compound, run_body, run_block, run_if, run_branch, run_elifs, run_else, run_case, run_branches, run_of, run_ofs, run_try, run_handler, run_handlers, run_finally, run_proc, run_module}
+use Rattle.parse_stmts.specs.Look.{assigned_by, branch_level, end_at, on_line_at, ends_at, opens_block, line_over, lead, simple_of, atom_at, assign_on, is_in}
+use Rattle.parse_stmts.specs.Look.{is_as, is_except, is_finally, word_on, below_at, path_at}
+use Rattle.parse_stmts.specs.Run.{run_value, run_here, run_optional, run_module_name, run_more_modules, run_operands, run_command, run_assigned, run_expression}
+use Rattle.parse_stmts.specs.Run.{run_plain, run_bound, run_simple_by, run_simple, run_line, run_label, run_labels, run_course, run_types_of, run_binding}
+use Rattle.parse_stmts.specs.Run.{alone_in, run_alone, run_statements, run_statement, run_led, run_choice, run_compound, run_body, run_block, run_if}
+use Rattle.parse_stmts.specs.Run.{run_branch, run_elifs, run_else, run_case, run_branches, run_of, run_ofs, run_try, run_handler, run_handlers, run_finally}
+use Rattle.parse_stmts.specs.Run.{run_proc, run_module}
 
 -- ---- expressions
 

@@ -24,9 +24,12 @@ settles_of whole h = record { steps = h.steps; same = λ k le. ap (λ o. of_expr
 
 called_means : (k : ℕ) (x : Origin) (n : ℕ) (ts : List Token) (o : E.Out Term) → run_primary k x (Lines n) true most_levels ts ≡ o
     → Means (λ a rest. IsCalled x n a ts rest) (λ why. FaultsCalled x n why ts) (of_expr ts o)
-called_means k x n ts (E.got a rest) e = let d = sound_primary k x (Lines n) true 63 ts e in m_got (record { reads = record { spells = d.spells; stops = d.stops }; few = d.few })
+called_means k x n ts (E.got a rest) e =
+    let d = sound_primary k x (Lines n) true 63 ts e in
+    m_got (record { reads = record { spells = d.spells; stops = d.stops }; few = d.few })
 called_means k x n ts (E.bad E.deep) e = m_bad (record { fault = F.too_deep; is = faults_primary F.too_deep k x (Lines n) true 63 ts e; at = refl })
-called_means k x n ts (E.bad (E.stuck rest)) e = m_bad (record { fault = F.stuck_at rest; is = faults_primary (F.stuck_at rest) k x (Lines n) true 63 ts e; at = refl })
+called_means k x n ts (E.bad (E.stuck rest)) e =
+    m_bad (record { fault = F.stuck_at rest; is = faults_primary (F.stuck_at rest) k x (Lines n) true 63 ts e; at = refl })
 called_means k x n ts (E.bad E.tired) e = m_tired
 
 called_faults : (x : Origin) (n : ℕ) (ts : List Token) (fault : F.Fault) → F.FaultsPrimary x fault (Lines n) true 63 ts

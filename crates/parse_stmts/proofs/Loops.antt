@@ -1,6 +1,5 @@
 -- The loops.
-use Rattle.std.proofs.Common.{◌≡◌, ℕ, suc, ◌++◌, List, [], ◌∷◌, refl}
-use Rattle.indent_scanner.specs.declared.token.Token.{Token}
+use Rattle.std.proofs.Common.{ℕ, ◌++◌, List, [], ◌∷◌, refl}
 use Rattle.nim_tree.specs.declared.name.Name.{Name}
 use Rattle.nim_tree.specs.Terms.{Term, Parts, and_part}
 use Rattle.parse_exprs.specs.declared.layout.Layout.TheVariants.{Brackets, Lines}

@@ -11,7 +11,8 @@ pub data Means {X : Type 0} (D : X → List Token → Type 0) (F : Why → Type 
   m_bad : {why : Why} → F why → Means D F (bad why)
   m_tired : Means D F (bad tired)
 
-pub means_map : {X : Type 0} {D E : X → List Token → Type 0} {F G : Why → Type 0} {o : Out X} → Means D F o → ((a : X) (rest : List Token) → D a rest → E a rest) → ((why : Why) → F why → G why) → Means E G o
+pub means_map : {X : Type 0} {D E : X → List Token → Type 0} {F G : Why → Type 0} {o : Out X} → Means D F o
+    → ((a : X) (rest : List Token) → D a rest → E a rest) → ((why : Why) → F why → G why) → Means E G o
 means_map (m_got {a = a} {rest = rest} d) h f = m_got (h a rest d)
 means_map (m_bad {why = why} w) h f = m_bad (f why w)
 means_map m_tired h f = m_tired
@@ -22,12 +23,14 @@ means_then (m_got {a = a} {rest = rest} d) h f = h a rest d
 means_then (m_bad {why = why} w) h f = m_bad (f why w)
 means_then m_tired h f = m_tired
 
-pub means_unless : {Y : Type 0} {E : Y → List Token → Type 0} {G : Why → Type 0} {go : Out Y} (b : Bool) (ts : List Token) → (b ≡ true → Means E G go) → (b ≡ false → G (stuck_at ts))
+pub means_unless : {Y : Type 0} {E : Y → List Token → Type 0} {G : Why → Type 0} {go : Out Y} (b : Bool) (ts : List Token) → (b ≡ true → Means E G go)
+    → (b ≡ false → G (stuck_at ts))
     → Means E G (unless_stuck b ts go)
 means_unless true ts h f = h refl
 means_unless false ts h f = m_bad (f refl)
 
-pub means_if : {Y : Type 0} {E : Y → List Token → Type 0} {G : Why → Type 0} {a c : Out Y} (b : Bool) → (b ≡ true → Means E G a) → (b ≡ false → Means E G c) → Means E G (if b then a else c)
+pub means_if : {Y : Type 0} {E : Y → List Token → Type 0} {G : Why → Type 0} {a c : Out Y} (b : Bool) → (b ≡ true → Means E G a) → (b ≡ false → Means E G c)
+    → Means E G (if b then a else c)
 means_if true h f = h refl
 means_if false h f = f refl
 
@@ -70,7 +73,8 @@ stopped : {X : Type 0} {D : X → List Token → Type 0} {F : Why → Type 0} (w
 stopped {D = D} {F = F} why (inl e) = subst (λ w. Means D F (bad w)) (sym e) m_tired
 stopped why (inr w) = m_bad w
 
-pub told : {A : Type 0} {run : ℕ → List Token → Out A} {R D : A → List Token → List Token → Type 0} {F : Why → List Token → Type 0} → Parses run R D F → Told run D F
+pub told : {A : Type 0} {run : ℕ → List Token → Out A} {R D : A → List Token → List Token → Type 0} {F : Why → List Token → Type 0} → Parses run R D F
+    → Told run D F
 told {A} {run} {R} {D} {F} p = record { means = λ k ts. one k ts (run k ts) refl; complete = p.complete; faults = p.faults }
   where
     one : (k : ℕ) (ts : List Token) (o : Out A) → run k ts ≡ o → Means (λ a rest. D a ts rest) (λ why. F why ts) o

@@ -1,5 +1,5 @@
 -- What a refusal of a module says.
-use Rattle.std.proofs.Common.{◌≡◌, ℕ, List, [], ◌∷◌, refl, sym, ap, subst}
+use Rattle.std.proofs.Common.{◌≡◌, List, sym, subst}
 use Rattle.arc_base.specs.declared.place.Place.{Place}
 use Rattle.arc_base.specs.declared.place.Code.{Code}
 use Rattle.arc_base.specs.declared.place.Code.TheVariants as C
@@ -17,8 +17,10 @@ use Rattle.parse_stmts.proofs.Verdicts.{module_stops, module_none}
 refused_as : (x : Origin) (tokens : List Token) (at : Place) {c d : Code} → d ≡ c → IsRefused x tokens c at → IsRefused x tokens d at
 refused_as x tokens at e h = subst (λ code. IsRefused x tokens code at) (sym e) h
 
-module_told : (x : Origin) (tokens : List Token) (code : Code) (at : Place) (why : Why) → Settles (λ k. run_module k x tokens) (bad why) → Tells x why code at → IsRefused x tokens code at
-module_told x tokens code at (too_deep rest) h t = refused_as x tokens at {c = C.NestTooDeep} t.0 (record { whole = rest; deep = module_stops tt h; first = t.1 })
+module_told : (x : Origin) (tokens : List Token) (code : Code) (at : Place) (why : Why) → Settles (λ k. run_module k x tokens) (bad why) → Tells x why code at
+    → IsRefused x tokens code at
+module_told x tokens code at (too_deep rest) h t = refused_as x tokens at {c = C.NestTooDeep} t.0
+    (record { whole = rest; deep = module_stops tt h; first = t.1 })
 module_told x tokens code at (left_out rest) h t = refused_as x tokens at {c = C.LeftOut} t.0 (record { rest = rest; stops = module_stops tt h; first = t.1 })
 module_told x tokens code at (stuck rest) h t = refused_as x tokens at {c = C.Syntax} t.0 (module_none rest h t.1)
 module_told x tokens code at tired h t = absurd t

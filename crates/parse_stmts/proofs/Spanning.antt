@@ -8,12 +8,14 @@ use Rattle.nim_tree.specs.declared.name.Name.{Name}
 use Rattle.nim_tree.specs.declared.name.Declared.{Declared}
 use Rattle.nim_tree.specs.declared.stmt.AssignOp.{AssignOp}
 use Rattle.nim_tree.specs.Lists.{total, if_there}
-use Rattle.nim_tree.specs.Terms.{Term, Parts, no_parts, part, and_part, nodes, nodes_in, int, char, text, name, quoted, nil, paren, tuple, array, sequence, construct, named, field, call, index, unary, binary, if_term, case_term, case_else, range}
+use Rattle.nim_tree.specs.Terms.{Term, Parts, no_parts, part, and_part, nodes, nodes_in, int, char, text, name, quoted, nil, paren, tuple, array, sequence}
+use Rattle.nim_tree.specs.Terms.{construct, named, field, call, index, unary, binary, if_term, case_term, case_else, range}
 use Rattle.nim_tree.specs.Statements.{Definition, definition_nodes}
 use Rattle.nim_tree.specs.Weights.{weight, weight_in, weight_maybe, definition_weights}
 use Rattle.parse_exprs.specs.declared.layout.Layout.{Layout}
 use Rattle.parse_exprs.specs.declared.layout.Layout.TheVariants.{Brackets, Lines}
-use Rattle.parse_exprs.specs.Look.{Origin, spelling, goes_on, branch_goes_on, is_punct, is_name, is_run, name_on, colon_at, comma_at, past_colon, dots_at, branch_at}
+use Rattle.parse_exprs.specs.Look.{Origin, spelling, goes_on, branch_goes_on, is_punct, is_name, is_run, name_on, colon_at, comma_at, past_colon, dots_at}
+use Rattle.parse_exprs.specs.Look.{branch_at}
 use Rattle.parse_exprs.specs.Grammar.{SpellsExpr}
 use Rattle.parse_exprs.proofs.ForCallers.{Free, stop, step, expr_spans, primary_spans, expr_weighs, primary_weighs, both_of, false_true}
 use Rattle.parse_exprs.specs.Counts.{unit, count}
@@ -34,7 +36,8 @@ pub record Spans (before after light heavy : ℕ) (ts rest : List Token) : Type 
 pub no_spans : {a w : ℕ} {ts : List Token} → Spans a a w w ts ts
 no_spans = record { size = omega arith; weighs = omega arith }
 
-pub then_spans : {a b c d e f g h : ℕ} {ts mid rest : List Token} → Spans a b e f ts mid → Spans c d g h mid rest → Spans (a + c) (b + d) (e + g) (f + h) ts rest
+pub then_spans : {a b c d e f g h : ℕ} {ts mid rest : List Token} → Spans a b e f ts mid → Spans c d g h mid rest
+    → Spans (a + c) (b + d) (e + g) (f + h) ts rest
 then_spans p q =
     (let i = p.size in let j = q.size in let k = p.weighs in let l = q.weighs in record { size = omega (arith, i, j); weighs = omega (arith, k, l) })
 
@@ -109,7 +112,8 @@ assigned_op E.Operand o op h = h
 assigned_op E.If o op h = cc
 assigned_op E.Case o op h = cc
 
-pub assign_spans : (x : Origin) (n : ℕ) (l : ExprLead) (op : AssignOp) (ts : List Token) → assigned_by l (assign_on x n ts) ≡ Some op → Spans 0 2 0 1 ts (behind ts)
+pub assign_spans : (x : Origin) (n : ℕ) (l : ExprLead) (op : AssignOp) (ts : List Token) → assigned_by l (assign_on x n ts) ≡ Some op
+    → Spans 0 2 0 1 ts (behind ts)
 assign_spans x n l op ts h = assign_spans_at x n op ts (assigned_op l (assign_on x n ts) op h)
 
 -- ---- names
@@ -161,7 +165,12 @@ some_nodes (case_else at a cs b) = omega arith
 some_nodes (range at a b) = omega arith
 
 pub expression_spans : {x : Origin} {i : Layout} {a : Term} {ts rest : List Token} → SpellsExpr x i a ts rest → Spans 0 (2 * nodes a) 0 (weight a) ts rest
-expression_spans d = let s = expr_spans d in let w = expr_weighs d in let p = s.size in let q = w.size in record { size = omega (arith, p); weighs = omega (arith, q) }
+expression_spans d =
+    let s = expr_spans d in
+    let w = expr_weighs d in
+    let p = s.size in
+    let q = w.size in
+    record { size = omega (arith, p); weighs = omega (arith, q) }
 
 pub value_spans : {x : Origin} {n : ℕ} {a : Term} {ts rest : List Token} → IsValue x n a ts rest → Spans 0 (2 * nodes a) 0 (weight a) ts rest
 value_spans d = expression_spans d.reads.spells
@@ -174,7 +183,8 @@ called_spans d =
     let s = primary_spans d.reads.spells in let w = primary_weighs d.reads.spells in let p = s.size in let q = w.size in
     record { size = omega (arith, p); weighs = omega (arith, q) }
 
-pub optional_spans : {x : Origin} {n : ℕ} {a : Option Term} {ts rest : List Token} → Optional x n a ts rest → Spans 0 (2 * if_there nodes a) 0 (weight_maybe a) ts rest
+pub optional_spans : {x : Origin} {n : ℕ} {a : Option Term} {ts rest : List Token} → Optional x n a ts rest
+    → Spans 0 (2 * if_there nodes a) 0 (weight_maybe a) ts rest
 optional_spans (e_none e) = no_spans
 optional_spans (e_some e d) = value_spans d
 
@@ -195,10 +205,14 @@ given_spans : {x : Origin} {n : ℕ} {o : Option Term} {ts rest : List Token} �
 given_spans (e_none e) = no_spans
 given_spans {n = n} (e_some {ts = ts} e d) = within (then_spans (equals_spans n ts e) (expression_spans d.value.spells)) (omega arith) (omega arith)
 
-pub definition_spans : {x : Origin} {first : Layout} {n : ℕ} (d : Definition) {ts rest : List Token} → IsDefined x first (Lines n) d ts rest → Spans 0 (2 * definition_nodes d) 0 (suc (weight_maybe d.value)) ts rest
+pub definition_spans : {x : Origin} {first : Layout} {n : ℕ} (d : Definition) {ts rest : List Token} → IsDefined x first (Lines n) d ts rest
+    → Spans 0 (2 * definition_nodes d) 0 (suc (weight_maybe d.value)) ts rest
 definition_spans {first = first} {n = n} d {ts} {rest} r =
     let t = definition_takes d ts rest r in
-    let w = then_spans (takes_spans (takes_then (declareds_takes first r.names) (takes_then (all_pragmas_takes (Lines n) r.pragmas) (annotation_takes (Lines n) r.annotation)))) (given_spans r.value) in
+    let w = then_spans
+    (takes_spans
+    (takes_then (declareds_takes first r.names) (takes_then (all_pragmas_takes (Lines n) r.pragmas) (annotation_takes (Lines n) r.annotation))))
+    (given_spans r.value) in
     let p = t.size in let q = w.weighs in let some = some_names first r.names in
     record { size = omega (arith, p); weighs = omega (arith, q, some) }
 
@@ -207,5 +221,6 @@ each_spans : {x : Origin} (n m : ℕ) {all : List Definition} {ts rest : List To
 each_spans n m (e_over e) = no_spans
 each_spans n m (e_next {a = a} e d t) = within (then_spans (definition_spans a d) (each_spans n m t)) (omega arith) (omega arith)
 
-pub definitions_spans : {x : Origin} {n : ℕ} {all : List Definition} {ts rest : List Token} → IsDefinitionBlock x n all ts rest → Spans 0 (2 * total definition_nodes all) 0 (definition_weights all) ts rest
+pub definitions_spans : {x : Origin} {n : ℕ} {all : List Definition} {ts rest : List Token} → IsDefinitionBlock x n all ts rest
+    → Spans 0 (2 * total definition_nodes all) 0 (definition_weights all) ts rest
 definitions_spans {ts = ts} d = each_spans (level_at ts) (level_at ts) d.lines

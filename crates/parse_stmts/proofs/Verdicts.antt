@@ -43,7 +43,8 @@ stuck_deep e = cc
 stuck_left_out : {C : Type 0} {r s : List Token} → left_out r ≡ stuck s → C
 stuck_left_out e = cc
 
-pub module_none : {x : Origin} {tokens : List Token} (rest : List Token) {at : Place} → Settles (λ k. run_module k x tokens) (bad (stuck rest)) → at ≡ next_at x rest → HasNone x tokens at
+pub module_none : {x : Origin} {tokens : List Token} (rest : List Token) {at : Place} → Settles (λ k. run_module k x tokens) (bad (stuck rest))
+    → at ≡ next_at x rest → HasNone x tokens at
 module_none {x} rest {at} h n = (let f = module_stops tt h in record {
   rest = rest;
   stops = f;
@@ -104,7 +105,8 @@ refused_once x tokens LeftOut _ p q r s = absurd s
 refused_once x tokens _ d p q r s = absurd r
 
 -- a tree isn't refused
-pub module_stands : {x : Origin} {tokens : List Token} {all : Statements} (code : Code) (at : Place) → IsModule x tokens all → HasFew all → IsRefused x tokens code at → ⊥
+pub module_stands : {x : Origin} {tokens : List Token} {all : Statements} (code : Code) (at : Place) → IsModule x tokens all → HasFew all
+    → IsRefused x tokens code at → ⊥
 module_stands Syntax at d few r = r.none _ d
 module_stands NestTooDeep at d few r = module_faulty d r.deep
 module_stands LeftOut at d few r = module_faulty d r.stops

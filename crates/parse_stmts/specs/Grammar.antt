@@ -42,10 +42,13 @@ use Rattle.nim_tree.specs.declared.stmt.Binding.TheVariants as B
 use Rattle.nim_tree.specs.Lists.{highest}
 use Rattle.nim_tree.specs.Terms.{Term, range, Parts, no_parts, part, and_part, place_of, levels}
 use Rattle.nim_tree.specs.Types.{Declaration, declaration_levels}
-use Rattle.nim_tree.specs.Statements.{Definition, definition_levels, Head, head_type_levels, Course, each, up_to, below, Statement, discards, returns, raises, breaks, continues, imports, evaluates, assigns, commands, defines, types, repeats, counts, tries, defers, proclaims, branches, selects, Statements, empty, and_statement, Branches, no_branches, and_branch, Handlers, no_handlers}
+use Rattle.nim_tree.specs.Statements.{Definition, definition_levels, Head, head_type_levels, Course, each, up_to, below, Statement, discards, returns, raises}
+use Rattle.nim_tree.specs.Statements.{breaks, continues, imports, evaluates, assigns, commands, defines, types, repeats, counts, tries, defers, proclaims}
+use Rattle.nim_tree.specs.Statements.{branches, selects, Statements, empty, and_statement, Branches, no_branches, and_branch, Handlers, no_handlers}
 use Rattle.parse_exprs.specs.declared.layout.Layout.{Layout}
 use Rattle.parse_exprs.specs.declared.layout.Layout.TheVariants.{Brackets, Lines}
-use Rattle.parse_exprs.specs.Look.{Origin, place_at, stays, colon_at, comma_at, past_colon, dots_at, expr_at, lead_at, branch_at, is_elif, is_else, is_of, first_of_at, is_punct, operand_on}
+use Rattle.parse_exprs.specs.Look.{Origin, place_at, stays, colon_at, comma_at, past_colon, dots_at, expr_at, lead_at, branch_at, is_elif, is_else, is_of}
+use Rattle.parse_exprs.specs.Look.{first_of_at, is_punct, operand_on}
 use Rattle.parse_exprs.specs.Grammar.{IsCallee}
 use Rattle.parse_decls.specs.Look.{behind, deeper_at, stands_at, level_at, equals_at}
 use Rattle.parse_decls.specs.Grammar.{Maybe, IsName, Names, IsDefinitionBlock, IsDeclarations, IsHead}
@@ -53,7 +56,8 @@ use Rattle.parse_decls.specs.Faults.{Short, ShortTerm, ShortDefinition}
 use Rattle.parse_stmts.specs.declared.look.Lead.TheVariants as L
 use Rattle.parse_stmts.specs.declared.look.Simple.{Simple}
 use Rattle.parse_stmts.specs.declared.look.Simple.TheVariants as S
-use Rattle.parse_stmts.specs.Look.{end_at, on_line_at, ends_at, chooses, lead, simple_of, atom_at, assign_on, is_in, is_as, is_except, is_finally, word_on, below_at, path_at, assigned_by, branch_level, binding_of}
+use Rattle.parse_stmts.specs.Look.{end_at, on_line_at, ends_at, chooses, lead, simple_of, atom_at, assign_on, is_in, is_as, is_except, is_finally, word_on}
+use Rattle.parse_stmts.specs.Look.{below_at, path_at, assigned_by, branch_level, binding_of}
 use Rattle.parse_stmts.specs.Alone.{IsAlone, NotAlone}
 use Rattle.parse_stmts.specs.Handling.{are_some, Caught, and_caught, have_some, hold_some}
 
@@ -113,11 +117,13 @@ pub data MoreOperands (x : Origin) (n : ℕ) : Parts → Parts → List Token �
 
 -- A statement that begins with no word of its own. Only an expression of operators is assigned to.
 pub data IsPlain (x : Origin) (n : ℕ) : Statement → List Token → List Token → Type 0 where
-  p_command : {a b : Term} {all : Parts} {ts mid end rest : List Token} → atom_at x ts ≡ true → IsCalled x n a ts mid → operand_on x (Lines n) mid ≡ true → IsValue x n b mid end
+  p_command : {a b : Term} {all : Parts} {ts mid end rest : List Token} → atom_at x ts ≡ true → IsCalled x n a ts mid → operand_on x (Lines n) mid ≡ true
+      → IsValue x n b mid end
       → MoreOperands x n (part b no_parts) all end rest → IsPlain x n (commands (place_of a) a all) ts rest
   p_value : {a : Term} {ts rest : List Token} → NoCommand x n ts → IsValue x n a ts rest → assigned_by (lead_at ts) (assign_on x n rest) ≡ None
       → IsPlain x n (evaluates (place_of a) a) ts rest
-  p_assign : {op : AssignOp} {a b : Term} {ts mid rest : List Token} → NoCommand x n ts → IsValue x n a ts mid → assigned_by (lead_at ts) (assign_on x n mid) ≡ Some op
+  p_assign : {op : AssignOp} {a b : Term} {ts mid rest : List Token} → NoCommand x n ts → IsValue x n a ts mid
+      → assigned_by (lead_at ts) (assign_on x n mid) ≡ Some op
       → IsHere x n b (behind mid) rest → IsPlain x n (assigns (place_of a) op a b) ts rest
 
 -- the word of a definition, and what it binds names to
@@ -165,10 +171,12 @@ pub data MoreLabels (x : Origin) (n : ℕ) : Parts → Parts → List Token → 
 
 -- what a `for` goes over
 pub data IsCourse (x : Origin) (n : ℕ) : Course → List Token → List Token → Type 0 where
-  f_each : {a : Term} {ts rest : List Token} → IsHere x n a ts rest → dots_at x (Lines n) rest ≡ false → below_at x n rest ≡ false → IsCourse x n (each a) ts rest
+  f_each : {a : Term} {ts rest : List Token} → IsHere x n a ts rest → dots_at x (Lines n) rest ≡ false → below_at x n rest ≡ false
+      → IsCourse x n (each a) ts rest
   f_up_to : {a b : Term} {ts mid rest : List Token} → IsHere x n a ts mid → dots_at x (Lines n) mid ≡ true → IsHere x n b (behind mid) rest
       → IsCourse x n (up_to a b) ts rest
-  f_below : {a b : Term} {ts mid rest : List Token} → IsHere x n a ts mid → dots_at x (Lines n) mid ≡ false → below_at x n mid ≡ true → IsHere x n b (behind mid) rest
+  f_below : {a b : Term} {ts mid rest : List Token} → IsHere x n a ts mid → dots_at x (Lines n) mid ≡ false → below_at x n mid ≡ true
+      → IsHere x n b (behind mid) rest
       → IsCourse x n (below a b) ts rest
 
 -- `as` and a name, where they stand
@@ -202,13 +210,16 @@ mutual
         → IsCompound x n left (branches (place_at x tok) all other) (tok ∷ ts) rest
     c_case : {n left : ℕ} {a : Term} {s : Statement} {tok : Token} {ts mid rest : List Token} → lead n tok ts ≡ L.Case → IsHere x n a ts mid
         → AreBranches x n left (place_at x tok) a s (past_colon (Lines n) mid) rest → IsCompound x n left s (tok ∷ ts) rest
-    c_while : {n left : ℕ} {a : Term} {body : Statements} {tok : Token} {ts mid rest : List Token} → lead n tok ts ≡ L.While → IsHere x n a ts mid → IsBody x n left body mid rest
+    c_while : {n left : ℕ} {a : Term} {body : Statements} {tok : Token} {ts mid rest : List Token} → lead n tok ts ≡ L.While → IsHere x n a ts mid
+        → IsBody x n left body mid rest
         → IsCompound x n left (repeats (place_at x tok) a body) (tok ∷ ts) rest
-    c_for : {n left : ℕ} {name : Name} {course : Course} {body : Statements} {tok : Token} {ts mid end rest : List Token} → lead n tok ts ≡ L.For → IsName x (Lines n) name ts mid
+    c_for : {n left : ℕ} {name : Name} {course : Course} {body : Statements} {tok : Token} {ts mid end rest : List Token} → lead n tok ts ≡ L.For
+        → IsName x (Lines n) name ts mid
         → word_on n is_in mid ≡ true → IsCourse x n course (behind mid) end → IsBody x n left body end rest
         → IsCompound x n left (counts (place_at x tok) name course body) (tok ∷ ts) rest
     -- it has a handler or a `finally`
-    c_try : {n left : ℕ} {body last : Statements} {all : Handlers} {tok : Token} {ts mid end rest : List Token} → lead n tok ts ≡ L.Try → IsBody x n left body ts mid
+    c_try : {n left : ℕ} {body last : Statements} {all : Handlers} {tok : Token} {ts mid end rest : List Token} → lead n tok ts ≡ L.Try
+        → IsBody x n left body ts mid
         → MoreHandlers x n left no_handlers all mid end → IsFinally x n left last end rest → (have_some all || hold_some last) ≡ true
         → IsCompound x n left (tries (place_at x tok) body all last) (tok ∷ ts) rest
     c_defer : {n left : ℕ} {body : Statements} {tok : Token} {ts rest : List Token} → lead n tok ts ≡ L.Defer → IsBody x n left body ts rest
@@ -225,17 +236,20 @@ mutual
 
   -- a colon and a block
   pub data IsBody (x : Origin) : ℕ → ℕ → Statements → List Token → List Token → Type 0 where
-    b_body : {n left : ℕ} {body : Statements} {ts rest : List Token} → colon_at (Lines n) ts ≡ true → IsBlock x n left body (behind ts) rest → IsBody x n left body ts rest
+    b_body : {n left : ℕ} {body : Statements} {ts rest : List Token} → colon_at (Lines n) ts ≡ true → IsBlock x n left body (behind ts) rest
+        → IsBody x n left body ts rest
 
   pub data IsBlock (x : Origin) : ℕ → ℕ → Statements → List Token → List Token → Type 0 where
     b_line : {n left : ℕ} {all : Statements} {ts rest : List Token} → on_line_at ts ≡ true → IsLine x n empty all ts rest
         → IsBlock x n (suc left) all ts rest
-    b_deeper : {n left : ℕ} {all : Statements} {ts rest : List Token} → on_line_at ts ≡ false → deeper_at n ts ≡ true → AreStatements x (level_at ts) left empty all ts rest
+    b_deeper : {n left : ℕ} {all : Statements} {ts rest : List Token} → on_line_at ts ≡ false → deeper_at n ts ≡ true
+        → AreStatements x (level_at ts) left empty all ts rest
         → IsBlock x n (suc left) all ts rest
 
   -- a condition, a colon and a block, behind some branches
   pub data IsBranch (x : Origin) : ℕ → ℕ → Branches → Place → Branches → List Token → List Token → Type 0 where
-    r_branch : {n left : ℕ} {a : Term} {some : Branches} {body : Statements} {at : Place} {ts mid rest : List Token} → IsHere x n a ts mid → IsBody x n left body mid rest
+    r_branch : {n left : ℕ} {a : Term} {some : Branches} {body : Statements} {at : Place} {ts mid rest : List Token} → IsHere x n a ts mid
+        → IsBody x n left body mid rest
         → IsBranch x n left some at (and_branch some at (part a no_parts) body) ts rest
 
   -- { 'elif' expr ':' block }
@@ -247,17 +261,20 @@ mutual
   -- [ 'else' ':' block ]
   pub data IsElse (x : Origin) : ℕ → ℕ → Statements → List Token → List Token → Type 0 where
     r_no_else : {n left : ℕ} {rest : List Token} → branch_at (Lines n) is_else rest ≡ false → IsElse x n left empty rest rest
-    r_else : {n left : ℕ} {body : Statements} {ts rest : List Token} → branch_at (Lines n) is_else ts ≡ true → IsBody x n left body (behind ts) rest → IsElse x n left body ts rest
+    r_else : {n left : ℕ} {body : Statements} {ts rest : List Token} → branch_at (Lines n) is_else ts ≡ true → IsBody x n left body (behind ts) rest
+        → IsElse x n left body ts rest
 
   -- AreBranches x n left at a s ts rest: these are the branches of the `case` s, which begins at the place at and is over a
   pub data AreBranches (x : Origin) : ℕ → ℕ → Place → Term → Statement → List Token → List Token → Type 0 where
-    r_branches : {n left : ℕ} {at : Place} {a : Term} {all : Branches} {other : Statements} {tok : Token} {ts end rest : List Token} → first_of_at (Lines n) (tok ∷ ts) ≡ true
+    r_branches : {n left : ℕ} {at : Place} {a : Term} {all : Branches} {other : Statements} {tok : Token} {ts end rest : List Token}
+        → first_of_at (Lines n) (tok ∷ ts) ≡ true
         → MoreOfs x (branch_level n tok.indent) left no_branches all (tok ∷ ts) end → IsElse x (branch_level n tok.indent) left other end rest
         → AreBranches x n left at a (selects at a all other) (tok ∷ ts) rest
 
   -- labels, a colon and a block, behind some branches
   pub data IsOf (x : Origin) : ℕ → ℕ → Branches → Place → Branches → List Token → List Token → Type 0 where
-    r_of : {n left : ℕ} {a : Term} {tests : Parts} {some : Branches} {body : Statements} {at : Place} {ts mid end rest : List Token} → stays (Lines n) ts ≡ true → IsLabel x n a ts mid
+    r_of : {n left : ℕ} {a : Term} {tests : Parts} {some : Branches} {body : Statements} {at : Place} {ts mid end rest : List Token} → stays (Lines n) ts ≡ true
+        → IsLabel x n a ts mid
         → MoreLabels x n (part a no_parts) tests mid end → IsBody x n left body end rest → IsOf x n left some at (and_branch some at tests body) ts rest
 
   -- { of }
@@ -270,21 +287,25 @@ mutual
   pub data IsHandler (x : Origin) : ℕ → ℕ → Caught → List Token → List Token → Type 0 where
     h_bare : {n left : ℕ} {body : Statements} {ts rest : List Token} → colon_at (Lines n) ts ≡ true → IsBody x n left body ts rest
         → IsHandler x n left (record { names = []; binding = None; body = body }) ts rest
-    h_typed : {n left : ℕ} {names : List Name} {alias : Option Name} {body : Statements} {ts a b rest : List Token} → colon_at (Lines n) ts ≡ false → Names x (Lines n) names ts a
+    h_typed : {n left : ℕ} {names : List Name} {alias : Option Name} {body : Statements} {ts a b rest : List Token} → colon_at (Lines n) ts ≡ false
+        → Names x (Lines n) names ts a
         → Alias x n alias a b → IsBody x n left body b rest → IsHandler x n left (record { names = names; binding = alias; body = body }) ts rest
 
   -- handlers; one without exception types is the last
   pub data MoreHandlers (x : Origin) : ℕ → ℕ → Handlers → Handlers → List Token → List Token → Type 0 where
     h_over : {n left : ℕ} {all : Handlers} {rest : List Token} → branch_at (Lines n) is_except rest ≡ false → MoreHandlers x n left all all rest rest
-    h_last : {n left : ℕ} {some : Handlers} {one : Caught} {tok : Token} {ts rest : List Token} → branch_at (Lines n) is_except (tok ∷ ts) ≡ true → IsHandler x n left one ts rest
+    h_last : {n left : ℕ} {some : Handlers} {one : Caught} {tok : Token} {ts rest : List Token} → branch_at (Lines n) is_except (tok ∷ ts) ≡ true
+        → IsHandler x n left one ts rest
         → are_some one.names ≡ false → MoreHandlers x n left some (and_caught some (place_at x tok) one) (tok ∷ ts) rest
-    h_next : {n left : ℕ} {some all : Handlers} {one : Caught} {tok : Token} {ts mid rest : List Token} → branch_at (Lines n) is_except (tok ∷ ts) ≡ true → IsHandler x n left one ts mid
+    h_next : {n left : ℕ} {some all : Handlers} {one : Caught} {tok : Token} {ts mid rest : List Token} → branch_at (Lines n) is_except (tok ∷ ts) ≡ true
+        → IsHandler x n left one ts mid
         → are_some one.names ≡ true → MoreHandlers x n left (and_caught some (place_at x tok) one) all mid rest → MoreHandlers x n left some all (tok ∷ ts) rest
 
   -- [ 'finally' ':' block ]
   pub data IsFinally (x : Origin) : ℕ → ℕ → Statements → List Token → List Token → Type 0 where
     h_no_finally : {n left : ℕ} {rest : List Token} → branch_at (Lines n) is_finally rest ≡ false → IsFinally x n left empty rest rest
-    h_finally : {n left : ℕ} {body : Statements} {ts rest : List Token} → branch_at (Lines n) is_finally ts ≡ true → IsBody x n left body (behind ts) rest → IsFinally x n left body ts rest
+    h_finally : {n left : ℕ} {body : Statements} {ts rest : List Token} → branch_at (Lines n) is_finally ts ≡ true → IsBody x n left body (behind ts) rest
+        → IsFinally x n left body ts rest
 
 -- The tokens of a module, up to the end of the source, are these statements; its first line sets the number of spaces.
 pub record IsModule (x : Origin) (tokens : List Token) (all : Statements) : Type 0 where

@@ -2,7 +2,7 @@
 --
 -- Each function takes the steps that are left. n is the number of spaces that the statement stands behind, and left the
 -- number of levels of blocks that are left.
-use Rattle.std.specs.Prelude.{ℕ, zero, suc, Bool, true, false, nat_lt, ◌&&◌, ◌||◌, if◌then◌else◌, List, [], ◌∷◌, ◌++◌, Option, Some, None}
+use Rattle.std.specs.Prelude.{ℕ, zero, suc, Bool, true, nat_lt, ◌&&◌, ◌||◌, if◌then◌else◌, List, [], ◌∷◌, ◌++◌, Option, Some, None}
 use Rattle.arc_base.specs.declared.place.Place.{Place}
 use Rattle.indent_scanner.specs.declared.token.Token.{Token}
 use Rattle.nim_tree.specs.declared.name.Name.{Name}
@@ -10,10 +10,13 @@ use Rattle.nim_tree.specs.declared.stmt.AssignOp.{AssignOp}
 use Rattle.nim_tree.specs.declared.stmt.Binding.{Binding}
 use Rattle.nim_tree.specs.declared.stmt.Binding.TheVariants as B
 use Rattle.nim_tree.specs.Terms.{Term, range, Parts, no_parts, part, and_part, place_of, levels}
-use Rattle.nim_tree.specs.Statements.{Course, each, up_to, below, Statement, discards, returns, raises, breaks, continues, imports, evaluates, assigns, commands, defines, types, repeats, counts, tries, defers, proclaims, branches, selects, Statements, empty, and_statement, Branches, no_branches, and_branch, Handlers, no_handlers}
+use Rattle.nim_tree.specs.Statements.{Course, each, up_to, below, Statement, discards, returns, raises, breaks, continues, imports, evaluates, assigns}
+use Rattle.nim_tree.specs.Statements.{commands, defines, types, repeats, counts, tries, defers, proclaims, branches, selects, Statements, empty, and_statement}
+use Rattle.nim_tree.specs.Statements.{Branches, no_branches, and_branch, Handlers, no_handlers}
 use Rattle.parse_exprs.specs.declared.layout.Layout.{Layout}
 use Rattle.parse_exprs.specs.declared.layout.Layout.TheVariants.{Brackets, Lines, Start}
-use Rattle.parse_exprs.specs.Look.{Origin, place_at, stays, colon_at, comma_at, past_colon, dots_at, expr_at, lead_at, branch_at, is_elif, is_else, is_of, first_of_at, is_punct, operand_on}
+use Rattle.parse_exprs.specs.Look.{Origin, place_at, stays, colon_at, comma_at, past_colon, dots_at, expr_at, lead_at, branch_at, is_elif, is_else, is_of}
+use Rattle.parse_exprs.specs.Look.{first_of_at, is_punct, operand_on}
 use Rattle.parse_exprs.specs.Outcome as E
 use Rattle.parse_exprs.specs.Run.{run_expr, run_primary}
 use Rattle.parse_decls.specs.Look.{behind, deeper_at, stands_at, level_at, equals_at}
@@ -26,7 +29,8 @@ use Rattle.parse_stmts.specs.declared.look.Simple.{Simple}
 use Rattle.parse_stmts.specs.declared.look.Simple.TheVariants as S
 pub use Rattle.parse_stmts.specs.Look.{assigned_by, branch_level, binding_of}
 pub use Rattle.parse_stmts.specs.Handling.{Caught, and_caught, are_some, have_some, hold_some}
-use Rattle.parse_stmts.specs.Look.{end_at, on_line_at, ends_at, opens_block, line_over, chooses, lead, simple_of, atom_at, assign_on, is_in, is_as, is_except, is_finally, word_on, below_at, path_at}
+use Rattle.parse_stmts.specs.Look.{end_at, on_line_at, ends_at, opens_block, line_over, chooses, lead, simple_of, atom_at, assign_on, is_in, is_as, is_except}
+use Rattle.parse_stmts.specs.Look.{is_finally, word_on, below_at, path_at}
 
 -- ---- expressions
 
@@ -59,7 +63,8 @@ run_operands (suc k) x n some ts =
 
 -- behind the callee of a command
 abbrev pub run_command : ℕ → Origin → ℕ → Term → List Token → Out Statement
-run_command k x n a ts = then_do (run_value k x n ts) (λ b mid. then_do (run_operands k x n (part b no_parts) mid) (λ all rest. got (commands (place_of a) a all) rest))
+run_command k x n a ts = then_do (run_value k x n ts)
+    (λ b mid. then_do (run_operands k x n (part b no_parts) mid) (λ all rest. got (commands (place_of a) a all) rest))
 
 abbrev pub run_assigned : ℕ → Option AssignOp → Origin → ℕ → Term → List Token → Out Statement
 run_assigned k None x n a ts = got (evaluates (place_of a) a) ts
@@ -72,7 +77,8 @@ run_expression k x n ts = then_do (run_value k x n ts) (λ a mid. run_assigned k
 -- a command, where an operand stands behind what may be called
 abbrev pub run_plain : ℕ → Origin → ℕ → List Token → Out Statement
 run_plain k x n ts =
-    if atom_at x ts then then_do (of_expr ts (run_primary k x (Lines n) true most_levels ts)) (λ a mid. if operand_on x (Lines n) mid then run_command k x n a mid else run_expression k x n ts)
+    if atom_at x ts then then_do (of_expr ts (run_primary k x (Lines n) true most_levels ts))
+    (λ a mid. if operand_on x (Lines n) mid then run_command k x n a mid else run_expression k x n ts)
     else run_expression k x n ts
 
 abbrev pub run_bound : ℕ → Binding → Origin → ℕ → Place → List Token → Out Statement
@@ -85,7 +91,8 @@ run_simple_by k S.Raise x n tok ts = then_do (run_optional k x n ts) (λ a rest.
 run_simple_by k S.Break x n tok ts = got (breaks (place_at x tok)) ts
 run_simple_by k S.Continue x n tok ts = got (continues (place_at x tok)) ts
 run_simple_by k S.Import x n tok ts =
-    then_do (run_module_name x (Lines n) ts) (λ name mid. then_do (run_more_modules k x n (name ∷ []) mid) (λ all rest. got (imports (place_at x tok) all) rest))
+    then_do (run_module_name x (Lines n) ts)
+    (λ name mid. then_do (run_more_modules k x n (name ∷ []) mid) (λ all rest. got (imports (place_at x tok) all) rest))
 run_simple_by k S.Let x n tok ts = run_bound k B.Let x n (place_at x tok) ts
 run_simple_by k S.Var x n tok ts = run_bound k B.Var x n (place_at x tok) ts
 run_simple_by k S.Const x n tok ts = run_bound k B.Const x n (place_at x tok) ts
@@ -100,7 +107,8 @@ abbrev pub run_line : ℕ → Origin → ℕ → Statements → List Token → O
 run_line zero x n some ts = bad tired
 run_line (suc k) x n some ts =
     then_do (run_simple k x n ts) (λ s mid.
-    if word_on n (is_punct 59) mid then unless_stuck (stays (Lines n) (behind mid)) (behind mid) (run_line k x n (and_statement some s) (behind mid)) else got (and_statement some s) mid)
+    if word_on n (is_punct 59) mid then unless_stuck (stays (Lines n) (behind mid)) (behind mid) (run_line k x n (and_statement some s) (behind mid))
+    else got (and_statement some s) mid)
 
 -- ---- parts of statements with blocks
 
@@ -112,7 +120,8 @@ run_label k x n ts =
 
 abbrev pub run_labels : ℕ → Origin → ℕ → Parts → List Token → Out Parts
 run_labels zero x n some ts = bad tired
-run_labels (suc k) x n some ts = if comma_at (Lines n) ts then then_do (run_label k x n (behind ts)) (λ a mid. run_labels k x n (and_part some a) mid) else got some ts
+run_labels (suc k) x n some ts = if comma_at (Lines n) ts then then_do (run_label k x n (behind ts)) (λ a mid. run_labels k x n (and_part some a) mid)
+    else got some ts
 
 -- what a `for` goes over
 abbrev pub run_course : ℕ → Origin → ℕ → List Token → Out Course
@@ -132,7 +141,8 @@ run_binding some x n ts = if some && word_on n is_as ts then then_do (run_name x
 
 -- an expression that is alone on its line, where it is one of at most `MOST_ALONE` levels, of which it may have 64
 abbrev pub alone_in : ℕ → List Token → E.Out Term → Out (Option Term)
-alone_in n whole (E.got a rest) = if line_over n rest then (if nat_lt most_levels (levels a) then bad (too_deep whole) else got (Some a) rest) else got None whole
+alone_in n whole (E.got a rest) = if line_over n rest then (if nat_lt most_levels (levels a) then bad (too_deep whole) else got (Some a) rest)
+    else got None whole
 alone_in n whole (E.bad E.tired) = bad tired
 alone_in n whole (E.bad why) = got None whole
 
@@ -146,7 +156,8 @@ abbrev mutual
   pub run_statements : ℕ → Origin → ℕ → ℕ → Statements → List Token → Out Statements
   run_statements zero x n left some ts = bad tired
   run_statements (suc k) x n left some ts =
-      if stands_at n ts then then_do (run_statement k x n left some ts) (λ all mid. run_statements k x n left all mid) else unless_stuck (ends_at n ts) ts (got some ts)
+      if stands_at n ts then then_do (run_statement k x n left some ts) (λ all mid. run_statements k x n left all mid) else unless_stuck (ends_at n ts) ts
+      (got some ts)
 
   -- a statement, or a line of them, behind some others
   pub run_statement : ℕ → Origin → ℕ → ℕ → Statements → List Token → Out Statements
@@ -220,7 +231,8 @@ abbrev mutual
   run_elifs zero x n left some ts = bad tired
   run_elifs (suc k) x n left some [] = got some []
   run_elifs (suc k) x n left some (tok ∷ ts) =
-      if branch_at (Lines n) is_elif (tok ∷ ts) then then_do (run_branch k x n left some (place_at x tok) ts) (λ all mid. run_elifs k x n left all mid) else got some (tok ∷ ts)
+      if branch_at (Lines n) is_elif (tok ∷ ts) then then_do (run_branch k x n left some (place_at x tok) ts) (λ all mid. run_elifs k x n left all mid)
+      else got some (tok ∷ ts)
 
   -- `else`, a colon and a block, where there is one
   pub run_else : ℕ → Origin → ℕ → ℕ → List Token → Out Statements
@@ -257,7 +269,8 @@ abbrev mutual
   run_ofs zero x n left some ts = bad tired
   run_ofs (suc k) x n left some [] = got some []
   run_ofs (suc k) x n left some (tok ∷ ts) =
-      if branch_at (Lines n) is_of (tok ∷ ts) then then_do (run_of k x n left some (place_at x tok) ts) (λ all mid. run_ofs k x n left all mid) else got some (tok ∷ ts)
+      if branch_at (Lines n) is_of (tok ∷ ts) then then_do (run_of k x n left some (place_at x tok) ts) (λ all mid. run_ofs k x n left all mid)
+      else got some (tok ∷ ts)
 
   -- ---- `try` and `proc`
 
@@ -296,7 +309,8 @@ abbrev mutual
   run_proc zero x n left tok ts = bad tired
   run_proc (suc k) x n left tok ts =
       then_do (run_head k x (Lines n) ts) (λ head mid.
-      if equals_at (Lines n) mid then then_do (run_block k x n left (behind mid)) (λ block rest. got (proclaims (place_at x tok) head block) rest) else got (proclaims (place_at x tok) head empty) mid)
+      if equals_at (Lines n) mid then then_do (run_block k x n left (behind mid)) (λ block rest. got (proclaims (place_at x tok) head block) rest)
+      else got (proclaims (place_at x tok) head empty) mid)
 
 -- the statements of a module, which stand behind as many spaces as its first line
 abbrev pub run_module : ℕ → Origin → List Token → Out Statements

@@ -37,7 +37,10 @@ fn if_alone(
 ) -> Result<Reading<Option<Expr>>, Stop>
     requires goes { at < parsed.next }
     requires within { parsed.next ≤ length input.now.tokens.now }
-    ensures runs { (run : ℕ → E.Out Term) → E.Settles run (E.got (term_of parsed.tree) (from_at input.now parsed.next)) → Comes (option_map term_of) (λ k. alone_in spaces (from_at input.now at) (run k)) input.now at result }
+    ensures runs { (run : ℕ → E.Out Term)
+        → E.Settles run (E.got (term_of parsed.tree) (from_at input.now parsed.next))
+        → Comes (option_map term_of) (λ k. alone_in spaces (from_at input.now at) (run k)) input.now
+        at result }
     ensures goes { IfOk result (λ p. IfSome p.value (λ tree. suc at ≤ p.next)) }
 {
     let next = parsed.next as usize;

@@ -10,7 +10,7 @@ ghost use Rattle.parse_stmts.specs.Marks.{IsPast};
 ghost use Rattle.parse_stmts.specs.Run.{run_label, run_labels, run_course, run_types_of, run_binding};
 
 use crate::marks::{Word, past_below, past_comma, past_dots, past_word};
-use crate::values::{boxed, read_here};
+use crate::values::read_here;
 use arc_base::Stop;
 use nim_tree::{Expr, Name, Over};
 use parse_decls::{Reading, and_one, names, read_name, read_value};
@@ -28,7 +28,9 @@ pub(crate) fn read_labels(
 ) -> Result<Reading<Vec<Expr>>, Stop>
     requires few { length input.now.tokens.now < 2 ^ 32 }
     requires within { first.next ≤ length input.now.tokens.now }
-    ensures { Comes (λ labels. parts_of labels.items) (λ k. run_labels k (origin_of input.now) spaces (part (term_of first.value) no_parts) (from_at input.now first.next)) input.now first.next result }
+    ensures { Comes (λ labels. parts_of labels.items)
+        (λ k. run_labels k (origin_of input.now) spaces (part (term_of first.value) no_parts)
+        (from_at input.now first.next)) input.now first.next result }
 {
     let mut labels = and_one(Vec::new(alloc), first.value)?;
     let mut next = first.next;
@@ -70,11 +72,9 @@ fn make_range(alloc: Global, low: Expr, high: Expr) -> Result<Expr, Stop>
     ensures err { IfErr result (λ stop. stop ≡ Memory) }
 {
     let at = low.place();
-    Ok(Expr::Range {
-        at,
-        low: boxed(alloc, low)?,
-        high: boxed(alloc, high)?,
-    })
+    let low = Box::new(alloc, low)?;
+    let high = Box::new(alloc, high)?;
+    Ok(Expr::Range { at, low, high })
 }
 
 // ---- `for`

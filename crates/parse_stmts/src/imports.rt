@@ -46,11 +46,8 @@ fn and_import(alloc: Global, some: Vec<Import>, name: &Name) -> Result<Vec<Impor
     ensures ok { IfOk result (λ all. all.items ≡ some.items ++ import_of name.now ∷ []) }
     ensures err { IfErr result (λ stop. stop ≡ Memory) }
 {
-    let mut text = Bytes::new(alloc);
-    text.append(name.text.as_slice())?;
+    let text = Bytes::from_slice(alloc, name.text.as_slice())?;
     let mut all = some;
-    match all.push(Import { at: name.at, text }) {
-        Ok(()) => Ok(all),
-        Err(_) => Err(Stop::Memory),
-    }
+    all.push(Import { at: name.at, text })?;
+    Ok(all)
 }

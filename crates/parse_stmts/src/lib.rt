@@ -11,8 +11,6 @@ mod look;
 mod marks;
 mod plain;
 mod simple;
-#[cfg(test)]
-mod tests;
 mod total;
 mod tree;
 mod values;

@@ -22,7 +22,9 @@ pub(crate) fn read_line(
     spaces: u32,
 ) -> Result<Reading<Vec<Stmt>>, Stop>
     requires few { length input.now.tokens.now < 2 ^ 32 }
-    ensures { Comes (λ all. statements_of all.items) (λ k. run_line k (origin_of input.now) spaces (statements_of some.items) (from_at input.now at)) input.now (suc at) result }
+    ensures { Comes (λ all. statements_of all.items)
+        (λ k. run_line k (origin_of input.now) spaces (statements_of some.items) (from_at input.now at))
+        input.now (suc at) result }
 {
     let first = read_simple(alloc, input, at, spaces)?;
     let mut all = and_one(some, first.value)?;

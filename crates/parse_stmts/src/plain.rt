@@ -107,7 +107,9 @@ fn read_command(
     spaces: u32,
 ) -> Result<Reading<Stmt>, Stop>
     requires few { length input.now.tokens.now < 2 ^ 32 }
-    ensures { Comes statement_of (λ k. run_command k (origin_of input.now) spaces (term_of callee.value) (from_at input.now callee.next)) input.now (suc callee.next) result }
+    ensures { Comes statement_of
+        (λ k. run_command k (origin_of input.now) spaces (term_of callee.value)
+        (from_at input.now callee.next)) input.now (suc callee.next) result }
 {
     let first = read_value(alloc, input, callee.next, Layout::Lines(spaces))?;
     let operands = read_operands(alloc, input, first, spaces)?;
@@ -130,7 +132,9 @@ fn read_operands(
 ) -> Result<Reading<Vec<Expr>>, Stop>
     requires few { length input.now.tokens.now < 2 ^ 32 }
     requires within { first.next ≤ length input.now.tokens.now }
-    ensures { Comes (λ operands. parts_of operands.items) (λ k. run_operands k (origin_of input.now) spaces (part (term_of first.value) no_parts) (from_at input.now first.next)) input.now first.next result }
+    ensures { Comes (λ operands. parts_of operands.items)
+        (λ k. run_operands k (origin_of input.now) spaces (part (term_of first.value) no_parts)
+        (from_at input.now first.next)) input.now first.next result }
 {
     let mut operands = and_one(Vec::new(alloc), first.value)?;
     let mut next = first.next;
@@ -179,7 +183,9 @@ fn read_assigned(
 ) -> Result<Reading<Stmt>, Stop>
     requires few { length input.now.tokens.now < 2 ^ 32 }
     requires within { target.next < length input.now.tokens.now }
-    ensures { Comes statement_of (λ k. run_assigned k (Some op) (origin_of input.now) spaces (term_of target.value) (from_at input.now target.next)) input.now (suc target.next) result }
+    ensures { Comes statement_of
+        (λ k. run_assigned k (Some op) (origin_of input.now) spaces (term_of target.value)
+        (from_at input.now target.next)) input.now (suc target.next) result }
 {
     let value = read_here(alloc, input, target.next + 1, spaces)?;
     Ok(Reading {

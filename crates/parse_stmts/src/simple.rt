@@ -198,7 +198,9 @@ fn read_more_modules(
     spaces: u32,
 ) -> Result<Reading<Vec<Name>>, Stop>
     requires within { first.next ≤ length input.now.tokens.now }
-    ensures { Comes (λ names. names.items) (λ k. run_more_modules k (origin_of input.now) spaces (first.value ∷ []) (from_at input.now first.next)) input.now first.next result }
+    ensures { Comes (λ names. names.items)
+        (λ k. run_more_modules k (origin_of input.now) spaces (first.value ∷ [])
+        (from_at input.now first.next)) input.now first.next result }
 {
     let mut names = and_one(Vec::new(alloc), first.value)?;
     let mut next = first.next;
@@ -221,7 +223,9 @@ fn read_bound(
     spaces: u32,
 ) -> Result<Reading<Stmt>, Stop>
     requires few { length input.now.tokens.now < 2 ^ 32 }
-    ensures { Comes statement_of (λ k. run_bound k binding (origin_of input.now) spaces (place_at (origin_of input.now) token) (from_at input.now at)) input.now at result }
+    ensures { Comes statement_of
+        (λ k. run_bound k binding (origin_of input.now) spaces (place_at (origin_of input.now) token)
+        (from_at input.now at)) input.now at result }
 {
     let one = definition(alloc, input, at, spaces)?;
     Ok(Reading {

@@ -1,6 +1,5 @@
 // Expressions on a line.
-ghost use Rattle.std.specs.Prelude.{◌≡◌, suc, ◌<◌, ◌≤◌, ◌^◌, ◌&&◌, length, option_map, IfOk, IfErr};
-ghost use Rattle.arc_base.specs.declared.place.Stop.TheVariants.{Memory};
+ghost use Rattle.std.specs.Prelude.{◌≡◌, suc, ◌<◌, ◌≤◌, ◌^◌, ◌&&◌, length, option_map};
 ghost use Rattle.nim_tree.specs.Terms.{term_of};
 ghost use Rattle.parse_exprs.specs.Input.{from_at, origin_of};
 ghost use Rattle.parse_exprs.specs.Look.{expr_at, stays};
@@ -60,15 +59,4 @@ fn begins_here(input: &Input, at: usize, layout: Layout) -> bool
     ensures { result ≡ (stays layout (from_at input.now at) && expr_at (origin_of input.now) (from_at input.now at)) }
 {
     input.stays(at, layout) && input.expr_at(at)
-}
-
-/// An expression on the heap.
-pub(crate) fn boxed(alloc: Global, tree: Expr) -> Result<Box<Expr>, Stop>
-    ensures ok { IfOk result (λ boxed. boxed.value ≡ tree) }
-    ensures err { IfErr result (λ stop. stop ≡ Memory) }
-{
-    match Box::new(alloc, tree) {
-        Ok(boxed) => Ok(boxed),
-        Err(_) => Err(Stop::Memory),
-    }
 }

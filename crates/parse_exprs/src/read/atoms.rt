@@ -61,7 +61,9 @@ fn read_group(
     requires head { from_at input.now at ≡ token ∷ from_at input.now (suc at) }
     requires within { at < length input.now.tokens.now }
     requires bracket { bracket_at (from_at input.now at) ≡ Some bracket }
-    ensures { (i : Layout) → Comes (λ k. run_group k None (Some bracket) (origin_of input.now) i left token (from_at input.now (suc at))) input.now left (suc at) result }
+    ensures { (i : Layout)
+        → Comes (λ k. run_group k None (Some bracket) (origin_of input.now) i left token
+        (from_at input.now (suc at))) input.now left (suc at) result }
 {
     let names = input.names_in(bracket, at + 1);
     let parts = read_enclosed(alloc, input, at, bracket, names, left - 1)?;

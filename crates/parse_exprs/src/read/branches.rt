@@ -2,7 +2,8 @@
 ghost use Rattle.std.specs.Prelude.{◌≡◌, ◌≤◌, ◌<◌, ◌-◌, length, suc};
 ghost use Rattle.nim_tree.specs.Terms.{Term, term_of, parts_of, choices_of, levels, most_levels, levels_in};
 ghost use Rattle.parse_exprs.specs.Look.{past_colon};
-ghost use Rattle.parse_exprs.specs.Run.{run_if, run_tail, run_value, run_own_line, run_elifs, run_else, run_case, run_branches, run_of, run_labels, run_label, run_ofs, run_otherwise};
+ghost use Rattle.parse_exprs.specs.Run.{run_if, run_tail, run_value, run_own_line, run_elifs, run_else, run_case};
+ghost use Rattle.parse_exprs.specs.Run.{run_branches, run_of, run_labels, run_label, run_ofs, run_otherwise};
 ghost use Rattle.parse_exprs.specs.Input.{origin_of, from_at};
 ghost use Rattle.parse_exprs.specs.Gives.{Comes, ComesParts, ComesTail, ComesChoices};
 
@@ -124,7 +125,9 @@ fn read_elifs(
     requires depth { first.depth ≡ levels_in (choices_of first.branches.items) }
     requires few { first.depth ≤ left }
     requires within { first.next ≤ length input.now.tokens.now }
-    ensures { ComesChoices (λ k. run_elifs k (origin_of input.now) layout left (choices_of first.branches.items) (from_at input.now first.next)) input.now left first.next result }
+    ensures { ComesChoices
+        (λ k. run_elifs k (origin_of input.now) layout left (choices_of first.branches.items)
+        (from_at input.now first.next)) input.now left first.next result }
 {
     let mut some = first;
     while let Some(token) = input.elif_at(some.next, layout) {
@@ -188,7 +191,8 @@ fn read_branches(
     requires depth { selector.depth ≡ levels (term_of selector.tree) }
     requires few { selector.depth < left }
     requires within { selector.next ≤ length input.now.tokens.now }
-    ensures { Comes (λ k. run_branches k (origin_of input.now) layout (left - 1) place (term_of selector.tree) (past_colon layout (from_at input.now selector.next))) input.now left (suc selector.next) result }
+    ensures { Comes (λ k. run_branches k (origin_of input.now) layout (left - 1) place (term_of selector.tree)
+        (past_colon layout (from_at input.now selector.next))) input.now left (suc selector.next) result }
 {
     let at = input.past_colon(selector.next, layout);
     let Some(token) = input.first_of_at(at, layout) else {
@@ -235,7 +239,9 @@ fn read_labels(
     requires depth { first.depth ≡ most_levels (parts_of first.parts.items) }
     requires few { first.depth ≤ left }
     requires within { first.next ≤ length input.now.tokens.now }
-    ensures { ComesParts (λ k. run_labels k (origin_of input.now) layout left (parts_of first.parts.items) (from_at input.now first.next)) input.now left first.next result }
+    ensures { ComesParts
+        (λ k. run_labels k (origin_of input.now) layout left (parts_of first.parts.items)
+        (from_at input.now first.next)) input.now left first.next result }
 {
     let mut some = first;
     while input.comma_at(some.next, layout) {
@@ -286,7 +292,9 @@ fn read_ofs(
     requires depth { first.depth ≡ levels_in (choices_of first.branches.items) }
     requires few { first.depth ≤ left }
     requires within { first.next ≤ length input.now.tokens.now }
-    ensures { ComesChoices (λ k. run_ofs k (origin_of input.now) layout left (choices_of first.branches.items) (from_at input.now first.next)) input.now left first.next result }
+    ensures { ComesChoices
+        (λ k. run_ofs k (origin_of input.now) layout left (choices_of first.branches.items)
+        (from_at input.now first.next)) input.now left first.next result }
 {
     let mut some = first;
     while let Some(token) = input.of_at(some.next, layout) {
@@ -312,7 +320,9 @@ fn read_otherwise(
     requires depth { all.depth ≡ levels_in (choices_of all.branches.items) }
     requires few { all.depth < left }
     requires within { all.next ≤ length input.now.tokens.now }
-    ensures { Comes (λ k. run_otherwise k (origin_of input.now) layout (left - 1) place (term_of selector.tree) (choices_of all.branches.items) (from_at input.now all.next)) input.now left all.next result }
+    ensures { Comes (λ k. run_otherwise k (origin_of input.now) layout (left - 1) place
+        (term_of selector.tree) (choices_of all.branches.items) (from_at input.now all.next)) input.now
+        left all.next result }
 {
     let deeper = selector.depth.max(all.depth);
     if !input.else_on(all.next, layout) {

@@ -231,7 +231,8 @@ fn read_field(
     requires within { a.next < length input.now.tokens.now }
     requires depth { a.depth ≡ levels (term_of a.tree) }
     requires few { a.depth < left }
-    ensures { Comes (λ k. run_applied k None (origin_of input.now) layout (left - 1) (term_of a.tree) (from_at input.now a.next)) input.now left (suc a.next) result }
+    ensures { Comes (λ k. run_applied k None (origin_of input.now) layout (left - 1) (term_of a.tree)
+        (from_at input.now a.next)) input.now left (suc a.next) result }
 {
     let Some(token) = input.name_on(a.next + 1, layout) else {
         return Err(Stuck::Syntax(a.next + 1));
@@ -258,7 +259,8 @@ fn read_applied(
     requires bracket { bracket_at (from_at input.now a.next) ≡ Some bracket }
     requires depth { a.depth ≡ levels (term_of a.tree) }
     requires few { a.depth < left }
-    ensures { Comes (λ k. run_applied k (Some bracket) (origin_of input.now) layout (left - 1) (term_of a.tree) (from_at input.now a.next)) input.now left (suc a.next) result }
+    ensures { Comes (λ k. run_applied k (Some bracket) (origin_of input.now) layout (left - 1)
+        (term_of a.tree) (from_at input.now a.next)) input.now left (suc a.next) result }
 {
     let Reading { tree, next, depth } = a;
     let names = input.names_behind(&tree, bracket, next + 1);

@@ -113,7 +113,9 @@ fn read_elifs(
 ) -> Result<Reading<Vec<Branch>>, Stop>
     requires few { length input.now.tokens.now < 2 ^ 32 }
     requires within { first.next ≤ length input.now.tokens.now }
-    ensures { Comes chosen_of (λ k. run_elifs k (origin_of input.now) spaces left (chosen_of first.value) (from_at input.now first.next)) input.now first.next result }
+    ensures { Comes chosen_of
+        (λ k. run_elifs k (origin_of input.now) spaces left (chosen_of first.value)
+        (from_at input.now first.next)) input.now first.next result }
 {
     let mut all = first.value;
     let mut next = first.next;
@@ -187,7 +189,9 @@ fn read_branches(
     requires few { length input.now.tokens.now < 2 ^ 32 }
     requires goes { suc at ≤ selector.next }
     requires within { selector.next ≤ length input.now.tokens.now }
-    ensures { Comes statement_of (λ k. run_branches k (origin_of input.now) spaces left token (term_of selector.value) (past_colon (Lines spaces) (from_at input.now selector.next))) input.now (suc at) result }
+    ensures { Comes statement_of
+        (λ k. run_branches k (origin_of input.now) spaces left token (term_of selector.value)
+        (past_colon (Lines spaces) (from_at input.now selector.next))) input.now (suc at) result }
 {
     let layout = Layout::Lines(spaces);
     let next = input.past_colon(selector.next, layout);

@@ -171,7 +171,9 @@ fn read_handlers(
 ) -> Result<Reading<Vec<Handler>>, Stop>
     requires few { length input.now.tokens.now < 2 ^ 32 }
     requires within { at ≤ length input.now.tokens.now }
-    ensures { Comes (λ all. handlers_of all.items) (λ k. run_handlers k (origin_of input.now) spaces left no_handlers (from_at input.now at)) input.now at result }
+    ensures { Comes (λ all. handlers_of all.items)
+        (λ k. run_handlers k (origin_of input.now) spaces left no_handlers (from_at input.now at)) input.now
+        at result }
 {
     let mut all = Vec::new(alloc);
     let mut next = at;
@@ -291,7 +293,10 @@ pub(crate) fn read_types_section(
 ) -> Result<Reading<Stmt>, Stop>
     requires few { length input.now.tokens.now < 2 ^ 32 }
     requires within { at < length input.now.tokens.now }
-    ensures { (left : ℕ) → Comes statement_of (λ k. run_compound k L.Type (origin_of input.now) spaces left token (from_at input.now (suc at))) input.now (suc at) result }
+    ensures { (left : ℕ)
+        → Comes statement_of
+        (λ k. run_compound k L.Type (origin_of input.now) spaces left token (from_at input.now (suc at)))
+        input.now (suc at) result }
 {
     let all = type_declarations(alloc, input, at + 1, spaces)?;
     Ok(Reading {
@@ -323,7 +328,10 @@ pub(crate) fn read_section(
 ) -> Result<Reading<Stmt>, Stop>
     requires few { length input.now.tokens.now < 2 ^ 32 }
     requires within { at < length input.now.tokens.now }
-    ensures { (left : ℕ) → Comes statement_of (λ k. run_compound k L.Section (origin_of input.now) spaces left token (from_at input.now (suc at))) input.now (suc at) result }
+    ensures { (left : ℕ)
+        → Comes statement_of
+        (λ k. run_compound k L.Section (origin_of input.now) spaces left token (from_at input.now (suc at)))
+        input.now (suc at) result }
 {
     let all = definition_block(alloc, input, at + 1, spaces)?;
     Ok(Reading {

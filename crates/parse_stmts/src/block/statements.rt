@@ -34,7 +34,9 @@ pub(crate) fn read_statements(
 ) -> Result<Reading<Vec<Stmt>>, Stop>
     requires few { length input.now.tokens.now < 2 ^ 32 }
     requires within { at ≤ length input.now.tokens.now }
-    ensures { Comes (λ all. statements_of all.items) (λ k. run_statements k (origin_of input.now) spaces left empty (from_at input.now at)) input.now at result }
+    ensures { Comes (λ all. statements_of all.items)
+        (λ k. run_statements k (origin_of input.now) spaces left empty (from_at input.now at)) input.now
+        at result }
 {
     let mut all = Vec::new(alloc);
     let mut next = at;
@@ -61,7 +63,9 @@ fn read_statement(
     left: u32,
 ) -> Result<Reading<Vec<Stmt>>, Stop>
     requires few { length input.now.tokens.now < 2 ^ 32 }
-    ensures { Comes (λ all. statements_of all.items) (λ k. run_statement k (origin_of input.now) spaces left (statements_of some.items) (from_at input.now at)) input.now (suc at) result }
+    ensures { Comes (λ all. statements_of all.items)
+        (λ k. run_statement k (origin_of input.now) spaces left (statements_of some.items)
+        (from_at input.now at)) input.now (suc at) result }
 {
     let Some(token) = input.head(at) else {
         return Err(stuck(input, at));
@@ -95,7 +99,9 @@ fn read_choice(
     requires few { length input.now.tokens.now < 2 ^ 32 }
     requires head { from_at input.now at ≡ token ∷ from_at input.now (suc at) }
     requires within { at < length input.now.tokens.now }
-    ensures { Comes (λ all. statements_of all.items) (choice_run lead (origin_of input.now) spaces left (statements_of some.items) token (from_at input.now at) (from_at input.now (suc at))) input.now (suc at) result }
+    ensures { Comes (λ all. statements_of all.items)
+        (choice_run lead (origin_of input.now) spaces left (statements_of some.items) token
+        (from_at input.now at) (from_at input.now (suc at))) input.now (suc at) result }
 {
     let Reading { value: alone, next } = read_alone(alloc, input, at, spaces)?;
     match alone {

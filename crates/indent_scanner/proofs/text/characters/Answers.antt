@@ -10,7 +10,8 @@ use Rattle.indent_scanner.proofs.text.characters.Goals.{in-Some-value_of+in_ok-p
 pub loop-at-preserved : goal.loop-at-preserved
 loop-at-preserved c =
     let bytes = c.args.bytes.now in let at = c.loop-at.at in let state = c.loop-at.state in let next = c.in-Some.next in
-    let is : step state (get_or bytes at 0) (get_or bytes (at + 1) 0) ≡ Some next = ap (step state (get_or bytes at 0)) (sym c.byte_at.ensures) ∙ sym c.step.ensures ∙ c.in-Some.is in
+    let is : step state (get_or bytes at 0) (get_or bytes (at + 1) 0) ≡ Some next = ap (step state (get_or bytes at 0)) (sym c.byte_at.ensures)
+    ∙ sym c.step.ensures ∙ c.in-Some.is in
     let deep = deeper_at state next _ _ is in
     let go = values_go state next bytes at c.loop-at-test.true is in
     let before = c.loop-at.invariant.read in

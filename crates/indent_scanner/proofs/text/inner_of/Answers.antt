@@ -1,4 +1,4 @@
-use Rattle.std.proofs.Common.{◌≡◌, ◌≤◌, List, length, subst, sym}
+use Rattle.std.proofs.Common.{◌≡◌, ◌≤◌, length, subst, sym}
 use Rattle.std.proofs.lemmas.Result.{IfOk-weaker}
 use Rattle.indent_scanner.specs.declared.token.Tok.TheVariants as T
 use Rattle.indent_scanner.specs.Grammar.{IsQuoted}
@@ -11,4 +11,5 @@ returns-clause-inner c =
 
 pub returns-clause-short : goal.returns-clause-short
 returns-clause-short c =
-    IfOk-weaker c.text_in.result _ (λ text. length text ≤ length c.args.name.now) (λ text is. subst (λ t. length t ≤ length c.args.name.now) (sym is) (meaning_short T.Quoted c.args.name.now)) c.text_in.ensures
+    IfOk-weaker c.text_in.result _ (λ text. length text ≤ length c.args.name.now)
+    (λ text is. subst (λ t. length t ≤ length c.args.name.now) (sym is) (meaning_short T.Quoted c.args.name.now)) c.text_in.ensures

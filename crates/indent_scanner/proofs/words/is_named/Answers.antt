@@ -9,7 +9,8 @@ pub returns-then-is_empty : goal.returns-then-is_empty
 returns-then-is_empty c = c.is_empty-then-is_empty.ensures ∙ named_empty c.args.name.now c.args.key.now (sym c.is_empty.ensures ∙ c.if-is_empty.true)
 
 pub returns-then-is_empty-2 : goal.returns-then-is_empty-2
-returns-then-is_empty-2 c = named_none c.args.name.now c.args.key.now (sym c.is_empty.ensures ∙ c.if-is_empty.false) (sym c.is_empty-2.ensures ∙ c.if-is_empty-2.true)
+returns-then-is_empty-2 c = named_none c.args.name.now c.args.key.now (sym c.is_empty.ensures ∙ c.if-is_empty.false)
+    (sym c.is_empty-2.ensures ∙ c.if-is_empty-2.true)
 
 pub returns-then-name-key : goal.returns-then-name-key
 returns-then-name-key c =
@@ -20,4 +21,5 @@ returns-then-name-key c =
 pub returns-else-name-key : goal.returns-else-name-key
 returns-else-name-key c =
     let name = c.args.name.now in let key = c.args.key.now in
-    ne_eqb _ _ c.if-name-key.false ∙ sym (named_differs name key (sym c.is_empty.ensures ∙ c.if-is_empty.false) (sym c.is_empty-2.ensures ∙ c.if-is_empty-2.false) c.if-name-key.false)
+    ne_eqb _ _ c.if-name-key.false
+    ∙ sym (named_differs name key (sym c.is_empty.ensures ∙ c.if-is_empty.false) (sym c.is_empty-2.ensures ∙ c.if-is_empty-2.false) c.if-name-key.false)

@@ -19,7 +19,8 @@ abbrev pub invariant-of_statements-loop-statement : goal.invariant-of_statements
 invariant-of_statements-loop-statement l = record {
   light : all_nodes (statements_of (drop l.statement-index l.statements)) ≤ all_nodes (statements_of l.fn.statements);
   small : l.all ≤ 2 ^ 32 - 1;
-  all : min (l.all + all_nodes (statements_of (drop l.statement-index l.statements))) (2 ^ 32 - 1) ≡ min (all_nodes (statements_of l.fn.statements)) (2 ^ 32 - 1);
+  all : min (l.all + all_nodes (statements_of (drop l.statement-index l.statements))) (2 ^ 32 - 1) ≡ min (all_nodes (statements_of l.fn.statements))
+      (2 ^ 32 - 1);
 }
 
 abbrev pub invariant-of_branches-loop-branch : goal.invariant-of_branches-loop-branch

@@ -1,6 +1,7 @@
 use Rattle.std.proofs.Common.{◌≡◌, ◌≤◌, ◌-◌, ◌^◌, ◌+◌, ◌*◌, min, drop}
 use Rattle.std.specs.Prelude.{max}
-use Rattle.nim_tree.specs.Statements.{statement_of, statements_of, branches_of, handlers_of, nodes_of, all_nodes, branch_nodes, handler_nodes, block_levels, branch_block_levels, handler_block_levels}
+use Rattle.nim_tree.specs.Statements.{statement_of, statements_of, branches_of, handlers_of, nodes_of, all_nodes, branch_nodes, handler_nodes, block_levels}
+use Rattle.nim_tree.specs.Statements.{branch_block_levels, handler_block_levels}
 use Rattle.nim_tree.proofs.depth.+blocks.Given as goal
 
 abbrev pub decreases-blocks_of : goal.decreases-blocks_of
@@ -22,17 +23,20 @@ decreases-blocks_in_handlers l = 3 * handler_nodes (handlers_of l.handlers.now) 
 abbrev pub invariant-blocks_in-loop-statement : goal.invariant-blocks_in-loop-statement
 invariant-blocks_in-loop-statement l = record {
   light : all_nodes (statements_of (drop l.statement-index l.statements)) ≤ all_nodes (statements_of l.fn.statements);
-  most : max l.most (min (block_levels (statements_of (drop l.statement-index l.statements))) (2 ^ 32 - 1)) ≡ min (block_levels (statements_of l.fn.statements)) (2 ^ 32 - 1);
+  most : max l.most (min (block_levels (statements_of (drop l.statement-index l.statements))) (2 ^ 32 - 1)) ≡ min (block_levels (statements_of l.fn.statements))
+      (2 ^ 32 - 1);
 }
 
 abbrev pub invariant-blocks_in_branches-loop-branch : goal.invariant-blocks_in_branches-loop-branch
 invariant-blocks_in_branches-loop-branch l = record {
   light : branch_nodes (branches_of (drop l.branch-index l.branches)) ≤ branch_nodes (branches_of l.fn.branches);
-  most : max l.most (min (branch_block_levels (branches_of (drop l.branch-index l.branches))) (2 ^ 32 - 1)) ≡ min (branch_block_levels (branches_of l.fn.branches)) (2 ^ 32 - 1);
+  most : max l.most (min (branch_block_levels (branches_of (drop l.branch-index l.branches))) (2 ^ 32 - 1))
+      ≡ min (branch_block_levels (branches_of l.fn.branches)) (2 ^ 32 - 1);
 }
 
 abbrev pub invariant-blocks_in_handlers-loop-handler : goal.invariant-blocks_in_handlers-loop-handler
 invariant-blocks_in_handlers-loop-handler l = record {
   light : handler_nodes (handlers_of (drop l.handler-index l.handlers)) ≤ handler_nodes (handlers_of l.fn.handlers);
-  most : max l.most (min (handler_block_levels (handlers_of (drop l.handler-index l.handlers))) (2 ^ 32 - 1)) ≡ min (handler_block_levels (handlers_of l.fn.handlers)) (2 ^ 32 - 1);
+  most : max l.most (min (handler_block_levels (handlers_of (drop l.handler-index l.handlers))) (2 ^ 32 - 1))
+      ≡ min (handler_block_levels (handlers_of l.fn.handlers)) (2 ^ 32 - 1);
 }

@@ -16,7 +16,8 @@ abbrev pub invariant-of_arguments-loop-argument : goal.invariant-of_arguments-lo
 invariant-of_arguments-loop-argument l = record {
   light : argument_nodes (arguments_of (drop l.argument-index l.arguments)) ≤ argument_nodes (arguments_of l.fn.arguments);
   small : l.all ≤ 2 ^ 32 - 1;
-  all : min (l.all + argument_nodes (arguments_of (drop l.argument-index l.arguments))) (2 ^ 32 - 1) ≡ min (argument_nodes (arguments_of l.fn.arguments)) (2 ^ 32 - 1);
+  all : min (l.all + argument_nodes (arguments_of (drop l.argument-index l.arguments))) (2 ^ 32 - 1) ≡ min (argument_nodes (arguments_of l.fn.arguments))
+      (2 ^ 32 - 1);
 }
 
 abbrev pub invariant-of_fields-loop-field : goal.invariant-of_fields-loop-field

@@ -8,5 +8,6 @@ use Rattle.nim_tree.proofs.part_count.of_declarations.Given as goal
 abbrev pub invariant-loop-def : goal.invariant-loop-def
 invariant-loop-def l = record {
   small : l.all ≤ 2 ^ 32 - 1;
-  all : min (l.all + total declaration_nodes (map declaration_of (drop l.def-index l.defs))) (2 ^ 32 - 1) ≡ min (total declaration_nodes (map declaration_of l.fn.defs)) (2 ^ 32 - 1);
+  all : min (l.all + total declaration_nodes (map declaration_of (drop l.def-index l.defs))) (2 ^ 32 - 1)
+      ≡ min (total declaration_nodes (map declaration_of l.fn.defs)) (2 ^ 32 - 1);
 }

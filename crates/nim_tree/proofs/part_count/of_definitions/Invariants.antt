@@ -8,5 +8,6 @@ use Rattle.nim_tree.proofs.part_count.of_definitions.Given as goal
 abbrev pub invariant-loop-def : goal.invariant-loop-def
 invariant-loop-def l = record {
   small : l.all ≤ 2 ^ 32 - 1;
-  all : min (l.all + total definition_nodes (map definition_of (drop l.def-index l.defs))) (2 ^ 32 - 1) ≡ min (total definition_nodes (map definition_of l.fn.defs)) (2 ^ 32 - 1);
+  all : min (l.all + total definition_nodes (map definition_of (drop l.def-index l.defs))) (2 ^ 32 - 1)
+      ≡ min (total definition_nodes (map definition_of l.fn.defs)) (2 ^ 32 - 1);
 }

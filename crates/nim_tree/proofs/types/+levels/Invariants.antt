@@ -16,7 +16,8 @@ decreases-field_levels l = 2 * field_nodes (fields_of l.fields.now) + 1
 abbrev pub invariant-argument_levels-loop-argument : goal.invariant-argument_levels-loop-argument
 invariant-argument_levels-loop-argument l = record {
   light : argument_nodes (arguments_of (drop l.argument-index l.arguments)) ≤ argument_nodes (arguments_of l.fn.arguments);
-  most : max l.most (min (most_type_levels (arguments_of (drop l.argument-index l.arguments))) (2 ^ 32 - 1)) ≡ min (most_type_levels (arguments_of l.fn.arguments)) (2 ^ 32 - 1);
+  most : max l.most (min (most_type_levels (arguments_of (drop l.argument-index l.arguments))) (2 ^ 32 - 1))
+      ≡ min (most_type_levels (arguments_of l.fn.arguments)) (2 ^ 32 - 1);
 }
 
 abbrev pub invariant-field_levels-loop-field : goal.invariant-field_levels-loop-field

@@ -9,4 +9,5 @@ returns-in_err-base c =
     rw (p.1, p.2) (fails_leads _ _ _ (leads_unless _ _ (sym c.stays.ensures ∙ c.if-not-stays.false)) _ (fails_then _ _ _ _ c.in_err-base.ensures))
 
 pub returns : goal.returns
-returns c = found _ _ (leads_on (leads_then _ c.in_ok-base.ensures.runs) (leads_unless _ _ (sym c.stays.ensures ∙ c.if-not-stays.false))) c.in_ok-base.ensures.goes c.in_ok-base.ensures.within
+returns c = found _ _ (leads_on (leads_then _ c.in_ok-base.ensures.runs) (leads_unless _ _ (sym c.stays.ensures ∙ c.if-not-stays.false)))
+    c.in_ok-base.ensures.goes c.in_ok-base.ensures.within

@@ -7,19 +7,23 @@ use Rattle.parse_decls.proofs.Repeats.{fields_loop, and_part, loop_on, loop_fail
 use Rattle.parse_decls.proofs.body.read_fields.Goals as goal
 
 pub loop-alloc-init : goal.loop-alloc-init
-loop-alloc-init c = begins (fields_loop (origin_of c.args.input.now) c.args.spaces) _ c.args.input.now _ _ _ _ (ap (fields_of) c.new-all.ensures.items) (λ o h. h) (omega arith) c.requires.within
+loop-alloc-init c = begins (fields_loop (origin_of c.args.input.now) c.args.spaces) _ c.args.input.now _ _ _ _ (ap (fields_of) c.new-all.ensures.items)
+    (λ o h. h) (omega arith) c.requires.within
 
 pub returns-in_err-one : goal.returns-in_err-one
 returns-in_err-one c =
     let p = err_from_is_err_and c.from_residual.result c.from_residual.ensures.1 in
-    rw (p.1, p.2) (loop_fails (fields_loop (origin_of c.args.input.now) c.args.spaces) _ c.args.input.now _ _ _ _ _ refl c.loop-alloc.invariant (sym c.stands_at.ensures ∙ c.loop-alloc-test.true) c.in_err-one.ensures)
+    rw (p.1, p.2) (loop_fails (fields_loop (origin_of c.args.input.now) c.args.spaces) _ c.args.input.now _ _ _ _ _ refl c.loop-alloc.invariant
+    (sym c.stands_at.ensures ∙ c.loop-alloc-test.true) c.in_err-one.ensures)
 
 pub loop-alloc-preserved : goal.loop-alloc-preserved
 loop-alloc-preserved c =
-    loop_on (fields_loop (origin_of c.args.input.now) c.args.spaces) _ c.args.input.now _ _ _ _ _ _ _ _ refl refl (omega arith) c.loop-alloc.invariant (sym c.stands_at.ensures ∙ c.loop-alloc-test.true) c.in_ok-one.ensures
+    loop_on (fields_loop (origin_of c.args.input.now) c.args.spaces) _ c.args.input.now _ _ _ _ _ _ _ _ refl refl (omega arith) c.loop-alloc.invariant
+    (sym c.stands_at.ensures ∙ c.loop-alloc-test.true) c.in_ok-one.ensures
     (ap (fields_of) c.in_ok-all.ensures.ok ∙ and_part c.loop-alloc.all.items c.in_ok-one.one.value)
 
 pub returns : goal.returns
 returns c =
-    let h = loop_ends (fields_loop (origin_of c.args.input.now) c.args.spaces) _ c.args.input.now _ _ _ c.loop-alloc.invariant (sym c.stands_at.ensures ∙ c.loop-alloc-test.false) in
+    let h = loop_ends (fields_loop (origin_of c.args.input.now) c.args.spaces) _ c.args.input.now _ _ _ c.loop-alloc.invariant
+    (sym c.stands_at.ensures ∙ c.loop-alloc-test.false) in
     found _ _ h.leads h.goes h.within

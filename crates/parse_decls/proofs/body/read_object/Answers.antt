@@ -17,4 +17,5 @@ pub returns : goal.returns
 returns c =
     let g = c.in_ok-parent.ensures.goes in
     let h = c.in_ok-fields.ensures.goes in
-    found _ _ (leads_on (leads_then _ c.in_ok-fields.ensures.runs) (leads_then _ c.in_ok-parent.ensures.runs)) (omega (arith, g, h)) c.in_ok-fields.ensures.within
+    found _ _ (leads_on (leads_then _ c.in_ok-fields.ensures.runs) (leads_then _ c.in_ok-parent.ensures.runs)) (omega (arith, g, h))
+    c.in_ok-fields.ensures.within

@@ -9,7 +9,9 @@ pub returns-in_err-name : goal.returns-in_err-name
 returns-in_err-name c =
     let p = err_from_is_err_and c.from_residual.result c.from_residual.ensures.1 in
     let b = behind_at c.args.at c.args.input.now.tokens.now in
-    rw (p.1, p.2) (fails_leads _ _ _ (leads_if _ _ (sym c.of_at.ensures ∙ c.if-not-of_at.false)) _ (fails_then _ _ _ _ (fails_at (λ ts k. run_name (origin_of c.args.input.now) c.args.layout ts) _ _ b c.in_err-name.ensures)))
+    rw (p.1, p.2)
+    (fails_leads _ _ _ (leads_if _ _ (sym c.of_at.ensures ∙ c.if-not-of_at.false))
+    _ (fails_then _ _ _ _ (fails_at (λ ts k. run_name (origin_of c.args.input.now) c.args.layout ts) _ _ b c.in_err-name.ensures)))
 
 pub returns : goal.returns
 returns c =

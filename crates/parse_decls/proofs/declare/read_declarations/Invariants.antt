@@ -7,7 +7,8 @@ use Rattle.parse_decls.specs.Gives.{SoFar}
 use Rattle.parse_decls.proofs.declare.read_declarations.Given as goal
 
 abbrev pub invariant-loop-alloc : goal.invariant-loop-alloc
-invariant-loop-alloc l = SoFar (λ k. run_declarations k (origin_of l.input) l.spaces (map declaration_of l.all.items) (from_at l.input l.next)) (λ k. run_declarations k (origin_of l.input) l.spaces [] (from_at l.input l.fn.at)) l.input l.fn.at l.next
+invariant-loop-alloc l = SoFar (λ k. run_declarations k (origin_of l.input) l.spaces (map declaration_of l.all.items) (from_at l.input l.next))
+    (λ k. run_declarations k (origin_of l.input) l.spaces [] (from_at l.input l.fn.at)) l.input l.fn.at l.next
 
 abbrev pub decreases-loop-alloc : goal.decreases-loop-alloc
 decreases-loop-alloc l = length l.input.tokens.now - l.next

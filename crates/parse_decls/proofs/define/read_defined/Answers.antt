@@ -16,12 +16,15 @@ returns-in_err-pragmas c =
 pub returns-in_err-annotation : goal.returns-in_err-annotation
 returns-in_err-annotation c =
     let p = err_from_is_err_and c.from_residual-in_err-annotation.result c.from_residual-in_err-annotation.ensures.1 in
-    rw (p.1, p.2) (fails_leads _ _ _ (leads_on (leads_then _ c.in_ok-pragmas.ensures.runs) (leads_then _ c.in_ok-names.ensures.runs)) _ (fails_then _ _ _ _ c.in_err-annotation.ensures))
+    rw (p.1, p.2) (fails_leads _ _ _ (leads_on (leads_then _ c.in_ok-pragmas.ensures.runs) (leads_then _ c.in_ok-names.ensures.runs))
+    _ (fails_then _ _ _ _ c.in_err-annotation.ensures))
 
 pub returns-in_err-value : goal.returns-in_err-value
 returns-in_err-value c =
     let p = err_from_is_err_and c.from_residual-in_err-value.result c.from_residual-in_err-value.ensures.1 in
-    rw (p.1, p.2) (fails_leads _ _ _ (leads_on (leads_then _ c.in_ok-annotation.ensures.runs) (leads_on (leads_then _ c.in_ok-pragmas.ensures.runs) (leads_then _ c.in_ok-names.ensures.runs))) _ (fails_then _ _ _ _ c.in_err-value.ensures))
+    rw (p.1, p.2)
+    (fails_leads _ _ _ (leads_on (leads_then _ c.in_ok-annotation.ensures.runs)
+    (leads_on (leads_then _ c.in_ok-pragmas.ensures.runs) (leads_then _ c.in_ok-names.ensures.runs))) _ (fails_then _ _ _ _ c.in_err-value.ensures))
 
 pub returns : goal.returns
 returns c =
@@ -29,4 +32,7 @@ returns c =
     let h = c.in_ok-pragmas.ensures.goes in
     let i = c.in_ok-annotation.ensures.goes in
     let j = c.in_ok-value.ensures.goes in
-    found _ _ (leads_on (leads_then _ c.in_ok-value.ensures.runs) (leads_on (leads_then _ c.in_ok-annotation.ensures.runs) (leads_on (leads_then _ c.in_ok-pragmas.ensures.runs) (leads_then _ c.in_ok-names.ensures.runs)))) (omega (arith, g, h, i, j)) c.in_ok-value.ensures.within
+    found _ _ (leads_on (leads_then _ c.in_ok-value.ensures.runs)
+    (leads_on (leads_then _ c.in_ok-annotation.ensures.runs)
+    (leads_on (leads_then _ c.in_ok-pragmas.ensures.runs) (leads_then _ c.in_ok-names.ensures.runs)))) (omega (arith, g, h, i, j))
+    c.in_ok-value.ensures.within

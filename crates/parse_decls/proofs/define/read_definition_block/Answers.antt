@@ -9,5 +9,7 @@ use Rattle.parse_decls.proofs.define.read_definition_block.Goals as goal
 
 pub returns : goal.returns
 returns c =
-    comes_leads (λ all. map definition_of all.items) _ _ c.args.input.now c.args.at (leads_unless _ _ (sym c.deeper_at.ensures ∙ c.if-not-deeper_at.false)) c.args.at (omega arith) c.read_definitions.result
-    (subst (λ n. Comes (λ all. map definition_of all.items) (λ k. run_defs k (origin_of c.args.input.now) n [] (from_at c.args.input.now c.args.at)) c.args.input.now c.args.at c.read_definitions.result) c.level_at-level.ensures c.read_definitions.ensures)
+    comes_leads (λ all. map definition_of all.items) _ _ c.args.input.now c.args.at (leads_unless _ _ (sym c.deeper_at.ensures ∙ c.if-not-deeper_at.false))
+    c.args.at (omega arith) c.read_definitions.result
+    (subst (λ n. Comes (λ all. map definition_of all.items) (λ k. run_defs k (origin_of c.args.input.now) n [] (from_at c.args.input.now c.args.at))
+    c.args.input.now c.args.at c.read_definitions.result) c.level_at-level.ensures c.read_definitions.ensures)

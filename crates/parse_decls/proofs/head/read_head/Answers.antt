@@ -16,22 +16,30 @@ returns-in_err-generics c =
 pub returns-in_err-params : goal.returns-in_err-params
 returns-in_err-params c =
     let p = err_from_is_err_and c.from_residual-in_err-params.result c.from_residual-in_err-params.ensures.1 in
-    rw (p.1, p.2) (fails_leads _ _ _ (leads_on (leads_then _ c.in_ok-generics.ensures.runs) (leads_then _ c.in_ok-name.ensures.runs)) _ (fails_then _ _ _ _ c.in_err-params.ensures))
+    rw (p.1, p.2) (fails_leads _ _ _ (leads_on (leads_then _ c.in_ok-generics.ensures.runs) (leads_then _ c.in_ok-name.ensures.runs))
+    _ (fails_then _ _ _ _ c.in_err-params.ensures))
 
 pub returns-in_err-gives : goal.returns-in_err-gives
 returns-in_err-gives c =
     let p = err_from_is_err_and c.from_residual-in_err-gives.result c.from_residual-in_err-gives.ensures.1 in
-    rw (p.1, p.2) (fails_leads _ _ _ (leads_on (leads_then _ c.in_ok-params.ensures.runs) (leads_on (leads_then _ c.in_ok-generics.ensures.runs) (leads_then _ c.in_ok-name.ensures.runs))) _ (fails_then _ _ _ _ c.in_err-gives.ensures))
+    rw (p.1, p.2)
+    (fails_leads
+    _ _ _ (leads_on (leads_then _ c.in_ok-params.ensures.runs)
+    (leads_on (leads_then _ c.in_ok-generics.ensures.runs) (leads_then _ c.in_ok-name.ensures.runs))) _ (fails_then _ _ _ _ c.in_err-gives.ensures))
 
 pub returns-in_err-pragmas : goal.returns-in_err-pragmas
 returns-in_err-pragmas c =
     let p = err_from_is_err_and c.from_residual-in_err-pragmas.result c.from_residual-in_err-pragmas.ensures.1 in
-    let l = leads_on (leads_then _ c.in_ok-gives.ensures.runs) (leads_on (leads_then _ c.in_ok-params.ensures.runs) (leads_on (leads_then _ c.in_ok-generics.ensures.runs) (leads_then _ c.in_ok-name.ensures.runs))) in
+    let l = leads_on (leads_then _ c.in_ok-gives.ensures.runs)
+    (leads_on (leads_then _ c.in_ok-params.ensures.runs)
+    (leads_on (leads_then _ c.in_ok-generics.ensures.runs) (leads_then _ c.in_ok-name.ensures.runs))) in
     rw (p.1, p.2) (fails_leads _ _ _ l _ (fails_then _ _ _ _ c.in_err-pragmas.ensures))
 
 pub returns : goal.returns
 returns c =
-    let l = leads_on (leads_then _ c.in_ok-gives.ensures.runs) (leads_on (leads_then _ c.in_ok-params.ensures.runs) (leads_on (leads_then _ c.in_ok-generics.ensures.runs) (leads_then _ c.in_ok-name.ensures.runs))) in
+    let l = leads_on (leads_then _ c.in_ok-gives.ensures.runs)
+    (leads_on (leads_then _ c.in_ok-params.ensures.runs)
+    (leads_on (leads_then _ c.in_ok-generics.ensures.runs) (leads_then _ c.in_ok-name.ensures.runs))) in
     let g = c.in_ok-name.ensures.goes in
     let h = c.in_ok-generics.ensures.goes in
     let i = c.in_ok-params.ensures.goes in

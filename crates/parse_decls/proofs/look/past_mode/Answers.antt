@@ -10,7 +10,8 @@ returns-in-Var c =
     let e = written_mode c.mode_at.result c.in-Var.is in
     let w = mode_within (origin_of c.args.input.now) c.args.at c.args.input.now.tokens.now _ (sym c.mode_at.ensures) e.not_plain in
     record {
-      past = sym (behind_at c.args.at c.args.input.now.tokens.now) ∙ sym (e.past (from_at c.args.input.now c.args.at)) ∙ ap (λ m. past_if_mode m (from_at c.args.input.now c.args.at)) c.mode_at.ensures;
+      past = sym (behind_at c.args.at c.args.input.now.tokens.now) ∙ sym (e.past (from_at c.args.input.now c.args.at))
+          ∙ ap (λ m. past_if_mode m (from_at c.args.input.now c.args.at)) c.mode_at.ensures;
       goes = omega arith;
       within = omega (arith, w);
     }

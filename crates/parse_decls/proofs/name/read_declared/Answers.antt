@@ -9,9 +9,11 @@ use Rattle.parse_decls.proofs.Places.{stands_within}
 use Rattle.parse_decls.proofs.name.read_declared.Goals as goal
 
 pub read_shown-requires : goal.read_shown-requires
-read_shown-requires c = record { within = stands_within (name_on c.args.before) refl c.args.at c.args.input.now.tokens.now c.name_on-name.result c.name_on-name.ensures }
+read_shown-requires c =
+    record { within = stands_within (name_on c.args.before) refl c.args.at c.args.input.now.tokens.now c.name_on-name.result c.name_on-name.ensures }
 
 pub returns : goal.returns
 returns c =
     let ts : List Token = from_at c.args.input.now c.args.at in
-    subst (λ o. Comes {T = Declared} {X = Declared} (λ name. name) (λ k. run_shown (origin_of c.args.input.now) c.args.layout o ts) c.args.input.now (suc c.args.at) c.read_shown.result) c.name_on-name.ensures c.read_shown.ensures
+    subst (λ o. Comes {T = Declared} {X = Declared} (λ name. name) (λ k. run_shown (origin_of c.args.input.now) c.args.layout o ts) c.args.input.now
+    (suc c.args.at) c.read_shown.result) c.name_on-name.ensures c.read_shown.ensures

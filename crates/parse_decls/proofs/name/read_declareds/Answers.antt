@@ -14,14 +14,17 @@ pub returns-in_err-one : goal.returns-in_err-one
 returns-in_err-one c =
     let p = err_from_is_err_and c.from_residual-in_err-one.result c.from_residual-in_err-one.ensures.1 in
     let b = behind_at c.loop-alloc.next c.args.input.now.tokens.now in
-    rw (p.1, p.2) (loop_fails (declared_loop (origin_of c.args.input.now) c.args.layout) _ c.args.input.now _ _ _ _ _ b c.loop-alloc.invariant (sym c.comma_at.ensures ∙ c.loop-alloc-test.true) c.in_err-one.ensures)
+    rw (p.1, p.2) (loop_fails (declared_loop (origin_of c.args.input.now) c.args.layout) _ c.args.input.now _ _ _ _ _ b c.loop-alloc.invariant
+    (sym c.comma_at.ensures ∙ c.loop-alloc-test.true) c.in_err-one.ensures)
 
 pub loop-alloc-preserved : goal.loop-alloc-preserved
 loop-alloc-preserved c =
     let b = behind_at c.loop-alloc.next c.args.input.now.tokens.now in
-    loop_on (declared_loop (origin_of c.args.input.now) c.args.layout) _ c.args.input.now _ _ _ _ _ _ _ _ b refl (omega arith) c.loop-alloc.invariant (sym c.comma_at.ensures ∙ c.loop-alloc-test.true) c.in_ok-one.ensures c.in_ok-names-2.ensures.ok
+    loop_on (declared_loop (origin_of c.args.input.now) c.args.layout) _ c.args.input.now _ _ _ _ _ _ _ _ b refl (omega arith) c.loop-alloc.invariant
+    (sym c.comma_at.ensures ∙ c.loop-alloc-test.true) c.in_ok-one.ensures c.in_ok-names-2.ensures.ok
 
 pub returns : goal.returns
 returns c =
-    let h = loop_ends (declared_loop (origin_of c.args.input.now) c.args.layout) _ c.args.input.now _ _ _ c.loop-alloc.invariant (sym c.comma_at.ensures ∙ c.loop-alloc-test.false) in
+    let h = loop_ends (declared_loop (origin_of c.args.input.now) c.args.layout) _ c.args.input.now _ _ _ c.loop-alloc.invariant
+    (sym c.comma_at.ensures ∙ c.loop-alloc-test.false) in
     found _ _ h.leads h.goes h.within

@@ -5,7 +5,8 @@ use Rattle.parse_decls.specs.Gives.{SoFar}
 use Rattle.parse_decls.proofs.name.read_declareds.Given as goal
 
 abbrev pub invariant-loop-alloc : goal.invariant-loop-alloc
-invariant-loop-alloc l = SoFar (λ k. run_more_declared k (origin_of l.input) l.layout l.names.items (from_at l.input l.next)) (λ k. run_declareds k (origin_of l.input) l.fn.before l.layout (from_at l.input l.fn.at)) l.input (suc l.fn.at) l.next
+invariant-loop-alloc l = SoFar (λ k. run_more_declared k (origin_of l.input) l.layout l.names.items (from_at l.input l.next))
+    (λ k. run_declareds k (origin_of l.input) l.fn.before l.layout (from_at l.input l.fn.at)) l.input (suc l.fn.at) l.next
 
 abbrev pub decreases-loop-alloc : goal.decreases-loop-alloc
 decreases-loop-alloc l = length l.input.tokens.now - l.next

@@ -14,7 +14,9 @@ returns c =
     let b = behind_at c.args.at c.args.input.now.tokens.now in
     let w = within_some (name_on c.args.layout) refl c.args.at c.args.input.now.tokens.now e in
     record {
-      runs = settles_is settles_got (λ k. ap (λ o. run_named (origin_of c.args.input.now) o (from_at c.args.input.now c.args.at)) e ∙ ap (λ r. got (name_of (origin_of c.args.input.now) c.in-Some.token) r) b ∙ ap (λ n. got n (from_at c.args.input.now (c.args.at + 1))) (sym c.in_ok-name_of.ensures.ok));
+      runs = settles_is settles_got (λ k. ap (λ o. run_named (origin_of c.args.input.now) o (from_at c.args.input.now c.args.at)) e
+          ∙ ap (λ r. got (name_of (origin_of c.args.input.now) c.in-Some.token) r) b ∙ ap (λ n. got n (from_at c.args.input.now (c.args.at + 1)))
+          (sym c.in_ok-name_of.ensures.ok));
       goes = omega arith;
       within = omega (arith, w);
     }

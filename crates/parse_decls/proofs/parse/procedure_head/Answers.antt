@@ -10,16 +10,21 @@ use Rattle.parse_decls.proofs.Answering.{comes_reads, comes_only, comes_size, co
 use Rattle.parse_decls.proofs.parse.procedure_head.Goals as goal
 
 pub returns-clause-reads : goal.returns-clause-reads
-returns-clause-reads c = comes_reads head_of (agrees (head (origin_of c.args.input.now) (Lines c.args.spaces))) c.args.input.now c.args.at (suc c.args.at) _ c.read_head.ensures
+returns-clause-reads c = comes_reads head_of (agrees (head (origin_of c.args.input.now) (Lines c.args.spaces))) c.args.input.now c.args.at
+    (suc c.args.at) _ c.read_head.ensures
 
 pub returns-clause-only : goal.returns-clause-only
-returns-clause-only c = comes_only head_of (agrees (head (origin_of c.args.input.now) (Lines c.args.spaces))) c.args.input.now c.args.at (suc c.args.at) _ c.read_head.ensures
+returns-clause-only c = comes_only head_of (agrees (head (origin_of c.args.input.now) (Lines c.args.spaces))) c.args.input.now c.args.at
+    (suc c.args.at) _ c.read_head.ensures
 
 pub returns-clause-size : goal.returns-clause-size
-returns-clause-size c = comes_size head_of (agrees (head (origin_of c.args.input.now) (Lines c.args.spaces))) head_nodes (λ a ts rest d. head_takes a ts rest d.reads) c.args.input.now c.args.at (suc c.args.at) (omega arith) _ c.read_head.ensures
+returns-clause-size c = comes_size head_of (agrees (head (origin_of c.args.input.now) (Lines c.args.spaces))) head_nodes
+    (λ a ts rest d. head_takes a ts rest d.reads) c.args.input.now c.args.at (suc c.args.at) (omega arith) _ c.read_head.ensures
 
 pub returns-clause-inside : goal.returns-clause-inside
-returns-clause-inside c = comes_inside head_of (agrees (head (origin_of c.args.input.now) (Lines c.args.spaces))) head_nodes (λ a ts rest d. head_takes a ts rest d.reads) c.args.input.now c.args.at (suc c.args.at) _ c.read_head.ensures
+returns-clause-inside c = comes_inside head_of (agrees (head (origin_of c.args.input.now) (Lines c.args.spaces))) head_nodes
+    (λ a ts rest d. head_takes a ts rest d.reads) c.args.input.now c.args.at (suc c.args.at) _ c.read_head.ensures
 
 pub returns-clause-refused : goal.returns-clause-refused
-returns-clause-refused c = comes_refused head_of (agrees (head (origin_of c.args.input.now) (Lines c.args.spaces))) c.args.input.now c.args.at (suc c.args.at) _ c.read_head.ensures
+returns-clause-refused c = comes_refused head_of (agrees (head (origin_of c.args.input.now) (Lines c.args.spaces))) c.args.input.now c.args.at
+    (suc c.args.at) _ c.read_head.ensures

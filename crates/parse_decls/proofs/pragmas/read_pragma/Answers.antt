@@ -8,7 +8,8 @@ pub left_out-requires : goal.left_out-requires
 left_out-requires c = record { within = pragma_within c.args.at c.args.input.now.tokens.now _ (sym c.name_on.ensures ∙ c.in-Some.is) }
 
 pub returns-in_default-pragma_named : goal.returns-in_default-pragma_named
-returns-in_default-pragma_named c = pragma_left_out (origin_of c.args.input.now) c.in-Some.token (from_at c.args.input.now c.args.at) (sym c.name_on.ensures ∙ c.in-Some.is)
+returns-in_default-pragma_named c = pragma_left_out (origin_of c.args.input.now) c.in-Some.token (from_at c.args.input.now c.args.at)
+    (sym c.name_on.ensures ∙ c.in-Some.is)
     (sym (c.pragma_named.ensures ∙ ap pragma_named c.spelling.ensures) ∙ c.in_default-pragma_named.is) _ c.left_out.ensures
 
 pub returns : goal.returns

@@ -4,7 +4,8 @@ use Rattle.parse_decls.proofs.Steps.{none_given, of_settles}
 use Rattle.parse_decls.proofs.values.read_within.Goals as goal
 
 pub returns-then-at-tokens : goal.returns-then-at-tokens
-returns-then-at-tokens c = none_given c.args.input.now c.args.layout (from_at c.args.input.now c.args.whole) c.args.left c.args.at c.if-at-tokens.true _ c.stuck.ensures
+returns-then-at-tokens c = none_given c.args.input.now c.args.layout (from_at c.args.input.now c.args.whole) c.args.left c.args.at c.if-at-tokens.true
+    _ c.stuck.ensures
 
 pub returns-in-Err : goal.returns-in-Err
 returns-in-Err c = c.refused_within.ensures (ExprRun (origin_of c.args.input.now) c.args.layout c.args.left) c.in-Err.ensures.runs

@@ -38,7 +38,8 @@ decreases-read_tuple l = 8 * l.left + 3
 abbrev pub invariant-read_arguments-loop-alloc : goal.invariant-read_arguments-loop-alloc
 invariant-read_arguments-loop-alloc l =
     SoFar (λ k. run_arguments k (origin_of l.input) (from_at l.input l.whole) l.left (arguments_of l.arguments.items) (from_at l.input l.next))
-    (λ k. run_arguments k (origin_of l.input) (from_at l.input l.whole) l.left (argument (written_of l.fn.first.value) no_arguments) (from_at l.input l.fn.first.next)) l.input l.fn.first.next l.next
+    (λ k. run_arguments k (origin_of l.input) (from_at l.input l.whole) l.left (argument (written_of l.fn.first.value) no_arguments)
+    (from_at l.input l.fn.first.next)) l.input l.fn.first.next l.next
 
 abbrev pub decreases-read_arguments-loop-alloc : goal.decreases-read_arguments-loop-alloc
 decreases-read_arguments-loop-alloc l = length l.input.tokens.now - l.next
@@ -46,7 +47,8 @@ decreases-read_arguments-loop-alloc l = length l.input.tokens.now - l.next
 abbrev pub invariant-read_parts-loop-alloc : goal.invariant-read_parts-loop-alloc
 invariant-read_parts-loop-alloc l =
     SoFar (λ k. run_parts k (origin_of l.input) (from_at l.input l.whole) l.left (fields_of l.fields.items) (from_at l.input l.next))
-    (λ k. run_parts k (origin_of l.input) (from_at l.input l.whole) l.left (fields l.fn.first.value.names.items (written_of l.fn.first.value.of) no_fields) (from_at l.input l.fn.first.next)) l.input l.fn.first.next l.next
+    (λ k. run_parts k (origin_of l.input) (from_at l.input l.whole) l.left (fields l.fn.first.value.names.items (written_of l.fn.first.value.of) no_fields)
+    (from_at l.input l.fn.first.next)) l.input l.fn.first.next l.next
 
 abbrev pub decreases-read_parts-loop-alloc : goal.decreases-read_parts-loop-alloc
 decreases-read_parts-loop-alloc l = length l.input.tokens.now - l.next

@@ -15,8 +15,10 @@ too_deep-requires c =
 
 pub returns-then-type_at : goal.returns-then-type_at
 returns-then-type_at c =
-    subst (λ b. Told (origin_of c.args.input.now) (if b then too_deep (from_at c.args.input.now c.args.whole) else stuck_at (from_at c.args.input.now c.args.at)) c.too_deep.result) (sym (sym c.type_at.ensures ∙ c.if-type_at.true)) c.too_deep.ensures
+    subst (λ b. Told (origin_of c.args.input.now) (if b then too_deep (from_at c.args.input.now c.args.whole)
+    else stuck_at (from_at c.args.input.now c.args.at)) c.too_deep.result) (sym (sym c.type_at.ensures ∙ c.if-type_at.true)) c.too_deep.ensures
 
 pub returns : goal.returns
 returns c =
-    subst (λ b. Told (origin_of c.args.input.now) (if b then too_deep (from_at c.args.input.now c.args.whole) else stuck_at (from_at c.args.input.now c.args.at)) c.stuck.result) (sym (sym c.type_at.ensures ∙ c.if-type_at.false)) c.stuck.ensures
+    subst (λ b. Told (origin_of c.args.input.now) (if b then too_deep (from_at c.args.input.now c.args.whole)
+    else stuck_at (from_at c.args.input.now c.args.at)) c.stuck.result) (sym (sym c.type_at.ensures ∙ c.if-type_at.false)) c.stuck.ensures

@@ -11,4 +11,5 @@ returns-in_err-of c =
 pub returns : goal.returns
 returns c =
     let g = c.in_ok-of.ensures.goes in
-    found _ _ (leads_on (leads_then _ c.in_ok-of.ensures.runs) (leads_if _ _ (sym c.colon_at.ensures ∙ c.if-not-colon_at.false))) (omega (arith, g)) c.in_ok-of.ensures.within
+    found _ _ (leads_on (leads_then _ c.in_ok-of.ensures.runs) (leads_if _ _ (sym c.colon_at.ensures ∙ c.if-not-colon_at.false)))
+    (omega (arith, g)) c.in_ok-of.ensures.within

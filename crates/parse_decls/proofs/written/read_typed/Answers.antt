@@ -12,4 +12,5 @@ returns-then-not-stays c =
 pub returns : goal.returns
 returns c =
     let l = leads_past c.args.input.now c.args.at (typed_run c.args.input.now c.args.layout) (sym c.colon_at.ensures ∙ c.if-not-colon_at.false) in
-    comes_leads written_of _ _ c.args.input.now (suc c.args.at) (leads_on (leads_unless _ _ (sym c.stays.ensures ∙ c.if-not-stays.false)) l) (suc (c.args.at + 1)) (omega arith) c.read_written.result c.read_written.ensures
+    comes_leads written_of _ _ c.args.input.now (suc c.args.at) (leads_on (leads_unless _ _ (sym c.stays.ensures ∙ c.if-not-stays.false)) l)
+    (suc (c.args.at + 1)) (omega arith) c.read_written.result c.read_written.ensures

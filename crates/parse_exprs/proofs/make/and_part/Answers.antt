@@ -3,5 +3,5 @@ use Rattle.nim_tree.specs.Terms.{parts_of}
 use Rattle.parse_exprs.proofs.Making.{and_last}
 use Rattle.parse_exprs.proofs.make.and_part.Goals as goal
 
-pub returns-in-Ok-clause-parts : goal.returns-in-Ok-clause-parts
-returns-in-Ok-clause-parts c = ap parts_of c.in-Ok.ensures.items ∙ and_last c.args.some.parts.items c.args.last.tree
+pub returns-clause-parts : goal.returns-clause-parts
+returns-clause-parts c = ap parts_of c.in_ok-push.ensures.items ∙ and_last c.args.some.parts.items c.args.last.tree

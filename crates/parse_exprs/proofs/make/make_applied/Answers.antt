@@ -5,12 +5,14 @@ use Rattle.nim_tree.proofs.ForCallers.{called, indexed}
 use Rattle.parse_exprs.specs.Look.{applied}
 use Rattle.parse_exprs.proofs.make.make_applied.Goals as goal
 
-pub returns-in-Ok-clause-ok : goal.returns-in-Ok-clause-ok
-returns-in-Ok-clause-ok c =
-    ap Some (called c.place-at.result c.in-Ok.base c.args.parts ∙ ap₂ (λ p a. call p (term_of a) (parts_of c.args.parts.items)) c.place-at.ensures c.in-Ok.ensures.ok)
+pub returns-in-Round-2-clause-ok : goal.returns-in-Round-2-clause-ok
+returns-in-Round-2-clause-ok c =
+    let b = c.in_ok-base-in-Round-2 in
+    ap Some (called c.place-at.result b.base c.args.parts ∙ ap₂ (λ p a. call p (term_of a) (parts_of c.args.parts.items)) c.place-at.ensures b.ensures.ok)
     ∙ sym (ap₂ (λ b m. applied b m (term_of c.args.base) (parts_of c.args.parts.items)) c.in-Round.is c.if-names.false)
 
-pub returns-in-Ok-new-clause-ok : goal.returns-in-Ok-new-clause-ok
-returns-in-Ok-new-clause-ok c =
-    ap Some (indexed c.place-at.result c.in-Ok-new.base c.args.parts ∙ ap₂ (λ p a. index p (term_of a) (parts_of c.args.parts.items)) c.place-at.ensures c.in-Ok-new.ensures.ok)
+pub returns-clause-ok : goal.returns-clause-ok
+returns-clause-ok c =
+    let b = c.in_ok-base-in-Square in
+    ap Some (indexed c.place-at.result b.base c.args.parts ∙ ap₂ (λ p a. index p (term_of a) (parts_of c.args.parts.items)) c.place-at.ensures b.ensures.ok)
     ∙ sym (ap (λ b. applied b c.args.names (term_of c.args.base) (parts_of c.args.parts.items)) c.in-Square.is)

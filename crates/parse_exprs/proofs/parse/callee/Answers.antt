@@ -24,7 +24,8 @@ returns-in-Ok-clause-size c =
     let x : Origin = origin c.args.source.now c.args.«module» in
     let f = c.in-Ok.ensures in
     let d = (callee_agrees x c.args.spaces).sound _ _ _ f.runs in
-    size_at c.args.tokens.now c.args.from c.in-Ok.field-0.next (nodes (term_of c.in-Ok.field-0.tree)) (primary_spans d.reads.spells) (let g = f.goes in omega (arith, g)) f.within
+    size_at c.args.tokens.now c.args.from c.in-Ok.field-0.next (nodes (term_of c.in-Ok.field-0.tree)) (primary_spans d.reads.spells)
+    (let g = f.goes in omega (arith, g)) f.within
 
 pub returns-in-Ok-clause-inside : goal.returns-in-Ok-clause-inside
 returns-in-Ok-clause-inside c =

@@ -10,13 +10,15 @@ pub returns-in-Ok-clause-reads : goal.returns-in-Ok-clause-reads
 returns-in-Ok-clause-reads c =
     let x : Origin = origin c.args.source.now c.args.«module» in
     let f = c.in-Ok.ensures in
-    is_read (Reads x c.args.layout) (ExprFaults x c.args.layout c.args.most) (ExprRun x c.args.layout c.args.most) c.args.most (expr_agrees x c.args.layout c.args.most)
+    is_read (Reads x c.args.layout) (ExprFaults x c.args.layout c.args.most) (ExprRun x c.args.layout c.args.most) c.args.most
+    (expr_agrees x c.args.layout c.args.most)
     c.args.tokens.now c.args.from (record { tree = c.in-Ok.field-0.tree; next = c.in-Ok.field-0.next }) f.runs (let g = f.goes in omega (arith, g)) f.within
 
 pub returns-in-Ok-clause-only : goal.returns-in-Ok-clause-only
 returns-in-Ok-clause-only c =
     let x : Origin = origin c.args.source.now c.args.«module» in
-    is_only (Reads x c.args.layout) (ExprFaults x c.args.layout c.args.most) (ExprRun x c.args.layout c.args.most) c.args.most (expr_agrees x c.args.layout c.args.most)
+    is_only (Reads x c.args.layout) (ExprFaults x c.args.layout c.args.most) (ExprRun x c.args.layout c.args.most) c.args.most
+    (expr_agrees x c.args.layout c.args.most)
     c.args.tokens.now c.args.from (record { tree = c.in-Ok.field-0.tree; next = c.in-Ok.field-0.next }) c.in-Ok.ensures.runs
 
 pub returns-in-Ok-clause-size : goal.returns-in-Ok-clause-size
@@ -24,7 +26,8 @@ returns-in-Ok-clause-size c =
     let x : Origin = origin c.args.source.now c.args.«module» in
     let f = c.in-Ok.ensures in
     let d = (expr_agrees x c.args.layout c.args.most).sound _ _ _ f.runs in
-    size_at c.args.tokens.now c.args.from c.in-Ok.field-0.next (nodes (term_of c.in-Ok.field-0.tree)) (expr_spans d.reads.spells) (let g = f.goes in omega (arith, g)) f.within
+    size_at c.args.tokens.now c.args.from c.in-Ok.field-0.next (nodes (term_of c.in-Ok.field-0.tree)) (expr_spans d.reads.spells)
+    (let g = f.goes in omega (arith, g)) f.within
 
 pub returns-in-Ok-clause-inside : goal.returns-in-Ok-clause-inside
 returns-in-Ok-clause-inside c =
@@ -36,7 +39,8 @@ returns-in-Ok-clause-inside c =
 pub returns-in-Err-clause-refused : goal.returns-in-Err-clause-refused
 returns-in-Err-clause-refused c =
     let x : Origin = origin c.args.source.now c.args.«module» in
-    refused (Reads x c.args.layout) (ExprFaults x c.args.layout c.args.most) (ExprRun x c.args.layout c.args.most) c.args.most (expr_agrees x c.args.layout c.args.most)
+    refused (Reads x c.args.layout) (ExprFaults x c.args.layout c.args.most) (ExprRun x c.args.layout c.args.most) c.args.most
+    (expr_agrees x c.args.layout c.args.most)
     x c.args.tokens.now c.args.from c.refusal.result (c.refusal.ensures (ExprRun x c.args.layout c.args.most) c.in-Err.ensures)
 
 pub returns-in-Err-clause-runs : goal.returns-in-Err-clause-runs

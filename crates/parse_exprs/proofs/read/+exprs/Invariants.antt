@@ -94,7 +94,8 @@ decreases-branches::read_ofs l = 20 * l.left + 16
 
 abbrev pub invariant-operators::read_level-loop-op : goal.invariant-operators::read_level-loop-op
 invariant-operators::read_level-loop-op l =
-    Onward (λ k. run_chain k (origin_of l.input) l.rest l.tighter l.left (term_of l.a.tree) (from_at l.input l.a.next)) (λ k. run_level k (origin_of l.input) l.fn.layout l.level l.left (from_at l.input l.at))
+    Onward (λ k. run_chain k (origin_of l.input) l.rest l.tighter l.left (term_of l.a.tree) (from_at l.input l.a.next))
+    (λ k. run_level k (origin_of l.input) l.fn.layout l.level l.left (from_at l.input l.at))
     l.input l.left (suc l.at) (levels (term_of l.a.tree)) l.a.next l.a.depth
 
 abbrev pub decreases-operators::read_level-loop-op : goal.decreases-operators::read_level-loop-op
@@ -102,7 +103,8 @@ decreases-operators::read_level-loop-op l = length l.input.tokens.now - l.a.next
 
 abbrev pub invariant-operators::read_primary-loop-alloc : goal.invariant-operators::read_primary-loop-alloc
 invariant-operators::read_primary-loop-alloc l =
-    Onward (λ k. run_suffixes k (origin_of l.input) l.layout l.command l.left (term_of l.a.tree) (from_at l.input l.a.next)) (λ k. run_primary k (origin_of l.input) l.layout l.command l.left (from_at l.input l.at))
+    Onward (λ k. run_suffixes k (origin_of l.input) l.layout l.command l.left (term_of l.a.tree) (from_at l.input l.a.next))
+    (λ k. run_primary k (origin_of l.input) l.layout l.command l.left (from_at l.input l.at))
     l.input l.left (suc l.at) (levels (term_of l.a.tree)) l.a.next l.a.depth
 
 abbrev pub decreases-operators::read_primary-loop-alloc : goal.decreases-operators::read_primary-loop-alloc
@@ -110,7 +112,8 @@ decreases-operators::read_primary-loop-alloc l = length l.input.tokens.now - l.a
 
 abbrev pub invariant-parts::read_list-loop-alloc : goal.invariant-parts::read_list-loop-alloc
 invariant-parts::read_list-loop-alloc l =
-    Onward (λ k. run_parts k (origin_of l.input) l.names l.left (parts_of l.some.parts.items) (from_at l.input l.some.next)) (λ k. run_list k (origin_of l.input) l.names l.left (from_at l.input l.at))
+    Onward (λ k. run_parts k (origin_of l.input) l.names l.left (parts_of l.some.parts.items) (from_at l.input l.some.next))
+    (λ k. run_list k (origin_of l.input) l.names l.left (from_at l.input l.at))
     l.input l.left (suc l.at) (most_levels (parts_of l.some.parts.items)) l.some.next l.some.depth
 
 abbrev pub decreases-parts::read_list-loop-alloc : goal.decreases-parts::read_list-loop-alloc

@@ -1,4 +1,4 @@
-use Rattle.std.proofs.Common.{◌+◌, ◌-◌, ◌*◌, suc, length}
+use Rattle.std.proofs.Common.{◌+◌, ◌-◌, ◌*◌, length}
 use Rattle.nim_tree.specs.Statements.{empty, statements_of, no_branches, no_handlers, handlers_of}
 use Rattle.parse_exprs.specs.Input.{from_at, origin_of}
 use Rattle.parse_decls.specs.Gives.{SoFar}
@@ -73,25 +73,31 @@ abbrev pub decreases-compound::read_proc : goal.decreases-compound::read_proc
 decreases-compound::read_proc l = 16 * l.left + 5
 
 abbrev pub invariant-statements::read_statements-loop-alloc : goal.invariant-statements::read_statements-loop-alloc
-invariant-statements::read_statements-loop-alloc l = SoFar (λ k. run_statements k (origin_of l.input) l.spaces l.left (statements_of l.all.items) (from_at l.input l.next)) (λ k. run_statements k (origin_of l.input) l.spaces l.left empty (from_at l.input l.fn.at)) l.input l.fn.at l.next
+invariant-statements::read_statements-loop-alloc l =
+    SoFar (λ k. run_statements k (origin_of l.input) l.spaces l.left (statements_of l.all.items) (from_at l.input l.next))
+    (λ k. run_statements k (origin_of l.input) l.spaces l.left empty (from_at l.input l.fn.at)) l.input l.fn.at l.next
 
 abbrev pub decreases-statements::read_statements-loop-alloc : goal.decreases-statements::read_statements-loop-alloc
 decreases-statements::read_statements-loop-alloc l = length l.input.tokens.now - l.next
 
 abbrev pub invariant-branches::read_elifs-loop-place : goal.invariant-branches::read_elifs-loop-place
-invariant-branches::read_elifs-loop-place l = SoFar (λ k. run_elifs k (origin_of l.input) l.spaces l.left (chosen_of l.all) (from_at l.input l.next)) (λ k. run_elifs k (origin_of l.input) l.spaces l.left (chosen_of l.fn.first.value) (from_at l.input l.fn.first.next)) l.input l.fn.first.next l.next
+invariant-branches::read_elifs-loop-place l = SoFar (λ k. run_elifs k (origin_of l.input) l.spaces l.left (chosen_of l.all) (from_at l.input l.next))
+    (λ k. run_elifs k (origin_of l.input) l.spaces l.left (chosen_of l.fn.first.value) (from_at l.input l.fn.first.next)) l.input l.fn.first.next l.next
 
 abbrev pub decreases-branches::read_elifs-loop-place : goal.decreases-branches::read_elifs-loop-place
 decreases-branches::read_elifs-loop-place l = length l.input.tokens.now - l.next
 
 abbrev pub invariant-branches::read_ofs-loop-place : goal.invariant-branches::read_ofs-loop-place
-invariant-branches::read_ofs-loop-place l = SoFar (λ k. run_ofs k (origin_of l.input) l.spaces l.left (chosen_of l.all) (from_at l.input l.next)) (λ k. run_ofs k (origin_of l.input) l.spaces l.left no_branches (from_at l.input l.fn.at)) l.input l.fn.at l.next
+invariant-branches::read_ofs-loop-place l = SoFar (λ k. run_ofs k (origin_of l.input) l.spaces l.left (chosen_of l.all) (from_at l.input l.next))
+    (λ k. run_ofs k (origin_of l.input) l.spaces l.left no_branches (from_at l.input l.fn.at)) l.input l.fn.at l.next
 
 abbrev pub decreases-branches::read_ofs-loop-place : goal.decreases-branches::read_ofs-loop-place
 decreases-branches::read_ofs-loop-place l = length l.input.tokens.now - l.next
 
 abbrev pub invariant-compound::read_handlers-loop-place : goal.invariant-compound::read_handlers-loop-place
-invariant-compound::read_handlers-loop-place l = SoFar (λ k. run_handlers k (origin_of l.input) l.spaces l.left (handlers_of l.all.items) (from_at l.input l.next)) (λ k. run_handlers k (origin_of l.input) l.spaces l.left no_handlers (from_at l.input l.fn.at)) l.input l.fn.at l.next
+invariant-compound::read_handlers-loop-place l =
+    SoFar (λ k. run_handlers k (origin_of l.input) l.spaces l.left (handlers_of l.all.items) (from_at l.input l.next))
+    (λ k. run_handlers k (origin_of l.input) l.spaces l.left no_handlers (from_at l.input l.fn.at)) l.input l.fn.at l.next
 
 abbrev pub decreases-compound::read_handlers-loop-place : goal.decreases-compound::read_handlers-loop-place
 decreases-compound::read_handlers-loop-place l = length l.input.tokens.now - l.next

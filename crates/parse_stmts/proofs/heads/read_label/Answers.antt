@@ -1,4 +1,4 @@
-use Rattle.std.proofs.Common.{suc, ap, ◌∙◌, sym, arith}
+use Rattle.std.proofs.Common.{arith}
 use Rattle.std.proofs.lemmas.Result.{err_from_is_err_and}
 use Rattle.parse_exprs.specs.Input.{origin_of}
 use Rattle.parse_decls.proofs.ForCallers.{fails_then, fails_leads, leads_then, leads_on, leads_if, found}
@@ -10,10 +10,14 @@ pub returns-in_err-high : goal.returns-in_err-high
 returns-in_err-high c =
     let p = err_from_is_err_and c.from_residual-in_err-high.result c.from_residual-in_err-high.ensures.1 in
     let x = origin_of c.args.input.now in let h = c.in-Some.ensures in
-    rw (p.1, p.2) (fails_leads _ _ _ (leads_on (leads_if _ _ h.is) (leads_then _ c.in_ok-low.ensures.runs)) _ (fails_then _ _ _ _ (fails_at (λ ts k. run_here k x c.args.spaces ts) x h.behind _ c.in_err-high.ensures)))
+    rw (p.1, p.2)
+    (fails_leads _ _ _ (leads_on (leads_if _ _ h.is) (leads_then _ c.in_ok-low.ensures.runs))
+    _ (fails_then _ _ _ _ (fails_at (λ ts k. run_here k x c.args.spaces ts) x h.behind _ c.in_err-high.ensures)))
 
 pub returns : goal.returns
 returns c =
     let x = origin_of c.args.input.now in let h = c.in-Some.ensures in let last = c.in_ok-high.ensures in
-    rw c.in_ok-make_range.ensures.ok (found _ _ (leads_on (leads_then _ (settles_at (λ ts k. run_here k x c.args.spaces ts) h.behind last.runs)) (leads_on (leads_if _ _ h.is) (leads_then _ c.in_ok-low.ensures.runs)))
+    rw c.in_ok-make_range.ensures.ok
+    (found _ _ (leads_on (leads_then _ (settles_at (λ ts k. run_here k x c.args.spaces ts) h.behind last.runs))
+    (leads_on (leads_if _ _ h.is) (leads_then _ c.in_ok-low.ensures.runs)))
     (omega (arith, h.goes, last.goes, c.in_ok-low.ensures.goes)) last.within)

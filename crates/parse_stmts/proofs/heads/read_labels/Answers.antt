@@ -1,4 +1,4 @@
-use Rattle.std.proofs.Common.{◌≡◌, suc, ap, ◌∙◌, refl, arith}
+use Rattle.std.proofs.Common.{ap, ◌∙◌, refl, arith}
 use Rattle.std.proofs.lemmas.Result.{err_from_is_err_and}
 use Rattle.nim_tree.specs.Terms.{parts_of}
 use Rattle.parse_exprs.specs.Input.{origin_of}
@@ -11,12 +11,14 @@ pub returns-in_err-one : goal.returns-in_err-one
 returns-in_err-one c =
     let p = err_from_is_err_and c.from_residual-in_err-one.result c.from_residual-in_err-one.ensures.1 in
     let input = c.args.input.now in
-    rw (p.1, p.2) (loop_fails (labels_loop (origin_of input) c.args.spaces) _ input _ _ _ _ _ c.in-Some.ensures.behind c.loop-behind.invariant c.in-Some.ensures.is c.in_err-one.ensures)
+    rw (p.1, p.2) (loop_fails (labels_loop (origin_of input) c.args.spaces) _ input _ _ _ _ _ c.in-Some.ensures.behind c.loop-behind.invariant
+    c.in-Some.ensures.is c.in_err-one.ensures)
 
 pub loop-behind-preserved : goal.loop-behind-preserved
 loop-behind-preserved c =
     let input = c.args.input.now in
-    loop_on (labels_loop (origin_of input) c.args.spaces) _ input _ _ _ _ _ _ _ _ c.in-Some.ensures.behind refl (omega (arith, c.in-Some.ensures.goes)) c.loop-behind.invariant c.in-Some.ensures.is c.in_ok-one.ensures
+    loop_on (labels_loop (origin_of input) c.args.spaces) _ input _ _ _ _ _ _ _ _ c.in-Some.ensures.behind refl (omega (arith, c.in-Some.ensures.goes))
+    c.loop-behind.invariant c.in-Some.ensures.is c.in_ok-one.ensures
     (ap parts_of c.in_ok-labels-2.ensures.ok ∙ one_more_part _ _)
 
 pub returns : goal.returns

@@ -1,4 +1,4 @@
-use Rattle.std.proofs.Common.{◌≡◌, ◌∷◌, suc, sym, ap, ◌∙◌}
+use Rattle.std.proofs.Common.{suc, sym, ap, ◌∙◌}
 use Rattle.parse_exprs.specs.declared.layout.Layout.TheVariants.{Lines}
 use Rattle.parse_exprs.specs.Look.{branch_at}
 use Rattle.parse_exprs.specs.Input.{from_at}
@@ -11,7 +11,8 @@ returns-then-is_branch c =
     record {
       tok = c.in-Some.token;
       head = c.in-Some.ensures.some;
-      is = ap (branch_at (Lines c.args.spaces) (is_word c.args.word)) c.in-Some.ensures.some ∙ sym (c.is_branch.ensures (from_at input (suc c.args.at))) ∙ c.if-is_branch.true;
+      is = ap (branch_at (Lines c.args.spaces) (is_word c.args.word)) c.in-Some.ensures.some ∙ sym (c.is_branch.ensures (from_at input (suc c.args.at)))
+          ∙ c.if-is_branch.true;
       stands = c.place_at.ensures;
       within = c.in-Some.ensures.within;
     }
@@ -19,4 +20,5 @@ returns-then-is_branch c =
 pub returns-else-is_branch : goal.returns-else-is_branch
 returns-else-is_branch c =
     let input = c.args.input.now in
-    ap (branch_at (Lines c.args.spaces) (is_word c.args.word)) c.in-Some.ensures.some ∙ sym (c.is_branch.ensures (from_at input (suc c.args.at))) ∙ c.if-is_branch.false
+    ap (branch_at (Lines c.args.spaces) (is_word c.args.word)) c.in-Some.ensures.some ∙ sym (c.is_branch.ensures (from_at input (suc c.args.at)))
+    ∙ c.if-is_branch.false

@@ -1,4 +1,4 @@
-use Rattle.std.proofs.Common.{◌+◌, suc, arith}
+use Rattle.std.proofs.Common.{arith}
 use Rattle.parse_decls.proofs.ForCallers.{behind_at}
 use Rattle.parse_stmts.proofs.marks.past.Goals as goal
 

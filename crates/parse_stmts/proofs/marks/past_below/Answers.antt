@@ -1,5 +1,4 @@
 use Rattle.std.proofs.Common.{refl}
-use Rattle.parse_exprs.specs.declared.layout.Layout.TheVariants.{Lines}
 use Rattle.parse_exprs.specs.Input.{origin_of}
 use Rattle.parse_stmts.specs.Look.{below_at}
 use Rattle.parse_stmts.proofs.Steps.{past_is}

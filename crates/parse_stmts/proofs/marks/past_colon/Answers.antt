@@ -1,6 +1,5 @@
 use Rattle.std.proofs.Common.{refl}
 use Rattle.parse_exprs.specs.declared.layout.Layout.TheVariants.{Lines}
-use Rattle.parse_exprs.specs.Input.{origin_of}
 use Rattle.parse_exprs.specs.Look.{colon_at}
 use Rattle.parse_stmts.proofs.Steps.{past_is}
 use Rattle.parse_stmts.proofs.marks.past_colon.Goals as goal

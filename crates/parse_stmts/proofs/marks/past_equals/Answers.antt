@@ -13,4 +13,5 @@ same n [] = refl
 same n (tok ∷ ts) = refl
 
 pub returns : goal.returns
-returns c = past_is c.args.input.now (equals_at (Lines c.args.spaces)) c.args.at _ refl (c.punct_on.ensures ∙ same c.args.spaces (from_at c.args.input.now c.args.at)) _ c.past.ensures
+returns c = past_is c.args.input.now (equals_at (Lines c.args.spaces)) c.args.at _ refl
+    (c.punct_on.ensures ∙ same c.args.spaces (from_at c.args.input.now c.args.at)) _ c.past.ensures

@@ -1,9 +1,6 @@
-use Rattle.std.proofs.Common.{◌+◌, suc, arith, ap, sym, ◌∙◌, refl}
+use Rattle.std.proofs.Common.{arith}
 use Rattle.std.proofs.lemmas.Result.{err_from_is_err_and}
-use Rattle.nim_tree.specs.Terms.{term_of}
-use Rattle.parse_exprs.specs.Input.{from_at, origin_of}
 use Rattle.parse_decls.proofs.ForCallers.{behind_at, fails_then, leads_then, found}
-use Rattle.parse_stmts.specs.Run.{run_here}
 use Rattle.parse_stmts.proofs.plain.read_assigned.Goals as goal
 
 pub returns-in_err-value : goal.returns-in_err-value

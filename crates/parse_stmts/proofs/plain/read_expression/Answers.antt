@@ -1,4 +1,4 @@
-use Rattle.std.proofs.Common.{◌≡◌, suc, arith, sym, subst, ◌∙◌}
+use Rattle.std.proofs.Common.{◌≡◌, suc, arith, subst}
 use Rattle.std.specs.Prelude.{Option, Some}
 use Rattle.nim_tree.specs.declared.stmt.AssignOp.{AssignOp}
 use Rattle.nim_tree.specs.Terms.{term_of}
@@ -16,4 +16,5 @@ returns-in-Some c =
     let input = c.args.input.now in let x = origin_of input in let n = c.args.spaces in let target = c.in_ok-target.target in let h = c.in_ok-target.ensures in
     let e : Some c.in-Some.op ≡ assigned_by (lead_at (from_at input c.args.at)) (assign_on x n (from_at input target.next)) = cc in
     comes_leads statement_of _ _ input _ (leads_then _ h.runs) _ (omega (arith, h.goes)) _
-    (subst (λ (op : Option AssignOp). Comes statement_of (λ k. run_assigned k op x n (term_of target.value) (from_at input target.next)) input (suc target.next) c.read_assigned.result) e c.read_assigned.ensures)
+    (subst (λ (op : Option AssignOp). Comes statement_of (λ k. run_assigned k op x n (term_of target.value) (from_at input target.next)) input
+    (suc target.next) c.read_assigned.result) e c.read_assigned.ensures)

@@ -6,7 +6,9 @@ use Rattle.parse_stmts.specs.Run.{run_operands}
 use Rattle.parse_stmts.proofs.plain.read_operands.Given as goal
 
 abbrev pub invariant-loop-behind : goal.invariant-loop-behind
-invariant-loop-behind l = SoFar (λ k. run_operands k (origin_of l.input) l.spaces (parts_of l.operands.items) (from_at l.input l.next)) (λ k. run_operands k (origin_of l.input) l.spaces (part (term_of l.fn.first.value) no_parts) (from_at l.input l.fn.first.next)) l.input l.fn.first.next l.next
+invariant-loop-behind l = SoFar (λ k. run_operands k (origin_of l.input) l.spaces (parts_of l.operands.items) (from_at l.input l.next))
+    (λ k. run_operands k (origin_of l.input) l.spaces (part (term_of l.fn.first.value) no_parts) (from_at l.input l.fn.first.next)) l.input
+    l.fn.first.next l.next
 
 abbrev pub decreases-loop-behind : goal.decreases-loop-behind
 decreases-loop-behind l = length l.input.tokens.now - l.next

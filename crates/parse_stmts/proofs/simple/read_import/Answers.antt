@@ -1,4 +1,4 @@
-use Rattle.std.proofs.Common.{suc, arith}
+use Rattle.std.proofs.Common.{arith}
 use Rattle.std.proofs.lemmas.Result.{err_from_is_err_and}
 use Rattle.parse_decls.proofs.ForCallers.{fails_then, fails_leads, leads_then, leads_on, found}
 use Rattle.parse_stmts.proofs.simple.read_import.Goals as goal
@@ -16,4 +16,5 @@ returns-in_err-names c =
 pub returns : goal.returns
 returns c =
     let h = c.in_ok-names.ensures in
-    rw c.place_at.ensures (found _ _ (leads_on (leads_then _ h.runs) (leads_then _ c.in_ok-first.ensures.runs)) (omega (arith, h.goes, c.in_ok-first.ensures.goes)) h.within)
+    rw c.place_at.ensures (found _ _ (leads_on (leads_then _ h.runs) (leads_then _ c.in_ok-first.ensures.runs))
+    (omega (arith, h.goes, c.in_ok-first.ensures.goes)) h.within)

@@ -1,6 +1,5 @@
-use Rattle.std.proofs.Common.{sym, ◌∙◌, arith}
+use Rattle.std.proofs.Common.{sym, ◌∙◌}
 use Rattle.std.proofs.lemmas.Result.{err_from_is_err_and}
-use Rattle.nim_tree.specs.Statements.{statements_of}
 use Rattle.parse_exprs.specs.Input.{from_at, origin_of}
 use Rattle.parse_stmts.proofs.Modules.{module_ends, module_is_stuck, module_fails}
 use Rattle.parse_stmts.proofs.tree.read_module.Goals as goal
@@ -19,4 +18,5 @@ returns-then-end_at c = let input = c.args.input.now in let h = c.in_ok-all.ensu
 
 pub returns-else-end_at : goal.returns-else-end_at
 returns-else-end_at c = let input = c.args.input.now in
-    module_is_stuck (origin_of input) _ (from_at input 0) _ _ c.level_at-spaces.ensures c.in_ok-all.ensures.runs (sym c.end_at.ensures ∙ c.if-end_at.false) _ c.stuck.ensures
+    module_is_stuck (origin_of input) _ (from_at input 0) _ _ c.level_at-spaces.ensures c.in_ok-all.ensures.runs (sym c.end_at.ensures ∙ c.if-end_at.false)
+    _ c.stuck.ensures

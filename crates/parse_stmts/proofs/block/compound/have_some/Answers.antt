@@ -1,4 +1,3 @@
-use Rattle.std.specs.Prelude.{◌||◌}
 use Rattle.nim_tree.specs.Statements.{statements_of}
 use Rattle.parse_stmts.specs.Run.{hold_some}
 use Rattle.parse_stmts.proofs.Joining.{some_handlers}
