@@ -1,5 +1,6 @@
 -- What an instruction comes to that is a call of the environment, and what the runner does of it.
-use Rattle.std.proofs.Common.{◌≡◌, ◌≢◌, ℕ, ◌+◌, ◌-◌, ◌%◌, ◌<◌, ◌≤◌, List, [], ◌∷◌, ◌++◌, length, take, drop, Some, None, Bool, true, false, refl, sym, ap, ap₂, subst, ◌∙◌, arith, append-nil, add-zero, length-append, ◌⊎◌, inl, inr}
+use Rattle.std.proofs.Common.{◌≡◌, ◌≢◌, ℕ, ◌+◌, ◌-◌, ◌%◌, ◌<◌, ◌≤◌, List, [], ◌∷◌, ◌++◌, length, take, drop, Some, None, Bool, true, false, refl, sym, ap}
+use Rattle.std.proofs.Common.{ap₂, subst, ◌∙◌, arith, append-nil, add-zero, length-append, ◌⊎◌, inl, inr}
 use Rattle.std.specs.Prelude.{min, ◌==◌, if◌then◌else◌}
 use Rattle.std.proofs.lemmas.Bool.{cond-true, cond-false, ne_eqb, eqb-true, eq-eqb, true≢false}
 use Rattle.std.proofs.Math.Seq.{take-append_seam, drop-append-add}
@@ -11,7 +12,8 @@ use Rattle.rv32_isa.specs.declared.machine.FaultKind.TheVariants.{BadCall, OutOf
 use Rattle.rv32_isa.specs.State.{State, reg, readable, writable, filled}
 use Rattle.rv32_isa.specs.Steps.{Calls, outcome}
 use Rattle.rv32_isa.specs.Steps as leads
-use Rattle.rv32_isa.specs.Machine.{Reply, Answers, Exits, Fails, On, answered, stream_of, write_bytes, write_call, read_bytes, read_call, call, called, led, advance}
+use Rattle.rv32_isa.specs.Machine.{Reply, Answers, Exits, Fails, On, answered, stream_of, write_bytes, write_call, read_bytes, read_call, call, called, led}
+use Rattle.rv32_isa.specs.Machine.{advance}
 use Rattle.rv32_runner.specs.declared.runner.RunEnd.{RunEnd}
 use Rattle.rv32_runner.specs.declared.runner.RunEnd.TheVariants.{Exited, Spent, Fault, ReadFault, WriteFault}
 use Rattle.rv32_runner.specs.Streams.{Feed, Tally, Streams, streams, MayGive, Got, bytes_on}
@@ -58,14 +60,17 @@ module _ (s : State) (due : outcome s ≡ Calls) where
   advance_is input reply e = ap (led (on s input)) due ∙ ap (called s) e
 
   pub ran_exits : (b : Streams) → reg s 17 ≡ 93 → Ran 1 b s (Exited (reg s 10 % 256)) s b
-  ran_exits b number = ran_end b s (Exited (reg s 10 % 256)) s b (omega arith, ((refl, refl), λ input. advance_is input (Exits (reg s 10 % 256)) (call_is s input 93 (reg s 10) number refl)))
+  ran_exits b number = ran_end b s (Exited (reg s 10 % 256)) s b
+      (omega arith, ((refl, refl), λ input. advance_is input (Exits (reg s 10 % 256)) (call_is s input 93 (reg s 10) number refl)))
 
   ran_refused : (b : Streams) (kind : FaultKind) → ((input : List ℕ) → call s input ≡ Fails kind) → Ran 1 b s (Fault kind s.pc 0x73) s b
   ran_refused b kind e = ran_end b s (Fault kind s.pc 0x73) s b (omega arith, ((refl, refl), λ input. advance_is input (Fails kind) (e input)))
 
   no_stream : (input : List ℕ) → reg s 17 ≡ 64 → reg s 10 ≢ 1 → reg s 10 ≢ 2 → call s input ≡ Fails BadCall
   no_stream input number p q =
-      let none : stream_of (reg s 10) ≡ None = cond-false (reg s 10 == 1) (Some Out) (if reg s 10 == 2 then Some Err else None) (ne_eqb _ 1 p) ∙ cond-false (reg s 10 == 2) (Some Err) None (ne_eqb _ 2 q) in
+      let none : stream_of (reg s 10) ≡ None =
+      cond-false (reg s 10 == 1) (Some Out) (if reg s 10 == 2 then Some Err else None) (ne_eqb _ 1 p) ∙ cond-false (reg s 10 == 2) (Some Err) None
+      (ne_eqb _ 2 q) in
       call_is s input 64 (reg s 10) number refl ∙ ap (write_call s input) none
 
   no_input : (input : List ℕ) → reg s 17 ≡ 63 → reg s 10 ≢ 0 → call s input ≡ Fails BadCall
@@ -77,27 +82,37 @@ module _ (s : State) (due : outcome s ≡ Calls) where
       let reads = if reg s 10 == 0 then read_call s input else Fails BadCall in
       let moves = if n == 63 then reads else Fails BadCall in
       let writing = if n == 64 then write_call s input (stream_of (reg s 10)) else moves in
-      cond-false (n == 93) (Exits (reg s 10 % 256)) writing (ne_eqb n 93 p) ∙ cond-false (n == 64) (write_call s input (stream_of (reg s 10))) moves (ne_eqb n 64 q) ∙ cond-false (n == 63) reads (Fails BadCall) (ne_eqb n 63 r)
+      cond-false (n == 93) (Exits (reg s 10 % 256)) writing (ne_eqb n 93 p) ∙ cond-false (n == 64) (write_call s input (stream_of (reg s 10))) moves
+      (ne_eqb n 64 q) ∙ cond-false (n == 63) reads (Fails BadCall) (ne_eqb n 63 r)
 
   not_read : (input : List ℕ) → reg s 17 ≢ 93 → reg s 17 ≢ 64 → (reg s 17 ≡ 63 → reg s 10 ≢ 0) → call s input ≡ Fails BadCall
   not_read input p q r = elim (eq-or_ne (reg s 17) 63) [ inl e ↦ no_input input e (r e) | inr ne ↦ no_call input p q ne ]
 
   -- none of the calls that there are
-  pub ran_unknown : (b : Streams) → reg s 17 ≢ 93 → (reg s 17 ≡ 64 → reg s 10 ≢ 1) → (reg s 17 ≡ 64 → reg s 10 ≢ 2) → (reg s 17 ≡ 63 → reg s 10 ≢ 0) → Ran 1 b s (Fault BadCall s.pc 0x73) s b
-  ran_unknown b p q r z = ran_refused b BadCall (λ input. elim (eq-or_ne (reg s 17) 64) [ inl e ↦ no_stream input e (q e) (r e) | inr ne ↦ not_read input p ne z ])
+  pub ran_unknown : (b : Streams) → reg s 17 ≢ 93 → (reg s 17 ≡ 64 → reg s 10 ≢ 1) → (reg s 17 ≡ 64 → reg s 10 ≢ 2) → (reg s 17 ≡ 63 → reg s 10 ≢ 0) →
+      Ran 1 b s (Fault BadCall s.pc 0x73) s b
+  ran_unknown b p q r z = ran_refused b BadCall
+      (λ input. elim (eq-or_ne (reg s 17) 64) [ inl e ↦ no_stream input e (q e) (r e) | inr ne ↦ not_read input p ne z ])
 
-  pub ran_other : (b : Streams) (number first : ℕ) → number ≡ reg s 17 → first ≡ reg s 10 → number ≢ 93 → (number ≡ 64 → first ≢ 1) → (number ≡ 64 → first ≢ 2) → (number ≡ 63 → first ≢ 0) → Ran 1 b s (Fault BadCall s.pc 0x73) s b
-  ran_other b number first p q exit out err input = ran_unknown b (λ e. exit (p ∙ e)) (λ e f. out (p ∙ e) (q ∙ f)) (λ e f. err (p ∙ e) (q ∙ f)) (λ e f. input (p ∙ e) (q ∙ f))
+  pub ran_other : (b : Streams) (number first : ℕ) → number ≡ reg s 17 → first ≡ reg s 10 → number ≢ 93 → (number ≡ 64 → first ≢ 1) →
+      (number ≡ 64 → first ≢ 2) → (number ≡ 63 → first ≢ 0) → Ran 1 b s (Fault BadCall s.pc 0x73) s b
+  ran_other b number first p q exit out err input =
+      ran_unknown b (λ e. exit (p ∙ e)) (λ e f. out (p ∙ e) (q ∙ f)) (λ e f. err (p ∙ e) (q ∙ f)) (λ e f. input (p ∙ e) (q ∙ f))
 
   -- ---- a write
 
-  write_is : (input : List ℕ) (stream : Stream) → reg s 17 ≡ 64 → stream_of (reg s 10) ≡ Some stream → call s input ≡ write_bytes s input stream (readable s (reg s 11) (reg s 12))
+  write_is : (input : List ℕ) (stream : Stream) → reg s 17 ≡ 64 → stream_of (reg s 10) ≡ Some stream →
+      call s input ≡ write_bytes s input stream (readable s (reg s 11) (reg s 12))
   write_is input stream number first = call_is s input 64 (reg s 10) number refl ∙ ap (write_call s input) first
 
-  writes_on : (stream : Stream) (bytes : List ℕ) → reg s 17 ≡ 64 → stream_of (reg s 10) ≡ Some stream → readable s (reg s 11) (reg s 12) ≡ Some bytes → (input : List ℕ) → advance (on s input) ≡ On (on (answered s (reg s 12)) input) (writes stream bytes)
-  writes_on stream bytes number first found input = advance_is input (Answers (answered s (reg s 12)) input (writes stream bytes)) (write_is input stream number first ∙ ap (write_bytes s input stream) found)
+  writes_on : (stream : Stream) (bytes : List ℕ) → reg s 17 ≡ 64 → stream_of (reg s 10) ≡ Some stream → readable s (reg s 11) (reg s 12) ≡ Some bytes →
+      (input : List ℕ) → advance (on s input) ≡ On (on (answered s (reg s 12)) input) (writes stream bytes)
+  writes_on stream bytes number first found input =
+      advance_is input (Answers (answered s (reg s 12)) input (writes stream bytes))
+      (write_is input stream number first ∙ ap (write_bytes s input stream) found)
 
-  pub ran_unreadable : (b : Streams) (stream : Stream) → reg s 17 ≡ 64 → stream_of (reg s 10) ≡ Some stream → readable s (reg s 11) (reg s 12) ≡ None → Ran 1 b s (Fault OutOfRange s.pc 0x73) s b
+  pub ran_unreadable : (b : Streams) (stream : Stream) → reg s 17 ≡ 64 → stream_of (reg s 10) ≡ Some stream → readable s (reg s 11) (reg s 12) ≡ None →
+      Ran 1 b s (Fault OutOfRange s.pc 0x73) s b
   ran_unreadable b stream number first none = ran_refused b OutOfRange (λ input. write_is input stream number first ∙ ap (write_bytes s input stream) none)
 
   -- ---- a read
@@ -106,10 +121,14 @@ module _ (s : State) (due : outcome s ≡ Calls) where
   read_is input number first = call_is s input 63 0 number first
 
   pub ran_unwritable : (b : Streams) → reg s 17 ≡ 63 → reg s 10 ≡ 0 → writable s (reg s 11) (reg s 12) ≡ false → Ran 1 b s (Fault OutOfRange s.pc 0x73) s b
-  ran_unwritable b number first bad = ran_refused b OutOfRange (λ input. read_is input number first ∙ cond-false (writable s (reg s 11) (reg s 12)) (read_bytes s input (min (reg s 12) (length input))) (Fails OutOfRange) bad)
+  ran_unwritable b number first bad =
+      ran_refused b OutOfRange (λ input. read_is input number first ∙ cond-false (writable s (reg s 11) (reg s 12))
+      (read_bytes s input (min (reg s 12) (length input))) (Fails OutOfRange) bad)
 
   -- the bytes that are given come first in the input
-  reads_on : (given rest : List ℕ) → reg s 17 ≡ 63 → reg s 10 ≡ 0 → writable s (reg s 11) (reg s 12) ≡ true → min (reg s 12) (length (given ++ rest)) ≡ length given → advance (on s (given ++ rest)) ≡ On (on (answered (filled s (reg s 11) given) (length given)) rest) []
+  reads_on : (given rest : List ℕ) → reg s 17 ≡ 63 → reg s 10 ≡ 0 → writable s (reg s 11) (reg s 12) ≡ true →
+      min (reg s 12) (length (given ++ rest)) ≡ length given →
+      advance (on s (given ++ rest)) ≡ On (on (answered (filled s (reg s 11) given) (length given)) rest) []
   reads_on given rest number first may count =
       let input = given ++ rest in
       let size = reg s 12 in
@@ -147,16 +166,22 @@ none_err [] = refl
 none_err (b ∷ bs) = none_err bs
 
 -- a write to standard output
-pub ran_out : (s : State) (input : Feed) (out err new : Tally) (answer : RunEnd) (t : State) → outcome s ≡ Calls → reg s 17 ≡ 64 → reg s 10 ≡ 1 → Wrote s Out out answer t new → Ran 1 (streams input out err) s answer t (streams input new err)
+pub ran_out : (s : State) (input : Feed) (out err new : Tally) (answer : RunEnd) (t : State) → outcome s ≡ Calls → reg s 17 ≡ 64 → reg s 10 ≡ 1 →
+    Wrote s Out out answer t new → Ran 1 (streams input out err) s answer t (streams input new err)
 ran_out s input out err new Spent t due number first (bytes, (found, (next, got))) =
     let e = writes_on s due Out bytes number (ap stream_of first) found in
-    let next_run : (rest : List ℕ) → advance (on s rest) ≡ On (on t rest) (writes Out bytes) = λ rest. e rest ∙ ap (λ u. On (on u rest) (writes Out bytes)) (sym next) in
-    let to_out : Got (streams input out err).out (streams input new err).out (bytes_on Out (writes Out bytes)) = subst (Got out new) (sym (bytes_of_writes Out bytes)) got in
-    let to_err : Got (streams input out err).err (streams input new err).err (bytes_on Err (writes Out bytes)) = subst (Got err err) (sym (none_err bytes)) (got_none err) in
-    ran_on (streams input out err) (streams input new err) s t (carried_one (streams input out err) (streams input new err) s t [] (writes Out bytes) (gave_none input) refl (λ rest h. next_run rest) to_out to_err)
+    let next_run : (rest : List ℕ) → advance (on s rest) ≡ On (on t rest) (writes Out bytes) =
+    λ rest. e rest ∙ ap (λ u. On (on u rest) (writes Out bytes)) (sym next) in
+    let to_out : Got (streams input out err).out (streams input new err).out (bytes_on Out (writes Out bytes)) =
+    subst (Got out new) (sym (bytes_of_writes Out bytes)) got in
+    let to_err : Got (streams input out err).err (streams input new err).err (bytes_on Err (writes Out bytes)) =
+    subst (Got err err) (sym (none_err bytes)) (got_none err) in
+    ran_on (streams input out err) (streams input new err) s t
+    (carried_one (streams input out err) (streams input new err) s t [] (writes Out bytes) (gave_none input) refl (λ rest h. next_run rest) to_out to_err)
 ran_out s input out err new (WriteFault other) t due number first (bytes, (found, (same, (kept, lost)))) =
     subst (λ x. Ran 1 (streams input out err) s (WriteFault x) t (streams input new err)) (sym same)
-    (ran_end (streams input out err) s (WriteFault Out) t (streams input new err) (omega arith, (bytes, ((answered s (reg s 12), writes_on s due Out bytes number (ap stream_of first) found), (lost, (kept, (refl, refl)))))))
+    (ran_end (streams input out err) s (WriteFault Out) t (streams input new err)
+    (omega arith, (bytes, ((answered s (reg s 12), writes_on s due Out bytes number (ap stream_of first) found), (lost, (kept, (refl, refl)))))))
 ran_out s input out err new (Fault kind pc word) t due number first (none, (k, (p, (w, (same, kept))))) =
     subst (λ x. Ran 1 (streams input out err) s (Fault x pc word) t (streams input new err)) (sym k)
     (subst (λ x. Ran 1 (streams input out err) s (Fault OutOfRange x word) t (streams input new err)) (sym p)
@@ -168,16 +193,22 @@ ran_out s input out err new (Exited status) t due number first w = absurd w
 ran_out s input out err new ReadFault t due number first w = absurd w
 
 -- a write to standard error
-pub ran_err : (s : State) (input : Feed) (out err new : Tally) (answer : RunEnd) (t : State) → outcome s ≡ Calls → reg s 17 ≡ 64 → reg s 10 ≡ 2 → Wrote s Err err answer t new → Ran 1 (streams input out err) s answer t (streams input out new)
+pub ran_err : (s : State) (input : Feed) (out err new : Tally) (answer : RunEnd) (t : State) → outcome s ≡ Calls → reg s 17 ≡ 64 → reg s 10 ≡ 2 →
+    Wrote s Err err answer t new → Ran 1 (streams input out err) s answer t (streams input out new)
 ran_err s input out err new Spent t due number first (bytes, (found, (next, got))) =
     let e = writes_on s due Err bytes number (ap stream_of first) found in
-    let next_run : (rest : List ℕ) → advance (on s rest) ≡ On (on t rest) (writes Err bytes) = λ rest. e rest ∙ ap (λ u. On (on u rest) (writes Err bytes)) (sym next) in
-    let to_out : Got (streams input out err).out (streams input out new).out (bytes_on Out (writes Err bytes)) = subst (Got out out) (sym (none_out bytes)) (got_none out) in
-    let to_err : Got (streams input out err).err (streams input out new).err (bytes_on Err (writes Err bytes)) = subst (Got err new) (sym (bytes_of_writes Err bytes)) got in
-    ran_on (streams input out err) (streams input out new) s t (carried_one (streams input out err) (streams input out new) s t [] (writes Err bytes) (gave_none input) refl (λ rest h. next_run rest) to_out to_err)
+    let next_run : (rest : List ℕ) → advance (on s rest) ≡ On (on t rest) (writes Err bytes) =
+    λ rest. e rest ∙ ap (λ u. On (on u rest) (writes Err bytes)) (sym next) in
+    let to_out : Got (streams input out err).out (streams input out new).out (bytes_on Out (writes Err bytes)) =
+    subst (Got out out) (sym (none_out bytes)) (got_none out) in
+    let to_err : Got (streams input out err).err (streams input out new).err (bytes_on Err (writes Err bytes)) =
+    subst (Got err new) (sym (bytes_of_writes Err bytes)) got in
+    ran_on (streams input out err) (streams input out new) s t
+    (carried_one (streams input out err) (streams input out new) s t [] (writes Err bytes) (gave_none input) refl (λ rest h. next_run rest) to_out to_err)
 ran_err s input out err new (WriteFault other) t due number first (bytes, (found, (same, (kept, lost)))) =
     subst (λ x. Ran 1 (streams input out err) s (WriteFault x) t (streams input out new)) (sym same)
-    (ran_end (streams input out err) s (WriteFault Err) t (streams input out new) (omega arith, (bytes, ((answered s (reg s 12), writes_on s due Err bytes number (ap stream_of first) found), (lost, (kept, (refl, refl)))))))
+    (ran_end (streams input out err) s (WriteFault Err) t (streams input out new)
+    (omega arith, (bytes, ((answered s (reg s 12), writes_on s due Err bytes number (ap stream_of first) found), (lost, (kept, (refl, refl)))))))
 ran_err s input out err new (Fault kind pc word) t due number first (none, (k, (p, (w, (same, kept))))) =
     subst (λ x. Ran 1 (streams input out err) s (Fault x pc word) t (streams input out new)) (sym k)
     (subst (λ x. Ran 1 (streams input out err) s (Fault OutOfRange x word) t (streams input out new)) (sym p)
@@ -189,15 +220,19 @@ ran_err s input out err new (Exited status) t due number first w = absurd w
 ran_err s input out err new ReadFault t due number first w = absurd w
 
 -- a read
-pub ran_read : (s : State) (input new : Feed) (out err : Tally) (answer : RunEnd) (t : State) → outcome s ≡ Calls → reg s 17 ≡ 63 → reg s 10 ≡ 0 → Read s input answer t new → Ran 1 (streams input out err) s answer t (streams new out err)
+pub ran_read : (s : State) (input new : Feed) (out err : Tally) (answer : RunEnd) (t : State) → outcome s ≡ Calls → reg s 17 ≡ 63 → reg s 10 ≡ 0 →
+    Read s input answer t new → Ran 1 (streams input out err) s answer t (streams new out err)
 ran_read s input new out err Spent t due number first (may, (count, (m, (h, next)))) =
     let p = h.part in
     let fits : length p.given ≤ reg s 12 = subst (λ k. k ≤ reg s 12) (sym p.counted) h.bound in
     let full : (length p.given ≡ reg s 12) ⊎ NoMore new = subst (λ k. (k ≡ reg s 12) ⊎ NoMore new) (sym p.counted) h.all in
-    let is : answered (filled s (reg s 11) p.given) (length p.given) ≡ t = ap (answered (filled s (reg s 11) p.given)) p.counted ∙ ap (λ u. answered u count) (sym p.state) ∙ sym next in
+    let is : answered (filled s (reg s 11) p.given) (length p.given) ≡ t =
+    ap (answered (filled s (reg s 11) p.given)) p.counted ∙ ap (λ u. answered u count) (sym p.state) ∙ sym next in
     let reads : (rest : List ℕ) → MayGive new.left new.ended rest → advance (on s (p.given ++ rest)) ≡ On (on t rest) [] =
-    λ rest h. reads_on s due p.given rest number first may (count_all (reg s 12) p.given rest fits (at_rest {P = MayGive new.left new.ended} rest h full)) ∙ ap (λ u. On (on u rest) []) is in
-    ran_on (streams input out err) (streams new out err) s t (carried_one (streams input out err) (streams new out err) s t p.given [] p.gave h.faults reads (got_none out) (got_none err))
+    λ rest h. reads_on s due p.given rest number first may (count_all (reg s 12) p.given rest fits (at_rest {P = MayGive new.left new.ended} rest h full))
+    ∙ ap (λ u. On (on u rest) []) is in
+    ran_on (streams input out err) (streams new out err) s t
+    (carried_one (streams input out err) (streams new out err) s t p.given [] p.gave h.faults reads (got_none out) (got_none err))
 ran_read s input new out err ReadFault t due number first (may, f) =
     let p = f.part in
     let fails : ReadFails s (streams input out err) t (streams new out err) = record {
@@ -229,10 +264,12 @@ ran_spent b s t c h =
     let all = h.all in
     let none : h.left ≡ 0 = h.ends.0 in
     let one : h.done ≡ 1 = omega arith in
-    subst (λ k. Carried k b s t c) one (subst (λ x. Carried h.done b s x c) (sym h.ends.1.0) (subst (λ x. Carried h.done b s h.at x) (sym h.ends.1.1) h.carried))
+    subst (λ k. Carried k b s t c) one
+    (subst (λ x. Carried h.done b s x c) (sym h.ends.1.0) (subst (λ x. Carried h.done b s h.at x) (sym h.ends.1.1) h.carried))
 
 -- more instructions could be left
-ends_more : (answer : RunEnd) (l k : ℕ) (s : State) (b : Streams) (t : State) (c : Streams) → answer ≢ Spent → l ≤ k → Ends l s b answer t c → Ends k s b answer t c
+ends_more : (answer : RunEnd) (l k : ℕ) (s : State) (b : Streams) (t : State) (c : Streams) → answer ≢ Spent → l ≤ k → Ends l s b answer t c →
+    Ends k s b answer t c
 ends_more Spent l k s b t c other le h = absurd (other refl)
 ends_more (Exited status) l k s b t c other le h = let some = h.0 in (omega arith, h.1)
 ends_more (Fault kind pc word) l k s b t c other le h = let some = h.0 in (omega arith, h.1)
@@ -240,7 +277,8 @@ ends_more ReadFault l k s b t c other le h = let some = h.0 in (omega arith, h.1
 ends_more (WriteFault stream) l k s b t c other le h = let some = h.0 in (omega arith, h.1)
 
 -- behind some instructions one ended the run
-pub ran_over : (n m : ℕ) (b c d : Streams) (s t u : State) (answer : RunEnd) → m < n → answer ≢ Spent → Carried m b s t c → Ran 1 c t answer u d → Ran n b s answer u d
+pub ran_over : (n m : ℕ) (b c d : Streams) (s t u : State) (answer : RunEnd) → m < n → answer ≢ Spent → Carried m b s t c → Ran 1 c t answer u d →
+    Ran n b s answer u d
 ran_over n m b c d s t u answer lt other p h =
     let all = h.all in
     record {
@@ -258,7 +296,8 @@ pub ran_all : (n m : ℕ) (b : Streams) (s t : State) (c : Streams) → m ≡ n 
 ran_all n m b s t c e h = record { done = m; left = 0; all = omega arith; at = t; mid = c; carried = h; ends = (refl, (refl, refl)) }
 
 -- an instruction more
-pub carried_more : (n left rest : ℕ) (b c d : Streams) (s t u : State) → left ≤ n → rest + 1 ≡ left → Carried (n - left) b s t c → Ran 1 c t Spent u d → Carried (n - rest) b s u d
+pub carried_more : (n left rest : ℕ) (b c d : Streams) (s t u : State) → left ≤ n → rest + 1 ≡ left → Carried (n - left) b s t c → Ran 1 c t Spent u d →
+    Carried (n - rest) b s u d
 carried_more n left rest b c d s t u le e p h =
     let count : n - left + 1 ≡ n - rest = omega arith in
     subst (λ k. Carried k b s u d) count (carried_then (n - left) 1 b c d s t u p (ran_spent c t u d h))

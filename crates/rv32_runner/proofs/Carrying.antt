@@ -1,5 +1,6 @@
 -- Runs of the machine, one after another.
-use Rattle.std.proofs.Common.{◌≡◌, ℕ, zero, suc, ◌+◌, List, [], ◌∷◌, ◌++◌, Option, Some, None, Bool, true, false, refl, sym, ap, subst, ◌∙◌, append_assoc, append-nil, suc-add, zero-add}
+use Rattle.std.proofs.Common.{◌≡◌, ℕ, zero, suc, ◌+◌, List, [], ◌∷◌, ◌++◌, Option, Some, None, Bool, true, false, refl, sym, ap, subst, ◌∙◌, append_assoc}
+use Rattle.std.proofs.Common.{append-nil, suc-add, zero-add}
 use Rattle.std.specs.Prelude.{◌==◌, if◌then◌else◌}
 use Rattle.arc_base.specs.declared.outside.Stream.{Stream}
 use Rattle.arc_base.specs.declared.outside.Stream.TheVariants.{Out, Err}
@@ -36,7 +37,8 @@ bytes_append Err (Write Err byte ∷ xs) ys = ap (λ l. byte ∷ l) (bytes_appen
 bytes_append Out (Hook kind of ∷ xs) ys = bytes_append Out xs ys
 bytes_append Err (Hook kind of ∷ xs) ys = bytes_append Err xs ys
 
-got_both : (stream : Stream) (a b c : Tally) (xs ys : List Event) → Got a b (bytes_on stream xs) → Got b c (bytes_on stream ys) → Got a c (bytes_on stream (xs ++ ys))
+got_both : (stream : Stream) (a b c : Tally) (xs ys : List Event) → Got a b (bytes_on stream xs) → Got b c (bytes_on stream ys) →
+    Got a c (bytes_on stream (xs ++ ys))
 got_both stream a b c xs ys p q = subst (Got a c) (sym (bytes_append stream xs ys)) (got_more a b c (bytes_on stream xs) (bytes_on stream ys) p q)
 
 -- ---- where a run stands
@@ -54,8 +56,11 @@ go_on (HasExited shown status at) go = HasExited shown status at
 go_on (HasFaulted shown kind pc word at) go = HasFaulted shown kind pc word at
 
 module _ (hooks : List HookAt) where
-  stood_before : (n : ℕ) (r : Run) (x : Advance) (xs out : List Event) → ((r : Run) (xs out : List Event) → standing hooks n r (xs ++ out) ≡ before xs (standing hooks n r out)) → stood hooks (standing hooks n) r (xs ++ out) x ≡ before xs (stood hooks (standing hooks n) r out x)
-  stood_before n r (On next shown) xs out h = ap (standing hooks n next) (append_assoc xs out (all_shown hooks shown next)) ∙ h next xs (out ++ all_shown hooks shown next)
+  stood_before : (n : ℕ) (r : Run) (x : Advance) (xs out : List Event) →
+      ((r : Run) (xs out : List Event) → standing hooks n r (xs ++ out) ≡ before xs (standing hooks n r out)) →
+      stood hooks (standing hooks n) r (xs ++ out) x ≡ before xs (stood hooks (standing hooks n) r out x)
+  stood_before n r (On next shown) xs out h =
+      ap (standing hooks n next) (append_assoc xs out (all_shown hooks shown next)) ∙ h next xs (out ++ all_shown hooks shown next)
   stood_before n r (Exited status) xs out h = refl
   stood_before n r (Faulted kind pc word) xs out h = refl
 
@@ -63,7 +68,9 @@ module _ (hooks : List HookAt) where
   standing_before zero r xs out = refl
   standing_before (suc n) r xs out = stood_before n r (advance r) xs out (standing_before n)
 
-  stood_then : (m n : ℕ) (r : Run) (x : Advance) (out : List Event) → ((r : Run) (out : List Event) → standing hooks (m + n) r out ≡ go_on (standing hooks m r out) (standing hooks n)) → stood hooks (standing hooks (m + n)) r out x ≡ go_on (stood hooks (standing hooks m) r out x) (standing hooks n)
+  stood_then : (m n : ℕ) (r : Run) (x : Advance) (out : List Event) →
+      ((r : Run) (out : List Event) → standing hooks (m + n) r out ≡ go_on (standing hooks m r out) (standing hooks n)) →
+      stood hooks (standing hooks (m + n)) r out x ≡ go_on (stood hooks (standing hooks m) r out x) (standing hooks n)
   stood_then m n r (On next shown) out h = h next (out ++ all_shown hooks shown next)
   stood_then m n r (Exited status) out h = refl
   stood_then m n r (Faulted kind pc word) out h = refl
@@ -130,7 +137,8 @@ module _ (hooks : List HookAt) where
   }
 
   -- one instruction that shows these events
-  pub leads_one : (b c : Streams) (r t : Run) (shown : List Event) → advance r ≡ On t shown → Got b.out c.out (bytes_on Out shown) → Got b.err c.err (bytes_on Err shown) → Leads hooks 1 b r t c
+  pub leads_one : (b c : Streams) (r t : Run) (shown : List Event) → advance r ≡ On t shown → Got b.out c.out (bytes_on Out shown) →
+      Got b.err c.err (bytes_on Err shown) → Leads hooks 1 b r t c
   leads_one b c r t shown e out err = record {
     shown = all_shown hooks shown t;
     stands = ap (stood hooks (standing hooks 0) r []) e;
@@ -153,7 +161,9 @@ carried_then m n b c d s t u p q = record {
 }
 
 -- an instruction that is given these bytes and shows these events
-pub carried_one : (b c : Streams) (s t : State) (given : List ℕ) (shown : List Event) → Gave b.input c.input given → c.input.faults ≡ b.input.faults → ((rest : List ℕ) → MayGive c.input.left c.input.ended rest → advance (on s (given ++ rest)) ≡ On (on t rest) shown) → Got b.out c.out (bytes_on Out shown) → Got b.err c.err (bytes_on Err shown) → Carried 1 b s t c
+pub carried_one : (b c : Streams) (s t : State) (given : List ℕ) (shown : List Event) → Gave b.input c.input given → c.input.faults ≡ b.input.faults →
+    ((rest : List ℕ) → MayGive c.input.left c.input.ended rest → advance (on s (given ++ rest)) ≡ On (on t rest) shown) →
+    Got b.out c.out (bytes_on Out shown) → Got b.err c.err (bytes_on Err shown) → Carried 1 b s t c
 carried_one b c s t given shown gave faults e out err = record {
   given = given;
   gave = gave;

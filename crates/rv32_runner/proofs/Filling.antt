@@ -1,5 +1,6 @@
 -- Bytes that are put into a range piece by piece.
-use Rattle.std.proofs.Common.{◌≡◌, ℕ, zero, suc, ◌+◌, ◌-◌, ◌<◌, ◌≤◌, ◌^◌, List, [], ◌∷◌, ◌++◌, length, take, drop, Bool, true, false, refl, sym, ap, ap₂, subst, ◌∙◌, arith, append_assoc, append-nil, add-zero, length-append, length-drop, inr}
+use Rattle.std.proofs.Common.{◌≡◌, ℕ, zero, suc, ◌+◌, ◌-◌, ◌<◌, ◌≤◌, ◌^◌, List, [], ◌∷◌, ◌++◌, length, take, drop, Bool, true, false, refl, sym, ap, ap₂}
+use Rattle.std.proofs.Common.{subst, ◌∙◌, arith, append_assoc, append-nil, add-zero, length-append, length-drop, inr}
 use Rattle.std.specs.Prelude.{◌==◌, ◌||◌, if◌then◌else◌}
 use Rattle.std.proofs.lemmas.Bool.{le-leb, leb-true, lt-leb, ne_eqb, and_from, and_parts, and_right, cond-true, cond-false, true≢false}
 use Rattle.std.proofs.lemmas.List.{length-take-le, take-append-le, drop-drop}
@@ -17,7 +18,8 @@ use Rattle.rv32_runner.proofs.Carrying.{gave_none, gave_then}
 
 -- ---- bytes in a list
 
-put_put : (region xs ys : List ℕ) (i j : ℕ) → j ≡ i + length xs → i + (length xs + length ys) ≤ length region → put_bytes (put_bytes region i xs) j ys ≡ put_bytes region i (xs ++ ys)
+put_put : (region xs ys : List ℕ) (i j : ℕ) → j ≡ i + length xs → i + (length xs + length ys) ≤ length region →
+    put_bytes (put_bytes region i xs) j ys ≡ put_bytes region i (xs ++ ys)
 put_put region xs ys i j e within =
     let front = take i region in
     let tail = drop (i + length xs) region in
@@ -25,10 +27,13 @@ put_put region xs ys i j e within =
     let at : j ≡ length front + length xs = omega arith in
     let behind : j + length ys ≡ length front + (length xs + length ys) = omega arith in
     let far : i + length xs + length ys ≡ i + length (xs ++ ys) = omega (arith, length-append xs ys) in
-    let first : take j (front ++ (xs ++ tail)) ≡ front ++ xs = ap (λ k. take k (front ++ (xs ++ tail))) at ∙ take-append-add front (xs ++ tail) (length xs) ∙ ap (λ l. front ++ l) (take-append_seam xs tail) in
+    let first : take j (front ++ (xs ++ tail)) ≡ front ++ xs =
+    ap (λ k. take k (front ++ (xs ++ tail))) at ∙ take-append-add front (xs ++ tail) (length xs) ∙ ap (λ l. front ++ l) (take-append_seam xs tail) in
     let last : drop (j + length ys) (front ++ (xs ++ tail)) ≡ drop (i + length (xs ++ ys)) region =
-    ap (λ k. drop k (front ++ (xs ++ tail))) behind ∙ drop-append-add front (xs ++ tail) (length xs + length ys) ∙ drop-append-add xs tail (length ys) ∙ drop-drop (length ys) (i + length xs) region ∙ ap (λ k. drop k region) far in
-    ap₂ (λ a b. a ++ (ys ++ b)) first last ∙ append_assoc front xs (ys ++ drop (i + length (xs ++ ys)) region) ∙ ap (λ l. front ++ l) (sym (append_assoc xs ys (drop (i + length (xs ++ ys)) region)))
+    ap (λ k. drop k (front ++ (xs ++ tail))) behind ∙ drop-append-add front (xs ++ tail) (length xs + length ys) ∙ drop-append-add xs tail (length ys)
+    ∙ drop-drop (length ys) (i + length xs) region ∙ ap (λ k. drop k region) far in
+    ap₂ (λ a b. a ++ (ys ++ b)) first last ∙ append_assoc front xs (ys ++ drop (i + length (xs ++ ys)) region) ∙ ap (λ l. front ++ l)
+    (sym (append_assoc xs ys (drop (i + length (xs ++ ys)) region)))
 
 -- ---- ranges of a region
 
@@ -51,7 +56,8 @@ data Place (s : State) (at n : ℕ) : Type 0 where
   heap : Within heap_at s.heap at n → Place s at n
   stack : Within stack_at s.stack at n → Place s at n
 
-place_by : (s : State) (at n : ℕ) (a b c : Bool) → lies_in statics_at s.statics at n ≡ a → lies_in heap_at s.heap at n ≡ b → lies_in stack_at s.stack at n ≡ c → (a || (b || c)) ≡ true → Place s at n
+place_by : (s : State) (at n : ℕ) (a b c : Bool) → lies_in statics_at s.statics at n ≡ a → lies_in heap_at s.heap at n ≡ b →
+    lies_in stack_at s.stack at n ≡ c → (a || (b || c)) ≡ true → Place s at n
 place_by s at n true b c p q r e = statics (within statics_at s.statics at n p)
 place_by s at n false true c p q r e = heap (within heap_at s.heap at n q)
 place_by s at n false false true p q r e = stack (within stack_at s.stack at n r)
@@ -83,8 +89,10 @@ or_left false b e = absurd (true≢false (sym e))
 
 placed : (s : State) (at n : ℕ) → Place s at n → writable s at n ≡ true
 placed s at n (statics h) = or_right (n == 0) _ (or_left (lies_in statics_at s.statics at n) _ (lies statics_at s.statics at n h))
-placed s at n (heap h) = or_right (n == 0) _ (or_right (lies_in statics_at s.statics at n) _ (or_left (lies_in heap_at s.heap at n) _ (lies heap_at s.heap at n h)))
-placed s at n (stack h) = or_right (n == 0) _ (or_right (lies_in statics_at s.statics at n) _ (or_right (lies_in heap_at s.heap at n) _ (lies stack_at s.stack at n h)))
+placed s at n (heap h) = or_right (n == 0) _
+    (or_right (lies_in statics_at s.statics at n) _ (or_left (lies_in heap_at s.heap at n) _ (lies heap_at s.heap at n h)))
+placed s at n (stack h) = or_right (n == 0) _
+    (or_right (lies_in statics_at s.statics at n) _ (or_right (lies_in heap_at s.heap at n) _ (lies stack_at s.stack at n h)))
 
 -- a part of a range that may be stored to
 pub writable_part : (s : State) (at n i k : ℕ) → writable s at n ≡ true → i + k ≤ n → writable s (at + i) k ≡ true
@@ -130,7 +138,8 @@ module _ (s : State) (at b : ℕ) (bs : List ℕ) (r : HasRegions s) where
   fills_statics h = not_empty ∙ cond-true (lies_in statics_at s.statics at len) (in_statics s at bytes) above (lies statics_at s.statics at len h)
 
   fills_above : heap_at ≤ at → filled s at bytes ≡ above
-  fills_above low = let most = r.statics_most in not_empty ∙ cond-false (lies_in statics_at s.statics at len) (in_statics s at bytes) above (past statics_at s.statics at len (omega arith))
+  fills_above low = let most = r.statics_most in not_empty ∙ cond-false (lies_in statics_at s.statics at len) (in_statics s at bytes) above
+      (past statics_at s.statics at len (omega arith))
 
   fills_heap : Within heap_at s.heap at len → filled s at bytes ≡ in_heap s at bytes
   fills_heap h = fills_above h.low ∙ cond-true (lies_in heap_at s.heap at len) (in_heap s at bytes) (in_stack s at bytes) (lies heap_at s.heap at len h)
@@ -139,14 +148,22 @@ module _ (s : State) (at b : ℕ) (bs : List ℕ) (r : HasRegions s) where
   fills_stack h =
       let low = h.low in
       let most = r.heap_most in
-      fills_above (omega arith) ∙ cond-false (lies_in heap_at s.heap at len) (in_heap s at bytes) (in_stack s at bytes) (past heap_at s.heap at len (omega arith))
+      fills_above (omega arith) ∙ cond-false (lies_in heap_at s.heap at len) (in_heap s at bytes) (in_stack s at bytes)
+      (past heap_at s.heap at len (omega arith))
 
 -- ---- one piece after another
 
 length_put : (region bytes : List ℕ) (i : ℕ) → i + length bytes ≤ length region → length (put_bytes region i bytes) ≡ length region
 length_put region bytes i fits =
     let tail = drop (i + length bytes) region in
-    omega (arith, length-append (take i region) (bytes ++ tail), length-append bytes tail, length-take-le i region (omega arith), length-drop (i + length bytes) region)
+    omega (
+      arith,
+      length-append (take i region) (bytes ++ tail),
+      length-append bytes tail,
+      length-take-le i region (omega arith),
+      length-drop
+          (i + length bytes) region,
+    )
 
 -- what is put after a front of a range
 record After (base : ℕ) (region xs ys : List ℕ) (at : ℕ) : Type 0 where
@@ -183,24 +200,30 @@ module _ (s : State) (at x y : ℕ) (xs ys : List ℕ) (r : HasRegions s) (kept 
       let a = after statics_at s.statics front back at h in
       let first = fills_statics s at x xs r a.here in
       let whole = fills_statics s at x (xs ++ back) r a.whole in
-      ap (λ t. filled t (at + length front) back) first ∙ fills_statics (in_statics s at front) (at + length front) y ys (subst HasRegions first kept) a.next ∙ ap (λ l. record s { statics = l }) a.joined ∙ sym whole
+      ap (λ t. filled t (at + length front) back) first ∙ fills_statics (in_statics s at front) (at + length front) y ys (subst HasRegions first kept) a.next
+      ∙ ap (λ l. record s { statics = l }) a.joined ∙ sym whole
   more (heap h) =
       let a = after heap_at s.heap front back at h in
       let first = fills_heap s at x xs r a.here in
       let whole = fills_heap s at x (xs ++ back) r a.whole in
-      ap (λ t. filled t (at + length front) back) first ∙ fills_heap (in_heap s at front) (at + length front) y ys (subst HasRegions first kept) a.next ∙ ap (λ l. record s { heap = l }) a.joined ∙ sym whole
+      ap (λ t. filled t (at + length front) back) first ∙ fills_heap (in_heap s at front) (at + length front) y ys (subst HasRegions first kept) a.next ∙ ap
+      (λ l. record s { heap = l }) a.joined ∙ sym whole
   more (stack h) =
       let a = after stack_at s.stack front back at h in
       let first = fills_stack s at x xs r a.here in
       let whole = fills_stack s at x (xs ++ back) r a.whole in
-      ap (λ t. filled t (at + length front) back) first ∙ fills_stack (in_stack s at front) (at + length front) y ys (subst HasRegions first kept) a.next ∙ ap (λ l. record s { stack = l }) a.joined ∙ sym whole
+      ap (λ t. filled t (at + length front) back) first ∙ fills_stack (in_stack s at front) (at + length front) y ys (subst HasRegions first kept) a.next ∙ ap
+      (λ l. record s { stack = l }) a.joined ∙ sym whole
 
 -- a piece that is put behind another one, in a range that may be stored to
-pub filled_more : (s : State) (at n : ℕ) (xs ys : List ℕ) → HasRegions s → HasRegions (filled s at xs) → writable s at n ≡ true → length xs + length ys ≤ n → filled (filled s at xs) (at + length xs) ys ≡ filled s at (xs ++ ys)
+pub filled_more : (s : State) (at n : ℕ) (xs ys : List ℕ) → HasRegions s → HasRegions (filled s at xs) → writable s at n ≡ true →
+    length xs + length ys ≤ n → filled (filled s at xs) (at + length xs) ys ≡ filled s at (xs ++ ys)
 filled_more s at n [] ys r kept e le = ap (λ k. filled s k ys) (add-zero at)
 filled_more s at n (x ∷ xs) [] r kept e le = ap (filled s at) (sym (append-nil (x ∷ xs)))
 filled_more s at zero (x ∷ xs) (y ∷ ys) r kept e le = absurd (omega arith)
-filled_more s at (suc n) (x ∷ xs) (y ∷ ys) r kept e le = more s at x y xs ys r kept (subst (λ k. Place s k (suc (length xs) + suc (length ys))) (add-zero at) (part_place s at (suc n) 0 (suc (length xs) + suc (length ys)) (omega arith) (place s at n e)))
+filled_more s at (suc n) (x ∷ xs) (y ∷ ys) r kept e le =
+    more s at x y xs ys r kept (subst (λ k. Place s k (suc (length xs) + suc (length ys))) (add-zero at)
+    (part_place s at (suc n) 0 (suc (length xs) + suc (length ys)) (omega arith) (place s at n e)))
 
 -- ---- bytes that a source gives
 
@@ -226,7 +249,8 @@ module _ (a b : Option (List ℕ)) (x y : Bool) (i j : ℕ) (g k : List ℕ) (in
       before_take (Some left) (Some now) t rest h = h ∙ t
 
 -- nothing comes after the end
-pub end_take : (a b : Option (List ℕ)) (y : Bool) (n : ℕ) (into : List ℕ) → Takes {E = Failed} a b (Ok n) into → n ≡ 0 → 0 < length into → IsTrue y → (rest : List ℕ) → MayGive b y rest → rest ≡ []
+pub end_take : (a b : Option (List ℕ)) (y : Bool) (n : ℕ) (into : List ℕ) → Takes {E = Failed} a b (Ok n) into → n ≡ 0 → 0 < length into → IsTrue y →
+    (rest : List ℕ) → MayGive b y rest → rest ≡ []
 end_take None None y n into t none some ended rest h = h ended
 end_take None (Some now) y n into t none some ended rest h = absurd t
 end_take (Some left) None y n into t none some ended rest h = absurd t
@@ -239,7 +263,8 @@ pub part_same : (s t : State) (at : ℕ) (b c : Feed) → t ≡ s → Gave b c [
 part_same s t at b c e gave = record { given = []; counted = refl; gave = gave; state = e }
 
 -- a piece more
-pub part_more : (s t : State) (at size done count : ℕ) (b c d : Feed) (bytes : List ℕ) → HasRegions s → HasRegions t → writable s at size ≡ true → length bytes ≡ count → done + count ≤ size → Gave c d bytes → Part s at b done t c → Part s at b (done + count) (filled t (at + done) bytes) d
+pub part_more : (s t : State) (at size done count : ℕ) (b c d : Feed) (bytes : List ℕ) → HasRegions s → HasRegions t → writable s at size ≡ true →
+    length bytes ≡ count → done + count ≤ size → Gave c d bytes → Part s at b done t c → Part s at b (done + count) (filled t (at + done) bytes) d
 part_more s t at size done count b c d bytes r kept may long fits gave p =
     let counted = p.counted in
     let all = length-append p.given bytes in
@@ -247,14 +272,18 @@ part_more s t at size done count b c d bytes r kept may long fits gave p =
       given = p.given ++ bytes;
       counted = omega arith;
       gave = gave_then b c d p.given bytes p.gave gave;
-      state = ap₂ (λ u k. filled u (at + k) bytes) p.state (sym counted) ∙ filled_more s at size p.given bytes r (subst HasRegions p.state kept) may (omega arith);
+      state = ap₂ (λ u k. filled u (at + k) bytes) p.state (sym counted) ∙ filled_more s at size p.given bytes r (subst HasRegions p.state kept) may
+          (omega arith);
     }
 
-pub part_then : (s t u : State) (at size done count : ℕ) (b c d : Feed) → HasRegions s → HasRegions t → writable s at size ≡ true → done + count ≤ size → Part s at b done t c → Part t (at + done) c count u d → Part s at b (done + count) u d
-part_then s t u at size done count b c d r kept may fits p q = subst (λ x. Part s at b (done + count) x d) (sym q.state) (part_more s t at size done count b c d q.given r kept may q.counted fits q.gave p)
+pub part_then : (s t u : State) (at size done count : ℕ) (b c d : Feed) → HasRegions s → HasRegions t → writable s at size ≡ true → done + count ≤ size →
+    Part s at b done t c → Part t (at + done) c count u d → Part s at b (done + count) u d
+part_then s t u at size done count b c d r kept may fits p q =
+    subst (λ x. Part s at b (done + count) x d) (sym q.state) (part_more s t at size done count b c d q.given r kept may q.counted fits q.gave p)
 
 -- nothing came behind a piece
-pub filled_end : (s t u : State) (at size done count : ℕ) (b c d : Feed) → HasRegions s → HasRegions t → writable s at size ≡ true → done ≤ size → count ≡ 0 → Part s at b done t c → c.faults ≡ b.faults → Part t (at + done) c count u d → d.faults ≡ c.faults → NoMore d → Filled s at size b done u d
+pub filled_end : (s t u : State) (at size done count : ℕ) (b c d : Feed) → HasRegions s → HasRegions t → writable s at size ≡ true → done ≤ size →
+    count ≡ 0 → Part s at b done t c → c.faults ≡ b.faults → Part t (at + done) c count u d → d.faults ≡ c.faults → NoMore d → Filled s at size b done u d
 filled_end s t u at size done count b c d r kept may le none p same q still over = record {
   part = subst (λ k. Part s at b k u d) (omega arith) (part_then s t u at size done count b c d r kept may (omega arith) p q);
   faults = still ∙ same;
@@ -263,7 +292,8 @@ filled_end s t u at size done count b c d r kept may le none p same q still over
 }
 
 -- the source failed behind a piece
-pub failing_then : (s t u : State) (at size done : ℕ) (b c d : Feed) → HasRegions s → HasRegions t → writable s at size ≡ true → done < size → Part s at b done t c → c.faults ≡ b.faults → Part t (at + done) c 0 u d → Rose c.faults d.faults → Failing s at size b u d
+pub failing_then : (s t u : State) (at size done : ℕ) (b c d : Feed) → HasRegions s → HasRegions t → writable s at size ≡ true → done < size →
+    Part s at b done t c → c.faults ≡ b.faults → Part t (at + done) c 0 u d → Rose c.faults d.faults → Failing s at size b u d
 failing_then s t u at size done b c d r kept may lt p same q rose = record {
   count = done + 0;
   part = part_then s t u at size done 0 b c d r kept may (omega arith) p q;
@@ -283,12 +313,19 @@ same_sizes s = record { regs = refl; pc = refl; code = refl; statics = refl; hea
 pub front_long : (count : ℕ) (into rest : List ℕ) → count ≤ length into → length (take count (into ++ rest)) ≡ count
 front_long count into rest le = ap length (take-append-le count into rest le) ∙ length-take-le count into le
 
-pub front_may : (s : State) (at size count : ℕ) (into rest : List ℕ) → writable s at size ≡ true → count ≤ length into → count ≤ size → writable s at (length (take count (into ++ rest))) ≡ true
+pub front_may : (s : State) (at size count : ℕ) (into rest : List ℕ) → writable s at size ≡ true → count ≤ length into → count ≤ size →
+    writable s at (length (take count (into ++ rest))) ≡ true
 front_may s at size count into rest may le fits =
-    subst (λ k. writable s at k ≡ true) (sym (front_long count into rest le)) (subst (λ a. writable s a count ≡ true) (add-zero at) (writable_part s at size 0 count may (omega arith)))
+    subst (λ k. writable s at k ≡ true) (sym (front_long count into rest le))
+    (subst (λ a. writable s a count ≡ true) (add-zero at) (writable_part s at size 0 count may (omega arith)))
 
-pub front_part : (s t : State) (at count : ℕ) (b c : Feed) (into rest : List ℕ) → count ≤ length into → Gave b c (take count into) → t ≡ filled s at (take count (into ++ rest)) → Part s at b count t c
-front_part s t at count b c into rest le gave e = record { given = take count into; counted = length-take-le count into le; gave = gave; state = e ∙ ap (filled s at) (take-append-le count into rest le) }
+pub front_part : (s t : State) (at count : ℕ) (b c : Feed) (into rest : List ℕ) → count ≤ length into → Gave b c (take count into) →
+    t ≡ filled s at (take count (into ++ rest)) → Part s at b count t c
+front_part s t at count b c into rest le gave e =
+    record { given = take count into; counted = length-take-le count into le; gave = gave; state = e ∙ ap (filled s at) (take-append-le count into rest le) }
 
-pub front_sizes : (s t : State) (at size count : ℕ) (into rest : List ℕ) → ((s : State) (at : ℕ) (bytes : List ℕ) → writable s at (length bytes) ≡ true → KeepsSizes s (filled s at bytes)) → writable s at size ≡ true → count ≤ length into → count ≤ size → t ≡ filled s at (take count (into ++ rest)) → KeepsSizes s t
-front_sizes s t at size count into rest sizes may le fits e = subst (KeepsSizes s) (sym e) (sizes s at (take count (into ++ rest)) (front_may s at size count into rest may le fits))
+pub front_sizes : (s t : State) (at size count : ℕ) (into rest : List ℕ) →
+    ((s : State) (at : ℕ) (bytes : List ℕ) → writable s at (length bytes) ≡ true → KeepsSizes s (filled s at bytes)) → writable s at size ≡ true →
+    count ≤ length into → count ≤ size → t ≡ filled s at (take count (into ++ rest)) → KeepsSizes s t
+front_sizes s t at size count into rest sizes may le fits e =
+    subst (KeepsSizes s) (sym e) (sizes s at (take count (into ++ rest)) (front_may s at size count into rest may le fits))

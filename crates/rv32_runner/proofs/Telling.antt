@@ -16,11 +16,13 @@ use Rattle.rv32_runner.proofs.Carrying.{go_on, standing_then}
 
 module _ (hooks : List HookAt) (done left : ℕ) (b c : Streams) (s u : State) (h : Carried done b s u c) where
   -- after the instructions that were carried out the rest of them starts
-  goes_on : (rest : List ℕ) (may : MayGive c.input.left c.input.ended rest) → standing hooks (done + left) (on s (h.given ++ rest)) [] ≡ standing hooks left (on u rest) (h.leads hooks rest may).shown
+  goes_on : (rest : List ℕ) (may : MayGive c.input.left c.input.ended rest) →
+      standing hooks (done + left) (on s (h.given ++ rest)) [] ≡ standing hooks left (on u rest) (h.leads hooks rest may).shown
   goes_on rest may = standing_then hooks done left (on s (h.given ++ rest)) [] ∙ ap (λ x. go_on x (standing hooks left)) (h.leads hooks rest may).stands
 
   -- the rest of them leaves the streams as they were
-  told_same : (answer : RunEnd) (t : State) (d : Streams) (rest : List ℕ) → d ≡ c → MayGive d.input.left d.input.ended rest → ((shown : List Event) → Tells answer t rest shown (standing hooks left (on u rest) shown)) → Told hooks (done + left) b s answer t d rest
+  told_same : (answer : RunEnd) (t : State) (d : Streams) (rest : List ℕ) → d ≡ c → MayGive d.input.left d.input.ended rest →
+      ((shown : List Event) → Tells answer t rest shown (standing hooks left (on u rest) shown)) → Told hooks (done + left) b s answer t d rest
   told_same answer t d rest kept may stands =
       let there : MayGive c.input.left c.input.ended rest = subst (λ x. MayGive x.input.left x.input.ended rest) kept may in
       let way = h.leads hooks rest there in
@@ -35,22 +37,32 @@ module _ (hooks : List HookAt) (done left : ℕ) (b c : Streams) (s u : State) (
         err = subst (λ x. Got b.err x.err (bytes_on Err way.shown)) (sym kept) way.err;
       }
 
-told : (hooks : List HookAt) (done left : ℕ) (b c : Streams) (s u : State) (answer : RunEnd) (t : State) (d : Streams) → Carried done b s u c → Ends left u c answer t d → IsOfMachine answer → (rest : List ℕ) → MayGive d.input.left d.input.ended rest → Told hooks (done + left) b s answer t d rest
-told hooks done left b c s u Spent t d h (none, (same, kept)) is rest may = told_same hooks done left b c s u h Spent t d rest kept may (λ shown. ap (λ k. standing hooks k (on u rest) shown) none ∙ ap (λ x. Runs shown (on x rest)) (sym same))
+told : (hooks : List HookAt) (done left : ℕ) (b c : Streams) (s u : State) (answer : RunEnd) (t : State) (d : Streams) → Carried done b s u c →
+    Ends left u c answer t d → IsOfMachine answer → (rest : List ℕ) → MayGive d.input.left d.input.ended rest → Told hooks (done + left) b s answer t d rest
+told hooks done left b c s u Spent t d h (none, (same, kept)) is rest may =
+    told_same hooks done left b c s u h Spent t d rest kept may
+    (λ shown. ap (λ k. standing hooks k (on u rest) shown) none ∙ ap (λ x. Runs shown (on x rest)) (sym same))
 told hooks done zero b c s u (Exited status) t d h (some, halts) is rest may = absurd (omega (arith, some))
-told hooks done (suc k) b c s u (Exited status) t d h (some, ((same, kept), halts)) is rest may = told_same hooks done (suc k) b c s u h (Exited status) t d rest kept may (λ shown. ap (stood hooks (standing hooks k) (on u rest) shown) (halts rest) ∙ ap (λ x. HasExited shown status (on x rest)) (sym same))
+told hooks done (suc k) b c s u (Exited status) t d h (some, ((same, kept), halts)) is rest may =
+    told_same hooks done (suc k) b c s u h (Exited status) t d rest kept may
+    (λ shown. ap (stood hooks (standing hooks k) (on u rest) shown) (halts rest) ∙ ap (λ x. HasExited shown status (on x rest)) (sym same))
 told hooks done zero b c s u (Fault kind pc word) t d h (some, halts) is rest may = absurd (omega (arith, some))
-told hooks done (suc k) b c s u (Fault kind pc word) t d h (some, ((same, kept), halts)) is rest may = told_same hooks done (suc k) b c s u h (Fault kind pc word) t d rest kept may (λ shown. ap (stood hooks (standing hooks k) (on u rest) shown) (halts rest) ∙ ap (λ x. HasFaulted shown kind pc word (on x rest)) (sym same))
+told hooks done (suc k) b c s u (Fault kind pc word) t d h (some, ((same, kept), halts)) is rest may =
+    told_same hooks done (suc k) b c s u h (Fault kind pc word) t d rest kept may
+    (λ shown. ap (stood hooks (standing hooks k) (on u rest) shown) (halts rest) ∙ ap (λ x. HasFaulted shown kind pc word (on x rest)) (sym same))
 told hooks done left b c s u ReadFault t d h e is rest may = absurd is
 told hooks done left b c s u (WriteFault stream) t d h e is rest may = absurd is
 
-pub tells : (hooks : List HookAt) (n : ℕ) (b : Streams) (s : State) (answer : RunEnd) (t : State) (d : Streams) → Ran n b s answer t d → IsOfMachine answer → (rest : List ℕ) → MayGive d.input.left d.input.ended rest → Told hooks n b s answer t d rest
-tells hooks n b s answer t d h is rest may = subst (λ k. Told hooks k b s answer t d rest) (sym h.all) (told hooks h.done h.left b h.mid s h.at answer t d h.carried h.ends is rest may)
+pub tells : (hooks : List HookAt) (n : ℕ) (b : Streams) (s : State) (answer : RunEnd) (t : State) (d : Streams) → Ran n b s answer t d →
+    IsOfMachine answer → (rest : List ℕ) → MayGive d.input.left d.input.ended rest → Told hooks n b s answer t d rest
+tells hooks n b s answer t d h is rest may =
+    subst (λ k. Told hooks k b s answer t d rest) (sym h.all) (told hooks h.done h.left b h.mid s h.at answer t d h.carried h.ends is rest may)
 
 -- ---- what is seen of an image
 
 -- how a run that stands so is seen
-seen_phase : (live : Lives) (answer : RunEnd) (t : State) (rest : List ℕ) (shown : List Event) (x : Standing) → Tells answer t rest shown x → IsSeen live answer t (phase_of live x)
+seen_phase : (live : Lives) (answer : RunEnd) (t : State) (rest : List ℕ) (shown : List Event) (x : Standing) → Tells answer t rest shown x →
+    IsSeen live answer t (phase_of live x)
 seen_phase live Spent t rest shown x e = ap (phase_of live) e
 seen_phase live (Exited status) t rest shown x e = ap (phase_of live) e
 seen_phase live (Fault kind pc word) t rest shown x e = ap (phase_of live) e
@@ -72,7 +84,8 @@ module _ (live : Lives) (image : Image) where
   abbrev Shows : Type 0
   Shows = (input : List ℕ) (n : ℕ) → (machine live image input n).events ≡ shown_by (standing image.hooks n (start image input) [])
 
-  pub saw : Stands → Shows → (n : ℕ) (b : Streams) (answer : RunEnd) (t : State) (d : Streams) → Ran n b (first_state image) answer t d → IsOfMachine answer → (rest : List ℕ) → MayGive d.input.left d.input.ended rest → Saw live image n b answer t d rest
+  pub saw : Stands → Shows → (n : ℕ) (b : Streams) (answer : RunEnd) (t : State) (d : Streams) → Ran n b (first_state image) answer t d →
+      IsOfMachine answer → (rest : List ℕ) → MayGive d.input.left d.input.ended rest → Saw live image n b answer t d rest
   saw stands shows n b answer t d h is rest may =
       let says = tells image.hooks n b (first_state image) answer t d h is rest may in
       let input = says.given ++ rest in
@@ -116,9 +129,12 @@ cause : (left : ℕ) (b c : Streams) (u : State) (answer : RunEnd) (t : State) (
 cause left b c u Spent t d q (none, (same, kept)) = silent b c d q kept
 cause left b c u (Exited status) t d q (some, ((same, kept), halts)) = silent b c d q kept
 cause left b c u (Fault kind pc word) t d q (some, ((same, kept), halts)) = silent b c d q kept
-cause left b c u ReadFault t d q (some, f) = (subst (λ k. Rose k d.input.faults) q.input f.rose, (ap (λ x. x.faults) f.out ∙ q.out, ap (λ x. x.faults) f.err ∙ q.err))
-cause left b c u (WriteFault Out) t d q (some, (bytes, (writes, (lost, (same, (input, err)))))) = (subst (λ k. Rose k d.out.faults) q.out lost.rose, (ap (λ x. x.faults) input ∙ q.input, ap (λ x. x.faults) err ∙ q.err))
-cause left b c u (WriteFault Err) t d q (some, (bytes, (writes, (lost, (same, (input, out)))))) = (subst (λ k. Rose k d.err.faults) q.err lost.rose, (ap (λ x. x.faults) input ∙ q.input, ap (λ x. x.faults) out ∙ q.out))
+cause left b c u ReadFault t d q (some, f) =
+    (subst (λ k. Rose k d.input.faults) q.input f.rose, (ap (λ x. x.faults) f.out ∙ q.out, ap (λ x. x.faults) f.err ∙ q.err))
+cause left b c u (WriteFault Out) t d q (some, (bytes, (writes, (lost, (same, (input, err)))))) =
+    (subst (λ k. Rose k d.out.faults) q.out lost.rose, (ap (λ x. x.faults) input ∙ q.input, ap (λ x. x.faults) err ∙ q.err))
+cause left b c u (WriteFault Err) t d q (some, (bytes, (writes, (lost, (same, (input, out)))))) =
+    (subst (λ k. Rose k d.err.faults) q.err lost.rose, (ap (λ x. x.faults) input ∙ q.input, ap (λ x. x.faults) out ∙ q.out))
 
 pub causes : (n : ℕ) (b : Streams) (s : State) (answer : RunEnd) (t : State) (d : Streams) → Ran n b s answer t d → Causes answer b d
 causes n b s answer t d h = cause h.left b h.mid h.at answer t d (quiet h.done b h.mid s h.at h.carried) h.ends

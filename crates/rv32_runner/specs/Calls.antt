@@ -12,8 +12,10 @@ use Rattle.rv32_runner.specs.Streams.{Feed, Gave, MayGive, Tally, Got, Lost}
 -- a call that writes to a stream
 abbrev pub Wrote : State → Stream → Tally → RunEnd → State → Tally → Type 0
 Wrote s stream old Spent t new = (bytes : List ℕ) × ((readable s (reg s 11) (reg s 12) ≡ Some bytes) × ((t ≡ answered s (reg s 12)) × Got old new bytes))
-Wrote s stream old (WriteFault other) t new = (bytes : List ℕ) × ((readable s (reg s 11) (reg s 12) ≡ Some bytes) × ((other ≡ stream) × ((t ≡ s) × Lost old new bytes)))
-Wrote s stream old (Fault kind pc word) t new = (readable s (reg s 11) (reg s 12) ≡ None) × ((kind ≡ OutOfRange) × ((pc ≡ s.pc) × ((word ≡ 0x73) × ((t ≡ s) × (new ≡ old)))))
+Wrote s stream old (WriteFault other) t new =
+    (bytes : List ℕ) × ((readable s (reg s 11) (reg s 12) ≡ Some bytes) × ((other ≡ stream) × ((t ≡ s) × Lost old new bytes)))
+Wrote s stream old (Fault kind pc word) t new =
+    (readable s (reg s 11) (reg s 12) ≡ None) × ((kind ≡ OutOfRange) × ((pc ≡ s.pc) × ((word ≡ 0x73) × ((t ≡ s) × (new ≡ old)))))
 Wrote s stream old (Exited status) t new = ⊥
 Wrote s stream old ReadFault t new = ⊥
 
@@ -53,8 +55,10 @@ Fills s at size old (Err e) t new = Failing s at size old t new
 
 -- a call that reads input
 abbrev pub Read : State → Feed → RunEnd → State → Feed → Type 0
-Read s old Spent t new = (writable s (reg s 11) (reg s 12) ≡ true) × ((count : ℕ) × ((m : State) × (Filled s (reg s 11) (reg s 12) old count m new × (t ≡ answered m count))))
+Read s old Spent t new = (writable s (reg s 11) (reg s 12) ≡ true) ×
+    ((count : ℕ) × ((m : State) × (Filled s (reg s 11) (reg s 12) old count m new × (t ≡ answered m count))))
 Read s old ReadFault t new = (writable s (reg s 11) (reg s 12) ≡ true) × Failing s (reg s 11) (reg s 12) old t new
-Read s old (Fault kind pc word) t new = (writable s (reg s 11) (reg s 12) ≡ false) × ((kind ≡ OutOfRange) × ((pc ≡ s.pc) × ((word ≡ 0x73) × ((t ≡ s) × (new ≡ old)))))
+Read s old (Fault kind pc word) t new =
+    (writable s (reg s 11) (reg s 12) ≡ false) × ((kind ≡ OutOfRange) × ((pc ≡ s.pc) × ((word ≡ 0x73) × ((t ≡ s) × (new ≡ old)))))
 Read s old (Exited status) t new = ⊥
 Read s old (WriteFault stream) t new = ⊥

@@ -69,8 +69,10 @@ Halts s old Spent t new = ⊥
 Halts s old (Exited status) t new = Same s old t new × ((input : List ℕ) → advance (on s input) ≡ comes.Exited status)
 Halts s old (Fault kind pc word) t new = Same s old t new × ((input : List ℕ) → advance (on s input) ≡ comes.Faulted kind pc word)
 Halts s old ReadFault t new = ReadFails s old t new
-Halts s old (WriteFault Out) t new = (bytes : List ℕ) × (IsWrite s Out bytes × (Lost old.out new.out bytes × ((t ≡ s) × ((new.input ≡ old.input) × (new.err ≡ old.err)))))
-Halts s old (WriteFault Err) t new = (bytes : List ℕ) × (IsWrite s Err bytes × (Lost old.err new.err bytes × ((t ≡ s) × ((new.input ≡ old.input) × (new.out ≡ old.out)))))
+Halts s old (WriteFault Out) t new =
+    (bytes : List ℕ) × (IsWrite s Out bytes × (Lost old.out new.out bytes × ((t ≡ s) × ((new.input ≡ old.input) × (new.err ≡ old.err)))))
+Halts s old (WriteFault Err) t new =
+    (bytes : List ℕ) × (IsWrite s Err bytes × (Lost old.err new.err bytes × ((t ≡ s) × ((new.input ≡ old.input) × (new.out ≡ old.out)))))
 
 -- where the answer is Spent, no instruction is left; else there is one that ends the run
 abbrev pub Ends : (left : ℕ) → State → Streams → RunEnd → State → Streams → Type 0

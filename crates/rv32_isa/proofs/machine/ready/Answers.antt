@@ -15,5 +15,6 @@ returns-in-Some c =
     let i = (m.pc - 65536) / 4 in
     let table = c.as_slice.result.now in
     let lookup = c.in-Some.ensures.lookup in
-    let has : slice_get m.table.items i ≡ Some found = subst (λ xs. slice_get xs i ≡ Some found) c.as_slice.ensures.value (slice_get_read table (length table) i found refl lookup.3.0 lookup.1) in
+    let has : slice_get m.table.items i ≡ Some found =
+    subst (λ xs. slice_get xs i ≡ Some found) c.as_slice.ensures.value (slice_get_read table (length table) i found refl lookup.3.0 lookup.1) in
     subst (λ s. IfSome found (IsNext s)) c.m.view_is (next_is _ m.table.items i found c.m.invariant (omega arith) (omega arith) has)

@@ -14,7 +14,8 @@ loop-done-preserved g c =
       within = omega arith;
       regions = c.memories.ensures.regions _ _ h.regions next.sizes;
       may = c.memories.ensures.stores _ _ c.args.at c.args.len next.sizes ∙ h.may;
-      part = part_then _ _ _ c.args.at c.args.len c.loop-done.done c.in-Ok.count _ _ _ c.requires.regions h.regions c.requires.to (omega arith) h.part next.fronts.0;
+      part = part_then _ _ _ c.args.at c.args.len c.loop-done.done c.in-Ok.count _ _ _ c.requires.regions h.regions c.requires.to
+          (omega arith) h.part next.fronts.0;
       faults = next.fronts.1.0 ∙ h.faults;
     }
 
@@ -23,7 +24,9 @@ returns-in-Ok-eq0-clause-fills g c =
     let h = c.loop-done.invariant in
     let next = c.in-Ok-eq0.ensures.fronts in
     let none : c.in-Ok-eq0.field-0 ≡ 0 = search rules in
-    filled_end _ _ _ c.args.at c.args.len c.loop-done.done c.in-Ok-eq0.field-0 _ _ _ c.requires.regions h.regions c.requires.to h.within none h.part h.faults next.0 next.1.0 (next.1.1.1 none)
+    let over = next.1.1.1 none in
+    filled_end _ _ _ c.args.at c.args.len c.loop-done.done c.in-Ok-eq0.field-0 _ _ _ c.requires.regions h.regions c.requires.to
+    h.within none h.part h.faults next.0 next.1.0 over
 
 pub returns-in-Err-clause-fills : goal.returns-in-Err-clause-fills
 returns-in-Err-clause-fills g c =

@@ -12,7 +12,10 @@ invariant-loop-done g l =
       within : l.done ≤ l.len;
       regions : HasRegions l.machine;
       may : writable l.machine l.at l.len ≡ true;
-      part : Part l.initial.machine l.at (feed (I.left l.initial.input) (I.ended l.initial.input) (I.faults l.initial.input) (I.gave l.initial.input)) l.done l.machine (feed (I.left l.input) (I.ended l.input) (I.faults l.input) (I.gave l.input));
+      part : Part l.initial.machine l.at
+          (feed (I.left l.initial.input) (I.ended l.initial.input) (I.faults l.initial.input) (I.gave l.initial.input))
+          l.done l.machine
+          (feed (I.left l.input) (I.ended l.input) (I.faults l.input) (I.gave l.input));
       faults : I.faults l.input ≡ I.faults l.initial.input;
     }
 

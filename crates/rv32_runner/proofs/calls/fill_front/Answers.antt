@@ -14,7 +14,8 @@ returns-clause-sizes g c =
     let size : length c.take.new.into ≡ c.min-room.result = search rules in
     let room = c.min-room.ensures in
     let bound = c.in_ok-count.ensures.bound in
-    front_sizes c.args.machine.now _ c.args.at c.args.len c.in_ok-count.count c.take.new.into _ c.memories.ensures.sizes c.requires.to bound (omega arith) c.fill.ensures
+    front_sizes c.args.machine.now _ c.args.at c.args.len c.in_ok-count.count c.take.new.into _ c.memories.ensures.sizes c.requires.to bound
+    (omega arith) c.fill.ensures
 
 pub returns-clause-fronts : goal.returns-clause-fronts
 returns-clause-fronts g c =
@@ -23,5 +24,7 @@ returns-clause-fronts g c =
     let some = c.requires.some in
     let h = c.in_ok-count.ensures in
     let bound = h.bound in
-    let long : 0 < length c.take.new.into = omega arith in
-    (front_part _ _ _ _ _ _ c.take.new.into _ bound (gave_take _ _ _ _ _ _ _ _ c.take.new.into h.stays _ h.bytes h.after_end h.gave) c.fill.ensures, (h.cause.stays, (omega arith, λ none rest may. end_take _ _ _ _ c.take.new.into h.bytes none long (h.end none long) rest may)))
+    let long : 0 < length c.take.new.into = omega arith in (
+      front_part _ _ _ _ _ _ c.take.new.into _ bound (gave_take _ _ _ _ _ _ _ _ c.take.new.into h.stays _ h.bytes h.after_end h.gave) c.fill.ensures,
+      (h.cause.stays, (omega arith, λ none rest may. end_take _ _ _ _ c.take.new.into h.bytes none long (h.end none long) rest may)),
+    )
