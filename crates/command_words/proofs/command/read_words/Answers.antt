@@ -9,4 +9,6 @@ pub returns-clause-none : goal.returns-clause-none
 returns-clause-none c = none_said (map string_bytes c.args.words.now) c.read.result c.read.ensures
 
 pub returns-clause-ranges : goal.returns-clause-ranges
-returns-clause-ranges c = ranges_said (map string_bytes c.args.words.now) c.read.result (some_said (map string_bytes c.args.words.now) c.read.result c.read.ensures)
+returns-clause-ranges c =
+    let words = map string_bytes c.args.words.now in
+    ranges_said words c.read.result (some_said words c.read.result c.read.ensures)
