@@ -3,8 +3,7 @@ use crate::given::{MAIN, TARGET, are_same_but, faults_of, files_of};
 use crate::printed::Printed;
 use crate::rows::Row;
 use arc_base::{
-    Bytes, MemFiles, MemSink, MemSource, Memory, Source, Stop, SureFiles, SureSink,
-    SureSource,
+    Bytes, MemFiles, MemSink, MemSource, Memory, Source, Stop, SureFiles, SureSink, SureSource,
 };
 use arc_top::{Answer, nimarc};
 use std::alloc::Global;

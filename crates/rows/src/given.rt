@@ -113,7 +113,13 @@ fn cut(alloc: Global, bytes: &Bytes, text: &str) -> Result<Bytes, Memory> {
 }
 
 // The bytes of a file that a part gives, with what the row changes in them.
-fn file_of(alloc: Global, row: &Row, form: Form, name: &str, given: &[u8]) -> Result<Bytes, Memory> {
+fn file_of(
+    alloc: Global,
+    row: &Row,
+    form: Form,
+    name: &str,
+    given: &[u8],
+) -> Result<Bytes, Memory> {
     let mut bytes = Bytes::new(alloc);
     match form {
         Form::Module => bytes.append(given)?,
@@ -158,7 +164,10 @@ pub fn files_of(alloc: Global, row: &Row) -> Result<MemFiles, Memory> {
 /// Whether a part gives a file, or says what is changed in one.
 pub fn is_of_files(part: &str) -> bool {
     match part.split_once(' ') {
-        Some((form, _)) => matches!(form, "module" | "hex" | "program" | "built" | "changed" | "cut"),
+        Some((form, _)) => matches!(
+            form,
+            "module" | "hex" | "program" | "built" | "changed" | "cut"
+        ),
         None => false,
     }
 }

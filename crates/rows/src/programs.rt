@@ -91,9 +91,7 @@ fn put_header(
     flags: u32,
 ) -> Result<(), Memory> {
     let (in_file, in_memory) = sizes;
-    for word in [
-        kind, offset, address, address, in_file, in_memory, flags, 4,
-    ] {
+    for word in [kind, offset, address, address, in_file, in_memory, flags, 4] {
         put_word(file, word)?;
     }
     Ok(())

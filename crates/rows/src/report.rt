@@ -44,8 +44,8 @@ impl Report<'_> {
         self.lines.text("\n")
     }
 
-    /// Compares what was written to a stream with what a row says in the part of this name, with what it is to begin with,
-    /// or with a text of which it is to be a front. Where the row says nothing, nothing is to be written.
+    /// Compares what was written to a stream with what a row wants: all of it, what it begins with,
+    /// or a text of which it is a front. Where the row says nothing, nothing is to be written.
     pub fn compare(&mut self, row: &Row, stream: Stream, found: &[u8]) -> Result<(), Memory> {
         let (whole, begins, within) = match stream {
             Stream::Out => ("out", "out begins", "out within"),
