@@ -18,7 +18,7 @@ use Rattle.source_compiler.specs.Compile.{Compiled, IsProgram, source_most}
 use Rattle.arc_top.specs.declared.answer.Answer.{Answer}
 use Rattle.arc_top.specs.declared.answer.Answer.TheVariants.{Done, Ended, Usage, NoFile, TooLong, Refused, BadElf, MachineFault, StepsSpent, ReadFault, WriteFault, StoreFault, Memory}
 use Rattle.arc_top.specs.Answer.{OnQuiet}
-use Rattle.arc_top.specs.Loads.{FilesState, Gives}
+use Rattle.arc_top.specs.Loads.{FilesState, Gives, Wants}
 use Rattle.arc_top.specs.Runs.{HasRun, Does, answer_of}
 use Rattle.arc_top.specs.Stages.{RunsOrWants}
 use Rattle.arc_top.specs.Top.{IsFileOf, HandsOver, Builds, world, RunsProgram, Runs}
@@ -42,6 +42,12 @@ built main out source bytes heap old mid new gives program file calls others loa
       loads = loads ∙ kept.loads;
     } in
     (over, (stores, faults ∙ kept.stores))
+
+-- ---- want of memory
+
+-- behind a load that gave bytes
+pub wants_behind : (name bytes : List ℕ) (most : ℕ) (old new : FilesState) → Gives old new name most bytes → Wants old new name
+wants_behind name bytes most old new gives = record { kept = gives.asked.kept; calls = inr (loaded.Whole, (bytes, gives.asked.calls)) }
 
 -- ---- runs
 
@@ -77,7 +83,7 @@ module _ (sees : Sees) (shows : Shows) (main source : List ℕ) (heap steps : �
           (meaning compiled.program file.plan heap) compiled.agrees steps before after shows last ran)
 
   pub run_told : (answer : Answer) → RunsOrWants steps file.image answer before after → Runs main heap steps answer (world old before) (world new after)
-  run_told answer (inl wanting) = subst (λ a. Runs main heap steps a (world old before) (world new after)) (sym wanting.0) (gives.asked.kept, wanting.1)
+  run_told answer (inl wanting) = subst (λ a. Runs main heap steps a (world old before) (world new after)) (sym wanting.0) (wants_behind main source source_most old new gives, wanting.1)
   run_told answer (inr ran) = subst (λ a. Runs main heap steps a (world old before) (world new after)) (sym ran.answers) (run_ended ran.end ran.last ran.ran)
 
 -- ---- lines

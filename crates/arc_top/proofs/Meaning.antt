@@ -72,6 +72,7 @@ module _ (live : Lives) (image : Image) (meaning : (input : List ℕ) → Behavi
       record {
         given = saw.given;
         gave = saw.gave;
+        input = saw.input;
         shown = (machine live image (saw.given ++ rest) steps).events;
         units = covered.0;
         seen = (ended.0, (ended.1, ended.2));
@@ -86,6 +87,7 @@ module _ (live : Lives) (image : Image) (meaning : (input : List ℕ) → Behavi
       record {
         given = saw.given;
         gave = saw.gave;
+        input = saw.input;
         shown = (machine live image (saw.given ++ rest) steps).events;
         units = covered.0;
         seen = covered.1.prefix;
@@ -111,6 +113,7 @@ module _ (live : Lives) (image : Image) (meaning : (input : List ℕ) → Behavi
       record {
         given = carried.given ++ fails.given;
         gave = fails.gave.gave ∙ ap (λ l. l ++ fails.given) carried.gave.gave ∙ append_assoc old.input.gave carried.given fails.given;
+        input = subst (MayGive old.input.left old.input.ended) (sym together) (carried.gave.before (fails.given ++ rest) (fails.gave.before rest may));
         shown = leads.shown;
         units = front.0;
         seen = front.1;
@@ -123,8 +126,8 @@ module _ (live : Lives) (image : Image) (meaning : (input : List ℕ) → Behavi
       → standing image.hooks n (start image input) [] ≡ Runs shown (on s rest)
       → IsWrite s stream bytes → (m : ℕ) × IsPrefix (shown ++ writes stream bytes) (meaning input m).events
   front_with shows n s input rest shown stream bytes stands write =
-      let next = on write.0 rest in
-      let more = one_more image.hooks n (start image input) (on s rest) next [] shown (writes stream bytes) stands (write.1 rest) in
+      let next = on write.next rest in
+      let more = one_more image.hooks n (start image input) (on s rest) next [] shown (writes stream bytes) stands (write.comes rest) in
       let front = front_of shows (suc n) input (shown ++ all_shown image.hooks (writes stream bytes) next) next more in
       (front.0, then_prefix shown (writes stream bytes) (meaning input front.0).events (arrival image.hooks next.state.pc) front.1)
 
@@ -145,6 +148,7 @@ module _ (live : Lives) (image : Image) (meaning : (input : List ℕ) → Behavi
       record {
         given = carried.given;
         gave = ap (λ feed. feed.gave) input ∙ carried.gave.gave;
+        input = carried.gave.before rest (subst (λ feed. MayGive feed.left feed.ended rest) input may);
         shown = leads.shown ++ writes Out bytes;
         units = front.0;
         seen = front.1;
@@ -170,6 +174,7 @@ module _ (live : Lives) (image : Image) (meaning : (input : List ℕ) → Behavi
       record {
         given = carried.given;
         gave = ap (λ feed. feed.gave) input ∙ carried.gave.gave;
+        input = carried.gave.before rest (subst (λ feed. MayGive feed.left feed.ended rest) input may);
         shown = leads.shown ++ writes Err bytes;
         units = front.0;
         seen = front.1;

@@ -1,5 +1,5 @@
 -- What files tell before and after one load, by how it went.
-use Rattle.std.specs.Prelude.{◌≡◌, ◌≤◌, ◌<◌, ℕ, List, [], ◌∷◌, ◌++◌, length, ⊤, Option, Some, None}
+use Rattle.std.specs.Prelude.{◌≡◌, ◌⊎◌, ◌≤◌, ◌<◌, ℕ, List, [], ◌∷◌, ◌++◌, length, ⊤, Option, Some, None}
 use Rattle.arc_base.specs.FileCalls.{FileCall, load}
 use Rattle.arc_base.specs.Outside.{Held, Rose}
 use Rattle.arc_base.specs.declared.outside.Loaded.{Loaded}
@@ -55,3 +55,8 @@ pub record LoadFails (old new : FilesState) : Type 0 where
   pub loads : Rose old.load_faults new.load_faults
   pub stores : new.store_faults ≡ old.store_faults
   pub calls : new.calls ≡ old.calls
+
+-- Memory was wanting, before a load of that name was answered or behind it. There was no other call, and none failed.
+pub record Wants (old new : FilesState) (name : List ℕ) : Type 0 where
+  pub kept : Kept old new
+  pub calls : (new.calls ≡ old.calls) ⊎ ((answer : Loaded) × ((bytes : List ℕ) × (new.calls ≡ old.calls ++ load name answer bytes ∷ [])))

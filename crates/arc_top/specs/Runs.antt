@@ -50,6 +50,7 @@ Received _ stream old new due = Got old new due
 pub record DoesMeaning (meaning : (input : List ℕ) → Behaviour Event) (answer : Answer) (old new : Streams) (rest : List ℕ) : Type 0 where
   pub given : List ℕ
   pub gave : new.input.gave ≡ old.input.gave ++ given
+  pub input : MayGive old.input.left old.input.ended (given ++ rest)
   pub shown : List Event
   pub units : ℕ
   pub seen : IsSeen answer shown (meaning (given ++ rest) units)

@@ -6,7 +6,7 @@ use Rattle.rv32_isa.specs.Image.{Image}
 use Rattle.rv32_runner.specs.Streams.{Streams}
 use Rattle.arc_top.specs.declared.answer.Answer.{Answer}
 use Rattle.arc_top.specs.declared.answer.Answer.TheVariants.{NoFile, TooLong, Refused, ReadFault, Memory}
-use Rattle.arc_top.specs.Loads.{FilesState, Kept, Lacks, IsLong, LoadFails}
+use Rattle.arc_top.specs.Loads.{FilesState, Lacks, IsLong, LoadFails, Wants}
 use Rattle.arc_top.specs.Runs.{HasRun}
 use Rattle.arc_top.specs.Top.{Stops}
 
@@ -15,12 +15,12 @@ abbrev pub StopsLoad : (name : List ℕ) (most : ℕ) → Answer → (old new : 
 StopsLoad name most (NoFile lacking) old new = (lacking ≡ name) × Lacks old new name
 StopsLoad name most (TooLong long) old new = (long ≡ name) × IsLong old new name most
 StopsLoad name most ReadFault old new = LoadFails old new
-StopsLoad name most Memory old new = Kept old new
+StopsLoad name most Memory old new = Wants old new name
 StopsLoad name most _ old new = ⊥
 
 -- a main module can't be loaded or compiled
 abbrev pub StopsCompiling : (main : List ℕ) → Answer → (old new : FilesState) → Type 0
-StopsCompiling main answer old new = ((answer ≡ Memory) × Kept old new) ⊎ Stops main answer old new
+StopsCompiling main answer old new = ((answer ≡ Memory) × Wants old new main) ⊎ Stops main answer old new
 
 -- the answer for a source that was not compiled
 abbrev pub IsRefusal : NotCompiled → Answer → Type 0

@@ -18,7 +18,7 @@ use Rattle.source_compiler.specs.Compile.{Compiled, IsProgram, IsNoProgram, sour
 use Rattle.arc_top.specs.declared.answer.Answer.{Answer}
 use Rattle.arc_top.specs.declared.answer.Answer.TheVariants.{Done, Ended, NoFile, TooLong, Refused, BadElf, MachineFault, StepsSpent, ReadFault, WriteFault, StoreFault, Memory}
 use Rattle.arc_top.specs.Answer.{OnQuiet}
-use Rattle.arc_top.specs.Loads.{FilesState, Kept, OnEntry, Gives, Lacks, IsLong, LoadFails}
+use Rattle.arc_top.specs.Loads.{FilesState, OnEntry, Gives, Lacks, IsLong, LoadFails, Wants}
 use Rattle.arc_top.specs.Report.{report_of}
 use Rattle.arc_top.specs.Runs.{HasRun, Does}
 
@@ -48,7 +48,7 @@ Stops main _ old new = ⊥
 
 abbrev pub Checks : (main : List ℕ) → Answer → (old new : FilesState) → Type 0
 Checks main Done old new = (source : List ℕ) × Gives old new main source_most source × IsProgram main source
-Checks main Memory old new = Kept old new
+Checks main Memory old new = Wants old new main
 Checks main answer old new = Stops main answer old new
 
 -- ---- `build MAIN OUT`
@@ -69,16 +69,11 @@ pub record HandsOver (main out : List ℕ) (heap : ℕ) (old new : FilesState) :
 abbrev pub Stored : (out bytes : List ℕ) → (old new : FilesState) → Type 0
 Stored out bytes old new = Stores new.held out bytes × (new.store_faults ≡ old.store_faults)
 
--- memory was wanting, before or in the store
-pub record WantsMemory (out : List ℕ) (old new : FilesState) : Type 0 where
-  pub others : KeepsOthers old.held new.held out
-  pub loads : new.load_faults ≡ old.load_faults
-  pub stores : new.store_faults ≡ old.store_faults
-
 abbrev pub Builds : (main out : List ℕ) (heap : ℕ) → Answer → (old new : FilesState) → Type 0
 Builds main out heap Done old new = (over : HandsOver main out heap old new) × Stored out over.bytes old new
 Builds main out heap StoreFault old new = HandsOver main out heap old new × Rose old.store_faults new.store_faults
-Builds main out heap Memory old new = WantsMemory out old new
+-- (before the store, or in it)
+Builds main out heap Memory old new = Wants old new main ⊎ (HandsOver main out heap old new × (new.store_faults ≡ old.store_faults))
 Builds main out heap answer old new = Stops main answer old new
 
 -- ---- what the outside tells
@@ -111,7 +106,7 @@ Runs main heap steps (Ended status) old new = RunsProgram main heap steps (Ended
 Runs main heap steps (StepsSpent n) old new = RunsProgram main heap steps (StepsSpent n) old new
 Runs main heap steps (WriteFault stream) old new = RunsProgram main heap steps (WriteFault stream) old new
 Runs main heap steps ReadFault old new = OfFiles LoadFails old new ⊎ RunsProgram main heap steps ReadFault old new
-Runs main heap steps Memory old new = OfFiles Kept old new
+Runs main heap steps Memory old new = OfFiles (λ before after. Wants before after main) old new
 Runs main heap steps answer old new = OfFiles (Stops main answer) old new
 
 -- ---- `exec ELF`
@@ -137,7 +132,7 @@ Executes name steps ReadFault old new = OfFiles LoadFails old new ⊎ RunsFile n
 Executes name steps (NoFile lacking) old new = (lacking ≡ name) × OfFiles (λ before after. Lacks before after name) old new
 Executes name steps (TooLong long) old new = (long ≡ name) × OfFiles (λ before after. IsLong before after name file_most) old new
 Executes name steps (BadElf fault) old new = OfFiles (IsBad name fault) old new
-Executes name steps Memory old new = OfFiles Kept old new
+Executes name steps Memory old new = OfFiles (λ before after. Wants before after name) old new
 Executes name steps _ old new = ⊥
 
 -- ---- commands

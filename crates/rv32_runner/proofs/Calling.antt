@@ -18,7 +18,7 @@ use Rattle.rv32_runner.specs.declared.runner.RunEnd.{RunEnd}
 use Rattle.rv32_runner.specs.declared.runner.RunEnd.TheVariants.{Exited, Spent, Fault, ReadFault, WriteFault}
 use Rattle.rv32_runner.specs.Streams.{Feed, Tally, Streams, streams, MayGive, Got, bytes_on}
 use Rattle.rv32_runner.specs.Calls.{Wrote, Read, NoMore}
-use Rattle.rv32_runner.specs.Runs.{Carried, ReadFails, Ends, Ran, on}
+use Rattle.rv32_runner.specs.Runs.{Carried, ReadFails, IsWrite, Ends, Ran, on}
 use Rattle.rv32_runner.proofs.Carrying.{got_none, gave_none, carried_none, carried_then, carried_one, carried_on}
 
 -- ---- one instruction
@@ -165,6 +165,17 @@ none_err : (bytes : List ℕ) → bytes_on Err (writes Out bytes) ≡ []
 none_err [] = refl
 none_err (b ∷ bs) = none_err bs
 
+is_write : (s : State) (stream : Stream) (bytes : List ℕ) → outcome s ≡ Calls → reg s 17 ≡ 64 → stream_of (reg s 10) ≡ Some stream →
+    readable s (reg s 11) (reg s 12) ≡ Some bytes → IsWrite s stream bytes
+is_write s stream bytes due number names from = record {
+  due = due;
+  number = number;
+  names = names;
+  from = from;
+  next = answered s (reg s 12);
+  comes = writes_on s due stream bytes number names from;
+}
+
 -- a write to standard output
 pub ran_out : (s : State) (input : Feed) (out err new : Tally) (answer : RunEnd) (t : State) → outcome s ≡ Calls → reg s 17 ≡ 64 → reg s 10 ≡ 1 →
     Wrote s Out out answer t new → Ran 1 (streams input out err) s answer t (streams input new err)
@@ -181,7 +192,7 @@ ran_out s input out err new Spent t due number first (bytes, (found, (next, got)
 ran_out s input out err new (WriteFault other) t due number first (bytes, (found, (same, (kept, lost)))) =
     subst (λ x. Ran 1 (streams input out err) s (WriteFault x) t (streams input new err)) (sym same)
     (ran_end (streams input out err) s (WriteFault Out) t (streams input new err)
-    (omega arith, (bytes, ((answered s (reg s 12), writes_on s due Out bytes number (ap stream_of first) found), (lost, (kept, (refl, refl)))))))
+    (omega arith, (bytes, (is_write s Out bytes due number (ap stream_of first) found, (lost, (kept, (refl, refl)))))))
 ran_out s input out err new (Fault kind pc word) t due number first (none, (k, (p, (w, (same, kept))))) =
     subst (λ x. Ran 1 (streams input out err) s (Fault x pc word) t (streams input new err)) (sym k)
     (subst (λ x. Ran 1 (streams input out err) s (Fault OutOfRange x word) t (streams input new err)) (sym p)
@@ -208,7 +219,7 @@ ran_err s input out err new Spent t due number first (bytes, (found, (next, got)
 ran_err s input out err new (WriteFault other) t due number first (bytes, (found, (same, (kept, lost)))) =
     subst (λ x. Ran 1 (streams input out err) s (WriteFault x) t (streams input out new)) (sym same)
     (ran_end (streams input out err) s (WriteFault Err) t (streams input out new)
-    (omega arith, (bytes, ((answered s (reg s 12), writes_on s due Err bytes number (ap stream_of first) found), (lost, (kept, (refl, refl)))))))
+    (omega arith, (bytes, (is_write s Err bytes due number (ap stream_of first) found, (lost, (kept, (refl, refl)))))))
 ran_err s input out err new (Fault kind pc word) t due number first (none, (k, (p, (w, (same, kept))))) =
     subst (λ x. Ran 1 (streams input out err) s (Fault x pc word) t (streams input out new)) (sym k)
     (subst (λ x. Ran 1 (streams input out err) s (Fault OutOfRange x word) t (streams input out new)) (sym p)

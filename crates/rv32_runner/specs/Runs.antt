@@ -1,13 +1,13 @@
 -- How far a runner brings its machine, with what it takes from a source and what it gives to two sinks.
-use Rattle.std.specs.Prelude.{◌≡◌, ◌<◌, ℕ, ◌+◌, List, [], ◌++◌, length, true}
+use Rattle.std.specs.Prelude.{◌≡◌, ◌<◌, ℕ, ◌+◌, List, [], ◌++◌, length, Some, true}
 use Rattle.arc_base.specs.declared.outside.Stream.{Stream}
 use Rattle.arc_base.specs.declared.outside.Stream.TheVariants.{Out, Err}
 use Rattle.arc_base.specs.Event.{Event, writes}
 use Rattle.arc_base.specs.Outside.{Rose}
 use Rattle.rv32_isa.specs.declared.image.HookAt.{HookAt}
-use Rattle.rv32_isa.specs.State.{State, reg, writable, filled}
+use Rattle.rv32_isa.specs.State.{State, reg, readable, writable, filled}
 use Rattle.rv32_isa.specs.Steps.{Calls, outcome}
-use Rattle.rv32_isa.specs.Machine.{Run, On, Runs, advance, standing}
+use Rattle.rv32_isa.specs.Machine.{Run, On, Runs, advance, standing, stream_of}
 use Rattle.rv32_isa.specs.Machine as comes
 use Rattle.rv32_runner.specs.declared.runner.RunEnd.{RunEnd}
 use Rattle.rv32_runner.specs.declared.runner.RunEnd.TheVariants.{Exited, Spent, Fault, ReadFault, WriteFault}
@@ -59,9 +59,14 @@ pub record ReadFails (s : State) (old : Streams) (t : State) (new : Streams) : T
   pub out : new.out ≡ old.out
   pub err : new.err ≡ old.err
 
--- the machine is about to write these bytes to a stream
-abbrev pub IsWrite : State → Stream → List ℕ → Type 0
-IsWrite s stream bytes = (t : State) × ((input : List ℕ) → advance (on s input) ≡ On (on t input) (writes stream bytes))
+-- the machine is about to write these bytes to a stream, and what comes of it where the stream takes them
+pub record IsWrite (s : State) (stream : Stream) (bytes : List ℕ) : Type 0 where
+  pub due : outcome s ≡ Calls
+  pub number : reg s 17 ≡ 64
+  pub names : stream_of (reg s 10) ≡ Some stream
+  pub from : readable s (reg s 11) (reg s 12) ≡ Some bytes
+  pub next : State
+  pub comes : (input : List ℕ) → advance (on s input) ≡ On (on next input) (writes stream bytes)
 
 -- what the next instruction comes to, where the run ends there
 abbrev pub Halts : State → Streams → RunEnd → State → Streams → Type 0
