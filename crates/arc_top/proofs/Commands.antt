@@ -34,7 +34,8 @@ built main out source bytes heap old mid new gives program file calls others loa
     let over : HandsOver main out heap old new = record {
       source = source;
       bytes = bytes;
-      calls = calls ∙ ap (λ l. l ++ store out bytes ∷ []) gives.asked.calls ∙ append_assoc old.calls (load main loaded.Whole source ∷ []) (store out bytes ∷ []);
+      calls = calls ∙ ap (λ l. l ++ store out bytes ∷ []) gives.asked.calls
+          ∙ append_assoc old.calls (load main loaded.Whole source ∷ []) (store out bytes ∷ []);
       told = gives.told;
       program = program;
       file = file;
@@ -56,7 +57,7 @@ abbrev has_run : (steps : ℕ) (image : Image) (e : RunEnd) (last : State) (befo
 has_run steps image e last before after ran = record { end = e; last = last; ran = ran; answers = refl }
 
 module _ (sees : Sees) (shows : Shows) (main source : List ℕ) (heap steps : ℕ) (file : File) (old new : FilesState) (before after : Streams)
-  (gives : Gives old new main source_most source) (compiled : Compiled (alone main source) heap file) where
+    (gives : Gives old new main source_most source) (compiled : Compiled (alone main source) heap file) where
   programs : (e : RunEnd) (last : State) → Ran steps before (first_state file.image) e last after
       → Does (meaning compiled.program file.plan heap) (answer_of steps e) before after
       → RunsProgram main heap steps (answer_of steps e) (world old before) (world new after)
@@ -67,20 +68,20 @@ module _ (sees : Sees) (shows : Shows) (main source : List ℕ) (heap steps : �
       → Runs main heap steps (answer_of steps e) (world old before) (world new after)
   run_ended (end.Exited status) last ran =
       programs (end.Exited status) last ran (exited live_objects file.image
-          (meaning compiled.program file.plan heap) compiled.agrees steps before after sees status last ran)
+      (meaning compiled.program file.plan heap) compiled.agrees steps before after sees status last ran)
   run_ended end.Spent last ran =
       programs end.Spent last ran (spent live_objects file.image (meaning compiled.program file.plan heap) compiled.agrees steps before after sees last ran)
   run_ended (end.Fault kind pc word) last ran =
       absurd (no_fault live_objects file.image (meaning compiled.program file.plan heap) compiled.agrees steps before after sees kind pc word last ran)
   run_ended end.ReadFault last ran =
       inr (programs end.ReadFault last ran (read_failed live_objects file.image
-          (meaning compiled.program file.plan heap) compiled.agrees steps before after shows last ran))
+      (meaning compiled.program file.plan heap) compiled.agrees steps before after shows last ran))
   run_ended (end.WriteFault Out) last ran =
       programs (end.WriteFault Out) last ran (out_failed live_objects file.image
-          (meaning compiled.program file.plan heap) compiled.agrees steps before after shows last ran)
+      (meaning compiled.program file.plan heap) compiled.agrees steps before after shows last ran)
   run_ended (end.WriteFault Err) last ran =
       programs (end.WriteFault Err) last ran (err_failed live_objects file.image
-          (meaning compiled.program file.plan heap) compiled.agrees steps before after shows last ran)
+      (meaning compiled.program file.plan heap) compiled.agrees steps before after shows last ran)
 
   pub run_told : (answer : Answer) → RunsOrWants steps file.image answer before after → Runs main heap steps answer (world old before) (world new after)
   run_told answer (inl wanting) = subst (λ a. Runs main heap steps a (world old before) (world new after)) (sym wanting.0) (wants_behind main source source_most old new gives, wanting.1)

@@ -82,9 +82,9 @@ module _ (entry : Option (List ℕ)) (old new : FilesState) where
   due_stop command compiles most told fine Done stops = absurd stops
   due_stop command compiles most told fine (Ended status) stops = absurd stops
   due_stop command compiles most told fine Usage stops = absurd stops
-  due_stop command compiles most told fine (NoFile name) stops = 
+  due_stop command compiles most told fine (NoFile name) stops =
       subst (λ n. IsDue command entry (NoFile n)) (sym stops.0) (lacks (on_entry old.held (file_of command) entry (λ e. e ≡ None) told stops.1.told))
-  due_stop command compiles most told fine (TooLong name) stops = 
+  due_stop command compiles most told fine (TooLong name) stops =
       let is = on_entry old.held (file_of command) entry (λ e. (bytes : List ℕ) × (e ≡ Some bytes) × (source_most < length bytes)) told stops.1.told in
       subst (λ n. IsDue command entry (TooLong n)) (sym stops.0) (long is.0 is.1 (subst (λ n. n < length is.0) (sym most) is.2))
   due_stop command compiles most told fine (Refused code at) stops = refused stops.0 code at compiles
@@ -106,7 +106,7 @@ module _ (causes : CausesLaw) (entry : Option (List ℕ)) (old new : World) (fin
       → RunsProgram main heap steps answer old new → IsDue (run main heap steps) entry answer
   due_program main heap steps answer told done ran =
       compiled ran.source answer tt (given entry old.files new.files main source_most ran.source told ran.gives)
-          (is_program main heap steps answer old new ran) done
+      (is_program main heap steps answer old new ran) done
 
   due_file : (name : List ℕ) (steps : ℕ) (answer : Answer) → TellsEntry old.files.held name entry → IsCarriedOut (exec name steps) answer
       → RunsFile name steps answer old new → IsDue (exec name steps) entry answer
@@ -174,9 +174,9 @@ module _ (causes : CausesLaw) (entry : Option (List ℕ)) (old new : World) (fin
   due (exec name steps) Done told is = absurd is
   due (exec name steps) (Ended status) told is = due_file name steps (Ended status) told tt is
   due (exec name steps) Usage told is = absurd is
-  due (exec name steps) (NoFile lacking) told is = 
+  due (exec name steps) (NoFile lacking) told is =
       subst (λ n. IsDue (exec name steps) entry (NoFile n)) (sym is.0) (lacks (on_entry old.files.held name entry (λ e. e ≡ None) told is.1.0.told))
-  due (exec name steps) (TooLong far) told is = 
+  due (exec name steps) (TooLong far) told is =
       let long_is = on_entry old.files.held name entry (λ e. (bytes : List ℕ) × (e ≡ Some bytes) × (file_most < length bytes)) told is.1.0.told in
       subst (λ n. IsDue (exec name steps) entry (TooLong n)) (sym is.0) (long long_is.0 long_is.1 long_is.2)
   due (exec name steps) (Refused code at) told is = absurd is
@@ -192,4 +192,4 @@ module _ (causes : CausesLaw) (entry : Option (List ℕ)) (old new : World) (fin
 pub answer_due : CausesLaw → (command : Command) (entry : Option (List ℕ)) (answer : Answer) → WasAnswered command entry answer → IsDue command entry answer
 answer_due causes command entry answer was =
     due causes entry was.old (before_line was.new was.carries.err)
-        (before_fine command answer was.old was.new was.carries was.fine) command answer was.told was.carries.answered
+    (before_fine command answer was.old was.new was.carries was.fine) command answer was.told was.carries.answered

@@ -28,8 +28,11 @@ got_lost : (a b c : Tally) (xs ys : List ℕ) → Got a b xs → Lost b c ys →
 got_lost a b c xs ys got lost =
     let k = lost.front.0 in
     record {
-      front = (length xs + k, subst (Grown a.written c.written) (sym (take-append-add xs ys k))
-          (grown_more a.written b.written c.written xs (take k ys) got.got lost.front.1));
+      front = (
+        length xs + k,
+        subst (Grown a.written c.written) (sym (take-append-add xs ys k))
+            (grown_more a.written b.written c.written xs (take k ys) got.got lost.front.1),
+      );
       rose = subst (λ n. Rose n c.faults) got.faults lost.rose;
     }
 
@@ -55,7 +58,7 @@ Sees =
     → IsOfMachine answer → (rest : List ℕ) → MayGive new.input.left new.input.ended rest → Saw live image n old answer t new rest
 
 module _ (live : Lives) (image : Image) (meaning : (input : List ℕ) → Behaviour Event)
-  (agrees : (input : List ℕ) → Agrees (machine live image input) (meaning input)) (steps : ℕ) (old new : Streams) where
+    (agrees : (input : List ℕ) → Agrees (machine live image input) (meaning input)) (steps : ℕ) (old new : Streams) where
   -- the events of a run that goes on are a front of the meaning's
   front_of : Shows → (n : ℕ) (input : List ℕ) (shown : List Event) (at : _) → standing image.hooks n (start image input) [] ≡ Runs shown at
       → (m : ℕ) × IsPrefix shown (meaning input m).events

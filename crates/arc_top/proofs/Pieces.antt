@@ -31,7 +31,7 @@ module _ {A : Type 0} (now : A → List ℕ) where
       → Grown b c (now (get_or xs i d)) → Grown a c (joined (take (i + 1) (map now xs)))
   piece_written a b c xs i d lt p q =
       let e : joined (take (i + 1) (map now xs)) ≡ joined (take i (map now xs)) ++ now (get_or xs i d) = ap (λ n. joined (take n (map now xs)))
-          (add-one i) ∙ (cut xs i d lt).more in
+      (add-one i) ∙ (cut xs i d lt).more in
       subst (Grown a c) (sym e) (grown_more a b c (joined (take i (map now xs))) (now (get_or xs i d)) p q)
 
   -- a front of one more piece was written, and so a front of all
@@ -44,7 +44,7 @@ module _ {A : Type 0} (now : A → List ℕ) where
       let m = min n (length here) in
       let e : take (length front + m) (joined (map now xs)) ≡ front ++ take n here =
       ap (take (length front + m)) k.all ∙ take-append-add front (here ++ k.rest) m
-          ∙ ap (λ l. front ++ l) (take-append-le m here k.rest (omega arith) ∙ take_min n here) in
+      ∙ ap (λ l. front ++ l) (take-append-le m here k.rest (omega arith) ∙ take_min n here) in
       (length front + m, subst (Grown a c) (sym e) (grown_more a b c front (take n here) p q))
 
 -- what was written whole was written up to its end

@@ -74,7 +74,7 @@ program_due either command source _ c is (long bytes e far) =
     absurd (omega (arith, is.0, subst (λ n. n < length bytes) (most_is command c) far, ap length (one_entry source bytes e)))
 program_due either command source _ c is (refused other code at d e refusal) =
     absurd (either (alone (file_of command) source) is.1.0 code at is.1.1
-        (subst (λ bytes. Refuses (alone (file_of command) bytes) code at) (sym (one_entry source other e)) refusal.1))
+    (subst (λ bytes. Refuses (alone (file_of command) bytes) code at) (sym (one_entry source other e)) refusal.1))
 program_due either command source _ c is (compiled other answer d e p done) = carried command answer done
 program_due either command source _ c is (bad bytes fault d e within has) = absurd (never_both command c d)
 program_due either command source _ c is (executed bytes file answer d e within elf done) = absurd (never_both command c d)

@@ -94,7 +94,10 @@ fn put_fault<'a, E: Sink>(err: &mut E, kind: &'a [u8], address: &'a [u8]) -> Res
     ensures said { Says (E.written err.old) (E.written err.new) (E.faults err.old) (E.faults err.new) result
         (joined (fault_pieces kind.now address.now)) }
 {
-    put_pieces(err, &[b"nimarc: machine fault ", kind, b" at ", address, b"\n"])
+    put_pieces(
+        err,
+        &[b"nimarc: machine fault ", kind, b" at ", address, b"\n"],
+    )
 }
 
 // Writes the line of a fault of the machine.

@@ -252,8 +252,14 @@ fn carry_out<F: Files, I: Source, O: Sink, E: Sink>(
 {
     match command {
         Command::Check { main } => check(alloc, main, files),
-        Command::Build { main, out: to, heap } => build(alloc, main, to, *heap, files),
-        Command::Run { main, heap, steps } => run(alloc, main, *heap, *steps, files, input, out, err),
+        Command::Build {
+            main,
+            out: to,
+            heap,
+        } => build(alloc, main, to, *heap, files),
+        Command::Run { main, heap, steps } => run(
+            alloc, main, *heap, *steps, files, input, out, err,
+        ),
         Command::Exec { file, steps } => exec(alloc, file, *steps, files, input, out, err),
     }
 }

@@ -18,11 +18,11 @@ returns-in-Some-clause-carries g c =
     let new = c.say.new in
     let answer = c.carry_out-answer.result in
     let before = world (files_state (F.held old.files.now) (F.load_faults old.files.now) (F.store_faults old.files.now) (F.calls old.files.now))
-            (streams (feed (I.left old.input.now) (I.ended old.input.now) (I.faults old.input.now) (I.gave old.input.now))
-            (tally (O.written old.out.now) (O.faults old.out.now)) (tally (E.written old.err.now) (E.faults old.err.now))) in
+    (streams (feed (I.left old.input.now) (I.ended old.input.now) (I.faults old.input.now) (I.gave old.input.now))
+    (tally (O.written old.out.now) (O.faults old.out.now)) (tally (E.written old.err.now) (E.faults old.err.now))) in
     let after = world (files_state (F.held mid.files) (F.load_faults mid.files) (F.store_faults mid.files) (F.calls mid.files))
-            (streams (feed (I.left mid.input) (I.ended mid.input) (I.faults mid.input) (I.gave mid.input))
-            (tally (O.written mid.out) (O.faults mid.out)) (tally (E.written new.err) (E.faults new.err))) in
+    (streams (feed (I.left mid.input) (I.ended mid.input) (I.faults mid.input) (I.gave mid.input))
+    (tally (O.written mid.out) (O.faults mid.out)) (tally (E.written new.err) (E.faults new.err))) in
     let carries : Carries (command_of c.in-Some.command) answer before after = record {
       err = tally (E.written mid.err) (E.faults mid.err);
       answered = c.carry_out-answer.ensures.answered;

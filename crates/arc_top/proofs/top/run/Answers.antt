@@ -21,7 +21,8 @@ returns-in-Ok g c =
       runs = run_told c.runs.ensures.saw c.machines.ensures.shows c.args.main.now given.0 c.args.heap c.args.steps (file_of c.in-Ok.file)
           (files_state (F.held old) (F.load_faults old) (F.store_faults old) (F.calls old))
           (files_state (F.held new) (F.load_faults new) (F.store_faults new) (F.calls new))
-          (streams (feed (I.left input) (I.ended input) (I.faults input) (I.gave input)) (tally (O.written out) (O.faults out)) (tally (E.written err) (E.faults err)))
+          (streams (feed (I.left input) (I.ended input) (I.faults input) (I.gave input))
+          (tally (O.written out) (O.faults out)) (tally (E.written err) (E.faults err)))
           (streams (feed (I.left after.input) (I.ended after.input) (I.faults after.input) (I.gave after.input))
           (tally (O.written after.out) (O.faults after.out)) (tally (E.written after.err) (E.faults after.err)))
           given.1 given.3 c.run_image.result c.run_image.ensures.ran;
