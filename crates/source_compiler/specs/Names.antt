@@ -57,8 +57,11 @@ pub record Given (A : Type 0) : Type 0 where
   pub scope : Scope
   pub tree : A
 
+abbrev pub given : {A : Type 0} → Scope → A → Given A
+given scope tree = record { scope = scope; tree = tree }
+
 abbrev pub gives : {A : Type 0} → Scope → A → Result (Given A) Refusal
-gives scope tree = Ok (record { scope = scope; tree = tree })
+gives scope tree = Ok (given scope tree)
 
 abbrev mutual
   -- the name of a declaration comes before its value, in which it is not visible yet
