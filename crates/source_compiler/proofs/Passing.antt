@@ -1,5 +1,6 @@
 -- A refusal is passed on.
-use Rattle.std.proofs.Common.{◌≡◌, Ok, Err, Result, Vec, Global, List, [], ◌∷◌, ◌++◌, refl, sym, ap, ap₂, subst, ◌∙◌, ℕ, suc, ◌+◌, ◌<◌, length, drop, get_or, add-one}
+use Rattle.std.proofs.Common.{◌≡◌, Ok, Err, Result, Vec, Global, List, [], ◌∷◌, ◌++◌, refl, sym, ap, ap₂, subst, ◌∙◌, ℕ, suc, ◌+◌, ◌<◌, length, drop, get_or}
+use Rattle.std.proofs.Common.{add-one}
 use Rattle.std.proofs.Math.Seq.{drop-cons}
 use Rattle.arc_base.specs.declared.place.Stop.{Stop}
 use Rattle.arc_base.specs.declared.place.Stop.TheVariants.{Refused, Memory}
@@ -23,32 +24,38 @@ module _ (scope : Scope) (at : Place) (test : Test) (first second : Lines) where
   abbrev later : Cond → Given Stmts → Result (Given Stmt) Refusal
   later c f = and_then (check_lines f.scope second) (third c f)
 
-  after_cond : (checked : Cond) → check_test scope test ≡ Ok checked → check_line scope (branch at test first second) ≡ and_then (check_lines scope first) (later checked)
+  after_cond : (checked : Cond) → check_test scope test ≡ Ok checked → check_line scope (branch at test first second) ≡ and_then (check_lines scope first)
+      (later checked)
   after_cond checked c = ap (λ r. and_then r (λ c. and_then (check_lines scope first) (later c))) c
 
   after_first : (checked : Cond) (after : Scope) (one : Stmts) → check_test scope test ≡ Ok checked → check_lines scope first ≡ gives after one
       → check_line scope (branch at test first second) ≡ and_then (check_lines after second) (third checked (record { scope = after; tree = one }))
   after_first checked after one c f = after_cond checked c ∙ ap (λ r. and_then r (later checked)) f
 
-  pub branch_gives : (checked : Cond) (after last : Scope) (one two : Stmts) → check_test scope test ≡ Ok checked → check_lines scope first ≡ gives after one → check_lines after second ≡ gives last two
+  pub branch_gives : (checked : Cond) (after last : Scope) (one two : Stmts) → check_test scope test ≡ Ok checked → check_lines scope first ≡ gives after one
+      → check_lines after second ≡ gives last two
       → check_line scope (branch at test first second) ≡ gives last (If at checked one two)
-  branch_gives checked after last one two c f s = after_first checked after one c f ∙ ap (λ r. and_then r (third checked (record { scope = after; tree = one }))) s
+  branch_gives checked after last one two c f s = after_first checked after one c f
+      ∙ ap (λ r. and_then r (third checked (record { scope = after; tree = one }))) s
 
   pub first_refused : {S T : Type 0} (inner : S → Given Stmts) (outer : T → Given Stmt) (checked : Cond) (stop : Stop) → check_test scope test ≡ Ok checked
       → Answers inner (check_lines scope first) (Err stop) → Answers outer (check_line scope (branch at test first second)) (Err stop)
   first_refused inner outer checked (Refused code place) c h = after_cond checked c ∙ ap (λ r. and_then r (later checked)) h
   first_refused inner outer checked Memory c h = tt
 
-  pub second_refused : {S T : Type 0} (inner : S → Given Stmts) (outer : T → Given Stmt) (checked : Cond) (after : Scope) (one : Stmts) (stop : Stop) → check_test scope test ≡ Ok checked → check_lines scope first ≡ gives after one
+  pub second_refused : {S T : Type 0} (inner : S → Given Stmts) (outer : T → Given Stmt) (checked : Cond) (after : Scope) (one : Stmts) (stop : Stop)
+      → check_test scope test ≡ Ok checked → check_lines scope first ≡ gives after one
       → Answers inner (check_lines after second) (Err stop) → Answers outer (check_line scope (branch at test first second)) (Err stop)
-  second_refused inner outer checked after one (Refused code place) c f h = after_first checked after one c f ∙ ap (λ r. and_then r (third checked (record { scope = after; tree = one }))) h
+  second_refused inner outer checked after one (Refused code place) c f h = after_first checked after one c f
+      ∙ ap (λ r. and_then r (third checked (record { scope = after; tree = one }))) h
   second_refused inner outer checked after one Memory c f h = tt
 
 module _ (scope : Scope) (at : Place) (test : Test) (body : Lines) where
   abbrev then_gives : Cond → Given Stmts → Result (Given Stmt) Refusal
   then_gives c b = gives b.scope (While at c b.tree)
 
-  after_test : (checked : Cond) → check_test scope test ≡ Ok checked → check_line scope (loop at test body) ≡ and_then (check_lines scope body) (then_gives checked)
+  after_test : (checked : Cond) → check_test scope test ≡ Ok checked → check_line scope (loop at test body) ≡ and_then (check_lines scope body)
+      (then_gives checked)
   after_test checked c = ap (λ r. and_then r (λ c. and_then (check_lines scope body) (then_gives c))) c
 
   pub loop_gives : (checked : Cond) (after : Scope) (inside : Stmts) → check_test scope test ≡ Ok checked → check_lines scope body ≡ gives after inside
@@ -84,7 +91,8 @@ with_rest done (Err refusal) = Err refusal
 abbrev behind : Stmt → Result (Given Stmts) Refusal → Result (Given Stmts) Refusal
 behind stmt result = and_then result (λ others. gives others.scope (Then stmt others.tree))
 
-with_more : (done : List RustStmt) (stmt : RustStmt) (result : Result (Given Stmts) Refusal) → with_rest done (behind (stmt_of stmt) result) ≡ with_rest (done ++ stmt ∷ []) result
+with_more : (done : List RustStmt) (stmt : RustStmt) (result : Result (Given Stmts) Refusal) → with_rest done (behind (stmt_of stmt) result)
+    ≡ with_rest (done ++ stmt ∷ []) result
 with_more done stmt (Ok others) = ap (gives others.scope) (sym (onto_more done stmt others.tree))
 with_more done stmt (Err refusal) = refl
 
@@ -95,16 +103,19 @@ one_more scope after done tree rest stmt h =
 
 -- ---- the trees of blocks
 
-pub is_branch : (line : RustLine) (at : Place) (test : RustTest) (a b : Vec RustLine Global) (xs ys : List RustLine) → line ≡ rust_line.If at test a b → xs ≡ a.items → ys ≡ b.items
+pub is_branch : (line : RustLine) (at : Place) (test : RustTest) (a b : Vec RustLine Global) (xs ys : List RustLine) → line ≡ rust_line.If at test a b
+    → xs ≡ a.items → ys ≡ b.items
     → line_of line ≡ branch at (test_of test) (lines_of xs) (lines_of ys)
-is_branch line at test a b xs ys e f g = ap line_of e ∙ conditional at test a b ∙ ap₂ (λ us vs. branch at (test_of test) (lines_of us) (lines_of vs)) (sym f) (sym g)
+is_branch line at test a b xs ys e f g = ap line_of e ∙ conditional at test a b ∙ ap₂ (λ us vs. branch at (test_of test) (lines_of us) (lines_of vs))
+    (sym f) (sym g)
 
 pub is_loop : (line : RustLine) (at : Place) (test : RustTest) (a : Vec RustLine Global) (xs : List RustLine) → line ≡ rust_line.While at test a → xs ≡ a.items
     → line_of line ≡ loop at (test_of test) (lines_of xs)
 is_loop line at test a xs e f = ap line_of e ∙ repeated at test a ∙ ap (λ us. loop at (test_of test) (lines_of us)) (sym f)
 
 -- the same statement
-pub said_as : {T : Type 0} (of : T → Given Stmt) (scope : Scope) (tree other : Line) (result : Result T Stop) → tree ≡ other → Answers of (check_line scope other) result → Answers of (check_line scope tree) result
+pub said_as : {T : Type 0} (of : T → Given Stmt) (scope : Scope) (tree other : Line) (result : Result T Stop) → tree ≡ other
+    → Answers of (check_line scope other) result → Answers of (check_line scope tree) result
 said_as of scope tree other result e h = subst (λ t. Answers of (check_line scope t) result) (sym e) h
 
 -- ---- items of a list

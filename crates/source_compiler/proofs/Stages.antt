@@ -20,7 +20,8 @@ use Rattle.source_compiler.proofs.Formed.{formed_light, formed_shallow}
 use Rattle.source_compiler.proofs.Plain.{program_plain, program_light}
 
 -- a stop says what is refused, by a form or by a name
-pub forms_refused : (said : Result Lines Refusal) (stop : Stop) → Answers (λ (lines : Vec RustLine Global). lines_of lines.items) said (Err stop) → OnRefusal stop (IsRefusal said)
+pub forms_refused : (said : Result Lines Refusal) (stop : Stop) → Answers (λ (lines : Vec RustLine Global). lines_of lines.items) said (Err stop)
+    → OnRefusal stop (IsRefusal said)
 forms_refused said (Refused code at) told = told
 forms_refused said Memory told = tt
 

@@ -8,7 +8,9 @@ ghost use Rattle.nim_core.specs.Program as Node;
 ghost use Rattle.nim_core.specs.Program.{expr_of, cond_of, stmt_of, stmts_of, program_of};
 ghost use Rattle.arc_base.specs.Refusal.{Answers, IsRefusal};
 ghost use Rattle.source_compiler.specs.Lines.{Lines, name, declare, assign, sum_of, test_of, line_of, lines_of, weight, weights};
-ghost use Rattle.source_compiler.specs.Names.{names_of, find, found, unless_found, declared, check_sum, check_test, check_line, check_lines, check, given, FitsExpr, FitsCond, FitsStmt, FitsStmts};
+ghost use Rattle.source_compiler.specs.Names.{names_of, find, found, unless_found, declared, check_sum, check_test};
+ghost use Rattle.source_compiler.specs.Names.{check_line, check_lines, check, given, FitsExpr, FitsCond, FitsStmt};
+ghost use Rattle.source_compiler.specs.Names.{FitsStmts};
 
 use crate::form::{Line, Sum, Test};
 use arc_base::{Bytes, Code, Items, Memory, Place, Stop};

@@ -4,7 +4,8 @@ use Rattle.source_compiler.specs.Lines.{test_of, line_of, lines_of, weight, weig
 use Rattle.nim_core.specs.declared.program.Stmt.{Stmt as RustStmt}
 use Rattle.nim_core.specs.Program.{stmt_of, stmts_of}
 use Rattle.source_compiler.specs.Names.{check_line, check_lines, given, gives, FitsStmts}
-use Rattle.source_compiler.proofs.Passing.{is_branch, is_loop, said_as, branch_gives, first_refused, second_refused, loop_gives, body_refused, next_item, with_rest, one_more, onto_none, ints_more}
+use Rattle.source_compiler.proofs.Passing.{is_branch, is_loop, said_as, branch_gives, first_refused, second_refused, loop_gives, body_refused, next_item}
+use Rattle.source_compiler.proofs.Passing.{with_rest, one_more, onto_none, ints_more}
 use Rattle.source_compiler.proofs.names.+statements.Goals as goal
 
 pub check_line-check_lines-requires : goal.check_line-check_lines-requires
@@ -15,7 +16,8 @@ check_line-check_lines-requires t c =
 
 pub check_line-check_lines-requires-in-Ok-check_lines : goal.check_line-check_lines-requires-in-Ok-check_lines
 check_line-check_lines-requires-in-Ok-check_lines t c =
-    let is = is_branch _ _ _ _ _ c.deref.result.now c.deref-in-Ok-check_lines.result.now c.in-If.is c.deref.ensures.value c.deref-in-Ok-check_lines.ensures.value in
+    let is = is_branch _ _ _ _ _ c.deref.result.now c.deref-in-Ok-check_lines.result.now c.in-If.is c.deref.ensures.value
+    c.deref-in-Ok-check_lines.ensures.value in
     let w = ap weight is in
     (omega (arith, c.decreases, w), (c.in-Ok-check_lines.ensures.known, omega (arith, w, c.requires.few, c.in-Ok-check_lines.ensures.count)))
 
@@ -41,30 +43,38 @@ check_line-returns-in-Assign-clause-answers t c =
 
 pub check_line-returns-in-Ok-check_lines-2-clause-answers : goal.check_line-returns-in-Ok-check_lines-2-clause-answers
 check_line-returns-in-Ok-check_lines-2-clause-answers t c =
-    let is = is_branch _ _ _ _ _ c.deref.result.now c.deref-in-Ok-check_lines.result.now c.in-If.is c.deref.ensures.value c.deref-in-Ok-check_lines.ensures.value in
+    let is = is_branch _ _ _ _ _ c.deref.result.now c.deref-in-Ok-check_lines.result.now c.in-If.is c.deref.ensures.value
+    c.deref-in-Ok-check_lines.ensures.value in
     ap (check_line c.args.scope.now.globals) is
-    ∙ branch_gives c.args.scope.now.globals c.in-If.at (test_of c.in-If.test) (lines_of c.deref.result.now) (lines_of c.deref-in-Ok-check_lines.result.now) _ _ _ _ _ c.in-Ok.ensures.answers c.in-Ok-check_lines.ensures.answers c.in-Ok-check_lines-2.ensures.answers
+    ∙ branch_gives c.args.scope.now.globals c.in-If.at (test_of c.in-If.test) (lines_of c.deref.result.now) (lines_of c.deref-in-Ok-check_lines.result.now)
+    _ _ _ _ _ c.in-Ok.ensures.answers c.in-Ok-check_lines.ensures.answers c.in-Ok-check_lines-2.ensures.answers
     ∙ ap (gives c.check_lines-in-Ok-check_lines.new.scope.globals) (sym c.choice.ensures)
 
 pub check_line-returns-in-Ok-check_lines-2-clause-count : goal.check_line-returns-in-Ok-check_lines-2-clause-count
 check_line-returns-in-Ok-check_lines-2-clause-count t c =
-    let is = is_branch _ _ _ _ _ c.deref.result.now c.deref-in-Ok-check_lines.result.now c.in-If.is c.deref.ensures.value c.deref-in-Ok-check_lines.ensures.value in
+    let is = is_branch _ _ _ _ _ c.deref.result.now c.deref-in-Ok-check_lines.result.now c.in-If.is c.deref.ensures.value
+    c.deref-in-Ok-check_lines.ensures.value in
     let w = ap weight is in
     omega (arith, w, c.in-Ok-check_lines.ensures.count, c.in-Ok-check_lines-2.ensures.count)
 
 pub check_line-returns-in-Err-check_lines-2-clause-answers : goal.check_line-returns-in-Err-check_lines-2-clause-answers
 check_line-returns-in-Err-check_lines-2-clause-answers t c =
-    let is = is_branch _ _ _ _ _ c.deref.result.now c.deref-in-Ok-check_lines.result.now c.in-If.is c.deref.ensures.value c.deref-in-Ok-check_lines.ensures.value in
+    let is = is_branch _ _ _ _ _ c.deref.result.now c.deref-in-Ok-check_lines.result.now c.in-If.is c.deref.ensures.value
+    c.deref-in-Ok-check_lines.ensures.value in
     let outer = λ (s : RustStmt). given c.check_lines-in-Ok-check_lines.new.scope.globals (stmt_of s) in
     let inner = λ (l : Vec RustStmt Global). given c.check_lines-in-Ok-check_lines.new.scope.globals (stmts_of l.items) in
-    said_as outer _ _ _ (Err c.in-Err-check_lines-2.stop) is (second_refused c.args.scope.now.globals c.in-If.at (test_of c.in-If.test) (lines_of c.deref.result.now) (lines_of c.deref-in-Ok-check_lines.result.now) inner outer _ _ _ c.in-Err-check_lines-2.stop c.in-Ok.ensures.answers c.in-Ok-check_lines.ensures.answers c.in-Err-check_lines-2.ensures.answers)
+    said_as outer _ _ _ (Err c.in-Err-check_lines-2.stop) is
+    (second_refused c.args.scope.now.globals c.in-If.at (test_of c.in-If.test) (lines_of c.deref.result.now) (lines_of c.deref-in-Ok-check_lines.result.now)
+    inner outer _ _ _ c.in-Err-check_lines-2.stop c.in-Ok.ensures.answers c.in-Ok-check_lines.ensures.answers c.in-Err-check_lines-2.ensures.answers)
 
 pub check_line-returns-in-Err-check_lines-clause-answers : goal.check_line-returns-in-Err-check_lines-clause-answers
 check_line-returns-in-Err-check_lines-clause-answers t c =
     let is = is_branch _ _ _ _ _ c.deref.result.now _ c.in-If.is c.deref.ensures.value refl in
     let outer = λ (s : RustStmt). given c.check_lines.new.scope.globals (stmt_of s) in
     let inner = λ (l : Vec RustStmt Global). given c.check_lines.new.scope.globals (stmts_of l.items) in
-    said_as outer _ _ _ (Err c.in-Err-check_lines.stop) is (first_refused c.args.scope.now.globals c.in-If.at (test_of c.in-If.test) (lines_of c.deref.result.now) (lines_of c.in-If.second.items) inner outer _ c.in-Err-check_lines.stop c.in-Ok.ensures.answers c.in-Err-check_lines.ensures.answers)
+    said_as outer _ _ _ (Err c.in-Err-check_lines.stop) is
+    (first_refused c.args.scope.now.globals c.in-If.at (test_of c.in-If.test) (lines_of c.deref.result.now) (lines_of c.in-If.second.items) inner outer
+    _ c.in-Err-check_lines.stop c.in-Ok.ensures.answers c.in-Err-check_lines.ensures.answers)
 
 -- ---- loops
 
@@ -72,7 +82,8 @@ pub check_line-returns-in-Ok-check_lines-3-clause-answers : goal.check_line-retu
 check_line-returns-in-Ok-check_lines-3-clause-answers t c =
     let is = is_loop _ _ _ _ c.deref-in-Ok-check_test.result.now c.in-While.is c.deref-in-Ok-check_test.ensures.value in
     ap (check_line c.args.scope.now.globals) is
-    ∙ loop_gives c.args.scope.now.globals c.in-While.at (test_of c.in-While.test) (lines_of c.deref-in-Ok-check_test.result.now) _ _ _ c.in-Ok-check_test.ensures.answers c.in-Ok-check_lines-3.ensures.answers
+    ∙ loop_gives c.args.scope.now.globals c.in-While.at (test_of c.in-While.test) (lines_of c.deref-in-Ok-check_test.result.now)
+    _ _ _ c.in-Ok-check_test.ensures.answers c.in-Ok-check_lines-3.ensures.answers
     ∙ ap (gives c.check_lines-in-Ok-check_test.new.scope.globals) (sym c.repetition.ensures)
 
 pub check_line-returns-in-Ok-check_lines-3-clause-count : goal.check_line-returns-in-Ok-check_lines-3-clause-count
@@ -86,7 +97,9 @@ check_line-returns-in-Err-check_lines-3-clause-answers t c =
     let is = is_loop _ _ _ _ c.deref-in-Ok-check_test.result.now c.in-While.is c.deref-in-Ok-check_test.ensures.value in
     let outer = λ (s : RustStmt). given c.check_lines-in-Ok-check_test.new.scope.globals (stmt_of s) in
     let inner = λ (l : Vec RustStmt Global). given c.check_lines-in-Ok-check_test.new.scope.globals (stmts_of l.items) in
-    said_as outer _ _ _ (Err c.in-Err-check_lines-3.stop) is (body_refused c.args.scope.now.globals c.in-While.at (test_of c.in-While.test) (lines_of c.deref-in-Ok-check_test.result.now) inner outer _ c.in-Err-check_lines-3.stop c.in-Ok-check_test.ensures.answers c.in-Err-check_lines-3.ensures.answers)
+    said_as outer _ _ _ (Err c.in-Err-check_lines-3.stop) is
+    (body_refused c.args.scope.now.globals c.in-While.at (test_of c.in-While.test) (lines_of c.deref-in-Ok-check_test.result.now) inner outer
+    _ c.in-Err-check_lines-3.stop c.in-Ok-check_test.ensures.answers c.in-Err-check_lines-3.ensures.answers)
 
 -- ---- statements, one after another
 
@@ -105,10 +118,12 @@ check_lines-loop-line-preserved t c =
       left = omega (arith, w, c.loop-line.invariant.left, c.in-Ok.ensures.count);
       light = omega (arith, w, c.loop-line.invariant.light);
       done = ap (λ l. with_rest l (check_lines c.check_line.new.scope.globals rest)) c.in_ok-push-in-Ok.ensures
-          ∙ sym (one_more c.loop-line.scope.globals c.check_line.new.scope.globals c.loop-line.stmts.items (line_of c.line-item.result) rest c.in-Ok.stmt c.in-Ok.ensures.answers)
+          ∙ sym (one_more c.loop-line.scope.globals c.check_line.new.scope.globals c.loop-line.stmts.items (line_of c.line-item.result) rest c.in-Ok.stmt
+          c.in-Ok.ensures.answers)
           ∙ ap (λ l. with_rest c.loop-line.stmts.items (check_lines c.loop-line.scope.globals (lines_of l))) (sym e)
           ∙ c.loop-line.invariant.done;
-      ints = subst (λ l. FitsStmts (stmts_of l)) (sym c.in_ok-push-in-Ok.ensures) (ints_more c.loop-line.stmts.items c.in-Ok.stmt c.loop-line.invariant.ints c.in-Ok.ensures.ints);
+      ints = subst (λ l. FitsStmts (stmts_of l)) (sym c.in_ok-push-in-Ok.ensures)
+          (ints_more c.loop-line.stmts.items c.in-Ok.stmt c.loop-line.invariant.ints c.in-Ok.ensures.ints);
     }
 
 pub check_lines-returns-clause-answers : goal.check_lines-returns-clause-answers
