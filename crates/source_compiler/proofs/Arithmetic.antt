@@ -1,5 +1,7 @@
 -- The words of numbers, and what the code's tests on them say.
-use Rattle.std.proofs.Common.{rules, Decides, ◌≡◌, ◌≢◌, ◌⊎◌, inl, inr, ℕ, zero, suc, ◌+◌, ◌-◌, ◌*◌, ◌/◌, ◌%◌, ◌^◌, ◌<◌, ◌≤◌, Bool, true, false, not, ◌==◌, ℤ, pos, negsuc, ◌+ℤ◌, ◌-ℤ◌, ◌*ℤ◌, neg_ℤ, int_lt, int_le, int_div, int_rem, int_eq, unsigned_abs, FitsSigned, refl, sym, ap, ap₂, ◌∙◌, arith, w32, w64, to_z-of_z, mul-le-mul, mul-le-mul_left, div-le_self, div-mul-le_self}
+use Rattle.std.proofs.Common.{rules, Decides, ◌≡◌, ◌≢◌, ◌⊎◌, inl, inr, ℕ, zero, suc, ◌+◌, ◌-◌, ◌*◌, ◌/◌, ◌%◌, ◌^◌, ◌<◌, ◌≤◌, Bool, true, false, not, ◌==◌, ℤ}
+use Rattle.std.proofs.Common.{pos, negsuc, ◌+ℤ◌, ◌-ℤ◌, ◌*ℤ◌, neg_ℤ, int_lt, int_le, int_div, int_rem, int_eq, unsigned_abs, FitsSigned, refl, sym, ap, ap₂, ◌∙◌}
+use Rattle.std.proofs.Common.{arith, w32, w64, to_z-of_z, mul-le-mul, mul-le-mul_left, div-le_self, div-mul-le_self}
 use Rattle.std.specs.Int.{cast_unsigned, int_wrap, int_shr}
 use borrow.Author.Differences.{up, down, read_fits}
 use Rattle.std.proofs.lemmas.Int.{ints, of_z-to_z, wrapping_mul_is, int_wrap_fits, unsigned_abs-mul, quot_fits}
@@ -7,7 +9,8 @@ use Rattle.std.proofs.lemmas.Bool.{false_from_ne_true, eqb-true, eqb-false, cond
 use Rattle.std.proofs.lemmas.Bool.Decides.{same_from_decides, Decides-eqb, Decides-int_eq}
 use Rattle.nim_core.specs.Ints.{low, fits, low_byte}
 use Rattle.nim_core.proofs.ForCallers.{rem_fits as remainder_fits, low_byte_is}
-use Rattle.rv32_isa.specs.Values.{signed, added, subtracted, one_if, is_less_signed, low_product, high_product_signed, shifted_right_signed, quotient_signed, remainder_signed}
+use Rattle.rv32_isa.specs.Values.{signed, added, subtracted, one_if, is_less_signed, low_product, high_product_signed, shifted_right_signed, quotient_signed}
+use Rattle.rv32_isa.specs.Values.{remainder_signed}
 use Rattle.source_compiler.specs.Code.{word}
 
 -- ---- words
@@ -50,21 +53,24 @@ subtracted_is u v fu fv f =
     omega (arith, ints)
 
 -- two tests are alike where a third one holds
-alike : (p q r : Bool) → (p ≡ true → q ≡ true → r ≡ true) → (p ≡ false → q ≡ false → r ≡ true) → (p ≡ true → q ≡ false → r ≡ false) → (p ≡ false → q ≡ true → r ≡ false) → (one_if p == one_if q) ≡ r
+alike : (p q r : Bool) → (p ≡ true → q ≡ true → r ≡ true) → (p ≡ false → q ≡ false → r ≡ true) → (p ≡ true → q ≡ false → r ≡ false)
+    → (p ≡ false → q ≡ true → r ≡ false) → (one_if p == one_if q) ≡ r
 alike true true r a b c d = sym (a refl refl)
 alike false false r a b c d = sym (b refl refl)
 alike true false r a b c d = sym (c refl refl)
 alike false true r a b c d = sym (d refl refl)
 
 -- the sum has not overflowed where it is less than the first number just where the second is negative
-pub sum_fits : (u v : ℤ) → fits u ≡ true → fits v ≡ true → (one_if (is_less_signed (added (word u) (word v)) (word u)) == one_if (is_less_signed (word v) 0)) ≡ fits (u +ℤ v)
+pub sum_fits : (u v : ℤ) → fits u ≡ true → fits v ≡ true → (one_if (is_less_signed (added (word u) (word v)) (word u)) == one_if (is_less_signed (word v) 0))
+    ≡ fits (u +ℤ v)
 sum_fits u v fu fv =
     let a = fits_signed u fu in
     let b = fits_signed v fv in
     let s = signed (added (word u) (word v)) in
     let small : added (word u) (word v) < 2 ^ 32 = omega arith in
     let back : word s ≡ added (word u) (word v) = word_signed _ small in
-    ap (λ x. one_if (int_lt s x) == one_if (is_less_signed (word v) 0)) (signed_word u fu) ∙ ap (λ x. one_if (int_lt s u) == one_if (int_lt x (pos 0))) (signed_word v fv) ∙
+    ap (λ x. one_if (int_lt s x) == one_if (is_less_signed (word v) 0)) (signed_word u fu) ∙ ap (λ x. one_if (int_lt s u) == one_if (int_lt x (pos 0)))
+    (signed_word v fv) ∙
     alike (int_lt s u) (int_lt v (pos 0)) (fits (u +ℤ v))
     (λ p q. signed_fits (u +ℤ v) (omega (arith, ints)))
     (λ p q. signed_fits (u +ℤ v) (omega (arith, ints)))
@@ -72,14 +78,16 @@ sum_fits u v fu fv =
     (λ p q. unfit (u +ℤ v) (λ f. absurd (omega (arith, ints))))
 
 -- the difference has not overflowed where it is greater than the first number just where the second is negative
-pub difference_fits : (u v : ℤ) → fits u ≡ true → fits v ≡ true → (one_if (is_less_signed (word u) (subtracted (word u) (word v))) == one_if (is_less_signed (word v) 0)) ≡ fits (u -ℤ v)
+pub difference_fits : (u v : ℤ) → fits u ≡ true → fits v ≡ true
+    → (one_if (is_less_signed (word u) (subtracted (word u) (word v))) == one_if (is_less_signed (word v) 0)) ≡ fits (u -ℤ v)
 difference_fits u v fu fv =
     let a = fits_signed u fu in
     let b = fits_signed v fv in
     let s = signed (subtracted (word u) (word v)) in
     let small : subtracted (word u) (word v) < 2 ^ 32 = omega arith in
     let back : word s ≡ subtracted (word u) (word v) = word_signed _ small in
-    ap (λ x. one_if (int_lt x s) == one_if (is_less_signed (word v) 0)) (signed_word u fu) ∙ ap (λ x. one_if (int_lt u s) == one_if (int_lt x (pos 0))) (signed_word v fv) ∙
+    ap (λ x. one_if (int_lt x s) == one_if (is_less_signed (word v) 0)) (signed_word u fu) ∙ ap (λ x. one_if (int_lt u s) == one_if (int_lt x (pos 0)))
+    (signed_word v fv) ∙
     alike (int_lt u s) (int_lt v (pos 0)) (fits (u -ℤ v))
     (λ p q. signed_fits (u -ℤ v) (omega (arith, ints)))
     (λ p q. signed_fits (u -ℤ v) (omega (arith, ints)))
@@ -132,16 +140,19 @@ sign_word n h = by (signed n) refl
         inr (omega arith, ap (λ z. word (int_shr z 31)) e ∙ (omega arith))
 
 -- the high word of a number is the sign of its low word just where the number fits
-high_by : (p : ℤ) (n j k : ℕ) → unsigned_abs p ≤ 2 ^ 62 → n < 2 ^ 32 → p +ℤ pos (j * 2 ^ 32) ≡ pos (n + k * 2 ^ 32) → (cast_unsigned w64 p / 2 ^ 32 == shifted_right_signed n 31) ≡ fits p
+high_by : (p : ℤ) (n j k : ℕ) → unsigned_abs p ≤ 2 ^ 62 → n < 2 ^ 32 → p +ℤ pos (j * 2 ^ 32) ≡ pos (n + k * 2 ^ 32)
+    → (cast_unsigned w64 p / 2 ^ 32 == shifted_right_signed n 31) ≡ fits p
 high_by p n j k within small e = same_from_decides _ (fits p) (Decides-eqb _ _) (by p within e (sign_word n small))
   where
-    by : (p : ℤ) → unsigned_abs p ≤ 2 ^ 62 → p +ℤ pos (j * 2 ^ 32) ≡ pos (n + k * 2 ^ 32) → ((n < 2 ^ 31) × (shifted_right_signed n 31 ≡ 0)) ⊎ ((2 ^ 31 ≤ n) × (shifted_right_signed n 31 ≡ 2 ^ 32 - 1)) → Decides (fits p) (cast_unsigned w64 p / 2 ^ 32 ≡ shifted_right_signed n 31)
+    by : (p : ℤ) → unsigned_abs p ≤ 2 ^ 62 → p +ℤ pos (j * 2 ^ 32) ≡ pos (n + k * 2 ^ 32) → ((n < 2 ^ 31) × (shifted_right_signed n 31 ≡ 0))
+        ⊎ ((2 ^ 31 ≤ n) × (shifted_right_signed n 31 ≡ 2 ^ 32 - 1)) → Decides (fits p) (cast_unsigned w64 p / 2 ^ 32 ≡ shifted_right_signed n 31)
     by (pos m) w e (inl s) = (λ f. let h = fits_signed (pos m) f in omega (arith, ints), λ q. signed_fits (pos m) (omega (arith, ints)))
     by (pos m) w e (inr s) = (λ f. let h = fits_signed (pos m) f in absurd (omega (arith, ints)), λ q. signed_fits (pos m) (omega (arith, ints)))
     by (negsuc m) w e (inl s) = (λ f. let h = fits_signed (negsuc m) f in absurd (omega (arith, ints)), λ q. signed_fits (negsuc m) (omega (arith, ints)))
     by (negsuc m) w e (inr s) = (λ f. let h = fits_signed (negsuc m) f in omega (arith, ints), λ q. signed_fits (negsuc m) (omega (arith, ints)))
 
-pub product_fits : (u v : ℤ) → fits u ≡ true → fits v ≡ true → (high_product_signed (word u) (word v) == shifted_right_signed (low_product (word u) (word v)) 31) ≡ fits (u *ℤ v)
+pub product_fits : (u v : ℤ) → fits u ≡ true → fits v ≡ true
+    → (high_product_signed (word u) (word v) == shifted_right_signed (low_product (word u) (word v)) 31) ≡ fits (u *ℤ v)
 product_fits u v fu fv =
     let small : low_product (word u) (word v) < 2 ^ 32 = omega arith in
     let low = low_of (low_product (word u) (word v)) small (u *ℤ v) (low_product_is u v fu fv) in
@@ -163,7 +174,10 @@ not_zero v fv ne = false_from_ne_true (word v == 0) (λ e. ne (word_same v (pos 
 pub quotient_fits : (u v : ℤ) → fits u ≡ true → fits v ≡ true → v ≢ pos 0 → (u ≢ low) ⊎ (v ≢ negsuc 0) → fits (int_div u v) ≡ true
 quotient_fits u (pos zero) fu fv ne apart = absurd (ne refl)
 quotient_fits u (pos (suc b)) fu fv ne apart = signed_fits _ (quot_fits w32 u (pos (suc b)) (fits_signed u fu) (omega (arith, ints)))
-quotient_fits (pos a) (negsuc b) fu fv ne apart = let h = fits_signed (pos a) fu in let l = div-le_self a (suc b) in signed_fits (int_div (pos a) (negsuc b)) (omega (arith, ints))
+quotient_fits (pos a) (negsuc b) fu fv ne apart =
+    let h = fits_signed (pos a) fu in
+    let l = div-le_self a (suc b) in
+    signed_fits (int_div (pos a) (negsuc b)) (omega (arith, ints))
 quotient_fits (negsuc a) (negsuc zero) fu fv ne (inl apart) =
     let h = fits_signed (negsuc a) fu in
     let n : a ≢ 2 ^ 31 - 1 = λ e. apart (ap negsuc e) in

@@ -13,7 +13,9 @@ use Rattle.nim_tree.specs.Statements as tree
 use Rattle.nim_tree.specs.Statements.{Definition, Statement, Statements, Branches}
 use Rattle.arc_base.specs.Refusal.{Refusal, and_then, IsRefusal}
 use Rattle.source_compiler.specs.Lines.{echo_int, Line, Lines}
-use Rattle.source_compiler.specs.Form.{wanted, left_out, operator_of, comparison_of, as_sum, as_test, lone_name, as_definition, as_section, as_assignment, is_name, as_shown, as_echo, as_quit, as_call, as_tests, no_more, as_evaluation, as_alternatives, no_further, as_repetition, as_line, as_choice, as_lines, form_of}
+use Rattle.source_compiler.specs.Form.{wanted, left_out, operator_of, comparison_of, as_sum, as_test, lone_name, as_definition, as_section, as_assignment}
+use Rattle.source_compiler.specs.Form.{is_name, as_shown, as_echo, as_quit, as_call, as_tests, no_more, as_evaluation, as_alternatives, no_further}
+use Rattle.source_compiler.specs.Form.{as_repetition, as_line, as_choice, as_lines, form_of}
 
 -- where it is refused, it is left out
 abbrev Left : {A : Type 0} → Result A Refusal → Type 0
@@ -39,11 +41,13 @@ sum_left (term.int at value) = tt
 sum_left (term.name at text) = tt
 sum_left (term.paren at a) = sum_left a
 sum_left (term.unary at unary_sign.Minus a) = then_left (as_sum a) _ (sum_left a) (λ operand. tt)
-sum_left (term.binary at op a b) = then_left (wanted at (operator_of op)) _ (wanted_left at (operator_of op)) (λ operator. then_left (as_sum a) _ (sum_left a) (λ left. then_left (as_sum b) _ (sum_left b) (λ right. tt)))
+sum_left (term.binary at op a b) = then_left (wanted at (operator_of op)) _ (wanted_left at (operator_of op))
+    (λ operator. then_left (as_sum a) _ (sum_left a) (λ left. then_left (as_sum b) _ (sum_left b) (λ right. tt)))
 sum_left _ = refl
 
 test_left : (t : Term) → Left (as_test t)
-test_left (term.binary at op a b) = then_left (wanted at (comparison_of op)) _ (wanted_left at (comparison_of op)) (λ comparison. then_left (as_sum a) _ (sum_left a) (λ left. then_left (as_sum b) _ (sum_left b) (λ right. tt)))
+test_left (term.binary at op a b) = then_left (wanted at (comparison_of op)) _ (wanted_left at (comparison_of op))
+    (λ comparison. then_left (as_sum a) _ (sum_left a) (λ left. then_left (as_sum b) _ (sum_left b) (λ right. tt)))
 test_left _ = refl
 
 -- ---- statements without blocks
@@ -51,7 +55,8 @@ test_left _ = refl
 definition_left : (at : Place) (d : Definition) → Left (as_definition at d)
 definition_left at d =
     let lone = lone_name d.names d.pragmas d.annotation in
-    then_left (wanted at lone) _ (wanted_left at lone) (λ variable. then_left (wanted at d.value) _ (wanted_left at d.value) (λ value. then_left (as_sum value) _ (sum_left value) (λ sum. tt)))
+    then_left (wanted at lone) _ (wanted_left at lone)
+    (λ variable. then_left (wanted at d.value) _ (wanted_left at d.value) (λ value. then_left (as_sum value) _ (sum_left value) (λ sum. tt)))
 
 section_left : (at : Place) (definitions : List Definition) → Left (as_section at definitions)
 section_left at [] = refl
@@ -82,7 +87,8 @@ quit_left at (part status (part other rest)) = refl
 call_left : (at : Place) (callee : Term) (parts : Parts) → Left (as_call at callee parts)
 call_left at callee parts =
     let other = if is_name (codes "quit") callee then as_quit at parts else left_out at in
-    if_left (is_name (codes "echo") callee) (as_echo at parts) other (echo_left at parts) (if_left (is_name (codes "quit") callee) (as_quit at parts) (left_out at) (quit_left at parts) refl)
+    if_left (is_name (codes "echo") callee) (as_echo at parts) other (echo_left at parts)
+    (if_left (is_name (codes "quit") callee) (as_quit at parts) (left_out at) (quit_left at parts) refl)
 
 -- ---- expressions that are statements
 
@@ -98,7 +104,8 @@ more_left (choice at tests value rest) = refl
 mutual
   evaluation_left : (at : Place) (value : Term) → Left (as_evaluation at value)
   evaluation_left at (term.call p callee parts) = call_left at callee parts
-  evaluation_left at (term.if_term p branches other) = alternatives_left at branches (as_evaluation (place_of other) other) (evaluation_left (place_of other) other)
+  evaluation_left at (term.if_term p branches other) = alternatives_left at branches (as_evaluation (place_of other) other)
+      (evaluation_left (place_of other) other)
   evaluation_left at _ = refl
 
   alternatives_left : (at : Place) (all : Choices) (otherwise : Result Line Refusal) → Left otherwise → Left (as_alternatives at all otherwise)
@@ -139,7 +146,8 @@ mutual
   lines_left : (in_module : Bool) (ss : Statements) → Left (as_lines in_module ss)
   lines_left in_module tree.empty = tt
   lines_left in_module (tree.then first rest) =
-      then_left (as_line in_module first) _ (line_left in_module first) (λ line. then_left (as_lines in_module rest) _ (lines_left in_module rest) (λ lines. tt))
+      then_left (as_line in_module first) _ (line_left in_module first)
+      (λ line. then_left (as_lines in_module rest) _ (lines_left in_module rest) (λ lines. tt))
 
 pub by_form : (statements : Statements) (code : Code) (at : Place) → IsRefusal (form_of statements) code at → code ≡ LeftOut
 by_form statements code at e = subst Left e (lines_left true statements)

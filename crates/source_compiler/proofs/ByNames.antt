@@ -5,7 +5,8 @@ use Rattle.arc_base.specs.declared.place.Place.{Place}
 use Rattle.arc_base.specs.declared.place.Code.{Code}
 use Rattle.arc_base.specs.declared.place.Code.TheVariants.{UnknownName, Redefined}
 use Rattle.arc_base.specs.Refusal.{Refusal, and_then, IsRefusal}
-use Rattle.source_compiler.specs.Lines.{Sum, int, name, opposite, operation, Test, Line, declare, assign, echo_int, echo_text, quit, branch, loop, Lines, empty, then}
+use Rattle.source_compiler.specs.Lines.{Sum, int, name, opposite, operation, Test, Line, declare, assign, echo_int, echo_text, quit, branch, loop, Lines, empty}
+use Rattle.source_compiler.specs.Lines.{then}
 use Rattle.source_compiler.specs.Names.{Scope, find, found, unless_found, check_sum, check_test, check_line, check_lines, check}
 
 abbrev pub ByName : Code → Type 0
@@ -32,10 +33,12 @@ sum_named : (scope : Scope) (t : Sum) → Named (check_sum scope t)
 sum_named scope (int at value) = tt
 sum_named scope (name at text) = then_named (found (find scope text) at) _ (found_named (find scope text) at) (λ number. tt)
 sum_named scope (opposite at a) = then_named (check_sum scope a) _ (sum_named scope a) (λ checked. tt)
-sum_named scope (operation at operator a b) = then_named (check_sum scope a) _ (sum_named scope a) (λ left. then_named (check_sum scope b) _ (sum_named scope b) (λ right. tt))
+sum_named scope (operation at operator a b) = then_named (check_sum scope a) _ (sum_named scope a)
+    (λ left. then_named (check_sum scope b) _ (sum_named scope b) (λ right. tt))
 
 test_named : (scope : Scope) (t : Test) → Named (check_test scope t)
-test_named scope t = then_named (check_sum scope t.left) _ (sum_named scope t.left) (λ left. then_named (check_sum scope t.right) _ (sum_named scope t.right) (λ right. tt))
+test_named scope t = then_named (check_sum scope t.left) _ (sum_named scope t.left)
+    (λ left. then_named (check_sum scope t.right) _ (sum_named scope t.right) (λ right. tt))
 
 mutual
   line_named : (scope : Scope) (s : Line) → Named (check_line scope s)
@@ -59,7 +62,8 @@ mutual
   lines_named : (scope : Scope) (ss : Lines) → Named (check_lines scope ss)
   lines_named scope empty = tt
   lines_named scope (then first rest) =
-      then_named (check_line scope first) _ (line_named scope first) (λ one. then_named (check_lines one.scope rest) _ (lines_named one.scope rest) (λ others. tt))
+      then_named (check_line scope first) _ (line_named scope first)
+      (λ one. then_named (check_lines one.scope rest) _ (lines_named one.scope rest) (λ others. tt))
 
 pub by_name : (lines : Lines) (code : Code) (at : Place) → IsRefusal (check lines) code at → ByName code
 by_name lines code at e = subst Named e (then_named (check_lines [] lines) _ (lines_named [] lines) (λ whole. tt))

@@ -1,5 +1,6 @@
 -- What stands in the data: the lines of the traps, the variables and the texts.
-use Rattle.std.proofs.Common.{◌≡◌, ◌≢◌, ℕ, zero, suc, ◌+◌, ◌-◌, ◌*◌, ◌^◌, ◌<◌, ◌≤◌, ℤ, pos, negsuc, true, List, [], ◌++◌, length, refl, sym, ap, ◌∙◌, arith, append_assoc, length-append}
+use Rattle.std.proofs.Common.{◌≡◌, ◌≢◌, ℕ, zero, suc, ◌+◌, ◌-◌, ◌*◌, ◌^◌, ◌<◌, ◌≤◌, ℤ, pos, negsuc, true, List, [], ◌++◌, length, refl, sym, ap, ◌∙◌, arith}
+use Rattle.std.proofs.Common.{append_assoc, length-append}
 use Rattle.std.specs.Prelude.{nat_eq}
 use Rattle.std.proofs.lemmas.Bool.{leb-true, eq-eqb, ne_eqb, cond-true, cond-false}
 use Rattle.nim_core.specs.Ints.{fits}
@@ -28,7 +29,13 @@ length-variable_words from (suc count) values =
 pub length-data_of : (count : ℕ) (texts : List ℕ) (values : Values) → length (data_of count texts values) ≡ 40 + 4 * count + length texts
 length-data_of count texts values =
     let words = variable_words 0 count values in
-    omega (arith, length-append (trap_line Overflow) (trap_line DivisionByZero ++ (words ++ texts)), length-append (trap_line DivisionByZero) (words ++ texts), length-append words texts, length-variable_words 0 count values)
+    omega (
+      arith,
+      length-append (trap_line Overflow) (trap_line DivisionByZero ++ (words ++ texts)),
+      length-append (trap_line DivisionByZero) (words ++ texts),
+      length-append words texts,
+      length-variable_words 0 count values,
+    )
 
 put_same : (values : Values) (number other : ℕ) (value : ℤ) → other ≡ number → put values number value other ≡ value
 put_same values number other value e = cond-true (nat_eq other number) value (values other) (eq-eqb other number e)
@@ -36,7 +43,8 @@ put_same values number other value e = cond-true (nat_eq other number) value (va
 put_other : (values : Values) (number other : ℕ) (value : ℤ) → other ≢ number → put values number value other ≡ values other
 put_other values number other value ne = cond-false (nat_eq other number) value (values other) (ne_eqb other number ne)
 
-words_same : (from count : ℕ) (values others : Values) → ((number : ℕ) → from ≤ number → others number ≡ values number) → variable_words from count others ≡ variable_words from count values
+words_same : (from count : ℕ) (values others : Values) → ((number : ℕ) → from ≤ number → others number ≡ values number) → variable_words from count others
+    ≡ variable_words from count values
 words_same from zero values others h = refl
 words_same from (suc count) values others h =
     ap (λ z. word_bytes (word z) ++ variable_words (suc from) count others) (h from (omega arith))
@@ -61,7 +69,8 @@ among_words from zero (suc count) number values lt e =
       now = ap (λ k. word_bytes (word (values k)) ++ variable_words (suc from) count values) at;
       later = λ value.
           ap (λ z. word_bytes (word z) ++ variable_words (suc from) count (put values number value)) (put_same values number from value at)
-          ∙ ap (λ l. word_bytes (word value) ++ l) (words_same (suc from) count values (put values number value) (λ k le. put_other values number k value (λ same. omega arith)));
+          ∙ ap (λ l. word_bytes (word value) ++ l)
+          (words_same (suc from) count values (put values number value) (λ k le. put_other values number k value (λ same. omega arith)));
     }
 among_words from (suc n) (suc count) number values lt e =
     let h = among_words (suc from) n count number values (omega arith) (omega arith) in
@@ -97,7 +106,8 @@ among_data count number texts values lt =
 
 -- ---- bytes that are read
 
-pub holds_variable : (count number : ℕ) (texts : List ℕ) (values : Values) → number < count → Holds (data_of count texts values) (variable_at number) (word_bytes (word (values number)))
+pub holds_variable : (count number : ℕ) (texts : List ℕ) (values : Values) → number < count → Holds (data_of count texts values) (variable_at number)
+    (word_bytes (word (values number)))
 holds_variable count number texts values lt =
     let h = among_data count number texts values lt in
     record { pre = h.pre; post = h.post; data_is = h.now; at_is = omega (arith, h.long) }
@@ -105,7 +115,8 @@ holds_variable count number texts values lt =
 nest_text : (a b words pre bytes post : List ℕ) → a ++ (b ++ (words ++ (pre ++ (bytes ++ post)))) ≡ (a ++ (b ++ (words ++ pre))) ++ (bytes ++ post)
 nest_text a b words pre bytes post = simp append_assoc refl
 
-pub holds_text : (count : ℕ) (pre bytes post : List ℕ) (values : Values) → Holds (data_of count (pre ++ (bytes ++ post)) values) (variable_at count + length pre) bytes
+pub holds_text : (count : ℕ) (pre bytes post : List ℕ) (values : Values) → Holds (data_of count (pre ++ (bytes ++ post)) values)
+    (variable_at count + length pre) bytes
 holds_text count pre bytes post values =
     let a = trap_line Overflow in
     let b = trap_line DivisionByZero in
@@ -114,7 +125,13 @@ holds_text count pre bytes post values =
       pre = a ++ (b ++ (words ++ pre));
       post = post;
       data_is = nest_text a b words pre bytes post;
-      at_is = omega (arith, length-append a (b ++ (words ++ pre)), length-append b (words ++ pre), length-append words pre, length-variable_words 0 count values);
+      at_is = omega (
+        arith,
+        length-append a (b ++ (words ++ pre)),
+        length-append b (words ++ pre),
+        length-append words pre,
+        length-variable_words 0 count values,
+      );
     }
 
 pub holds_trap : (count : ℕ) (texts : List ℕ) (values : Values) (trap : Trap) → Holds (data_of count texts values) (line_at trap) (trap_line trap)

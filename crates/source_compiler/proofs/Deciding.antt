@@ -23,8 +23,10 @@ abbrev pub IsDecided : List ℕ → Type 0
 IsDecided source = ((program : Program) × ReadsAlone source program) ⊎ ((code : Code) × (at : Place) × RefusesAlone source code at)
 
 module _ (source : List ℕ) where
-  by_check : (tokens : List Token) (tree : Statements) (lines : Lines) → IsTree source tokens tree → form_of tree ≡ Ok lines → (result : Result Program Refusal) → check lines ≡ result → IsDecided source
-  by_check tokens tree lines is formed (Ok program) e = inl (program, record { tokens = tokens; tree = tree; lines = lines; is_tree = is; formed = formed; checked = e })
+  by_check : (tokens : List Token) (tree : Statements) (lines : Lines) → IsTree source tokens tree → form_of tree ≡ Ok lines → (result : Result Program Refusal)
+      → check lines ≡ result → IsDecided source
+  by_check tokens tree lines is formed (Ok program) e =
+      inl (program, record { tokens = tokens; tree = tree; lines = lines; is_tree = is; formed = formed; checked = e })
   by_check tokens tree lines is formed (Err refusal) e = inr (refusal.code, refusal.at, by_names tokens tree lines is formed e)
 
   by_formed : (tokens : List Token) (tree : Statements) → IsTree source tokens tree → (result : Result Lines Refusal) → form_of tree ≡ result → IsDecided source
@@ -40,6 +42,7 @@ module _ (source : List ℕ) where
   decided (inr r) tree = inr (r.0, r.1, by_bytes r.2)
 
 -- the same of a list of one module
-pub lone_decided : (main : Module) → IsDecided main.source → ((program : Program) × Reads (main ∷ []) program) ⊎ ((code : Code) × (at : Place) × Refuses (main ∷ []) code at)
+pub lone_decided : (main : Module) → IsDecided main.source → ((program : Program) × Reads (main ∷ []) program)
+    ⊎ ((code : Code) × (at : Place) × Refuses (main ∷ []) code at)
 lone_decided main (inl t) = inl (t.0, record { main = main; only = refl; reads = t.1 })
 lone_decided main (inr r) = inr (r.0, r.1, record { main = main; only = refl; refuses = r.2 })

@@ -1,6 +1,7 @@
 -- How deep sums are.
 use Rattle.std.specs.Prelude.{ℕ, suc, max}
-use Rattle.source_compiler.specs.Lines.{Sum, int, name, opposite, operation, Test, Line, declare, assign, echo_int, echo_text, quit, branch, loop, Lines, empty, then}
+use Rattle.source_compiler.specs.Lines.{Sum, int, name, opposite, operation, Test, Line, declare, assign, echo_int, echo_text, quit, branch, loop, Lines, empty}
+use Rattle.source_compiler.specs.Lines.{then}
 
 -- a literal or a name has one level, any other sum one more than the highest of its operands
 abbrev pub sum_levels : Sum → ℕ

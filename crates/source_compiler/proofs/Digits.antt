@@ -9,12 +9,14 @@ use Rattle.rv32_isa.specs.Values.{subtracted, is_less_signed}
 use Rattle.source_compiler.specs.Code.{word}
 
 -- a byte in front of others
-pub put_in_front : (region : List ℕ) (i n byte : ℕ) → i < length region → take (suc n) (drop i (put_bytes region i (byte ∷ []))) ≡ byte ∷ take n (drop (suc i) region)
+pub put_in_front : (region : List ℕ) (i n byte : ℕ) → i < length region → take (suc n) (drop i (put_bytes region i (byte ∷ []))) ≡ byte ∷ take n
+    (drop (suc i) region)
 put_in_front region i n byte within =
     let rest = byte ∷ drop (i + 1) region in
     let long : length (take i region) ≡ i = length-take-le i region (omega arith) in
     let next : i + 1 ≡ suc i = omega arith in
-    ap (take (suc n)) (ap (λ k. drop k (take i region ++ rest)) (sym long) ∙ drop-append_seam (take i region) rest) ∙ ap (λ k. byte ∷ take n (drop k region)) next
+    ap (take (suc n)) (ap (λ k. drop k (take i region ++ rest)) (sym long) ∙ drop-append_seam (take i region) rest)
+    ∙ ap (λ k. byte ∷ take n (drop k region)) next
 
 pub fits_pos : (n : ℕ) → fits (pos n) ≡ true → n < 2 ^ 31
 fits_pos n h = search rules

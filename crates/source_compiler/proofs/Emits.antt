@@ -1,5 +1,6 @@
 -- Parts of programs can be emitted, and pieces of code are put together.
-use Rattle.std.proofs.Common.{◌≡◌, ℕ, zero, suc, ◌+◌, ◌-◌, ◌*◌, ◌^◌, ◌<◌, ◌≤◌, List, [], ◌∷◌, ◌++◌, length, Vec, Global, sym, ap, ap₂, ◌∙◌, arith, append_assoc, append-nil, add-one, length-append, pos}
+use Rattle.std.proofs.Common.{◌≡◌, ℕ, zero, suc, ◌+◌, ◌-◌, ◌*◌, ◌^◌, ◌<◌, ◌≤◌, List, [], ◌∷◌, ◌++◌, length, Vec, Global, sym, ap, ap₂, ◌∙◌, arith, append_assoc}
+use Rattle.std.proofs.Common.{append-nil, add-one, length-append, pos}
 use Rattle.std.proofs.lemmas.Grind.{flat_map-append}
 use Rattle.arc_base.specs.declared.place.Place.{Place}
 use Rattle.nim_core.specs.declared.program.Cond.{Cond as RustCond}
@@ -25,7 +26,8 @@ right_fits condition h = record { count = h.count; room = most_slots; few = h.fe
 
 -- ---- code behind code
 
-pub and_then : (old middle new : List ℕ) (is js : List Instr) → middle ≡ old ++ code_bytes is → new ≡ middle ++ code_bytes js → new ≡ old ++ code_bytes (is ++ js)
+pub and_then : (old middle new : List ℕ) (is js : List Instr) → middle ≡ old ++ code_bytes is → new ≡ middle ++ code_bytes js
+    → new ≡ old ++ code_bytes (is ++ js)
 and_then old middle new is js e f =
     f ∙ ap (λ l. l ++ code_bytes js) e ∙ append_assoc old (code_bytes is) (code_bytes js) ∙ ap (λ l. old ++ l) (sym (flat_map-append _ is js))
 
@@ -35,7 +37,8 @@ over bytes is n m four e = let l = ap length e ∙ length-code is in let d : len
 
 -- the five pieces of a choice
 pub choice_bytes : (old a b c d e first second : List ℕ) (test is js : List Instr) → first ≡ code_bytes is → second ≡ code_bytes js
-    → a ≡ old ++ code_bytes test → b ≡ a ++ code_bytes (Jal 0 (length first + 8) ∷ []) → c ≡ b ++ first → d ≡ c ++ code_bytes (Jal 0 (length second + 4) ∷ []) → e ≡ d ++ second
+    → a ≡ old ++ code_bytes test → b ≡ a ++ code_bytes (Jal 0 (length first + 8) ∷ []) → c ≡ b ++ first → d ≡ c ++ code_bytes (Jal 0 (length second + 4) ∷ [])
+    → e ≡ d ++ second
     → e ≡ old ++ code_bytes (test ++ (ahead (length is + 2) ∷ (is ++ (ahead (length js + 1) ∷ js))))
 choice_bytes old a b c d e first second test is js f s h1 h2 h3 h4 h5 =
     let past = ahead (length is + 2) in
@@ -50,7 +53,8 @@ choice_bytes old a b c d e first second test is js f s h1 h2 h3 h4 h5 =
 
 -- the distance from the end of a loop's block, of so many bytes, back to where its condition began
 pub loop_distance : (old a b c body start now : List ℕ) (test : List Instr) → start ≡ old → now ≡ c
-    → a ≡ old ++ code_bytes test → b ≡ a ++ code_bytes (Jal 0 (length body + 8) ∷ []) → c ≡ b ++ body → length now - length start ≡ 4 * length test + (4 + length body)
+    → a ≡ old ++ code_bytes test → b ≡ a ++ code_bytes (Jal 0 (length body + 8) ∷ []) → c ≡ b ++ body → length now - length start
+    ≡ 4 * length test + (4 + length body)
 loop_distance old a b c body start now test from to h1 h2 h3 =
     let jump = Jal 0 (length body + 8) in
     let l1 = ap length h1 ∙ length-append old (code_bytes test) in
@@ -62,7 +66,8 @@ loop_distance old a b c body start now test from to h1 h2 h3 =
 
 -- the four pieces of a loop
 pub loop_bytes : (old a b c d body start now : List ℕ) (test is : List Instr) → body ≡ code_bytes is → start ≡ old → now ≡ c
-    → a ≡ old ++ code_bytes test → b ≡ a ++ code_bytes (Jal 0 (length body + 8) ∷ []) → c ≡ b ++ body → d ≡ c ++ code_bytes (Jal 0 (2 ^ 21 - (length now - length start)) ∷ [])
+    → a ≡ old ++ code_bytes test → b ≡ a ++ code_bytes (Jal 0 (length body + 8) ∷ []) → c ≡ b ++ body
+    → d ≡ c ++ code_bytes (Jal 0 (2 ^ 21 - (length now - length start)) ∷ [])
     → d ≡ old ++ code_bytes (test ++ (ahead (length is + 2) ∷ (is ++ back (length is + suc (length test)) ∷ [])))
 loop_bytes old a b c d body start now test is f from to h1 h2 h3 h4 =
     let past = ahead (length is + 2) in
@@ -97,11 +102,14 @@ status_fits at status n h = expr_fits h.count status h.few h.plain
 -- ---- choices
 
 -- the tree of a choice
-pub choice_is : (s : RustStmt) (at : Place) (condition : RustCond) (a b : Vec RustStmt Global) (xs ys : List RustStmt) → s ≡ rust_stmt.If at condition a b → xs ≡ a.items → ys ≡ b.items → stmt_of s ≡ If at (cond_of condition) (stmts_of xs) (stmts_of ys)
-choice_is s at condition a b xs ys e f g = ap stmt_of e ∙ conditional at condition a b ∙ ap₂ (λ us vs. If at (cond_of condition) (stmts_of us) (stmts_of vs)) (sym f) (sym g)
+pub choice_is : (s : RustStmt) (at : Place) (condition : RustCond) (a b : Vec RustStmt Global) (xs ys : List RustStmt) → s ≡ rust_stmt.If at condition a b
+    → xs ≡ a.items → ys ≡ b.items → stmt_of s ≡ If at (cond_of condition) (stmts_of xs) (stmts_of ys)
+choice_is s at condition a b xs ys e f g = ap stmt_of e ∙ conditional at condition a b ∙ ap₂ (λ us vs. If at (cond_of condition) (stmts_of us) (stmts_of vs))
+    (sym f) (sym g)
 
 -- how many instructions it has
-choice_size : (at : Place) (condition : Cond) (first second : Stmts) (from : ℕ) → length (stmt_code (If at condition first second) from) ≡ length (cond_code condition) + (length (stmts_code first from) + length (stmts_code second (from + length (texts first))) + 2)
+choice_size : (at : Place) (condition : Cond) (first second : Stmts) (from : ℕ) → length (stmt_code (If at condition first second) from)
+    ≡ length (cond_code condition) + (length (stmts_code first from) + length (stmts_code second (from + length (texts first))) + 2)
 choice_size at condition first second from = choice_length condition (stmts_code first from) (stmts_code second (from + length (texts first))) _ _
 
 pub first_fits : (at : Place) (condition : Cond) (first second : Stmts) (n : ℕ) → CanEmitStmt (If at condition first second) n → CanEmitStmts first n
@@ -110,7 +118,8 @@ first_fits at condition first second n h =
     let t = length-append (texts first) (texts second) in
     record { count = h.count; few = h.few; plain = h.plain.1.0; code_fits = omega (arith, h.code_fits); data_fits = omega (arith, h.data_fits) }
 
-pub second_fits : (at : Place) (condition : Cond) (first second : Stmts) (n m : ℕ) → m ≡ n + length (texts first) → CanEmitStmt (If at condition first second) n → CanEmitStmts second m
+pub second_fits : (at : Place) (condition : Cond) (first second : Stmts) (n m : ℕ) → m ≡ n + length (texts first) → CanEmitStmt (If at condition first second) n
+    → CanEmitStmts second m
 second_fits at condition first second n m e h =
     let l = choice_size at condition first second (0x100000 + n) in
     let t = length-append (texts first) (texts second) in
@@ -121,11 +130,13 @@ second_fits at condition first second n m e h =
 -- ---- loops
 
 -- the tree of a loop
-pub loop_is : (s : RustStmt) (at : Place) (condition : RustCond) (a : Vec RustStmt Global) (xs : List RustStmt) → s ≡ rust_stmt.While at condition a → xs ≡ a.items → stmt_of s ≡ While at (cond_of condition) (stmts_of xs)
+pub loop_is : (s : RustStmt) (at : Place) (condition : RustCond) (a : Vec RustStmt Global) (xs : List RustStmt) → s ≡ rust_stmt.While at condition a
+    → xs ≡ a.items → stmt_of s ≡ While at (cond_of condition) (stmts_of xs)
 loop_is s at condition a xs e f = ap stmt_of e ∙ repeated at condition a ∙ ap (λ us. While at (cond_of condition) (stmts_of us)) (sym f)
 
 -- how many instructions it has
-loop_size : (at : Place) (condition : Cond) (body : Stmts) (from : ℕ) → length (stmt_code (While at condition body) from) ≡ length (cond_code condition) + (length (stmts_code body from) + 2)
+loop_size : (at : Place) (condition : Cond) (body : Stmts) (from : ℕ) → length (stmt_code (While at condition body) from)
+    ≡ length (cond_code condition) + (length (stmts_code body from) + 2)
 loop_size at condition body from = loop_length condition (stmts_code body from) _ _
 
 pub body_fits : (at : Place) (condition : Cond) (body : Stmts) (n : ℕ) → CanEmitStmt (While at condition body) n → CanEmitStmts body n
@@ -140,7 +151,9 @@ pub block_size : (bytes block : List ℕ) (is : List Instr) → bytes ≡ block 
 block_size bytes block is e f = ap length (e ∙ f) ∙ length-code is
 
 -- the sizes of the blocks of a choice
-pub choice_small : (at : Place) (condition : Cond) (first second : Stmts) (n m a b : ℕ) → m ≡ n + length (texts first) → a ≡ 4 * length (stmts_code first (0x100000 + n)) → b ≡ 4 * length (stmts_code second (0x100000 + m)) → CanEmitStmt (If at condition first second) n → a + b < 2 ^ 20
+pub choice_small : (at : Place) (condition : Cond) (first second : Stmts) (n m a b : ℕ) → m ≡ n + length (texts first)
+    → a ≡ 4 * length (stmts_code first (0x100000 + n)) → b ≡ 4 * length (stmts_code second (0x100000 + m)) → CanEmitStmt (If at condition first second) n
+    → a + b < 2 ^ 20
 choice_small at condition first second n m a b e f g h =
     let l = choice_size at condition first second (0x100000 + n) in
     let same : 0x100000 + m ≡ 0x100000 + n + length (texts first) = omega arith in
@@ -148,7 +161,8 @@ choice_small at condition first second n m a b e f g h =
     omega (arith, h.code_fits)
 
 -- the sizes of the parts of a loop
-pub loop_small : (at : Place) (condition : Cond) (body : Stmts) (n a : ℕ) → a ≡ 4 * length (stmts_code body (0x100000 + n)) → CanEmitStmt (While at condition body) n → 4 * length (cond_code condition) + a < 2 ^ 20
+pub loop_small : (at : Place) (condition : Cond) (body : Stmts) (n a : ℕ) → a ≡ 4 * length (stmts_code body (0x100000 + n))
+    → CanEmitStmt (While at condition body) n → 4 * length (cond_code condition) + a < 2 ^ 20
 loop_small at condition body n a f h =
     let l = loop_size at condition body (0x100000 + n) in
     omega (arith, h.code_fits)
@@ -158,7 +172,8 @@ loop_small at condition body n a f h =
 -- one more variable that is 0
 zeros_after : (from n : ℕ) → variable_words from n (λ _. pos 0) ++ word_bytes 0 ≡ variable_words from (suc n) (λ _. pos 0)
 zeros_after from zero = sym (append-nil (word_bytes 0))
-zeros_after from (suc n) = append_assoc (word_bytes 0) (variable_words (suc from) n (λ _. pos 0)) (word_bytes 0) ∙ ap (λ l. word_bytes 0 ++ l) (zeros_after (suc from) n)
+zeros_after from (suc n) = append_assoc (word_bytes 0) (variable_words (suc from) n (λ _. pos 0)) (word_bytes 0)
+    ∙ ap (λ l. word_bytes 0 ++ l) (zeros_after (suc from) n)
 
 pub more_zeros : (from n : ℕ) → variable_words from n (λ _. pos 0) ++ word_bytes 0 ≡ variable_words from (n + 1) (λ _. pos 0)
 more_zeros from n = rw add-one (zeros_after from n)

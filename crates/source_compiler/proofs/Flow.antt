@@ -20,11 +20,13 @@ use Rattle.rv32_isa.specs.Words.{little}
 use Rattle.rv32_isa.specs.Machine.{Run}
 use Rattle.rv32_logic.specs.Placed.{Stands}
 use Rattle.rv32_logic.proofs.ForCallers.{stands_front, stands_back, stands_within}
-use Rattle.source_compiler.specs.Code.{load_slot, ahead, back, exit_code, number_code, expr_code, cond_code, texts, stmt_texts, assign_code, stmt_code, stmts_code}
+use Rattle.source_compiler.specs.Code.{load_slot, ahead, back, exit_code, number_code, expr_code, cond_code, texts, stmt_texts, assign_code, stmt_code}
+use Rattle.source_compiler.specs.Code.{stmts_code}
 use Rattle.source_compiler.specs.Code.{most_slots, IsPlainExpr, IsPlainCond, IsPlainStmt, ArePlain}
 use Rattle.source_compiler.proofs.Ready.{Setting, stepping, Ready, TextStands, slot_of, SameBelow, Reaches}
 use Rattle.source_compiler.proofs.PieceRuns.{Settled, Poised, pace, same, operate_code, opposite_code, variable_code, compare_code, literal_runs, variable_runs}
-use Rattle.source_compiler.proofs.PieceRuns.{opposite_follows, operate_follows, assign_runs, compare_runs, ahead_runs, back_runs, number_runs, text_runs, quit_halts}
+use Rattle.source_compiler.proofs.PieceRuns.{opposite_follows, operate_follows, assign_runs, compare_runs, ahead_runs, back_runs, number_runs, text_runs}
+use Rattle.source_compiler.proofs.PieceRuns.{quit_halts}
 
 -- ---- slots
 

@@ -13,9 +13,12 @@ use Rattle.nim_tree.specs.Statements.{Definition, Statement, Statements, Branche
 use Rattle.nim_tree.specs.Weights as full
 use Rattle.nim_tree.specs.Weights.{weight_in, weight_of, weight_maybe, definition_weights, statement_weight, branch_weights}
 use Rattle.arc_base.specs.Refusal.{Refusal, and_then}
-use Rattle.source_compiler.specs.Lines.{Sum, opposite, operation, Test, Line, declare, assign, echo_int, quit, branch, loop, Lines, sum_weight, test_weight, weight, weights}
+use Rattle.source_compiler.specs.Lines.{Sum, opposite, operation, Test, Line, declare, assign, echo_int, quit, branch, loop, Lines, sum_weight, test_weight}
+use Rattle.source_compiler.specs.Lines.{weight, weights}
 use Rattle.source_compiler.specs.Lines as built
-use Rattle.source_compiler.specs.Form.{wanted, left_out, operator_of, comparison_of, as_sum, as_test, lone_name, as_definition, as_section, as_assignment, is_name, as_shown, as_echo, as_quit, as_call, as_tests, no_more, lone, as_evaluation, as_alternatives, no_further, as_repetition, as_line, as_choice, as_lines, form_of}
+use Rattle.source_compiler.specs.Form.{wanted, left_out, operator_of, comparison_of, as_sum, as_test, lone_name, as_definition, as_section, as_assignment}
+use Rattle.source_compiler.specs.Form.{is_name, as_shown, as_echo, as_quit, as_call, as_tests, no_more, lone, as_evaluation, as_alternatives, no_further}
+use Rattle.source_compiler.specs.Form.{as_repetition, as_line, as_choice, as_lines, form_of}
 use Rattle.source_compiler.proofs.Steps.{not_fine, and_then_ok, ok_same, wanted_ok}
 use Rattle.source_compiler.proofs.Depths.{sum_levels, test_levels, line_levels, lines_levels}
 
@@ -44,7 +47,8 @@ sum_fits (term.unary at unary_sign.Minus a) s h =
     let f = sum_fits a p.0 p.1 in
     (omega (arith, f.0, ap sum_weight e), omega (arith, f.1, ap sum_levels e))
 sum_fits (term.binary at op a b) s h =
-    let o = and_then_ok (wanted at (operator_of op)) (λ operator. and_then (as_sum a) (λ left. and_then (as_sum b) (λ right. Ok (operation at operator left right)))) s h in
+    let o = and_then_ok (wanted at (operator_of op))
+    (λ operator. and_then (as_sum a) (λ left. and_then (as_sum b) (λ right. Ok (operation at operator left right)))) s h in
     let p = and_then_ok (as_sum a) (λ left. and_then (as_sum b) (λ right. Ok (operation at o.0 left right))) s o.2 in
     let q = and_then_ok (as_sum b) (λ right. Ok (operation at o.0 p.0 right)) s p.2 in
     let e = ok_same _ _ q.2 in
@@ -55,7 +59,9 @@ sum_fits _ s h = absurd (not_fine _ s h)
 
 test_fits : (t : Term) (s : Test) → as_test t ≡ Ok s → TestFits s (full.weight t) (levels t)
 test_fits (term.binary at op a b) s h =
-    let o = and_then_ok (wanted at (comparison_of op)) (λ comparison. and_then (as_sum a) (λ left. and_then (as_sum b) (λ right. Ok (record { at = at; comparison = comparison; left = left; right = right })))) s h in
+    let o = and_then_ok (wanted at (comparison_of op))
+    (λ comparison. and_then (as_sum a)
+    (λ left. and_then (as_sum b) (λ right. Ok (record { at = at; comparison = comparison; left = left; right = right })))) s h in
     let p = and_then_ok (as_sum a) (λ left. and_then (as_sum b) (λ right. Ok (record { at = at; comparison = o.0; left = left; right = right }))) s o.2 in
     let q = and_then_ok (as_sum b) (λ right. Ok (record { at = at; comparison = o.0; left = p.0; right = right })) s p.2 in
     let e = ok_same _ _ q.2 in
@@ -69,7 +75,8 @@ test_fits _ s h = absurd (not_fine _ s h)
 definition_fits : (at : Place) (d : Definition) (s : Line) → as_definition at d ≡ Ok s → LineFits s (suc (weight_maybe d.value)) (definition_term_levels d)
 definition_fits at d s h =
     let lone = lone_name d.names d.pragmas d.annotation in
-    let o = and_then_ok (wanted at lone) (λ variable. and_then (wanted at d.value) (λ value. and_then (as_sum value) (λ sum. Ok (declare at variable sum)))) s h in
+    let o = and_then_ok (wanted at lone) (λ variable. and_then (wanted at d.value) (λ value. and_then (as_sum value) (λ sum. Ok (declare at variable sum)))) s
+    h in
     let p = and_then_ok (wanted at d.value) (λ value. and_then (as_sum value) (λ sum. Ok (declare at o.0 sum))) s o.2 in
     let q = and_then_ok (as_sum p.0) (λ sum. Ok (declare at o.0 sum)) s p.2 in
     let e = ok_same _ _ q.2 in
@@ -77,12 +84,14 @@ definition_fits at d s h =
     let f = sum_fits p.0 q.0 q.1 in
     (omega (arith, f.0, ap weight e, ap weight_maybe v), omega (arith, f.1, ap line_levels e, ap (if_there levels) v))
 
-section_fits : (at : Place) (ds : List Definition) (s : Line) → as_section at ds ≡ Ok s → LineFits s (suc (definition_weights ds)) (highest definition_term_levels ds)
+section_fits : (at : Place) (ds : List Definition) (s : Line) → as_section at ds ≡ Ok s → LineFits s (suc (definition_weights ds))
+    (highest definition_term_levels ds)
 section_fits at [] s h = absurd (not_fine _ s h)
 section_fits at (d ∷ []) s h = let f = definition_fits at d s h in (omega (arith, f.0), omega (arith, f.1))
 section_fits at (d ∷ (other ∷ ds)) s h = let p = and_then_ok (as_definition at d) _ s h in absurd (not_fine _ s p.2)
 
-assignment_fits : (at : Place) (target value : Term) (s : Line) → as_assignment at target value ≡ Ok s → LineFits s (suc (full.weight target + full.weight value)) (max (levels target) (levels value))
+assignment_fits : (at : Place) (target value : Term) (s : Line) → as_assignment at target value ≡ Ok s
+    → LineFits s (suc (full.weight target + full.weight value)) (max (levels target) (levels value))
 assignment_fits at (term.name p text) value s h =
     let q = and_then_ok (as_sum value) (λ sum. Ok (assign at (record { at = p; text = text }) sum)) s h in
     let e = ok_same _ _ q.2 in
@@ -90,7 +99,8 @@ assignment_fits at (term.name p text) value s h =
     (omega (arith, f.0, ap weight e), omega (arith, f.1, ap line_levels e))
 assignment_fits at _ value s h = absurd (not_fine _ s h)
 
-shown_sum : (at : Place) (value : Term) (s : Line) → and_then (as_sum value) (λ sum. Ok (echo_int at sum)) ≡ Ok s → LineFits s (suc (full.weight value)) (levels value)
+shown_sum : (at : Place) (value : Term) (s : Line) → and_then (as_sum value) (λ sum. Ok (echo_int at sum)) ≡ Ok s
+    → LineFits s (suc (full.weight value)) (levels value)
 shown_sum at value s h =
     let q = and_then_ok (as_sum value) (λ sum. Ok (echo_int at sum)) s h in
     let e = ok_same _ _ q.2 in
@@ -124,7 +134,8 @@ either : {P : Type 0} (b : Bool) (r q : Result Line Refusal) (s : Line) → (if 
 either true r q s h f g = f refl h
 either false r q s h f g = g h
 
-call_fits : (at : Place) (callee : Term) (parts : Parts) (s : Line) → as_call at callee parts ≡ Ok s → LineFits s (full.weight callee + weight_in parts) (max (levels callee) (most_levels parts))
+call_fits : (at : Place) (callee : Term) (parts : Parts) (s : Line) → as_call at callee parts ≡ Ok s → LineFits s (full.weight callee + weight_in parts)
+    (max (levels callee) (most_levels parts))
 call_fits at callee parts s h =
     let other = if is_name (codes "quit") callee then as_quit at parts else left_out at in
     either (is_name (codes "echo") callee) (as_echo at parts) other s h
@@ -152,8 +163,11 @@ mutual
       → ((one : Line) → otherwise ≡ Ok one → LineFits one w l) → LineFits s (suc (weight_of all + w)) (max (levels_in all) l)
   alternatives_fit at no_choices otherwise s w l h fits = absurd (not_fine _ s h)
   alternatives_fit at (choice p tests value further) otherwise s w l h fits =
-      let o = and_then_ok (as_tests at tests) (λ test. and_then (as_evaluation (place_of value) value) (λ first. and_then (no_more further) (λ none. and_then otherwise (λ second. Ok (branch at test (lone first) (lone second)))))) s h in
-      let b = and_then_ok (as_evaluation (place_of value) value) (λ first. and_then (no_more further) (λ none. and_then otherwise (λ second. Ok (branch at o.0 (lone first) (lone second))))) s o.2 in
+      let o = and_then_ok (as_tests at tests)
+      (λ test. and_then (as_evaluation (place_of value) value)
+      (λ first. and_then (no_more further) (λ none. and_then otherwise (λ second. Ok (branch at test (lone first) (lone second)))))) s h in
+      let b = and_then_ok (as_evaluation (place_of value) value)
+      (λ first. and_then (no_more further) (λ none. and_then otherwise (λ second. Ok (branch at o.0 (lone first) (lone second))))) s o.2 in
       let n = and_then_ok (no_more further) (λ none. and_then otherwise (λ second. Ok (branch at o.0 (lone b.0) (lone second)))) s b.2 in
       let q = and_then_ok otherwise (λ second. Ok (branch at o.0 (lone b.0) (lone second))) s n.2 in
       let e = ok_same _ _ q.2 in
@@ -188,8 +202,11 @@ mutual
       → ((ss : Lines) → otherwise ≡ Ok ss → LinesFit ss w l) → LineFits s (suc (branch_weights all + w)) (max (branch_term_levels all) l)
   choice_fits at tree.no_branches otherwise s w l h fits = absurd (not_fine _ s h)
   choice_fits at (tree.branch p tests body further) otherwise s w l h fits =
-      let o = and_then_ok (as_tests at tests) (λ test. and_then (as_lines false body) (λ first. and_then (no_further further) (λ none. and_then otherwise (λ second. Ok (branch at test first second))))) s h in
-      let b = and_then_ok (as_lines false body) (λ first. and_then (no_further further) (λ none. and_then otherwise (λ second. Ok (branch at o.0 first second)))) s o.2 in
+      let o = and_then_ok (as_tests at tests)
+      (λ test. and_then (as_lines false body)
+      (λ first. and_then (no_further further) (λ none. and_then otherwise (λ second. Ok (branch at test first second))))) s h in
+      let b = and_then_ok (as_lines false body)
+      (λ first. and_then (no_further further) (λ none. and_then otherwise (λ second. Ok (branch at o.0 first second)))) s o.2 in
       let n = and_then_ok (no_further further) (λ none. and_then otherwise (λ second. Ok (branch at o.0 b.0 second))) s b.2 in
       let q = and_then_ok otherwise (λ second. Ok (branch at o.0 b.0 second)) s n.2 in
       let e = ok_same _ _ q.2 in

@@ -52,7 +52,8 @@ one_more in_module done first rest line h =
 
 -- ---- more than one part
 
-pub left_answers : {A T : Type 0} (of : T → A) (stop : Stop) (at : Place) (said : Result A Refusal) → stop ≡ Refused LeftOut at → said ≡ left_out at → Answers of said (Err stop)
+pub left_answers : {A T : Type 0} (of : T → A) (stop : Stop) (at : Place) (said : Result A Refusal) → stop ≡ Refused LeftOut at → said ≡ left_out at
+    → Answers of said (Err stop)
 left_answers of stop at said e f = subst (λ s. Answers of said (Err s)) (sym e) f
 
 pub no_echo : (at : Place) (parts : List Expr) → 2 ≤ length parts → as_echo at (parts_of parts) ≡ left_out at

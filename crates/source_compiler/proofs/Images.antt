@@ -20,10 +20,12 @@ front_size count old front e f =
     omega (arith, length-append old (data_of count [] (λ _. pos 0)), length-data_of count [] (λ _. pos 0))
 
 -- the size of the data with the texts and up to three bytes more
-pub few_bytes : (count : ℕ) (stmts : Stmts) (front bytes all : List ℕ) → length front ≡ 40 + 4 * count → bytes ≡ front ++ texts stmts → length all ≤ length bytes + 3 → length all ≤ 40 + 4 * count + length (texts stmts) + 3
+pub few_bytes : (count : ℕ) (stmts : Stmts) (front bytes all : List ℕ) → length front ≡ 40 + 4 * count → bytes ≡ front ++ texts stmts
+    → length all ≤ length bytes + 3 → length all ≤ 40 + 4 * count + length (texts stmts) + 3
 few_bytes count stmts front bytes all e f h = omega (arith, ap length f, length-append front (texts stmts))
 
-pub all_fit : (count size : ℕ) (stmts : Stmts) → size ≡ 40 + 4 * count → count ≤ 4096 → stmts_weight stmts ≤ 4096 → ArePlain count stmts → CanEmitStmts stmts size
+pub all_fit : (count size : ℕ) (stmts : Stmts) → size ≡ 40 + 4 * count → count ≤ 4096 → stmts_weight stmts ≤ 4096 → ArePlain count stmts
+    → CanEmitStmts stmts size
 all_fit count size stmts e few small plain = record {
   count = count;
   few = few;
@@ -54,7 +56,8 @@ code_made count size stmts a b c d block e f h1 h2 h3 h4 =
     all ∙ ap (λ l. l ++ code_bytes ((start_code ++ middle) ++ end_code)) h1 ∙ ap code_bytes (append_assoc start_code middle end_code)
 
 -- the data from its three parts
-pub data_made : (count : ℕ) (stmts : Stmts) (a b c d zeros : List ℕ) → a ≡ [] → b ≡ a ++ data_of count [] (λ _. pos 0) → c ≡ b ++ texts stmts → d ≡ c ++ zeros → d ≡ data_of count (texts stmts ++ zeros) (λ _. pos 0)
+pub data_made : (count : ℕ) (stmts : Stmts) (a b c d zeros : List ℕ) → a ≡ [] → b ≡ a ++ data_of count [] (λ _. pos 0) → c ≡ b ++ texts stmts → d ≡ c ++ zeros
+    → d ≡ data_of count (texts stmts ++ zeros) (λ _. pos 0)
 data_made count stmts a b c d zeros h1 h2 h3 h4 =
     let front = data_of count [] (λ _. pos 0) in
     h4
@@ -69,7 +72,8 @@ pub record HasSizes (code statics : List ℕ) : Type 0 where
   pub statics_whole : length statics % 4 ≡ 0
   pub statics_most : length statics ≤ 1048576
 
-pub made_sizes : (count : ℕ) (stmts : Stmts) (code statics : List ℕ) → count ≤ 4096 → stmts_weight stmts ≤ 4096 → IsMade count stmts code statics → HasSizes code statics
+pub made_sizes : (count : ℕ) (stmts : Stmts) (code statics : List ℕ) → count ≤ 4096 → stmts_weight stmts ≤ 4096 → IsMade count stmts code statics
+    → HasSizes code statics
 made_sizes count stmts code statics few small made =
     let four : length code ≡ 4 * length (program_code count stmts) = ap length made.code_is ∙ length-code (program_code count stmts) in
     let all = program_length count stmts in
@@ -82,8 +86,10 @@ made_sizes count stmts code statics few small made =
       statics_most = omega (arith, made.few, texts_length stmts);
     }
 
-pub made_image : (program : Program) (image : Image) → length program.globals ≤ 4096 → stmts_weight program.start ≤ 4096 → ArePlain (length program.globals) program.start
-    → IsMade (length program.globals) program.start image.code image.statics → image.hooks ≡ [] → image.heap ≤ 16777216 → image.stack ≡ 65536 → IsImageOf program image
+pub made_image : (program : Program) (image : Image) → length program.globals ≤ 4096 → stmts_weight program.start ≤ 4096
+    → ArePlain (length program.globals) program.start
+    → IsMade (length program.globals) program.start image.code image.statics → image.hooks ≡ [] → image.heap ≤ 16777216 → image.stack ≡ 65536
+    → IsImageOf program image
 made_image program image few small plain made hooks heap stack =
     let sizes = made_sizes (length program.globals) program.start image.code image.statics few small made in
     record {

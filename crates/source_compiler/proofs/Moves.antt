@@ -36,7 +36,8 @@ use Rattle.rv32_logic.specs.Straight.{AllPlain, regs_after, moved, onto, file_af
 use Rattle.rv32_logic.specs.Data.{Holds}
 use Rattle.rv32_logic.specs.Calls.{AsksWrite}
 use Rattle.rv32_logic.specs.Jumps.{placed, branches_to}
-use Rattle.source_compiler.specs.Code.{word, trap_line, variable_at, data_of, load_code, load_slot, save_slot, write_code, exit_code, trap_at, line_at, to_trap, ahead}
+use Rattle.source_compiler.specs.Code.{word, trap_line, variable_at, data_of, load_code, load_slot, save_slot, write_code, exit_code, trap_at, line_at, to_trap}
+use Rattle.source_compiler.specs.Code.{ahead}
 use Rattle.source_compiler.specs.Code.{back}
 use Rattle.source_compiler.proofs.Ready.{Setting, stepping, Ready, slot_of, Moved, Saved, Stored, TextStands, Reaches, Tells, Writes}
 use Rattle.source_compiler.proofs.Contents.{word_fits, length-data_of, among_data, holds_variable, holds_text, holds_trap}

@@ -25,7 +25,8 @@ use Rattle.rv32_logic.specs.Straight.{file_after}
 use Rattle.source_compiler.specs.Code.{word, line_end, number_front, number_digits, number_sign, number_write, number_code}
 use Rattle.source_compiler.proofs.Ready.{Setting, stepping, Ready, Moved, Reaches, Writes}
 use Rattle.source_compiler.proofs.Moves.{plain_moves, bge_moves, bne_back_moves, store_byte_moves, write_stack_moves}
-use Rattle.source_compiler.proofs.Digits.{put_in_front, fits_pos, fits_negsuc, word_small, magnitude_small, word_pos, word_negsuc, pos_word, negsuc_word, opposite_word}
+use Rattle.source_compiler.proofs.Digits.{put_in_front, fits_pos, fits_negsuc, word_small, magnitude_small, word_pos, word_negsuc, pos_word, negsuc_word}
+use Rattle.source_compiler.proofs.Digits.{opposite_word}
 
 -- ---- the parts of the code
 

@@ -22,7 +22,8 @@ use Rattle.rv32_logic.proofs.ForCallers.{stands_back}
 use Rattle.rv32_logic.specs.Straight.{AllPlain, file_after}
 use Rattle.rv32_logic.specs.Registers.{File, reg_of, file_of_run}
 use Rattle.arc_base.proofs.ForCallers.{reaches_map, reaches_paid, reaches_follows}
-use Rattle.source_compiler.specs.Code.{word, to_trap, add_code, subtract_code, multiply_code, divisor_code, divide_code, modulo_code, operator_code, negate_code}
+use Rattle.source_compiler.specs.Code.{word, to_trap, add_code, subtract_code, multiply_code, divisor_code, divide_code, modulo_code, operator_code}
+use Rattle.source_compiler.specs.Code.{negate_code}
 use Rattle.source_compiler.specs.Code.{skip_where}
 use Rattle.source_compiler.proofs.Ready.{Setting, stepping, Ready, Moved, Reaches}
 use Rattle.source_compiler.proofs.Moves.{plain_moves, beq_moves, bne_moves, blt_moves, bge_moves, trap_halts}

@@ -29,11 +29,13 @@ use Rattle.rv32_logic.proofs.ForCallers.{stands_back, obeyed, branch_goes}
 use Rattle.rv32_logic.specs.Straight.{moved, onto}
 use Rattle.rv32_logic.specs.Jumps.{branches_to}
 use Rattle.rv32_logic.specs.Registers.{reg_of}
-use Rattle.source_compiler.specs.Code.{word, variable_at, load_code, load_slot, save_slot, write_code, exit_code, operator_code, negate_code, skip_where, ahead, back}
+use Rattle.source_compiler.specs.Code.{word, variable_at, load_code, load_slot, save_slot, write_code, exit_code, operator_code, negate_code, skip_where, ahead}
+use Rattle.source_compiler.specs.Code.{back}
 use Rattle.source_compiler.specs.Code.{number_code, end_code}
 use Rattle.source_compiler.proofs.Ready.{Setting, stepping, Ready, Saved, TextStands, Reaches, Writes, slot_of, HasSlot}
 use Rattle.source_compiler.proofs.Arithmetic.{word_small, equal_is, less_is, at_most_is, exit_status}
-use Rattle.source_compiler.proofs.Moves.{plain_moves, load_moves, save_moves, load_code_moves, load_variable_moves, save_variable_moves, variable_at_fits, ahead_moves}
+use Rattle.source_compiler.proofs.Moves.{plain_moves, load_moves, save_moves, load_code_moves, load_variable_moves, save_variable_moves, variable_at_fits}
+use Rattle.source_compiler.proofs.Moves.{ahead_moves}
 use Rattle.source_compiler.proofs.Moves.{back_moves, write_text_moves, exit_halts as exits, slots_kept}
 use Rattle.source_compiler.proofs.Operations.{Computed, operator_runs, negate_runs}
 use Rattle.source_compiler.proofs.Numbers.{number_runs as writes_number}

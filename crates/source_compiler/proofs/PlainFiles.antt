@@ -40,14 +40,17 @@ plain_file file is = record {
   sites = subst (λ (plan : Plan). Ordered (λ a b. a.site < b.site) plan.sites) (sym is.plan) tt;
   sinks = subst (λ (plan : Plan). Ordered (λ a b. a < b) plan.sinks) (sym is.plan) tt;
   skips = subst (λ (plan : Plan). Ordered (λ a b. (a.place < b.place) ⊎ ((a.place ≡ b.place) × (a.exit < b.exit))) plan.skips) (sym is.plan) tt;
-  words = subst (AllByRecursion (λ n. n < 2 ^ 32)) (sym (plain_description file is)) (omega arith, (omega arith, (omega arith, (omega arith, (omega arith, tt)))));
+  words = subst (AllByRecursion (λ n. n < 2 ^ 32)) (sym (plain_description file is))
+      (omega arith, (omega arith, (omega arith, (omega arith, (omega arith, tt)))));
   note_most = let e = ap (λ ns. length (note_of ns)) (plain_description file is) in omega (arith, e, plain_note);
 }
 
 pub plan_is : (plan : Plan) → plan.sites ≡ [] → plan.sinks ≡ [] → plan.skips ≡ [] → plan ≡ empty_plan
 plan_is plan sites sinks skips =
-    let one : plan ≡ record { sites = []; sinks = plan.sinks; skips = plan.skips } = ap (λ l. record { sites = l; sinks = plan.sinks; skips = plan.skips }) sites in
-    let two : record { sites = []; sinks = plan.sinks; skips = plan.skips } ≡ record { sites = []; sinks = []; skips = plan.skips } = ap (λ l. record { sites = []; sinks = l; skips = plan.skips }) sinks in
+    let one : plan ≡ record { sites = []; sinks = plan.sinks; skips = plan.skips } =
+    ap (λ l. record { sites = l; sinks = plan.sinks; skips = plan.skips }) sites in
+    let two : record { sites = []; sinks = plan.sinks; skips = plan.skips } ≡ record { sites = []; sinks = []; skips = plan.skips } =
+    ap (λ l. record { sites = []; sinks = l; skips = plan.skips }) sinks in
     one ∙ two ∙ ap (λ l. record { sites = []; sinks = []; skips = l }) skips
 
 -- what the type of an image keeps

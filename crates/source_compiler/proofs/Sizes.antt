@@ -7,7 +7,9 @@ use Rattle.nim_core.specs.Traps.{Overflow, DivisionByZero}
 use Rattle.nim_core.specs.Meaning.{Values}
 use Rattle.rv32_isa.specs.declared.instr.Instr.{Instr}
 use Rattle.rv32_isa.specs.declared.instr.Instr.TheVariants.{Sw}
-use Rattle.source_compiler.specs.Code.{variable_at, trap_line, variable_words, data_of, load_code, load_slot, save_slot, exit_code, operator_code, negate_code, number_code, expr_code, skip_where, cond_code, ahead, back, stmt_texts, texts, assign_code, stmt_code, stmts_code, start_code, end_code, program_code, expr_weight, cond_weight, stmt_weight, stmts_weight}
+use Rattle.source_compiler.specs.Code.{variable_at, trap_line, variable_words, data_of, load_code, load_slot, save_slot, exit_code, operator_code, negate_code}
+use Rattle.source_compiler.specs.Code.{number_code, expr_code, skip_where, cond_code, ahead, back, stmt_texts, texts, assign_code, stmt_code, stmts_code}
+use Rattle.source_compiler.specs.Code.{start_code, end_code, program_code, expr_weight, cond_weight, stmt_weight, stmts_weight}
 
 -- ---- expressions and conditions
 
@@ -30,7 +32,12 @@ expr_length (Binary at operator left right) slot =
     let g = expr_length right (suc slot) in
     let few = operator_length operator in
     let tail = load_slot 5 slot ∷ load_slot 6 (suc slot) ∷ (operator_code operator ++ save_slot slot 7 ∷ []) in
-    omega (arith, length-append (expr_code left slot) (expr_code right (suc slot) ++ tail), length-append (expr_code right (suc slot)) tail, length-append (operator_code operator) (save_slot slot 7 ∷ []))
+    omega (
+      arith,
+      length-append (expr_code left slot) (expr_code right (suc slot) ++ tail),
+      length-append (expr_code right (suc slot)) tail,
+      length-append (operator_code operator) (save_slot slot 7 ∷ []),
+    )
 
 pub cond_length : (condition : Cond) → length (cond_code condition) ≤ 13 * cond_weight condition
 cond_length condition =
@@ -47,10 +54,12 @@ assign_length value variable =
     let tail = load_slot 5 0 ∷ (load_code 6 (variable_at variable) ++ Sw 6 5 0 ∷ []) in
     omega (arith, length-append (expr_code value 0) tail)
 
-pub choice_length : (condition : Cond) (first second : List Instr) (a b : Instr) → length (cond_code condition ++ (a ∷ (first ++ (b ∷ second)))) ≡ length (cond_code condition) + (length first + length second + 2)
+pub choice_length : (condition : Cond) (first second : List Instr) (a b : Instr) → length (cond_code condition ++ (a ∷ (first ++ (b ∷ second))))
+    ≡ length (cond_code condition) + (length first + length second + 2)
 choice_length condition first second a b = omega (arith, length-append (cond_code condition) (a ∷ (first ++ (b ∷ second))), length-append first (b ∷ second))
 
-pub loop_length : (condition : Cond) (body : List Instr) (a b : Instr) → length (cond_code condition ++ (a ∷ (body ++ b ∷ []))) ≡ length (cond_code condition) + (length body + 2)
+pub loop_length : (condition : Cond) (body : List Instr) (a b : Instr) → length (cond_code condition ++ (a ∷ (body ++ b ∷ [])))
+    ≡ length (cond_code condition) + (length body + 2)
 loop_length condition body a b = omega (arith, length-append (cond_code condition) (a ∷ (body ++ b ∷ [])), length-append body (b ∷ []))
 
 mutual

@@ -14,7 +14,8 @@ use Rattle.nim_core.specs.Traps.{Trap, Overflow, DivisionByZero, trap_text}
 use Rattle.nim_core.specs.Ints.{fits}
 use Rattle.nim_core.specs.Meaning.{Values, line_of}
 use Rattle.rv32_isa.specs.declared.instr.Instr.{Instr}
-use Rattle.rv32_isa.specs.declared.instr.Instr.TheVariants.{Lui, Jal, Jalr, Beq, Bne, Blt, Bge, Lw, Sb, Sw, Addi, Slti, Srai, Add, Sub, Slt, Mul, Mulh, Div, Divu, Rem, Remu, Ecall}
+use Rattle.rv32_isa.specs.declared.instr.Instr.TheVariants.{Lui, Jal, Jalr, Beq, Bne, Blt, Bge, Lw, Sb, Sw, Addi, Slti, Srai, Add, Sub, Slt, Mul, Mulh, Div}
+use Rattle.rv32_isa.specs.declared.instr.Instr.TheVariants.{Divu, Rem, Remu, Ecall}
 use Rattle.rv32_isa.specs.Words.{word_bytes}
 use Rattle.rv32_isa.specs.Row.{word_of}
 use Rattle.rv32_isa.specs.Image.{statics_at}

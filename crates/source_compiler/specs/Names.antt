@@ -7,9 +7,11 @@ use Rattle.indent_scanner.specs.ByForm.{characters}
 use Rattle.nim_tree.specs.declared.name.Name.{Name}
 use Rattle.nim_core.specs.declared.program.PlaceDecl.{PlaceDecl}
 use Rattle.nim_core.specs.Ints.{fits}
-use Rattle.nim_core.specs.Program.{Expr, Number, Variable, Negate, Binary, Cond, Stmt, Declare, Assign, EchoInt, EchoText, Quit, If, While, Stmts, Empty, Then, Program}
+use Rattle.nim_core.specs.Program.{Expr, Number, Variable, Negate, Binary, Cond, Stmt, Declare, Assign, EchoInt, EchoText, Quit, If, While, Stmts, Empty, Then}
+use Rattle.nim_core.specs.Program.{Program}
 use Rattle.arc_base.specs.Refusal.{Refusal, and_then, refused}
-use Rattle.source_compiler.specs.Lines.{Sum, int, name, opposite, operation, Test, Line, declare, assign, echo_int, echo_text, quit, branch, loop, Lines, empty, then}
+use Rattle.source_compiler.specs.Lines.{Sum, int, name, opposite, operation, Test, Line, declare, assign, echo_int, echo_text, quit, branch, loop, Lines, empty}
+use Rattle.source_compiler.specs.Lines.{then}
 
 -- ---- names
 
@@ -57,8 +59,11 @@ pub record Given (A : Type 0) : Type 0 where
   pub scope : Scope
   pub tree : A
 
+abbrev pub given : {A : Type 0} → Scope → A → Given A
+given scope tree = record { scope = scope; tree = tree }
+
 abbrev pub gives : {A : Type 0} → Scope → A → Result (Given A) Refusal
-gives scope tree = Ok (record { scope = scope; tree = tree })
+gives scope tree = Ok (given scope tree)
 
 abbrev mutual
   -- the name of a declaration comes before its value, in which it is not visible yet

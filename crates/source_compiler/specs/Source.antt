@@ -42,9 +42,12 @@ pub record ReadsAlone (source : List ℕ) (program : Program) : Type 0 where
 -- (E23), else by its names (E6, E7).
 pub data RefusesAlone (source : List ℕ) : Code → Place → Type 0 where
   by_bytes : {code : Code} {at : Place} → IsRefusedByBytes source 0 code at → RefusesAlone source code at
-  by_tokens : {code : Code} {at : Place} (tokens : List Token) → Tokens source tokens → IsRefusedByTokens (main_module source) tokens code at → RefusesAlone source code at
-  by_form : {code : Code} {at : Place} (tokens : List Token) (tree : Statements) → IsTree source tokens tree → IsRefusal (form_of tree) code at → RefusesAlone source code at
-  by_names : {code : Code} {at : Place} (tokens : List Token) (tree : Statements) (lines : Lines) → IsTree source tokens tree → form_of tree ≡ Ok lines → IsRefusal (check lines) code at → RefusesAlone source code at
+  by_tokens : {code : Code} {at : Place} (tokens : List Token) → Tokens source tokens → IsRefusedByTokens (main_module source) tokens code at
+      → RefusesAlone source code at
+  by_form : {code : Code} {at : Place} (tokens : List Token) (tree : Statements) → IsTree source tokens tree → IsRefusal (form_of tree) code at
+      → RefusesAlone source code at
+  by_names : {code : Code} {at : Place} (tokens : List Token) (tree : Statements) (lines : Lines) → IsTree source tokens tree → form_of tree ≡ Ok lines
+      → IsRefusal (check lines) code at → RefusesAlone source code at
 
 -- ---- modules
 

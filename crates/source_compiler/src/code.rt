@@ -12,7 +12,10 @@ ghost use Rattle.rv32_isa.specs.declared.instr.Instr.TheVariants.{Ecall, Addi};
 ghost use Rattle.rv32_isa.specs.Image.{image_of};
 ghost use Rattle.rv32_isa.specs.Machine.{machine};
 ghost use Rattle.source_compiler.specs.Objects.{live_objects};
-ghost use Rattle.source_compiler.specs.Code.{code_bytes, variable_words, data_of, load_slot, write_code, exit_code, expr_code, cond_code, ahead, back, number_code, stmt_texts, texts, assign_code, stmt_code, stmts_code, start_code, end_code, ArePlain, stmts_weight};
+ghost use Rattle.source_compiler.specs.Code.{code_bytes, variable_words, data_of, load_slot, write_code, exit_code};
+ghost use Rattle.source_compiler.specs.Code.{expr_code, cond_code, ahead, back, number_code, stmt_texts, texts};
+ghost use Rattle.source_compiler.specs.Code.{assign_code, stmt_code, stmts_code, start_code, end_code, ArePlain};
+ghost use Rattle.source_compiler.specs.Code.{stmts_weight};
 ghost use Rattle.source_compiler.specs.Emission.{CanEmitExpr, CanEmitCond, CanEmitStmt, CanEmitStmts};
 
 mod exprs;
@@ -111,7 +114,10 @@ fn emit_choice(
     requires small { length first.now + length second.now < 2 ^ 20 }
     requires first { length first.now % 4 ≡ 0 }
     requires second { length second.now % 4 ≡ 0 }
-    ensures { OnOk result ((is js : List Instr) → first.now ≡ code_bytes is → second.now ≡ code_bytes js → code.new ≡ code.old ++ code_bytes (cond_code (cond_of condition.now) ++ (ahead (length is + 2) ∷ (is ++ (ahead (length js + 1) ∷ js))))) }
+    ensures { OnOk result ((is js : List Instr) → first.now ≡ code_bytes is → second.now ≡ code_bytes js
+        → code.new ≡ code.old ++ code_bytes
+        (cond_code (cond_of condition.now)
+        ++ (ahead (length is + 2) ∷ (is ++ (ahead (length js + 1) ∷ js))))) }
 {
     emit_cond(code, condition)?;
     emit_jump(code, first.len() as u32 + 8)?;
@@ -125,7 +131,11 @@ fn emit_loop(code: &mut Bytes, condition: &Cond, body: &[u8]) -> Result<(), Memo
     requires condition { CanEmitCond (cond_of condition.now) }
     requires small { 4 * length (cond_code (cond_of condition.now)) + length body.now < 2 ^ 20 }
     requires body { length body.now % 4 ≡ 0 }
-    ensures { OnOk result ((is : List Instr) → body.now ≡ code_bytes is → code.new ≡ code.old ++ code_bytes (cond_code (cond_of condition.now) ++ (ahead (length is + 2) ∷ (is ++ back (length is + suc (length (cond_code (cond_of condition.now)))) ∷ [])))) }
+    ensures { OnOk result ((is : List Instr) → body.now ≡ code_bytes is
+        → code.new ≡ code.old ++ code_bytes
+        (cond_code (cond_of condition.now)
+        ++ (ahead (length is + 2)
+        ∷ (is ++ back (length is + suc (length (cond_code (cond_of condition.now)))) ∷ [])))) }
 {
     let start = code.as_slice().len();
     emit_cond(code, condition)?;
@@ -262,7 +272,9 @@ pub fn lower(alloc: Global, program: &Program, heap: u32, stack: u32) -> Result<
     requires globals { length program.now.globals ≤ 4096 }
     requires heap { heap ≤ 16777216 }
     requires stack { stack ≡ 65536 }
-    ensures agrees { IfOk result (λ image. (plan : Plan) (input : List ℕ) → Agrees (machine live_objects (image_of image) input) (meaning (program_of program.now) plan heap input)) }
+    ensures agrees { IfOk result
+        (λ image. (plan : Plan) (input : List ℕ) → Agrees (machine live_objects (image_of image) input)
+        (meaning (program_of program.now) plan heap input)) }
     ensures sizes { IfOk result (λ image. (image.heap ≡ heap) × (image.stack ≡ stack)) }
     ensures hooks { IfOk result (λ image. image.hooks ≡ []) }
 {

@@ -1,15 +1,16 @@
 // From statements to their program: names become the numbers of variables.
 ghost use Rattle.std.specs.Prelude.{◌≡◌, ◌≤◌, ◌<◌, ◌+◌, ◌^◌, ◌++◌, ◌⊎◌, [], ◌∷◌, ℕ, List, Result, Ok, Err, Option, None, IfOk, IfErr, OnOk, length};
-ghost use Rattle.arc_base.specs.Stops.{OnRefusal};
 ghost use Rattle.arc_base.specs.declared.place.Place.{Place as At};
 ghost use Rattle.arc_base.specs.declared.place.Code.{Code as Kind};
 ghost use Rattle.arc_base.specs.declared.place.Code.TheVariants.{UnknownName, Redefined};
 ghost use Rattle.arc_base.specs.declared.place.Stop.TheVariants as Stop;
 ghost use Rattle.nim_core.specs.Program as Node;
 ghost use Rattle.nim_core.specs.Program.{expr_of, cond_of, stmt_of, stmts_of, program_of};
-ghost use Rattle.arc_base.specs.Refusal.{IsRefusal};
+ghost use Rattle.arc_base.specs.Refusal.{Answers, IsRefusal};
 ghost use Rattle.source_compiler.specs.Lines.{Lines, name, declare, assign, sum_of, test_of, line_of, lines_of, weight, weights};
-ghost use Rattle.source_compiler.specs.Names.{names_of, find, found, unless_found, declared, check_sum, check_test, check_line, check_lines, check, gives, FitsExpr, FitsCond, FitsStmt, FitsStmts};
+ghost use Rattle.source_compiler.specs.Names.{names_of, find, found, unless_found, declared, check_sum, check_test};
+ghost use Rattle.source_compiler.specs.Names.{check_line, check_lines, check, given, FitsExpr, FitsCond, FitsStmt};
+ghost use Rattle.source_compiler.specs.Names.{FitsStmts};
 
 use crate::form::{Line, Sum, Test};
 use arc_base::{Bytes, Code, Items, Memory, Place, Stop};
@@ -49,9 +50,8 @@ fn refusal(code: Code, at: Place) -> Stop
 fn check_name(alloc: Global, scope: &Scope, at: Place, text: &[u8]) -> Result<Expr, Stop>
     requires known { scope.now.names ≡ names_of scope.now.globals }
     requires few { length scope.now.globals < 2 ^ 32 }
-    ensures gives { IfOk result (λ e. check_sum scope.now.globals (name at text.now) ≡ Ok (expr_of e)) }
+    ensures answers { Answers expr_of (check_sum scope.now.globals (name at text.now)) result }
     ensures ints { IfOk result (λ e. FitsExpr (expr_of e)) }
-    ensures refused { IfErr result (λ stop. OnRefusal stop (IsRefusal (check_sum scope.now.globals (name at text.now)))) }
 {
     match find(alloc, scope, text)? {
         Some(number) => Ok(Expr::Variable {
@@ -66,9 +66,8 @@ fn check_name(alloc: Global, scope: &Scope, at: Place, text: &[u8]) -> Result<Ex
 fn check_sum(alloc: Global, scope: &Scope, sum: &Sum) -> Result<Expr, Stop>
     requires known { scope.now.names ≡ names_of scope.now.globals }
     requires few { length scope.now.globals < 2 ^ 32 }
-    ensures gives { IfOk result (λ e. check_sum scope.now.globals (sum_of sum.now) ≡ Ok (expr_of e)) }
+    ensures answers { Answers expr_of (check_sum scope.now.globals (sum_of sum.now)) result }
     ensures ints { IfOk result (λ e. FitsExpr (expr_of e)) }
-    ensures refused { IfErr result (λ stop. OnRefusal stop (IsRefusal (check_sum scope.now.globals (sum_of sum.now)))) }
 {
     match sum {
         Sum::Int { at, value } => Ok(Expr::Number {
@@ -125,9 +124,8 @@ fn binary(
 fn check_test(alloc: Global, scope: &Scope, test: &Test) -> Result<Cond, Stop>
     requires known { scope.now.names ≡ names_of scope.now.globals }
     requires few { length scope.now.globals < 2 ^ 32 }
-    ensures gives { IfOk result (λ c. check_test scope.now.globals (test_of test.now) ≡ Ok (cond_of c)) }
+    ensures answers { Answers cond_of (check_test scope.now.globals (test_of test.now)) result }
     ensures ints { IfOk result (λ c. FitsCond (cond_of c)) }
-    ensures refused { IfErr result (λ stop. OnRefusal stop (IsRefusal (check_test scope.now.globals (test_of test.now)))) }
 {
     let left = check_sum(alloc, scope, &test.left)?;
     let right = check_sum(alloc, scope, &test.right)?;
@@ -142,8 +140,7 @@ fn check_test(alloc: Global, scope: &Scope, test: &Test) -> Result<Cond, Stop>
 // Refuses a name that is declared already.
 fn check_new(alloc: Global, scope: &Scope, name: &Name) -> Result<(), Stop>
     requires known { scope.now.names ≡ names_of scope.now.globals }
-    ensures gives { OnOk result (unless_found (find scope.now.globals name.now.text) name.now.at ≡ Ok tt) }
-    ensures refused { IfErr result (λ stop. OnRefusal stop (IsRefusal (unless_found (find scope.now.globals name.now.text) name.now.at))) }
+    ensures { Answers (λ _. tt) (unless_found (find scope.now.globals name.now.text) name.now.at) result }
 {
     match find(alloc, scope, name.text.as_slice())? {
         Some(_) => Err(refusal(Code::Redefined, name.at)),
@@ -181,11 +178,11 @@ fn check_declaration(
 ) -> Result<Stmt, Stop>
     requires known { scope.old.names ≡ names_of scope.old.globals }
     requires few { length scope.old.globals < 2 ^ 32 }
-    ensures gives { IfOk result (λ s. check_line scope.old.globals (declare at name.now (sum_of value.now)) ≡ gives scope.new.globals (stmt_of s)) }
+    ensures answers { Answers (λ s. given scope.new.globals (stmt_of s))
+        (check_line scope.old.globals (declare at name.now (sum_of value.now))) result }
     ensures known { OnOk result (scope.new.names ≡ names_of scope.new.globals) }
     ensures count { OnOk result (length scope.new.globals ≡ length scope.old.globals + 1) }
     ensures ints { IfOk result (λ s. FitsStmt (stmt_of s)) }
-    ensures refused { IfErr result (λ stop. OnRefusal stop (IsRefusal (check_line scope.old.globals (declare at name.now (sum_of value.now))))) }
 {
     check_new(alloc, scope, name)?;
     let value = check_sum(alloc, scope, value)?;
@@ -208,9 +205,9 @@ fn check_assignment(
 ) -> Result<Stmt, Stop>
     requires known { scope.now.names ≡ names_of scope.now.globals }
     requires few { length scope.now.globals < 2 ^ 32 }
-    ensures gives { IfOk result (λ s. check_line scope.now.globals (assign at name.now (sum_of value.now)) ≡ gives scope.now.globals (stmt_of s)) }
+    ensures answers { Answers (λ s. given scope.now.globals (stmt_of s))
+        (check_line scope.now.globals (assign at name.now (sum_of value.now))) result }
     ensures ints { IfOk result (λ s. FitsStmt (stmt_of s)) }
-    ensures refused { IfErr result (λ stop. OnRefusal stop (IsRefusal (check_line scope.now.globals (assign at name.now (sum_of value.now))))) }
 {
     match find(alloc, scope, name.text.as_slice())? {
         Some(number) => match check_sum(alloc, scope, value) {
@@ -253,11 +250,11 @@ fn repetition(at: Place, condition: Cond, body: Vec<Stmt>) -> Stmt
 fn check_line(alloc: Global, scope: &mut Scope, line: &Line) -> Result<Stmt, Stop>
     requires known { scope.old.names ≡ names_of scope.old.globals }
     requires few { length scope.old.globals + weight (line_of line.now) < 2 ^ 32 }
-    ensures gives { IfOk result (λ s. check_line scope.old.globals (line_of line.now) ≡ gives scope.new.globals (stmt_of s)) }
+    ensures answers { Answers (λ s. given scope.new.globals (stmt_of s))
+        (check_line scope.old.globals (line_of line.now)) result }
     ensures known { OnOk result (scope.new.names ≡ names_of scope.new.globals) }
     ensures count { OnOk result (length scope.new.globals ≤ length scope.old.globals + weight (line_of line.now)) }
     ensures ints { IfOk result (λ s. FitsStmt (stmt_of s)) }
-    ensures refused { IfErr result (λ stop. OnRefusal stop (IsRefusal (check_line scope.old.globals (line_of line.now)))) }
 {
     match line {
         Line::Declare {
@@ -312,11 +309,11 @@ fn check_line(alloc: Global, scope: &mut Scope, line: &Line) -> Result<Stmt, Sto
 fn check_lines(alloc: Global, scope: &mut Scope, lines: &[Line]) -> Result<Vec<Stmt>, Stop>
     requires known { scope.old.names ≡ names_of scope.old.globals }
     requires few { length scope.old.globals + weights (lines_of lines.now) < 2 ^ 32 }
-    ensures gives { IfOk result (λ stmts. check_lines scope.old.globals (lines_of lines.now) ≡ gives scope.new.globals (stmts_of stmts.items)) }
+    ensures answers { Answers (λ stmts. given scope.new.globals (stmts_of stmts.items))
+        (check_lines scope.old.globals (lines_of lines.now)) result }
     ensures known { OnOk result (scope.new.names ≡ names_of scope.new.globals) }
     ensures count { OnOk result (length scope.new.globals ≤ length scope.old.globals + weights (lines_of lines.now)) }
     ensures ints { IfOk result (λ stmts. FitsStmts (stmts_of stmts.items)) }
-    ensures refused { IfErr result (λ stop. OnRefusal stop (IsRefusal (check_lines scope.old.globals (lines_of lines.now)))) }
 {
     let mut stmts = Vec::new(alloc);
     for line in lines {
@@ -338,10 +335,9 @@ fn push(stmts: &mut Vec<Stmt>, stmt: Stmt) -> Result<(), Memory>
 /// The program of statements, or the first name that is not declared or declared again.
 pub(crate) fn check(alloc: Global, lines: &[Line]) -> Result<Program, Stop>
     requires few { weights (lines_of lines.now) < 2 ^ 32 }
-    ensures gives { IfOk result (λ program. check (lines_of lines.now) ≡ Ok (program_of program)) }
+    ensures answers { Answers program_of (check (lines_of lines.now)) result }
     ensures count { IfOk result (λ program. length program.globals ≤ weights (lines_of lines.now)) }
     ensures ints { IfOk result (λ program. FitsStmts (program_of program).start) }
-    ensures refused { IfErr result (λ stop. OnRefusal stop (IsRefusal (check (lines_of lines.now)))) }
 {
     let mut scope = Scope {
         globals: Items::new(alloc),

@@ -1,7 +1,8 @@
 // Expressions and conditions.
 ghost use Rattle.std.specs.Prelude.{◌≡◌, ◌<◌, ◌^◌, ◌++◌, [], ◌∷◌, suc, OnOk};
 ghost use Rattle.nim_core.specs.Program.{expr_of, cond_of};
-ghost use Rattle.source_compiler.specs.Code.{code_bytes, word, variable_at, load_code, load_slot, save_slot, operator_code, negate_code, expr_code, skip_where, cond_code};
+ghost use Rattle.source_compiler.specs.Code.{code_bytes, word, variable_at, load_code, load_slot, save_slot};
+ghost use Rattle.source_compiler.specs.Code.{operator_code, negate_code, expr_code, skip_where, cond_code};
 ghost use Rattle.source_compiler.specs.Emission.{CanEmitExpr, CanEmitCond};
 
 use super::operations::{emit_negate, emit_operator};

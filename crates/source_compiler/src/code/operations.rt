@@ -2,7 +2,8 @@
 ghost use Rattle.std.specs.Prelude.{◌≡◌, ◌<◌, ◌++◌, [], ◌∷◌, OnOk};
 ghost use Rattle.nim_core.specs.Traps.{Overflow};
 ghost use Rattle.rv32_isa.specs.declared.instr.Instr.TheVariants.{Lui, Jalr, Beq};
-ghost use Rattle.source_compiler.specs.Code.{code_bytes, to_trap, add_code, subtract_code, multiply_code, divisor_code, divide_code, modulo_code, operator_code, negate_code};
+ghost use Rattle.source_compiler.specs.Code.{code_bytes, to_trap, add_code, subtract_code, multiply_code, divisor_code};
+ghost use Rattle.source_compiler.specs.Code.{divide_code, modulo_code, operator_code, negate_code};
 
 use super::pieces::{
     FIRST_SCRATCH, LEFT, MINUS_ONE, RESULT, RIGHT, SECOND_SCRATCH, ZERO, emit, set,

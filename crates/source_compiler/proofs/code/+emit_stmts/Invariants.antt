@@ -13,7 +13,8 @@ decreases-emit_block l = 2 * stmts_weight (stmts_of l.stmts.now) + 1
 -- with what is left, code and texts are those of all
 abbrev pub invariant-emit_block-loop-stmt : goal.invariant-emit_block-loop-stmt
 invariant-emit_block-loop-stmt l = record {
-  code : l.code ++ code_bytes (stmts_code (stmts_of (drop l.stmt-index l.stmts)) (0x100000 + length l.statics)) ≡ code_bytes (stmts_code (stmts_of l.fn.stmts) (0x100000 + length l.fn.statics));
+  code : l.code ++ code_bytes (stmts_code (stmts_of (drop l.stmt-index l.stmts)) (0x100000 + length l.statics))
+      ≡ code_bytes (stmts_code (stmts_of l.fn.stmts) (0x100000 + length l.fn.statics));
   statics : l.statics ++ texts (stmts_of (drop l.stmt-index l.stmts)) ≡ l.fn.statics ++ texts (stmts_of l.fn.stmts);
   left : CanEmitStmts (stmts_of (drop l.stmt-index l.stmts)) (length l.statics);
   light : stmts_weight (stmts_of (drop l.stmt-index l.stmts)) ≤ stmts_weight (stmts_of l.fn.stmts);

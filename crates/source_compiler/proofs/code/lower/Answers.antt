@@ -21,11 +21,13 @@ made c =
     let front = c.in_ok-put_front.ensures ∙ ap (λ n. c.new-statics.result ++ data_of n [] (λ _. pos 0)) count in
     let size = front_size (length c.args.program.now.globals) _ _ c.new-statics.ensures front in
     let is = ap stmts_of c.as_slice-2.ensures.value in
-    let block = c.as_slice-3.ensures ∙ c.in_ok-start.ensures.code ∙ ap (λ stmts. code_bytes (stmts_code stmts (0x100000 + length c.put_front.new.statics))) is in
+    let block = c.as_slice-3.ensures ∙ c.in_ok-start.ensures.code
+    ∙ ap (λ stmts. code_bytes (stmts_code stmts (0x100000 + length c.put_front.new.statics))) is in
     let behind = c.in_ok-start.ensures.statics ∙ ap (λ stmts. c.put_front.new.statics ++ texts stmts) is in
     let zeros = c.in_ok-pad.ensures in
     record {
-      code_is = code_made (length c.args.program.now.globals) _ stmts _ _ _ _ _ size block c.new-code.ensures c.in_ok-emit_start.ensures c.in_ok-append.ensures.ok c.in_ok-emit_end.ensures;
+      code_is = code_made (length c.args.program.now.globals) _ stmts _ _ _ _ _ size block c.new-code.ensures c.in_ok-emit_start.ensures
+          c.in_ok-append.ensures.ok c.in_ok-emit_end.ensures;
       padding = zeros.0;
       data_is = data_made (length c.args.program.now.globals) stmts _ _ _ _ _ c.new-statics.ensures front behind zeros.1;
       whole = zeros.2;
@@ -53,5 +55,6 @@ invariant_of-result-clause-statics_most c = (sizes (goal.at.invariant_of-result-
 pub returns-clause-agrees : goal.returns-clause-agrees
 returns-clause-agrees c =
     let d = (goal.at.returns-clause-agrees c).In_ok-pad in
-    let is = made_image (program_of c.args.program.now) _ c.requires.globals c.requires.small c.requires.plain (made d) c.new.ensures c.requires.heap c.requires.stack in
+    let is = made_image (program_of c.args.program.now) _ c.requires.globals c.requires.small c.requires.plain (made d) c.new.ensures c.requires.heap
+    c.requires.stack in
     λ plan input. image_agrees (program_of c.args.program.now) _ is plan c.args.heap input

@@ -9,8 +9,9 @@ use Rattle.source_compiler.specs.Names.{check}
 use Rattle.source_compiler.specs.Source.{IsTree, ReadsAlone}
 use Rattle.source_compiler.specs.Compile.{source_most}
 use Rattle.source_compiler.proofs.PlainFiles.{plain_file, plan_is, image_is}
-use Rattle.source_compiler.proofs.Reading.{not_refused, never, turned_down, no_program, refused_bytes, refused_tokens, refused_form, refused_names, alone_only, reads_alone, alone_reads}
-use Rattle.source_compiler.proofs.Stages.{forms_refused, lines_light, can_lower}
+use Rattle.source_compiler.proofs.Reading.{not_refused, never, turned_down, no_program, refused_bytes, refused_tokens, refused_form, refused_names, alone_only}
+use Rattle.source_compiler.proofs.Reading.{reads_alone, alone_reads}
+use Rattle.source_compiler.proofs.Stages.{forms_refused, names_refused, lines_light, can_lower}
 use Rattle.source_compiler.proofs.compiler.compile.Goals as goal
 
 -- ---- refused by its bytes
@@ -37,7 +38,8 @@ returns-in_err-tree-clause-refused c =
     let stop = c.in_err-tree.field-0.0 in
     let within : length source ≤ source_most = search rules in
     let scanned = subst (Tokens source) (sym c.as_slice.ensures) c.in_ok-tokens.ensures.tokens in
-    turned_down source c.from_residual-in_err-tree.result stop within c.from_residual-in_err-tree.ensures.1 (refused_tokens source c.as_slice.result.now stop scanned c.in_err-tree.ensures.refused)
+    turned_down source c.from_residual-in_err-tree.result stop within c.from_residual-in_err-tree.ensures.1
+    (refused_tokens source c.as_slice.result.now stop scanned c.in_err-tree.ensures.refused)
 
 pub returns-in_err-tree-clause-complete : goal.returns-in_err-tree-clause-complete
 returns-in_err-tree-clause-complete c =
@@ -45,7 +47,8 @@ returns-in_err-tree-clause-complete c =
     let stop = c.in_err-tree.field-0.0 in
     let scanned = subst (Tokens source) (sym c.as_slice.ensures) c.in_ok-tokens.ensures.tokens in
     λ name is. not_refused c.from_residual-in_err-tree.result stop c.from_residual-in_err-tree.ensures.1
-    (never source stop is.1.0 (alone_reads name source is.1.0 is.1.1) (no_program source stop (refused_tokens source c.as_slice.result.now stop scanned c.in_err-tree.ensures.refused)))
+    (never source stop is.1.0 (alone_reads name source is.1.0 is.1.1)
+    (no_program source stop (refused_tokens source c.as_slice.result.now stop scanned c.in_err-tree.ensures.refused)))
 
 -- ---- refused by a form
 
@@ -57,7 +60,8 @@ returns-in_err-lines-clause-refused c =
     let within : length source ≤ source_most = search rules in
     let scanned = subst (Tokens source) (sym c.as_slice.ensures) c.in_ok-tokens.ensures.tokens in
     let is : IsTree source c.as_slice.result.now tree = record { scanned = scanned; parsed = c.in_ok-tree.ensures.reads; few = c.in_ok-tree.ensures.few } in
-    turned_down source c.from_residual-in_err-lines.result stop within c.from_residual-in_err-lines.ensures.1 (refused_form source c.as_slice.result.now tree stop is (forms_refused (form_of tree) stop c.in_err-lines.ensures))
+    turned_down source c.from_residual-in_err-lines.result stop within c.from_residual-in_err-lines.ensures.1
+    (refused_form source c.as_slice.result.now tree stop is (forms_refused (form_of tree) stop c.in_err-lines.ensures))
 
 pub returns-in_err-lines-clause-complete : goal.returns-in_err-lines-clause-complete
 returns-in_err-lines-clause-complete c =
@@ -67,7 +71,8 @@ returns-in_err-lines-clause-complete c =
     let scanned = subst (Tokens source) (sym c.as_slice.ensures) c.in_ok-tokens.ensures.tokens in
     let is : IsTree source c.as_slice.result.now tree = record { scanned = scanned; parsed = c.in_ok-tree.ensures.reads; few = c.in_ok-tree.ensures.few } in
     λ name reads. not_refused c.from_residual-in_err-lines.result stop c.from_residual-in_err-lines.ensures.1
-    (never source stop reads.1.0 (alone_reads name source reads.1.0 reads.1.1) (no_program source stop (refused_form source c.as_slice.result.now tree stop is (forms_refused (form_of tree) stop c.in_err-lines.ensures))))
+    (never source stop reads.1.0 (alone_reads name source reads.1.0 reads.1.1)
+    (no_program source stop (refused_form source c.as_slice.result.now tree stop is (forms_refused (form_of tree) stop c.in_err-lines.ensures))))
 
 -- ---- the names
 
@@ -92,7 +97,7 @@ returns-in_err-program-clause-refused c =
     let is : IsTree source c.as_slice.result.now tree = record { scanned = scanned; parsed = c.in_ok-tree.ensures.reads; few = c.in_ok-tree.ensures.few } in
     let formed : form_of tree ≡ Ok lines = subst (λ l. form_of tree ≡ Ok (lines_of l)) (sym c.as_slice-2.ensures.value) c.in_ok-lines.ensures in
     turned_down source c.from_residual-in_err-program.result stop within c.from_residual-in_err-program.ensures.1
-    (refused_names source c.as_slice.result.now tree lines stop is formed c.in_err-program.ensures.refused)
+    (refused_names source c.as_slice.result.now tree lines stop is formed (names_refused (check lines) stop c.in_err-program.ensures.answers))
 
 pub returns-in_err-program-clause-complete : goal.returns-in_err-program-clause-complete
 returns-in_err-program-clause-complete c =
@@ -105,7 +110,8 @@ returns-in_err-program-clause-complete c =
     let formed : form_of tree ≡ Ok lines = subst (λ l. form_of tree ≡ Ok (lines_of l)) (sym c.as_slice-2.ensures.value) c.in_ok-lines.ensures in
     λ name reads. not_refused c.from_residual-in_err-program.result stop c.from_residual-in_err-program.ensures.1
     (never source stop reads.1.0 (alone_reads name source reads.1.0 reads.1.1)
-    (no_program source stop (refused_names source c.as_slice.result.now tree lines stop is formed c.in_err-program.ensures.refused)))
+    (no_program source stop
+    (refused_names source c.as_slice.result.now tree lines stop is formed (names_refused (check lines) stop c.in_err-program.ensures.answers))))
 
 -- ---- code and file
 
@@ -118,8 +124,9 @@ lower-requires c =
     let formed : form_of tree ≡ Ok lines = subst (λ l. form_of tree ≡ Ok (lines_of l)) (sym c.as_slice-2.ensures.value) c.in_ok-lines.ensures in
     let bytes : token_bytes c.as_slice.result.now ≤ length source = omega (arith, ap token_bytes c.as_slice.ensures, c.in_ok-tokens.ensures.bytes) in
     let light = lines_light source c.as_slice.result.now tree lines within bytes c.in_ok-tree.ensures.size formed in
-    let can = can_lower tree lines (program_of c.in_ok-program.program) light c.in_ok-tree.ensures.few formed c.in_ok-program.ensures.gives c.in_ok-program.ensures.ints c.in_ok-program.ensures.count in
-    record { plain = can.plain; small = can.small; globals = can.globals; heap = c.requires.heap_most; stack = refl }
+    let can = can_lower tree lines (program_of c.in_ok-program.program) light c.in_ok-tree.ensures.few formed c.in_ok-program.ensures.answers
+    c.in_ok-program.ensures.ints c.in_ok-program.ensures.count in
+    record { plain = can.plain; small = can.small; globals = can.globals; heap = omega (arith, c.requires.heap_most); stack = refl }
 
 pub returns-clause-compiled : goal.returns-clause-compiled
 returns-clause-compiled c =
@@ -132,14 +139,27 @@ returns-clause-compiled c =
     let scanned = subst (Tokens source) (sym c.as_slice.ensures) c.in_ok-tokens.ensures.tokens in
     let is : IsTree source c.as_slice.result.now tree = record { scanned = scanned; parsed = c.in_ok-tree.ensures.reads; few = c.in_ok-tree.ensures.few } in
     let formed : form_of tree ≡ Ok lines = subst (λ l. form_of tree ≡ Ok (lines_of l)) (sym c.as_slice-2.ensures.value) c.in_ok-lines.ensures in
-    let reads : ReadsAlone source program = record { tokens = c.as_slice.result.now; tree = tree; lines = lines; is_tree = is; formed = formed; checked = c.in_ok-program.ensures.gives } in
+    let reads : ReadsAlone source program = record {
+      tokens = c.as_slice.result.now;
+      tree = tree;
+      lines = lines;
+      is_tree = is;
+      formed = formed;
+      checked = c.in_ok-program.ensures.answers;
+    } in
     let file = file_of (record { image = c.in_ok-image.image; version = 1; plan = c.new.result }) in
     let plan = plan_is c.new.result made.sites made.sinks made.skips in
     λ name. record {
       program = program;
       reads = reads_alone name source program reads;
       reads_only = λ other r. alone_only source program other reads (alone_reads name source other r);
-      allowed = plain_file file (record { version = refl; image = image_is c.in_ok-image.image; heap_least = omega (arith, low.sizes.0, c.requires.heap_least); hooks = low.hooks; plan = plan });
+      allowed = plain_file file (record {
+        version = refl;
+        image = image_is c.in_ok-image.image;
+        heap_least = omega (arith, low.sizes.0, c.requires.heap_least);
+        hooks = low.hooks;
+        plan = plan;
+      });
       agrees = low.agrees c.new.result;
       plan = plan;
       heap_is = low.sizes.0;
