@@ -13,5 +13,3 @@ mod Missing
 mod NoteRead
 mod Decided
 mod FileOrFault
-mod Callers
-pub mod ForCallers

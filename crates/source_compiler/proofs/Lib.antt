@@ -25,4 +25,3 @@ mod Images
 mod Deciding
 mod Stages
 mod PlainFiles
-pub mod ForCallers
