@@ -16,7 +16,8 @@ use Rattle.source_compiler.specs.Objects.{live_objects}
 use Rattle.source_compiler.specs.Source.{alone}
 use Rattle.source_compiler.specs.Compile.{Compiled, IsProgram, source_most}
 use Rattle.arc_top.specs.declared.answer.Answer.{Answer}
-use Rattle.arc_top.specs.declared.answer.Answer.TheVariants.{Done, Ended, Usage, NoFile, TooLong, Refused, BadElf, MachineFault, StepsSpent, ReadFault, WriteFault, StoreFault, Memory}
+use Rattle.arc_top.specs.declared.answer.Answer.TheVariants.{Done, Ended, Usage, NoFile, TooLong, Refused, BadElf, MachineFault, StepsSpent, ReadFault}
+use Rattle.arc_top.specs.declared.answer.Answer.TheVariants.{WriteFault, StoreFault, Memory}
 use Rattle.arc_top.specs.Answer.{OnQuiet}
 use Rattle.arc_top.specs.Loads.{FilesState, Gives, Wants}
 use Rattle.arc_top.specs.Runs.{HasRun, Does, answer_of}
@@ -84,7 +85,8 @@ module _ (sees : Sees) (shows : Shows) (main source : List ℕ) (heap steps : �
       (meaning compiled.program file.plan heap) compiled.agrees steps before after shows last ran)
 
   pub run_told : (answer : Answer) → RunsOrWants steps file.image answer before after → Runs main heap steps answer (world old before) (world new after)
-  run_told answer (inl wanting) = subst (λ a. Runs main heap steps a (world old before) (world new after)) (sym wanting.0) (wants_behind main source source_most old new gives, wanting.1)
+  run_told answer (inl wanting) =
+      subst (λ a. Runs main heap steps a (world old before) (world new after)) (sym wanting.0) (wants_behind main source source_most old new gives, wanting.1)
   run_told answer (inr ran) = subst (λ a. Runs main heap steps a (world old before) (world new after)) (sym ran.answers) (run_ended ran.end ran.last ran.ran)
 
 -- ---- lines

@@ -11,12 +11,14 @@ use Rattle.rv32_runner.specs.Streams.{Streams}
 use Rattle.rv32_runner.specs.Runs.{Ran}
 use Rattle.rv32_runner.specs.Told.{Causes}
 use Rattle.arc_top.specs.declared.answer.Answer.{Answer}
-use Rattle.arc_top.specs.declared.answer.Answer.TheVariants.{Done, Ended, Usage, NoFile, TooLong, Refused, BadElf, MachineFault, StepsSpent, ReadFault, WriteFault, StoreFault, Memory}
+use Rattle.arc_top.specs.declared.answer.Answer.TheVariants.{Done, Ended, Usage, NoFile, TooLong, Refused, BadElf, MachineFault, StepsSpent, ReadFault}
+use Rattle.arc_top.specs.declared.answer.Answer.TheVariants.{WriteFault, StoreFault, Memory}
 use Rattle.arc_top.specs.Loads.{FilesState, OnEntry, Gives}
 use Rattle.arc_top.specs.Report.{report_of}
 use Rattle.arc_top.specs.Runs.{HasRun, answer_of}
 use Rattle.arc_top.specs.Top.{Stops, World, RunsProgram, Runs, RunsFile, Executes, Answered, Carries, before_line, modules_of, file_most}
-use Rattle.arc_top.specs.Due.{NothingFails, TellsEntry, WasAnswered, Compiles, IsCarriedOut, most_of, IsDue, lacks, long, refused, compiled, bad, executed, wanting}
+use Rattle.arc_top.specs.Due.{NothingFails, TellsEntry, WasAnswered, Compiles, IsCarriedOut, most_of, IsDue, lacks, long, refused, compiled, bad, executed}
+use Rattle.arc_top.specs.Due.{wanting}
 
 -- ---- counts
 

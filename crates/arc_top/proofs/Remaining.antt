@@ -20,10 +20,12 @@ use Rattle.rv32_runner.specs.Streams.{Streams, MayGive, Got, bytes_on}
 use Rattle.rv32_runner.specs.Runs.{Ran, on}
 use Rattle.rv32_runner.specs.Told.{IsOfMachine, Tells, Told}
 use Rattle.arc_top.specs.declared.answer.Answer.{Answer}
-use Rattle.arc_top.specs.declared.answer.Answer.TheVariants.{Done, Ended, Usage, NoFile, TooLong, Refused, BadElf, MachineFault, StepsSpent, ReadFault, WriteFault, StoreFault, Memory}
+use Rattle.arc_top.specs.declared.answer.Answer.TheVariants.{Done, Ended, Usage, NoFile, TooLong, Refused, BadElf, MachineFault, StepsSpent, ReadFault}
+use Rattle.arc_top.specs.declared.answer.Answer.TheVariants.{WriteFault, StoreFault, Memory}
 use Rattle.arc_top.specs.Runs.{HasRun, answer_of}
 use Rattle.arc_top.specs.Top.{file_most}
-use Rattle.arc_top.specs.Due.{NoStreamFails, Compiles, Executes, most_of, IsCarriedOut, IsDue, lacks, long, refused, compiled, bad, executed, wanting, IsComplete, answer_at, IsAnswerAt}
+use Rattle.arc_top.specs.Due.{NoStreamFails, Compiles, Executes, most_of, IsCarriedOut, IsDue, lacks, long, refused, compiled, bad, executed, wanting}
+use Rattle.arc_top.specs.Due.{IsComplete, answer_at, IsAnswerAt}
 use Rattle.arc_top.proofs.Meaning.{some_rest}
 use Rattle.arc_top.proofs.Entries.{CausesLaw}
 

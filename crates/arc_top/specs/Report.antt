@@ -8,7 +8,8 @@ use Rattle.elf32.specs.Faults.{fault_number}
 use Rattle.rv32_isa.specs.declared.machine.FaultKind.{FaultKind}
 use Rattle.rv32_isa.specs.declared.machine.FaultKind.TheVariants.{UnknownWord, Misaligned, OutOfRange, BadCall, Break}
 use Rattle.arc_top.specs.declared.answer.Answer.{Answer}
-use Rattle.arc_top.specs.declared.answer.Answer.TheVariants.{Done, Ended, Usage, NoFile, TooLong, Refused, BadElf, MachineFault, StepsSpent, ReadFault, WriteFault, StoreFault, Memory}
+use Rattle.arc_top.specs.declared.answer.Answer.TheVariants.{Done, Ended, Usage, NoFile, TooLong, Refused, BadElf, MachineFault, StepsSpent, ReadFault}
+use Rattle.arc_top.specs.declared.answer.Answer.TheVariants.{WriteFault, StoreFault, Memory}
 
 -- pieces, one after another
 abbrev pub joined : List (List ℕ) → List ℕ

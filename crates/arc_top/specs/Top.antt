@@ -16,7 +16,8 @@ use Rattle.command_words.specs.Command.{Command, check, build, run, exec}
 use Rattle.source_compiler.specs.Source.{Module, alone}
 use Rattle.source_compiler.specs.Compile.{Compiled, IsProgram, IsNoProgram, source_most}
 use Rattle.arc_top.specs.declared.answer.Answer.{Answer}
-use Rattle.arc_top.specs.declared.answer.Answer.TheVariants.{Done, Ended, NoFile, TooLong, Refused, BadElf, MachineFault, StepsSpent, ReadFault, WriteFault, StoreFault, Memory}
+use Rattle.arc_top.specs.declared.answer.Answer.TheVariants.{Done, Ended, NoFile, TooLong, Refused, BadElf, MachineFault, StepsSpent, ReadFault, WriteFault}
+use Rattle.arc_top.specs.declared.answer.Answer.TheVariants.{StoreFault, Memory}
 use Rattle.arc_top.specs.Answer.{OnQuiet}
 use Rattle.arc_top.specs.Loads.{FilesState, OnEntry, Gives, Lacks, IsLong, LoadFails, Wants}
 use Rattle.arc_top.specs.Report.{report_of}

@@ -11,7 +11,9 @@ use Rattle.nim_core.specs.Examples.{here, int, comparing, block, idle}
 
 -- so many turns, and the statements that would follow
 abbrev from_here : ℕ → Values → ℕ → Res State Values
-from_here n values work = then_do (turns (suc n) (turn (test (comparing Less (int 0) (int 1))) (exec_all (block (Assign here 0 (int 0) ∷ [])))) values (record { units = n; out = []; work = work })) (exec_all Empty)
+from_here n values work =
+    then_do (turns (suc n) (turn (test (comparing Less (int 0) (int 1))) (exec_all (block (Assign here 0 (int 0) ∷ [])))) values
+    (record { units = n; out = []; work = work })) (exec_all Empty)
 
 abbrev shown : ℕ → Values → ℕ → Seen Event
 shown n values work = seen_of {E = Event} (λ state. state) (λ _. 0) (λ _. no_objects) (from_here n values work)

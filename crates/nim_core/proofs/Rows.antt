@@ -21,13 +21,16 @@ abbrev second_row : RustStmt → (n : Count) × Row_of-Stmt n
 second_row (rust_stmt.If' _ _ _ _ _ row) = (_, row)
 second_row _ = (_, end_of-Stmt)
 
-pub conditional : (at : Place) (condition : RustCond) (then_branch else_branch : Vec RustStmt Global) → stmt_of (rust_stmt.If at condition then_branch else_branch) ≡ If at (cond_of condition) (stmts_of then_branch.items) (stmts_of else_branch.items)
+pub conditional : (at : Place) (condition : RustCond) (then_branch else_branch : Vec RustStmt Global) →
+    stmt_of (rust_stmt.If at condition then_branch else_branch) ≡ If at (cond_of condition) (stmts_of then_branch.items) (stmts_of else_branch.items)
 conditional at condition then_branch else_branch =
     let first = first_row (rust_stmt.If at condition then_branch else_branch) in
     let second = second_row (rust_stmt.If at condition then_branch else_branch) in
-    ap₂ (If at (cond_of condition)) (row_is first.0 first.1 ∙ ap stmts_of (items_hidden-the_row-Stmt-0 then_branch)) (row_is second.0 second.1 ∙ ap stmts_of (items_hidden-the_row-Stmt-0 else_branch))
+    ap₂ (If at (cond_of condition)) (row_is first.0 first.1 ∙ ap stmts_of (items_hidden-the_row-Stmt-0 then_branch))
+    (row_is second.0 second.1 ∙ ap stmts_of (items_hidden-the_row-Stmt-0 else_branch))
 
-pub repeated : (at : Place) (condition : RustCond) (body : Vec RustStmt Global) → stmt_of (rust_stmt.While at condition body) ≡ While at (cond_of condition) (stmts_of body.items)
+pub repeated : (at : Place) (condition : RustCond) (body : Vec RustStmt Global) →
+    stmt_of (rust_stmt.While at condition body) ≡ While at (cond_of condition) (stmts_of body.items)
 repeated at condition body =
     let row = first_row (rust_stmt.While at condition body) in
     ap (While at (cond_of condition)) (row_is row.0 row.1 ∙ ap stmts_of (items_hidden-the_row-Stmt-0 body))

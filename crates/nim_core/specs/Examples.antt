@@ -5,7 +5,8 @@ use Rattle.nim_core.specs.declared.program.Operator.{Operator}
 use Rattle.nim_core.specs.declared.program.Operator.TheVariants.{Add, Subtract, Multiply, Divide, Modulo}
 use Rattle.nim_core.specs.declared.program.Comparison.{Comparison}
 use Rattle.nim_core.specs.declared.program.Comparison.TheVariants.{Equal, Less, AtMost}
-use Rattle.nim_core.specs.Program.{Expr, Number, Variable, Negate, Binary, Cond, Stmt, Declare, Assign, EchoInt, EchoText, Quit, If, While, Stmts, Empty, Then, Program}
+use Rattle.nim_core.specs.Program.{Expr, Number, Variable, Negate, Binary, Cond, Stmt, Declare, Assign, EchoInt, EchoText, Quit, If, While, Stmts, Empty, Then}
+use Rattle.nim_core.specs.Program.{Program}
 
 -- ---- trees whose nodes all stand at one place
 
@@ -73,7 +74,9 @@ zero_mod = program (EchoInt here (binary Modulo (int 7) (int 0)) ∷ [])
 -- echo 7 div -2
 -- echo 7 mod -2
 abbrev pub rounding : Program
-rounding = program (EchoInt here (binary Divide (minus (int 7)) (int 2)) ∷ EchoInt here (binary Modulo (minus (int 7)) (int 2)) ∷ EchoInt here (binary Divide (int 7) (minus (int 2))) ∷ EchoInt here (binary Modulo (int 7) (minus (int 2))) ∷ [])
+rounding = program
+    (EchoInt here (binary Divide (minus (int 7)) (int 2)) ∷ EchoInt here (binary Modulo (minus (int 7)) (int 2)) ∷
+    EchoInt here (binary Divide (int 7) (minus (int 2))) ∷ EchoInt here (binary Modulo (int 7) (minus (int 2))) ∷ [])
 
 -- echo 65536 * 32768 + 1 div 0
 abbrev pub left_first : Program
@@ -85,14 +88,19 @@ left_first = program (EchoInt here (binary Add (binary Multiply (int 65536) (int
 --   i = i + 1
 -- quit(i)
 abbrev pub counting : Program
-counting = program (Declare here 0 (int 0) ∷ While here (comparing Less (variable 0) (int 3)) (block (EchoInt here (variable 0) ∷ Assign here 0 (binary Add (variable 0) (int 1)) ∷ [])) ∷ Quit here (variable 0) ∷ [])
+counting = program
+    (Declare here 0 (int 0) ∷
+    While here (comparing Less (variable 0) (int 3)) (block (EchoInt here (variable 0) ∷ Assign here 0 (binary Add (variable 0) (int 1)) ∷ [])) ∷
+    Quit here (variable 0) ∷ [])
 
 -- var x = 0
 -- while 0 < 1:
 --   echo x
 --   x = x + 1
 abbrev pub endless : Program
-endless = program (Declare here 0 (int 0) ∷ While here (comparing Less (int 0) (int 1)) (block (EchoInt here (variable 0) ∷ Assign here 0 (binary Add (variable 0) (int 1)) ∷ [])) ∷ [])
+endless = program
+    (Declare here 0 (int 0) ∷
+    While here (comparing Less (int 0) (int 1)) (block (EchoInt here (variable 0) ∷ Assign here 0 (binary Add (variable 0) (int 1)) ∷ [])) ∷ [])
 
 -- var x = 0
 -- while 0 < 1:

@@ -6,7 +6,8 @@ use Rattle.arc_base.specs.declared.outside.Stream.TheVariants.{Out, Err}
 use Rattle.arc_base.specs.Behaviour.{Behaviour, no_objects}
 use Rattle.arc_base.specs.BigStep.{Meter, Res, Got, Over, then_do, ticked, told, with_units, spend, Turn, Again, Leave, turns, begun, whole}
 use Rattle.nim_core.specs.declared.plan.Plan.{Plan}
-use Rattle.nim_core.specs.Program.{Expr, Number, Variable, Negate, Binary, Cond, Stmt, Declare, Assign, EchoInt, EchoText, Quit, If, While, Stmts, Empty, Then, Program}
+use Rattle.nim_core.specs.Program.{Expr, Number, Variable, Negate, Binary, Cond, Stmt, Declare, Assign, EchoInt, EchoText, Quit, If, While, Stmts, Empty, Then}
+use Rattle.nim_core.specs.Program.{Program}
 use Rattle.nim_core.specs.Traps.{trap_text}
 use Rattle.nim_core.specs.Ints.{Checked, Fine, Trapped, applied, negated, compared, low_byte}
 
@@ -41,7 +42,8 @@ eval (Binary at operator left right) values state =
 -- whether a condition holds
 abbrev pub test : Cond → Values → State → Res State Bool
 test condition values state =
-    then_do (eval condition.left values state) (λ x between. then_do (eval condition.right values between) (λ y after. Got (compared condition.comparison x y) (ticked after)))
+    then_do (eval condition.left values state)
+    (λ x between. then_do (eval condition.right values between) (λ y after. Got (compared condition.comparison x y) (ticked after)))
 
 -- what a part of a program does where a condition holds, and where it fails
 abbrev pub either : {A : Type 0} → (State → A) → (State → A) → Bool → State → A
@@ -65,10 +67,12 @@ abbrev mutual
   pub exec : Stmt → Values → State → Res State Values
   exec (Declare at variable value) values state = then_do (eval value values state) (λ x after. Got (put values variable x) (ticked after))
   exec (Assign at variable value) values state = then_do (eval value values state) (λ x after. Got (put values variable x) (ticked after))
-  exec (EchoInt at value) values state = then_do (eval value values state) (λ x after. Got values (told (writes Out (line_of (signed_decimal x))) (ticked after)))
+  exec (EchoInt at value) values state =
+      then_do (eval value values state) (λ x after. Got values (told (writes Out (line_of (signed_decimal x))) (ticked after)))
   exec (EchoText at text) values state = Got values (told (writes Out (line_of text)) (ticked state))
   exec (Quit at status) values state = then_do (eval status values state) (λ x after. Over (low_byte x) no_objects (ticked after))
-  exec (If at condition then_branch else_branch) values state = then_do (test condition values (ticked state)) (either (exec_all then_branch values) (exec_all else_branch values))
+  exec (If at condition then_branch else_branch) values state =
+      then_do (test condition values (ticked state)) (either (exec_all then_branch values) (exec_all else_branch values))
   exec (While at condition body) values state = turns (suc state.units) (turn (test condition) (exec_all body)) values (ticked state)
 
   -- statements, one after another
