@@ -34,6 +34,71 @@ fn show_one(def: Def, out: &mut Printed) -> Result<(), Memory> {
     show_defs(&[def], out)
 }
 
+fn read_names(alloc: Global, input: &Input, out: &mut Printed) -> Result<(), Memory>
+    requires few { length input.now.tokens.now < 2 ^ 32 }
+    requires within { 1 ≤ length input.now.tokens.now }
+{
+    match names(alloc, input, 1, Layout::Lines(SPACES)) {
+        Ok(Reading { value, next }) => {
+            show_names(&value, out)?;
+            out.end(next)
+        }
+        Err(stop) => out.stop(stop),
+    }
+}
+
+fn read_definition(alloc: Global, input: &Input, out: &mut Printed) -> Result<(), Memory>
+    requires few { length input.now.tokens.now < 2 ^ 32 }
+    requires within { 1 ≤ length input.now.tokens.now }
+{
+    match definition(alloc, input, 1, SPACES) {
+        Ok(Reading { value, next }) => {
+            show_one(value, out)?;
+            out.end(next)
+        }
+        Err(stop) => out.stop(stop),
+    }
+}
+
+fn read_definitions(alloc: Global, input: &Input, out: &mut Printed) -> Result<(), Memory>
+    requires few { length input.now.tokens.now < 2 ^ 32 }
+    requires within { 1 ≤ length input.now.tokens.now }
+{
+    match definition_block(alloc, input, 1, SPACES) {
+        Ok(Reading { value, next }) => {
+            show_defs(&value, out)?;
+            out.end(next)
+        }
+        Err(stop) => out.stop(stop),
+    }
+}
+
+fn read_types(alloc: Global, input: &Input, out: &mut Printed) -> Result<(), Memory>
+    requires few { length input.now.tokens.now < 2 ^ 32 }
+    requires within { 1 ≤ length input.now.tokens.now }
+{
+    match type_declarations(alloc, input, 1, SPACES) {
+        Ok(Reading { value, next }) => {
+            show_typedefs(&value, out)?;
+            out.end(next)
+        }
+        Err(stop) => out.stop(stop),
+    }
+}
+
+fn read_head(alloc: Global, input: &Input, out: &mut Printed) -> Result<(), Memory>
+    requires few { length input.now.tokens.now < 2 ^ 32 }
+    requires within { 1 ≤ length input.now.tokens.now }
+{
+    match procedure_head(alloc, input, 1, SPACES) {
+        Ok(Reading { value, next }) => {
+            show_head(&value, out)?;
+            out.end(next)
+        }
+        Err(stop) => out.stop(stop),
+    }
+}
+
 fn show_input(
     alloc: Global,
     declaration: Declaration,
@@ -43,44 +108,13 @@ fn show_input(
     requires few { length input.now.tokens.now < 2 ^ 32 }
     requires within { 1 ≤ length input.now.tokens.now }
 {
-    let next = match declaration {
-        Declaration::Names => match names(alloc, input, 1, Layout::Lines(SPACES)) {
-            Ok(Reading { value, next }) => {
-                show_names(&value, out)?;
-                next
-            }
-            Err(stop) => return out.stop(stop),
-        },
-        Declaration::Definition => match definition(alloc, input, 1, SPACES) {
-            Ok(Reading { value, next }) => {
-                show_one(value, out)?;
-                next
-            }
-            Err(stop) => return out.stop(stop),
-        },
-        Declaration::Definitions => match definition_block(alloc, input, 1, SPACES) {
-            Ok(Reading { value, next }) => {
-                show_defs(&value, out)?;
-                next
-            }
-            Err(stop) => return out.stop(stop),
-        },
-        Declaration::Types => match type_declarations(alloc, input, 1, SPACES) {
-            Ok(Reading { value, next }) => {
-                show_typedefs(&value, out)?;
-                next
-            }
-            Err(stop) => return out.stop(stop),
-        },
-        Declaration::Head => match procedure_head(alloc, input, 1, SPACES) {
-            Ok(Reading { value, next }) => {
-                show_head(&value, out)?;
-                next
-            }
-            Err(stop) => return out.stop(stop),
-        },
-    };
-    out.end(next)
+    match declaration {
+        Declaration::Names => read_names(alloc, input, out),
+        Declaration::Definition => read_definition(alloc, input, out),
+        Declaration::Definitions => read_definitions(alloc, input, out),
+        Declaration::Types => read_types(alloc, input, out),
+        Declaration::Head => read_head(alloc, input, out),
+    }
 }
 
 /// What is read, and where it ends.

@@ -75,13 +75,27 @@ pub fn hex_of(alloc: Global, text: &[u8]) -> Result<Bytes, Memory> {
     Ok(bytes)
 }
 
+/// The same bytes.
+pub fn copied(alloc: Global, bytes: &[u8]) -> Result<Bytes, Memory> {
+    let mut copy = Bytes::new(alloc);
+    copy.append(bytes)?;
+    Ok(copy)
+}
+
+// What stands so far behind a change in place of a byte.
+fn byte_behind(old: u8, behind: usize, new: &[u8]) -> u8 {
+    if behind == 0 && new.is_empty() {
+        return old.wrapping_add(1);
+    }
+    new.get(behind).copied().unwrap_or(old)
+}
+
 // The bytes with others in their place from an offset on, or, where there are no others, with one more in that place.
 fn put_at(alloc: Global, old: &[u8], at: usize, new: &[u8]) -> Result<Bytes, Memory> {
     let mut bytes = Bytes::new(alloc);
     for (i, b) in old.iter().enumerate() {
         let there = match i.checked_sub(at) {
-            Some(0) if new.is_empty() => b.wrapping_add(1),
-            Some(behind) => new.get(behind).copied().unwrap_or(*b),
+            Some(behind) => byte_behind(*b, behind, new),
             None => *b,
         };
         bytes.push(there)?;
@@ -89,27 +103,41 @@ fn put_at(alloc: Global, old: &[u8], at: usize, new: &[u8]) -> Result<Bytes, Mem
     Ok(bytes)
 }
 
+// The offset of a change, and the digits of its bytes.
+fn change_of(change: &str) -> Option<(usize, &str)> {
+    let (at, new) = change.split_once(':')?;
+    match at.parse::<usize>() {
+        Ok(at) => Some((at, new)),
+        Err(_) => None,
+    }
+}
+
 // The bytes with all changes that a text has, as `18:3e` or `18:`.
 fn changed(alloc: Global, bytes: Bytes, text: &str) -> Result<Bytes, Memory> {
     let mut bytes = bytes;
     for change in text.split_whitespace() {
-        if let Some((at, new)) = change.split_once(':') {
-            if let Ok(at) = at.parse::<usize>() {
-                let new = hex_of(alloc, new.as_bytes())?;
-                bytes = put_at(alloc, bytes.as_slice(), at, new.as_slice())?;
-            }
+        if let Some((at, new)) = change_of(change) {
+            let new = hex_of(alloc, new.as_bytes())?;
+            bytes = put_at(alloc, bytes.as_slice(), at, new.as_slice())?;
         }
     }
     Ok(bytes)
 }
 
 // The first bytes, as many as a text says.
-fn cut(alloc: Global, bytes: &Bytes, text: &str) -> Result<Bytes, Memory> {
+fn cut(alloc: Global, bytes: &[u8], text: &str) -> Result<Bytes, Memory> {
     let most = text.trim().parse::<usize>().unwrap_or(0);
-    let bytes = bytes.as_slice();
-    let mut front = Bytes::new(alloc);
-    front.append(bytes.get(..most).unwrap_or(bytes))?;
-    Ok(front)
+    copied(alloc, bytes.get(..most).unwrap_or(bytes))
+}
+
+// The bytes that a part gives.
+fn given_bytes(alloc: Global, form: Form, given: &[u8]) -> Result<Bytes, Memory> {
+    match form {
+        Form::Module => copied(alloc, given),
+        Form::Hex => hex_of(alloc, given),
+        Form::Program => program_file(alloc, text_in(given)),
+        Form::Built => built_file(alloc, given),
+    }
 }
 
 // The bytes of a file that a part gives, with what the row changes in them.
@@ -120,20 +148,13 @@ fn file_of(
     name: &str,
     given: &[u8],
 ) -> Result<Bytes, Memory> {
-    let mut bytes = Bytes::new(alloc);
-    match form {
-        Form::Module => bytes.append(given)?,
-        Form::Hex => bytes = hex_of(alloc, given)?,
-        Form::Program => bytes = program_file(alloc, text_in(given))?,
-        Form::Built => bytes = built_file(alloc, given)?,
+    let changes = text_in(part_for(row, "changed", name).unwrap_or(b""));
+    let bytes = given_bytes(alloc, form, given)?;
+    let bytes = changed(alloc, bytes, changes)?;
+    match part_for(row, "cut", name) {
+        Some(text) => cut(alloc, bytes.as_slice(), text_in(text)),
+        None => Ok(bytes),
     }
-    if let Some(text) = part_for(row, "changed", name) {
-        bytes = changed(alloc, bytes, text_in(text))?;
-    }
-    if let Some(text) = part_for(row, "cut", name) {
-        bytes = cut(alloc, &bytes, text_in(text))?;
-    }
-    Ok(bytes)
 }
 
 /// The calls of an object that fail, whose numbers stand in a part.

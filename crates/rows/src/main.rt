@@ -50,6 +50,14 @@ impl From<arc_base::Failed> for Failed {
     }
 }
 
+// Adds how many rows a file has.
+fn put_count(lines: &mut Printed, file: &str, count: i64) -> Result<(), Memory> {
+    lines.text(file)?;
+    lines.text(": ")?;
+    lines.number(count)?;
+    lines.text(" rows\n")
+}
+
 // Runs the rows of a file, and says what differs and how many there are.
 fn check_file(alloc: Global, file: &str, text: &str) -> Result<(Printed, bool), Memory> {
     let rows = rows_of(alloc, text)?;
@@ -63,10 +71,7 @@ fn check_file(alloc: Global, file: &str, text: &str) -> Result<(Printed, bool), 
         check_row(alloc, row, &mut report)?;
         count = count.saturating_add(1);
     }
-    report.lines.text(file)?;
-    report.lines.text(": ")?;
-    report.lines.number(count)?;
-    report.lines.text(" rows\n")?;
+    put_count(&mut report.lines, file, count)?;
     Ok((report.lines, report.differs))
 }
 

@@ -97,29 +97,39 @@ fn put_header(
     Ok(())
 }
 
+// Adds the program headers, where the note has so many bytes.
+fn put_headers(file: &mut Bytes, program: &Program, n: u32) -> Result<(), Memory> {
+    let (c, d) = (count(&program.code), count(&program.data));
+    let code_at = NOTE_AT.saturating_add(n);
+    let data_at = code_at.saturating_add(c);
+    put_header(file, 1, code_at, 0x1_0000, (c, c), 5)?;
+    put_header(file, 1, data_at, 0x10_0000, (d, d), 6)?;
+    put_header(file, 1, 0, 0x20_0000, (0, program.heap), 6)?;
+    put_header(file, 1, 0, 0x200_0000, (0, program.stack), 6)?;
+    put_header(file, 4, NOTE_AT, 0, (n, 0), 4)
+}
+
 // The file of a program.
 fn written(alloc: Global, program: &Program) -> Result<Bytes, Memory> {
     let note = program.note(alloc)?;
-    let (n, c, d) = (count(&note), count(&program.code), count(&program.data));
-    let code_at = NOTE_AT.saturating_add(n);
     let mut file = Bytes::new(alloc);
     file.append(&HEADER)?;
-    put_header(&mut file, 1, code_at, 0x1_0000, (c, c), 5)?;
-    put_header(
-        &mut file,
-        1,
-        code_at.saturating_add(c),
-        0x10_0000,
-        (d, d),
-        6,
-    )?;
-    put_header(&mut file, 1, 0, 0x20_0000, (0, program.heap), 6)?;
-    put_header(&mut file, 1, 0, 0x200_0000, (0, program.stack), 6)?;
-    put_header(&mut file, 4, NOTE_AT, 0, (n, 0), 4)?;
+    put_headers(&mut file, program, count(&note))?;
     file.append(note.as_slice())?;
     file.append(program.code.as_slice())?;
     file.append(program.data.as_slice())?;
     Ok(file)
+}
+
+// Adds the description of a note whose lists are empty, where there is none.
+fn put_description(description: &mut Bytes) -> Result<(), Memory> {
+    if !description.as_slice().is_empty() {
+        return Ok(());
+    }
+    for word in DESCRIPTION {
+        put_word(description, word)?;
+    }
+    Ok(())
 }
 
 // The section that a word names.
@@ -151,10 +161,6 @@ pub fn program_file(alloc: Global, text: &str) -> Result<Bytes, Memory> {
             None => program.put(section, u32::from_str_radix(word, 16).unwrap_or(0))?,
         }
     }
-    if program.description.as_slice().is_empty() {
-        for word in DESCRIPTION {
-            put_word(&mut program.description, word)?;
-        }
-    }
+    put_description(&mut program.description)?;
     written(alloc, &program)
 }

@@ -84,6 +84,32 @@ fn begun(alloc: Global, line: u32) -> Row {
     }
 }
 
+impl Row {
+    // Adds a part.
+    fn put(&mut self, alloc: Global, name: &str, content: Bytes) -> Result<(), Memory> {
+        let name = String::from_str(alloc, name)?;
+        self.parts.push(Part { name, content })?;
+        Ok(())
+    }
+
+    // Adds a part with escapes, where this word stands for `WORD`.
+    fn put_escaped(
+        &mut self,
+        alloc: Global,
+        name: &str,
+        text: &[u8],
+        word: &[u8],
+    ) -> Result<(), Memory> {
+        match unescaped(alloc, text, word)? {
+            Some(content) => self.put(alloc, name, content),
+            None => {
+                self.bad = true;
+                self.put(alloc, name, Bytes::new(alloc))
+            }
+        }
+    }
+}
+
 // Without the empty lines at its end.
 fn without_empty_lines(alloc: Global, lines: &str) -> Result<Bytes, Memory> {
     let end = lines.trim_end_matches('\n');
@@ -95,66 +121,124 @@ fn without_empty_lines(alloc: Global, lines: &str) -> Result<Bytes, Memory> {
     Ok(content)
 }
 
+// Adds a part to a row.
+fn put_part(alloc: Global, name: &str, lines: &str, row: &mut Row) -> Result<(), Memory> {
+    let content = without_empty_lines(alloc, lines)?;
+    match name.strip_prefix(ESCAPED) {
+        Some(short) => row.put_escaped(alloc, short, content.as_slice(), b""),
+        None => row.put(alloc, name, content),
+    }
+}
+
+// Adds the words that stand in rows.
+fn put_words(alloc: Global, text: &str, words: &mut Vec<String>) -> Result<(), Memory> {
+    for word in text.split_whitespace() {
+        words.push(String::from_str(alloc, word)?)?;
+    }
+    Ok(())
+}
+
+// The names of the columns of a table.
+fn columns_of(alloc: Global, names: &str) -> Result<Vec<String>, Memory> {
+    let mut columns = Vec::new(alloc);
+    for name in names.split(BETWEEN) {
+        columns.push(String::from_str(alloc, name)?)?;
+    }
+    Ok(columns)
+}
+
+// The row of a table with these columns, where this word stands for `WORD`.
+fn row_of(
+    alloc: Global,
+    line: u32,
+    columns: &[String],
+    text: &str,
+    word: &[u8],
+) -> Result<Row, Memory> {
+    let mut row = begun(alloc, line);
+    let mut cells = text.split(BETWEEN);
+    for column in columns {
+        match cells.next() {
+            Some(cell) => row.put_escaped(alloc, column.as_str(), cell.as_bytes(), word)?,
+            None => row.bad = true,
+        }
+    }
+    if cells.next().is_some() {
+        row.bad = true;
+    }
+    Ok(row)
+}
+
+// Adds what a line of a table is: a row, or one for each word.
+fn put_rows(
+    alloc: Global,
+    line: u32,
+    columns: &[String],
+    words: &[String],
+    text: &str,
+    all: &mut Vec<Row>,
+) -> Result<(), Memory> {
+    if text.is_empty() || text.starts_with('#') {
+        return Ok(());
+    }
+    if !text.contains(WORD) {
+        all.push(row_of(alloc, line, columns, text, b"")?)?;
+        return Ok(());
+    }
+    for word in words {
+        let word = word.as_str().as_bytes();
+        all.push(row_of(alloc, line, columns, text, word)?)?;
+    }
+    Ok(())
+}
+
+// Adds a line of a part.
+fn put_line(lines: &mut String, text: &str) -> Result<(), Memory> {
+    lines.push_str(text)?;
+    lines.push('\n')?;
+    Ok(())
+}
+
 impl Reader {
-    // Adds a part to the row.
-    fn put(&mut self, name: &str, content: Bytes) -> Result<(), Memory> {
-        let name = String::from_str(self.alloc, name)?;
-        self.row.parts.push(Part { name, content })?;
-        Ok(())
-    }
-
-    // Adds a part with escapes to the row, where this word stands for `WORD`.
-    fn put_escaped(&mut self, name: &str, text: &[u8], word: &[u8]) -> Result<(), Memory> {
-        match unescaped(self.alloc, text, word)? {
-            Some(content) => self.put(name, content),
-            None => {
-                self.row.bad = true;
-                self.put(name, Bytes::new(self.alloc))
-            }
-        }
-    }
-
-    // Adds the words that stand in rows.
-    fn put_words(&mut self, text: &str) -> Result<(), Memory> {
-        for word in text.split_whitespace() {
-            self.words.push(String::from_str(self.alloc, word)?)?;
-        }
-        Ok(())
-    }
-
     // Ends the part, if one is being read.
     fn end_part(&mut self) -> Result<(), Memory> {
-        if self.mode == Mode::Part {
-            let name = std::mem::replace(&mut self.name, String::new(self.alloc));
-            let lines = std::mem::replace(&mut self.lines, String::new(self.alloc));
-            if name.as_str() == EACH {
-                return self.put_words(lines.as_str());
-            }
-            let content = without_empty_lines(self.alloc, lines.as_str())?;
-            match name.as_str().strip_prefix(ESCAPED) {
-                Some(short) => self.put_escaped(short, content.as_slice(), b"")?,
-                None => self.put(name.as_str(), content)?,
-            }
+        if self.mode != Mode::Part {
+            return Ok(());
         }
-        Ok(())
+        if self.name.as_str() == EACH {
+            return put_words(self.alloc, self.lines.as_str(), &mut self.words);
+        }
+        put_part(
+            self.alloc,
+            self.name.as_str(),
+            self.lines.as_str(),
+            &mut self.row,
+        )
     }
 
     // Ends the row, if one is being read.
     fn end_row(&mut self, line: u32) -> Result<(), Memory> {
         let row = std::mem::replace(&mut self.row, begun(self.alloc, line));
-        if !row.parts.is_empty() {
-            self.all.push(row)?;
+        if row.parts.is_empty() {
+            return Ok(());
         }
+        self.all.push(row)?;
+        Ok(())
+    }
+
+    // Ends what stands under the last title.
+    fn begin_title(&mut self, line: u32) -> Result<(), Memory> {
+        self.end_part()?;
+        self.end_row(line)?;
+        self.words = Vec::new(self.alloc);
+        self.mode = Mode::Prose;
         Ok(())
     }
 
     // Begins a table with these names of columns.
     fn begin_table(&mut self, line: u32, names: &str) -> Result<(), Memory> {
         self.end_row(line)?;
-        self.columns = Vec::new(self.alloc);
-        for name in names.split(BETWEEN) {
-            self.columns.push(String::from_str(self.alloc, name)?)?;
-        }
+        self.columns = columns_of(self.alloc, names)?;
         self.mode = Mode::Table;
         Ok(())
     }
@@ -162,69 +246,45 @@ impl Reader {
     // Begins a part with this name.
     fn begin_part(&mut self, name: &str) -> Result<(), Memory> {
         self.name = String::from_str(self.alloc, name)?;
+        self.lines = String::new(self.alloc);
         self.mode = Mode::Part;
         Ok(())
     }
 
-    // Reads a row of a table, where this word stands for `WORD`.
-    fn take_row(&mut self, line: u32, text: &str, word: &[u8]) -> Result<(), Memory> {
-        self.row = begun(self.alloc, line);
-        let columns = std::mem::replace(&mut self.columns, Vec::new(self.alloc));
-        let mut cells = text.split(BETWEEN);
-        for column in &columns {
-            match cells.next() {
-                Some(cell) => self.put_escaped(column.as_str(), cell.as_bytes(), word)?,
-                None => self.row.bad = true,
-            }
+    // Begins a table or a part.
+    fn begin(&mut self, line: u32, name: &str) -> Result<(), Memory> {
+        self.end_part()?;
+        if name.contains(BETWEEN) {
+            self.begin_table(line, name)
+        } else {
+            self.begin_part(name)
         }
-        if cells.next().is_some() {
-            self.row.bad = true;
-        }
-        self.columns = columns;
-        self.end_row(line)
     }
 
-    // Reads a line of a table: a row, or one for each word.
-    fn take_rows(&mut self, line: u32, text: &str) -> Result<(), Memory> {
-        if text.is_empty() || text.starts_with('#') {
-            return Ok(());
+    // Reads a line that begins neither a title nor a part.
+    fn take_line(&mut self, line: u32, text: &str) -> Result<(), Memory> {
+        match self.mode {
+            Mode::Prose => Ok(()),
+            Mode::Table => put_rows(
+                self.alloc,
+                line,
+                self.columns.as_slice(),
+                self.words.as_slice(),
+                text,
+                &mut self.all,
+            ),
+            Mode::Part => put_line(&mut self.lines, text),
         }
-        if !text.contains(WORD) {
-            return self.take_row(line, text, b"");
-        }
-        let words = std::mem::replace(&mut self.words, Vec::new(self.alloc));
-        for word in &words {
-            self.take_row(line, text, word.as_str().as_bytes())?;
-        }
-        self.words = words;
-        Ok(())
     }
 
     // Reads a line of a file.
     fn take(&mut self, line: u32, text: &str) -> Result<(), Memory> {
         if text.starts_with(TITLE) {
-            self.end_part()?;
-            self.end_row(line)?;
-            self.row.line = line;
-            self.words = Vec::new(self.alloc);
-            self.mode = Mode::Prose;
-            return Ok(());
+            return self.begin_title(line);
         }
-        if let Some(name) = text.strip_prefix(NAME) {
-            self.end_part()?;
-            if name.contains(BETWEEN) {
-                return self.begin_table(line, name);
-            }
-            return self.begin_part(name);
-        }
-        match self.mode {
-            Mode::Prose => Ok(()),
-            Mode::Table => self.take_rows(line, text),
-            Mode::Part => {
-                self.lines.push_str(text)?;
-                self.lines.push('\n')?;
-                Ok(())
-            }
+        match text.strip_prefix(NAME) {
+            Some(name) => self.begin(line, name),
+            None => self.take_line(line, text),
         }
     }
 }

@@ -12,39 +12,50 @@ fn show_kind(alloc: Global, token: &Token, out: &mut Printed) -> Result<(), Memo
     out.text(kind.as_str())
 }
 
+fn show_kinds(alloc: Global, tokens: &[Token], out: &mut Printed) -> Result<(), Memory> {
+    for token in tokens {
+        out.text(" ")?;
+        show_kind(alloc, token, out)?;
+    }
+    Ok(())
+}
+
 /// The kinds of the tokens, with a space before each.
 pub fn show_tokens(alloc: Global, source: &[u8], out: &mut Printed) -> Result<(), Memory>
     requires { length source.now < 2 ^ 20 }
 {
     match scan(alloc, source, 0) {
-        Ok(tokens) => {
-            for token in tokens.as_slice() {
-                out.text(" ")?;
-                show_kind(alloc, token, out)?;
-            }
-            Ok(())
-        }
+        Ok(tokens) => show_kinds(alloc, tokens.as_slice(), out),
         Err(stop) => out.stop(stop),
     }
+}
+
+// The spaces before the first token of a line.
+fn show_indent(indent: Option<u32>, out: &mut Printed) -> Result<(), Memory> {
+    let Some(count) = indent else {
+        return Ok(());
+    };
+    out.text(" in ")?;
+    out.number(i64::from(count))
 }
 
 // Where a token stands: its first byte and the number of its bytes, its place, and the spaces around it, where it has
 // some; and the spaces before the first one of a line.
 fn show_place(token: &Token, out: &mut Printed) -> Result<(), Memory> {
     out.text(if token.space_before { "[_" } else { "[" })?;
-    out.number(i64::from(token.start))?;
-    out.text("+")?;
-    out.number(i64::from(token.len))?;
+    out.pair(token.start, "+", token.len)?;
     out.text(" ")?;
-    out.number(i64::from(token.line))?;
-    out.text(":")?;
-    out.number(i64::from(token.column))?;
+    out.pair(token.line, ":", token.column)?;
     out.text(if token.space_after { "_" } else { "" })?;
-    if let Some(count) = token.indent {
-        out.text(" in ")?;
-        out.number(i64::from(count))?;
-    }
+    show_indent(token.indent, out)?;
     out.text("]")
+}
+
+fn show_all_places(tokens: &[Token], out: &mut Printed) -> Result<(), Memory> {
+    for token in tokens {
+        show_place(token, out)?;
+    }
+    Ok(())
 }
 
 /// Where the tokens stand.
@@ -52,12 +63,7 @@ pub fn show_places(alloc: Global, source: &[u8], out: &mut Printed) -> Result<()
     requires { length source.now < 2 ^ 20 }
 {
     match scan(alloc, source, 0) {
-        Ok(tokens) => {
-            for token in tokens.as_slice() {
-                show_place(token, out)?;
-            }
-            Ok(())
-        }
+        Ok(tokens) => show_all_places(tokens.as_slice(), out),
         Err(stop) => out.stop(stop),
     }
 }

@@ -22,19 +22,24 @@ pub struct OneStep {
     second: u32,
 }
 
-/// Carries out a word that is all the code, where x1 and x2 have these values.
-pub fn step_of(alloc: Global, word: u32, first: u32, second: u32) -> Result<OneStep, Memory> {
+// The image whose code is a word.
+fn image_of(alloc: Global, word: u32) -> Result<Image, Memory> {
     let mut code = Bytes::new(alloc);
     code.append(&word.to_le_bytes())?;
     let mut statics = Bytes::new(alloc);
     statics.append(&DATA)?;
-    let image = Image {
+    Ok(Image {
         code,
         statics,
         heap: HEAP,
         stack: STACK,
         hooks: Items::new(alloc),
-    };
+    })
+}
+
+/// Carries out a word that is all the code, where x1 and x2 have these values.
+pub fn step_of(alloc: Global, word: u32, first: u32, second: u32) -> Result<OneStep, Memory> {
+    let image = image_of(alloc, word)?;
     let mut machine = Machine::start(alloc, &image)?;
     machine.set_reg(1, first);
     machine.set_reg(2, second);

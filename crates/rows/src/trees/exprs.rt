@@ -97,7 +97,7 @@ fn show_operation(tree: &Expr, out: &mut Printed) -> Result<(), Memory> {
         Expr::Unary { op, operand, .. } => {
             out.text(unary_text(*op))?;
             show_expr(operand, out)?;
-            out.text(")")?;
+            out.text(")")
         }
         Expr::Binary {
             op,
@@ -109,7 +109,7 @@ fn show_operation(tree: &Expr, out: &mut Printed) -> Result<(), Memory> {
             show_expr(left, out)?;
             out.text(" ")?;
             show_expr(right, out)?;
-            out.text(")")?;
+            out.text(")")
         }
         Expr::If {
             branches,
@@ -120,7 +120,7 @@ fn show_operation(tree: &Expr, out: &mut Printed) -> Result<(), Memory> {
             show_choices(branches, out)?;
             out.text(" else ")?;
             show_expr(otherwise, out)?;
-            out.text(")")?;
+            out.text(")")
         }
         Expr::Case {
             selector,
@@ -135,16 +135,15 @@ fn show_operation(tree: &Expr, out: &mut Printed) -> Result<(), Memory> {
                 out.text(" else ")?;
                 show_expr(value, out)?;
             }
-            out.text(")")?;
+            out.text(")")
         }
         Expr::Range { low, high, .. } => {
             show_expr(low, out)?;
             out.text("..")?;
-            show_expr(high, out)?;
+            show_expr(high, out)
         }
-        _ => show_leaf(tree, out)?,
+        _ => show_leaf(tree, out),
     }
-    Ok(())
 }
 
 /// Expressions behind a word, and the end of what they are parts of.

@@ -6,7 +6,8 @@ use crate::trees::types::{
 };
 use arc_base::{Memory, Place};
 use nim_tree::{
-    AssignOp, Binding, Branch, Def, Expr, Handler, Over, Param, ParamMode, ProcHead, Stmt,
+    AssignOp, Binding, Branch, Def, Expr, Handler, Name, Over, Param, ParamMode, ProcHead, Stmt,
+    TypeDef,
 };
 
 fn assign_text(op: AssignOp) -> &'static str {
@@ -106,6 +107,37 @@ fn show_over(over: &Over, out: &mut Printed) -> Result<(), Memory> {
     }
 }
 
+fn show_import(names: &[Name], out: &mut Printed) -> Result<(), Memory> {
+    out.text("(import")?;
+    show_names(names, out)?;
+    out.text(")")
+}
+
+fn show_assign(op: AssignOp, target: &Expr, value: &Expr, out: &mut Printed) -> Result<(), Memory> {
+    out.text(assign_text(op))?;
+    show_expr(target, out)?;
+    out.text(" ")?;
+    show_expr(value, out)?;
+    out.text(")")
+}
+
+fn show_command(callee: &Expr, operands: &[Expr], out: &mut Printed) -> Result<(), Memory> {
+    show_expr(callee, out)?;
+    show_parts("(do", operands, out)
+}
+
+fn show_define(binding: Binding, defs: &[Def], out: &mut Printed) -> Result<(), Memory> {
+    out.text(binding_text(binding))?;
+    show_defs(defs, out)?;
+    out.text(")")
+}
+
+fn show_type_section(defs: &[TypeDef], out: &mut Printed) -> Result<(), Memory> {
+    out.text("(type")?;
+    show_typedefs(defs, out)?;
+    out.text(")")
+}
+
 fn show_simple(stmt: &Stmt, out: &mut Printed) -> Result<(), Memory> {
     match stmt {
         Stmt::Discard { value, .. } => show_optional("(discard", value, out),
@@ -113,41 +145,20 @@ fn show_simple(stmt: &Stmt, out: &mut Printed) -> Result<(), Memory> {
         Stmt::Raise { value, .. } => show_optional("(raise", value, out),
         Stmt::Break { .. } => out.text("(break)"),
         Stmt::Continue { .. } => out.text("(continue)"),
-        Stmt::Import { names, .. } => {
-            out.text("(import")?;
-            show_names(names, out)?;
-            out.text(")")
-        }
+        Stmt::Import { names, .. } => show_import(names, out),
         Stmt::Assign {
             op,
             target,
             value,
             ..
-        } => {
-            out.text(assign_text(*op))?;
-            show_expr(target, out)?;
-            out.text(" ")?;
-            show_expr(value, out)?;
-            out.text(")")
-        }
+        } => show_assign(*op, target, value, out),
         Stmt::Command {
             callee,
             operands,
             ..
-        } => {
-            show_expr(callee, out)?;
-            show_parts("(do", operands, out)
-        }
-        Stmt::Define { binding, defs, .. } => {
-            out.text(binding_text(*binding))?;
-            show_defs(defs, out)?;
-            out.text(")")
-        }
-        Stmt::Types { defs, .. } => {
-            out.text("(type")?;
-            show_typedefs(defs, out)?;
-            out.text(")")
-        }
+        } => show_command(callee, operands, out),
+        Stmt::Define { binding, defs, .. } => show_define(*binding, defs, out),
+        Stmt::Types { defs, .. } => show_type_section(defs, out),
         _ => Ok(()),
     }
 }
