@@ -1,21 +1,22 @@
 // Rows against what the calls give.
 ghost use Rattle.std.specs.Prelude.{◌<◌, ◌^◌, length};
 
-use crate::calls::{check_call, check_commands};
+use crate::calls::check_call;
 use crate::commands::command_of;
 use crate::declarations::{Declaration, show_declaration};
 use crate::given::is_of_files;
 use crate::instructions::show_decoded;
 use crate::parsed::{
-    show_callee, show_counts, show_end, show_first_expr, show_imports, show_refusal, show_tree,
+    show_callee, show_counts, show_end, show_first_expr, show_imports, show_placed_expr,
+    show_placed_tree, show_refusal, show_tree,
 };
 use crate::printed::Printed;
 use crate::report::Report;
-use crate::rows::Row;
-use crate::runs::{Ran, run_of};
+use crate::rows::{Part, Row};
+use crate::runs::{check_program, has_run, is_of_run};
 use crate::scanned::{show_characters, show_places, show_text, show_tokens};
-use crate::steps::step_of;
-use arc_base::{Memory, Stream};
+use crate::steps::{OneStep, step_of};
+use arc_base::Memory;
 use std::alloc::Global;
 
 /// The most bytes of a source that is scanned.
@@ -32,6 +33,12 @@ enum Found {
     Unknown,
 }
 
+// That something was shown, unless there was no memory.
+fn shown(added: Result<(), Memory>) -> Result<Found, Memory> {
+    added?;
+    Ok(Found::Shown)
+}
+
 // What the scanner and the parsers give.
 fn show_of_source(
     alloc: Global,
@@ -42,28 +49,61 @@ fn show_of_source(
     requires { length source.now < 2 ^ 20 }
 {
     match name {
-        "tokens" => show_tokens(alloc, source, out)?,
-        "places" => show_places(alloc, source, out)?,
-        "text" => show_text(alloc, source, out)?,
-        "characters" => show_characters(alloc, source, out)?,
-        "tree" => show_tree(alloc, source, out)?,
-        "placed tree" => {
-            out.with_places();
-            show_tree(alloc, source, out)?;
-        }
-        "refusal" => show_refusal(alloc, source, out)?,
-        "counts" => show_counts(alloc, source, out)?,
-        "imports" => show_imports(alloc, source, out)?,
-        "expr" => show_first_expr(alloc, source, out)?,
-        "placed expr" => {
-            out.with_places();
-            show_first_expr(alloc, source, out)?;
-        }
-        "expr end" => show_end(alloc, source, out)?,
-        "callee" => show_callee(alloc, source, out)?,
-        _ => return show_of_declaration(alloc, source, name, out),
+        "tokens" => shown(show_tokens(alloc, source, out)),
+        "places" => shown(show_places(alloc, source, out)),
+        "text" => shown(show_text(alloc, source, out)),
+        "characters" => shown(show_characters(alloc, source, out)),
+        _ => show_of_module(alloc, source, name, out),
     }
-    Ok(Found::Shown)
+}
+
+// What the parser of modules gives, and those below it.
+fn show_of_module(
+    alloc: Global,
+    source: &[u8],
+    name: &str,
+    out: &mut Printed,
+) -> Result<Found, Memory>
+    requires { length source.now < 2 ^ 20 }
+{
+    match name {
+        "tree" => shown(show_tree(alloc, source, out)),
+        "placed tree" => shown(show_placed_tree(alloc, source, out)),
+        "refusal" => shown(show_refusal(alloc, source, out)),
+        "counts" => shown(show_counts(alloc, source, out)),
+        "imports" => shown(show_imports(alloc, source, out)),
+        _ => show_of_expr(alloc, source, name, out),
+    }
+}
+
+// What the parser of expressions gives, and that of declarations.
+fn show_of_expr(
+    alloc: Global,
+    source: &[u8],
+    name: &str,
+    out: &mut Printed,
+) -> Result<Found, Memory>
+    requires { length source.now < 2 ^ 20 }
+{
+    match name {
+        "expr" => shown(show_first_expr(alloc, source, out)),
+        "placed expr" => shown(show_placed_expr(alloc, source, out)),
+        "expr end" => shown(show_end(alloc, source, out)),
+        "callee" => shown(show_callee(alloc, source, out)),
+        _ => show_of_declaration(alloc, source, name, out),
+    }
+}
+
+// The declaration that a part is of.
+fn declaration_of(name: &str) -> Option<Declaration> {
+    match name {
+        "names" => Some(Declaration::Names),
+        "definition" => Some(Declaration::Definition),
+        "definitions" => Some(Declaration::Definitions),
+        "types" => Some(Declaration::Types),
+        "head" => Some(Declaration::Head),
+        _ => None,
+    }
 }
 
 // What the parser of declarations gives.
@@ -75,16 +115,10 @@ fn show_of_declaration(
 ) -> Result<Found, Memory>
     requires { length source.now < 2 ^ 20 }
 {
-    let declaration = match name {
-        "names" => Declaration::Names,
-        "definition" => Declaration::Definition,
-        "definitions" => Declaration::Definitions,
-        "types" => Declaration::Types,
-        "head" => Declaration::Head,
-        _ => return Ok(Found::Unknown),
-    };
-    show_declaration(alloc, declaration, source, out)?;
-    Ok(Found::Shown)
+    match declaration_of(name) {
+        Some(declaration) => shown(show_declaration(alloc, declaration, source, out)),
+        None => Ok(Found::Unknown),
+    }
 }
 
 // The number to base 16 in a part; 0 where there is none.
@@ -95,65 +129,103 @@ fn number_in(row: &Row, name: &str) -> u32 {
     }
 }
 
+// What a step of the machine gives.
+fn show_of_step(
+    alloc: Global,
+    step: &OneStep,
+    name: &str,
+    out: &mut Printed,
+) -> Result<Found, Memory> {
+    match name {
+        "step" => shown(step.show(alloc, out)),
+        "x3" => shown(step.show_value(alloc, out)),
+        "pc" => shown(step.show_counter(alloc, out)),
+        "data" => shown(step.show_data(alloc, out)),
+        _ => Ok(Found::Unknown),
+    }
+}
+
 // What the machine gives.
 fn show_of_word(alloc: Global, row: &Row, name: &str, out: &mut Printed) -> Result<Found, Memory> {
     let word = number_in(row, "word");
     if name == "instruction" {
-        show_decoded(word, out)?;
-        return Ok(Found::Shown);
+        return shown(show_decoded(word, out));
     }
     let step = step_of(alloc, word, number_in(row, "x1"), number_in(row, "x2"))?;
-    match name {
-        "step" => step.show(alloc, out)?,
-        "x3" => step.show_value(alloc, out)?,
-        "pc" => step.show_counter(alloc, out)?,
-        "data" => step.show_data(alloc, out)?,
-        _ => return Ok(Found::Unknown),
+    show_of_step(alloc, &step, name, out)
+}
+
+// The offsets in the name of a part.
+fn offsets_of(range: &str) -> Option<(usize, usize)> {
+    let (from, to) = range.split_once(' ')?;
+    match (from.parse::<usize>(), to.parse::<usize>()) {
+        (Ok(from), Ok(to)) => Some((from, to)),
+        _ => None,
     }
-    Ok(Found::Shown)
 }
 
 // The bytes of the built file from one offset to another, both in the part's name.
 fn show_bytes(alloc: Global, row: &Row, range: &str, out: &mut Printed) -> Result<Found, Memory> {
-    let Some((from, to)) = range.split_once(' ') else {
-        return Ok(Found::Unknown);
-    };
-    let (Ok(from), Ok(to)) = (from.parse::<usize>(), to.parse::<usize>()) else {
+    let Some((from, to)) = offsets_of(range) else {
         return Ok(Found::Unknown);
     };
     let done = command_of(alloc, row)?;
     let bytes = done.file().and_then(|file| file.get(from..to));
-    out.hex_bytes(bytes.unwrap_or(b""))?;
-    Ok(Found::Shown)
+    shown(out.hex_bytes(bytes.unwrap_or(b"")))
+}
+
+// What the command of a row answers.
+fn show_answer(alloc: Global, row: &Row, out: &mut Printed) -> Result<Found, Memory> {
+    let done = command_of(alloc, row)?;
+    shown(done.show(alloc, row, out))
+}
+
+// Whether a part is given to a command or the machine.
+fn is_of_command(name: &str) -> bool {
+    matches!(
+        name,
+        "source" | "words" | "input" | "steps" | "word" | "x1" | "x2"
+    )
+}
+
+// Whether a part says what fails outside.
+fn is_of_faults(name: &str) -> bool {
+    matches!(
+        name,
+        "failing files" | "failing input" | "failing out" | "failing err"
+    )
+}
+
+// Whether a part is given, or is compared with what a program or a whole call does.
+fn is_given(name: &str) -> bool {
+    is_of_command(name)
+        || is_of_faults(name)
+        || is_of_files(name)
+        || is_of_run(name)
+        || matches!(name, "call" | "stored" | "left")
+}
+
+// What the calls give that scan, parse or step.
+fn show_of_calls(alloc: Global, row: &Row, name: &str, out: &mut Printed) -> Result<Found, Memory> {
+    let Some(source) = row.part("source") else {
+        return show_of_word(alloc, row, name, out);
+    };
+    if source.len() > SOURCE_MOST {
+        return Ok(Found::Unknown);
+    }
+    show_of_source(alloc, source, name, out)
 }
 
 fn show_found(alloc: Global, row: &Row, name: &str, out: &mut Printed) -> Result<Found, Memory> {
-    match name {
-        "source" | "words" | "input" | "word" | "x1" | "x2" | "steps" => return Ok(Found::Given),
-        "failing files" | "failing input" | "failing out" | "failing err" => {
-            return Ok(Found::Given);
-        }
-        // compared elsewhere
-        "call" | "stored" | "left" | "status" => return Ok(Found::Given),
-        "out" | "out begins" | "out within" | "err" | "err begins" | "err within" => {
-            return Ok(Found::Given);
-        }
-        "answer" => {
-            command_of(alloc, row)?.show(alloc, row, out)?;
-            return Ok(Found::Shown);
-        }
-        _ => {}
-    }
-    if is_of_files(name) {
+    if is_given(name) {
         return Ok(Found::Given);
     }
-    if let Some(range) = name.strip_prefix("bytes ") {
-        return show_bytes(alloc, row, range, out);
+    if name == "answer" {
+        return show_answer(alloc, row, out);
     }
-    match row.part("source") {
-        Some(source) if source.len() <= SOURCE_MOST => show_of_source(alloc, source, name, out),
-        Some(_) => Ok(Found::Unknown),
-        None => show_of_word(alloc, row, name, out),
+    match name.strip_prefix("bytes ") {
+        Some(range) => show_bytes(alloc, row, range, out),
+        None => show_of_calls(alloc, row, name, out),
     }
 }
 
@@ -170,50 +242,34 @@ fn joined(alloc: Global, lines: &[u8]) -> Result<Printed, Memory> {
     Ok(one)
 }
 
-// Compares what a call gives with what is wanted in a part.
-fn check_part(
+// Compares what was shown with what is wanted in a part.
+fn check_shown(
     alloc: Global,
     row: &Row,
-    name: &str,
-    wanted: &[u8],
+    part: &Part,
+    found: &[u8],
     report: &mut Report,
 ) -> Result<(), Memory> {
+    let wanted = joined(alloc, part.content.as_slice())?;
+    let wanted = wanted.as_slice().trim_ascii();
+    report.expect_same(row.line, part.name.as_str(), wanted, found.trim_ascii())
+}
+
+// Compares what a call gives with what is wanted in a part.
+fn check_part(alloc: Global, row: &Row, part: &Part, report: &mut Report) -> Result<(), Memory> {
     let mut found = Printed::new(alloc);
-    match show_found(alloc, row, name, &mut found)? {
+    match show_found(alloc, row, part.name.as_str(), &mut found)? {
         Found::Given => Ok(()),
-        Found::Unknown => report.say(row.line, "no such part: ", name),
-        Found::Shown => {
-            let wanted = joined(alloc, wanted)?;
-            let wanted = wanted.as_slice().trim_ascii();
-            let found = found.as_slice().trim_ascii();
-            if wanted != found {
-                report.differ(row.line, name, wanted, found)?;
-            }
-            Ok(())
-        }
+        Found::Unknown => report.say(row.line, "no such part: ", part.name.as_str()),
+        Found::Shown => check_shown(alloc, row, part, found.as_slice(), report),
     }
 }
 
-// Compares what a program did with what is wanted. It is to write nothing and to end with status 0 where nothing is said.
-fn check_run(alloc: Global, row: &Row, ran: &Ran, report: &mut Report) -> Result<(), Memory> {
-    report.compare(row, Stream::Out, ran.out.as_slice())?;
-    report.compare(row, Stream::Err, ran.err.as_slice())?;
-    let mut status = Printed::new(alloc);
-    ran.show_status(&mut status)?;
-    let wanted = row.part("status").unwrap_or(b"0").trim_ascii();
-    if wanted != status.as_slice() {
-        report.differ(row.line, "status", wanted, status.as_slice())?;
+fn check_parts(alloc: Global, row: &Row, report: &mut Report) -> Result<(), Memory> {
+    for part in &row.parts {
+        check_part(alloc, row, part, report)?;
     }
     Ok(())
-}
-
-// Whether a row says what a program does.
-fn has_run(row: &Row) -> bool {
-    let mut has = false;
-    for name in ["out", "out begins", "err", "status"] {
-        has = has || row.part(name).is_some();
-    }
-    has
 }
 
 /// Compares a row with what the calls give.
@@ -221,25 +277,12 @@ pub fn check_row(alloc: Global, row: &Row, report: &mut Report) -> Result<(), Me
     if row.bad {
         return report.say(row.line, "no row", "");
     }
-    for part in &row.parts {
-        check_part(
-            alloc,
-            row,
-            part.name.as_str(),
-            part.content.as_slice(),
-            report,
-        )?;
-    }
+    check_parts(alloc, row, report)?;
     if row.part("call").is_some() {
         return check_call(alloc, row, report);
     }
     if has_run(row) {
-        let done = command_of(alloc, row)?;
-        let ran = run_of(alloc, row, &done)?;
-        check_run(alloc, row, &ran, report)?;
-        if ran.has_file() && row.part("words").is_none() {
-            check_commands(alloc, row, report)?;
-        }
+        return check_program(alloc, row, report);
     }
     Ok(())
 }

@@ -1,11 +1,13 @@
 // Commands of the compiler, over files, a source and sinks in memory.
-use crate::given::{MAIN, TARGET, are_same_but, faults_of, files_of};
+use crate::given::{MAIN, TARGET, are_same_but, copied, faults_of, files_of};
 use crate::printed::Printed;
 use crate::rows::Row;
 use arc_base::{
-    Bytes, MemFiles, MemSink, MemSource, Memory, Source, Stop, SureFiles, SureSink, SureSource,
+    Bytes, Code, MemFiles, MemSink, MemSource, Memory, Place, Source, Stop, Stream, SureFiles,
+    SureSink, SureSource,
 };
-use arc_top::{Answer, nimarc};
+use arc_top::{Answer, FileName, nimarc};
+use rv32_isa::FaultKind;
 use std::alloc::Global;
 
 /// The words of a command, where a row gives none.
@@ -18,6 +20,9 @@ const BUILD_LEAST: &[u8] = b"build\nt.nim\no\n--heap=4096\n";
 const OUT_ROOM: usize = 16_384;
 
 const ERR_ROOM: usize = 512;
+
+/// The line of a call whose steps are spent.
+const SPENT: &[u8] = b"nimarc: steps spent\n";
 
 /// The most bytes of input that may be left.
 const LEFT_MOST: usize = 1024;
@@ -34,14 +39,27 @@ pub struct Done {
 
 // The words, each on a line.
 fn words_of(alloc: Global, lines: &[u8]) -> Result<Vec<String>, Memory> {
-    let mut words = Vec::new(alloc);
     let Ok(lines) = std::str::from_utf8(lines) else {
-        return Ok(words);
+        return Ok(Vec::new(alloc));
     };
+    let mut words = Vec::new(alloc);
     for line in lines.lines() {
         words.push(String::from_str(alloc, line)?)?;
     }
     Ok(words)
+}
+
+// The input of a row, with its faults.
+fn input_of(alloc: Global, row: &Row) -> Result<MemSource, Memory> {
+    let faults = faults_of(alloc, row, "failing input")?;
+    let input = copied(alloc, row.part("input").unwrap_or(b""))?;
+    Ok(MemSource::new(input, faults))
+}
+
+// A stream that takes so many bytes, with the faults that a part has.
+fn sink_of(alloc: Global, row: &Row, room: usize, failing: &str) -> Result<MemSink, Memory> {
+    let faults = faults_of(alloc, row, failing)?;
+    MemSink::new(alloc, room, faults)
 }
 
 /// Carries out a command over files, with the input and the faults of a row.
@@ -53,11 +71,9 @@ pub fn carried_out(
 ) -> Result<Done, Memory> {
     let words = words_of(alloc, words)?;
     let mut files = files;
-    let mut given = Bytes::new(alloc);
-    given.append(row.part("input").unwrap_or(b""))?;
-    let mut input = MemSource::new(given, faults_of(alloc, row, "failing input")?);
-    let mut out = MemSink::new(alloc, OUT_ROOM, faults_of(alloc, row, "failing out")?)?;
-    let mut err = MemSink::new(alloc, ERR_ROOM, faults_of(alloc, row, "failing err")?)?;
+    let mut input = input_of(alloc, row)?;
+    let mut out = sink_of(alloc, row, OUT_ROOM, "failing out")?;
+    let mut err = sink_of(alloc, row, ERR_ROOM, "failing err")?;
     let answer = nimarc(
         alloc,
         words.as_slice(),
@@ -103,9 +119,7 @@ pub fn built_file(alloc: Global, source: &[u8]) -> Result<Bytes, Memory> {
     if matches!(answer, Answer::Memory) {
         return Err(Memory);
     }
-    let mut built = Bytes::new(alloc);
-    built.append(files.entry(TARGET).unwrap_or(b""))?;
-    Ok(built)
+    copied(alloc, files.entry(TARGET).unwrap_or(b""))
 }
 
 impl Done {
@@ -125,6 +139,15 @@ impl Done {
     /// What it wrote to standard error.
     pub fn err(&self) -> &[u8] {
         self.err.written()
+    }
+
+    /// What the program that it ran wrote to standard error: all but the line on spent steps,
+    /// without which there is no answer where they are spent.
+    pub fn err_of_program(&self) -> Option<&[u8]> {
+        match self.answer {
+            Answer::StepsSpent(_) => self.err().strip_suffix(SPENT),
+            _ => Some(self.err()),
+        }
     }
 
     /// Takes the input that is left.
@@ -156,6 +179,53 @@ impl Done {
         out.text(" ")?;
         show_answer(alloc, &self.answer, out)
     }
+
+    /// How the program that it ran ended: its status, `running` where its steps are spent, or
+    /// another answer.
+    pub fn show_end(&self, alloc: Global, out: &mut Printed) -> Result<(), Memory> {
+        match &self.answer {
+            Answer::Ended(status) => out.number(i64::from(*status)),
+            Answer::StepsSpent(_) => out.text("running"),
+            _ => self.show_answer(alloc, out),
+        }
+    }
+}
+
+// The word of an answer, and the name of a file.
+fn show_named(word: &str, name: &FileName, out: &mut Printed) -> Result<(), Memory> {
+    out.text(word)?;
+    out.raw(name.as_bytes())
+}
+
+// A refusal of a source.
+fn show_refused(code: Code, at: Place, out: &mut Printed) -> Result<(), Memory> {
+    out.text("Refused ")?;
+    out.stop(Stop::Refused { code, at })
+}
+
+// A fault of the machine, with its address and word.
+fn show_machine_fault(
+    alloc: Global,
+    kind: FaultKind,
+    pc: u32,
+    word: u32,
+    out: &mut Printed,
+) -> Result<(), Memory> {
+    let text = format!(in alloc; "MachineFault {kind:?} ")?;
+    out.text(text.as_str())?;
+    out.hex(pc)?;
+    out.text(" ")?;
+    out.hex(word)
+}
+
+fn show_spent(steps: u32, out: &mut Printed) -> Result<(), Memory> {
+    out.text("StepsSpent ")?;
+    out.number(i64::from(steps))
+}
+
+fn show_write_fault(alloc: Global, stream: Stream, out: &mut Printed) -> Result<(), Memory> {
+    let text = format!(in alloc; "WriteFault {stream:?}")?;
+    out.text(text.as_str())
 }
 
 // A name, and what an answer holds, in Rust's form.
@@ -164,41 +234,19 @@ fn show_answer(alloc: Global, answer: &Answer, out: &mut Printed) -> Result<(), 
         Answer::Done => out.text("Done"),
         Answer::Ended(_) => out.text("Ended"),
         Answer::Usage => out.text("Usage"),
-        Answer::NoFile(name) => {
-            out.text("NoFile ")?;
-            out.raw(name.as_bytes())
-        }
-        Answer::TooLong(name) => {
-            out.text("TooLong ")?;
-            out.raw(name.as_bytes())
-        }
-        Answer::Refused { code, at } => {
-            out.text("Refused ")?;
-            out.stop(Stop::Refused {
-                code: *code,
-                at: *at,
-            })
-        }
+        Answer::NoFile(name) => show_named("NoFile ", name, out),
+        Answer::TooLong(name) => show_named("TooLong ", name, out),
+        Answer::Refused { code, at } => show_refused(*code, *at, out),
         Answer::BadElf(fault) => {
             let text = format!(in alloc; "BadElf {fault:?}")?;
             out.text(text.as_str())
         }
         Answer::MachineFault { kind, pc, word } => {
-            let text = format!(in alloc; "MachineFault {kind:?} ")?;
-            out.text(text.as_str())?;
-            out.hex(*pc)?;
-            out.text(" ")?;
-            out.hex(*word)
+            show_machine_fault(alloc, *kind, *pc, *word, out)
         }
-        Answer::StepsSpent(steps) => {
-            out.text("StepsSpent ")?;
-            out.number(i64::from(*steps))
-        }
+        Answer::StepsSpent(steps) => show_spent(*steps, out),
         Answer::ReadFault => out.text("ReadFault"),
-        Answer::WriteFault(stream) => {
-            let text = format!(in alloc; "WriteFault {stream:?}")?;
-            out.text(text.as_str())
-        }
+        Answer::WriteFault(stream) => show_write_fault(alloc, *stream, out),
         Answer::StoreFault => out.text("StoreFault"),
         Answer::Memory => out.text("Memory"),
     }

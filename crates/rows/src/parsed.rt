@@ -5,7 +5,7 @@ use crate::printed::Printed;
 use crate::trees::{show_expr, show_stmts};
 use arc_base::{Memory, Stop};
 use indent_scanner::scan;
-use nim_tree::{Module, block_depth, expr_depth, nodes};
+use nim_tree::{Import, Module, block_depth, expr_depth, nodes};
 use parse_exprs::{Parsed, callee, expr};
 use parse_stmts::parse;
 use std::alloc::Global;
@@ -27,6 +27,14 @@ pub fn show_tree(alloc: Global, source: &[u8], out: &mut Printed) -> Result<(), 
     }
 }
 
+/// The same with the place of each part.
+pub fn show_placed_tree(alloc: Global, source: &[u8], out: &mut Printed) -> Result<(), Memory>
+    requires { length source.now < 2 ^ 20 }
+{
+    out.with_places();
+    show_tree(alloc, source, out)
+}
+
 /// The refusal of a module, or that there is none.
 pub fn show_refusal(alloc: Global, source: &[u8], out: &mut Printed) -> Result<(), Memory>
     requires { length source.now < 2 ^ 20 }
@@ -37,20 +45,30 @@ pub fn show_refusal(alloc: Global, source: &[u8], out: &mut Printed) -> Result<(
     }
 }
 
+fn show_counts_of(tree: &Module, out: &mut Printed) -> Result<(), Memory> {
+    out.pair(block_depth(tree), " ", expr_depth(tree))?;
+    out.text(" ")?;
+    out.number(i64::from(nodes(tree)))
+}
+
 /// The levels of blocks and of expressions of a module, and the number of its nodes.
 pub fn show_counts(alloc: Global, source: &[u8], out: &mut Printed) -> Result<(), Memory>
     requires { length source.now < 2 ^ 20 }
 {
     match tree_of(alloc, source) {
-        Ok(tree) => {
-            out.number(i64::from(block_depth(&tree)))?;
-            out.text(" ")?;
-            out.number(i64::from(expr_depth(&tree)))?;
-            out.text(" ")?;
-            out.number(i64::from(nodes(&tree)))
-        }
+        Ok(tree) => show_counts_of(&tree, out),
         Err(stop) => out.stop(stop),
     }
+}
+
+fn show_all_imports(imports: &[Import], out: &mut Printed) -> Result<(), Memory> {
+    out.with_places();
+    for import in imports {
+        out.text(" ")?;
+        out.raw(import.text.as_slice())?;
+        out.at(import.at)?;
+    }
+    Ok(())
 }
 
 /// The modules that a module imports, and where, with a space before each.
@@ -58,15 +76,7 @@ pub fn show_imports(alloc: Global, source: &[u8], out: &mut Printed) -> Result<(
     requires { length source.now < 2 ^ 20 }
 {
     match tree_of(alloc, source) {
-        Ok(tree) => {
-            out.with_places();
-            for import in &tree.imports {
-                out.text(" ")?;
-                out.raw(import.text.as_slice())?;
-                out.at(import.at)?;
-            }
-            Ok(())
-        }
+        Ok(tree) => show_all_imports(&tree.imports, out),
         Err(stop) => out.stop(stop),
     }
 }
@@ -93,6 +103,14 @@ pub fn show_first_expr(alloc: Global, source: &[u8], out: &mut Printed) -> Resul
     requires { length source.now < 2 ^ 20 }
 {
     show_parsed(read_expr(alloc, source), out)
+}
+
+/// The same with the place of each part.
+pub fn show_placed_expr(alloc: Global, source: &[u8], out: &mut Printed) -> Result<(), Memory>
+    requires { length source.now < 2 ^ 20 }
+{
+    out.with_places();
+    show_first_expr(alloc, source, out)
 }
 
 /// Where the expression at the first token ends.

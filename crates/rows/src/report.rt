@@ -11,37 +11,74 @@ pub struct Report<'a> {
     pub differs: bool,
 }
 
+// Adds what is said of a row: where it stands, what is wrong, and why.
+fn put_said(
+    lines: &mut Printed,
+    file: &str,
+    line: u32,
+    what: &str,
+    why: &str,
+) -> Result<(), Memory> {
+    lines.text(file)?;
+    lines.text(":")?;
+    lines.number(i64::from(line))?;
+    lines.text(": ")?;
+    lines.text(what)?;
+    lines.text(why)
+}
+
+// Adds what was wanted and what was found, and the end of the line.
+fn put_values(lines: &mut Printed, wanted: &[u8], found: &[u8]) -> Result<(), Memory> {
+    lines.raw(wanted)?;
+    lines.text(", found ")?;
+    lines.raw(found)?;
+    lines.text("\n")
+}
+
 impl Report<'_> {
-    fn begin(&mut self, line: u32, what: &str) -> Result<(), Memory> {
+    // Says what is wrong with a row, without the end of the line.
+    fn begin(&mut self, line: u32, what: &str, why: &str) -> Result<(), Memory> {
         self.differs = true;
-        self.lines.text(self.file)?;
-        self.lines.text(":")?;
-        self.lines.number(i64::from(line))?;
-        self.lines.text(": ")?;
-        self.lines.text(what)
+        put_said(&mut self.lines, self.file, line, what, why)
     }
 
     /// That a row can't be read, and why.
     pub fn say(&mut self, line: u32, what: &str, why: &str) -> Result<(), Memory> {
-        self.begin(line, what)?;
-        self.lines.text(why)?;
+        self.begin(line, what, why)?;
         self.lines.text("\n")
     }
 
-    /// That a part differs.
-    pub fn differ(
+    // That a part differs.
+    fn differ(&mut self, line: u32, name: &str, wanted: &[u8], found: &[u8]) -> Result<(), Memory> {
+        self.begin(line, name, ": wanted ")?;
+        put_values(&mut self.lines, wanted, found)
+    }
+
+    /// That a part differs, unless it holds.
+    pub fn expect(
+        &mut self,
+        holds: bool,
+        line: u32,
+        name: &str,
+        wanted: &[u8],
+        found: &[u8],
+    ) -> Result<(), Memory> {
+        if holds {
+            Ok(())
+        } else {
+            self.differ(line, name, wanted, found)
+        }
+    }
+
+    /// That a part differs, unless what is wanted was found.
+    pub fn expect_same(
         &mut self,
         line: u32,
         name: &str,
         wanted: &[u8],
         found: &[u8],
     ) -> Result<(), Memory> {
-        self.begin(line, name)?;
-        self.lines.text(": wanted ")?;
-        self.lines.raw(wanted)?;
-        self.lines.text(", found ")?;
-        self.lines.raw(found)?;
-        self.lines.text("\n")
+        self.expect(wanted == found, line, name, wanted, found)
     }
 
     /// Compares what was written to a stream with what a row wants: all of it, what it begins with,
@@ -52,19 +89,12 @@ impl Report<'_> {
             Stream::Err => ("err", "err begins", "err within"),
         };
         if let Some(wanted) = row.part(begins) {
-            if !found.starts_with(wanted) {
-                self.differ(row.line, begins, wanted, found)?;
-            }
-        } else if let Some(wanted) = row.part(within) {
-            if !wanted.starts_with(found) {
-                self.differ(row.line, within, wanted, found)?;
-            }
-        } else {
-            let wanted = row.part(whole).unwrap_or(b"");
-            if wanted != found {
-                self.differ(row.line, whole, wanted, found)?;
-            }
+            return self.expect(found.starts_with(wanted), row.line, begins, wanted, found);
         }
-        Ok(())
+        if let Some(wanted) = row.part(within) {
+            return self.expect(wanted.starts_with(found), row.line, within, wanted, found);
+        }
+        let wanted = row.part(whole).unwrap_or(b"");
+        self.expect_same(row.line, whole, wanted, found)
     }
 }

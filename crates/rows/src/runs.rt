@@ -1,158 +1,35 @@
-// Runs of the file that a command built.
-ghost use Rattle.std.specs.Prelude.{◌<◌};
-
-use crate::commands::Done;
+// Rows of programs: what a source does by `run`, and what its file does by `exec`.
+use crate::commands::{Done, built_file, carried_out};
+use crate::given::{MAIN, TARGET, files_of};
 use crate::printed::Printed;
+use crate::report::Report;
 use crate::rows::Row;
-use arc_base::{Bytes, Items, Memory};
-use byteorder::{ByteOrder, LittleEndian};
-use rv32_isa::{Image, Machine, Stepped, step};
+use arc_base::{MemFiles, Memory, Stream};
 use std::alloc::Global;
-
-/// Where the first program header stands, and how long one is.
-const SEGMENTS_AT: usize = 52;
-
-const SEGMENT_SIZE: usize = 32;
-
-/// The fields of a program header: where its bytes stand in the file, and how many they are.
-const OFFSET: usize = 4;
-
-const FILE_SIZE: usize = 16;
 
 /// The most instructions of a run, where a row says nothing of it.
 const STEPS: u32 = 1_000_000;
 
-/// The size of the stack.
-const STACK: u32 = 65_536;
-
-/// The register with the number of a call of the environment, and those of its arguments.
-const NUMBER: u32 = 17;
-
-const WRITE: u32 = 64;
-
-const EXIT: u32 = 93;
-
-/// How a run ended.
-#[derive(Clone, Copy)]
-enum End {
-    /// With a status.
-    Exited(u32),
-    /// It was still running.
-    Running,
-    /// By a fault, or a call that the environment doesn't know.
-    Fault,
-    /// There was no file, or one of another form.
-    NoFile,
+/// Whether a part says what a program does.
+pub fn is_of_run(part: &str) -> bool {
+    matches!(
+        part,
+        "out" | "out begins" | "out within" | "err" | "err begins" | "err within" | "status"
+    )
 }
 
-/// What a run did.
-#[derive(Drop)]
-pub struct Ran {
-    pub out: Bytes,
-    pub err: Bytes,
-    end: End,
-}
-
-// The number of 32 bits at an offset; 0 where there is none.
-fn number_at(file: &[u8], at: usize) -> usize {
-    match file.get(at..) {
-        Some(rest) if rest.len() >= 4 => LittleEndian::read_u32(rest) as usize,
-        _ => 0,
-    }
-}
-
-// The bytes in the file of a program header.
-fn segment(file: &[u8], header: usize) -> &[u8]
-    requires { header < 8 }
-{
-    let at = SEGMENTS_AT + SEGMENT_SIZE * header;
-    let offset = number_at(file, at + OFFSET);
-    let size = number_at(file, at + FILE_SIZE);
-    match file.get(offset..offset.saturating_add(size)) {
-        Some(bytes) => bytes,
-        None => &[],
-    }
-}
-
-// The image in a file, but for its heap: no program uses it, so that a use is a fault.
-fn image_in(alloc: Global, file: &[u8]) -> Result<Option<Image>, Memory> {
-    let stored_code = segment(file, 0);
-    let stored_statics = segment(file, 1);
-    if stored_code.len() % 4 != 0 || stored_code.len() < 4 || stored_code.len() > 524_288 {
-        return Ok(None);
-    }
-    if stored_statics.len() % 4 != 0 || stored_statics.len() > 1_048_576 {
-        return Ok(None);
-    }
-    let mut code = Bytes::new(alloc);
-    code.append(stored_code)?;
-    let mut statics = Bytes::new(alloc);
-    statics.append(stored_statics)?;
-    Ok(Some(Image {
-        code,
-        statics,
-        heap: 0,
-        stack: STACK,
-        hooks: Items::new(alloc),
-    }))
-}
-
-impl Ran {
-    // A call of the environment: it writes bytes, or ends the run.
-    fn call(&mut self, machine: &mut Machine) -> Result<(), Memory> {
-        let number = machine.reg(NUMBER);
-        if number == EXIT {
-            self.end = End::Exited(machine.reg(10) % 256);
-            return Ok(());
-        }
-        let stream = machine.reg(10);
-        let count = machine.reg(12);
-        match machine.readable(machine.reg(11), count) {
-            Some(bytes) if number == WRITE && stream == 1 => self.out.append(bytes)?,
-            Some(bytes) if number == WRITE && stream == 2 => self.err.append(bytes)?,
-            _ => {
-                self.end = End::Fault;
-                return Ok(());
-            }
-        }
-        machine.set_reg(10, count);
-        machine.skip();
-        Ok(())
-    }
-
-    // Goes on for so many instructions, or to the end.
-    fn go_on(&mut self, machine: &mut Machine, most: u32) -> Result<(), Memory> {
-        for _ in 0..most {
-            match step(machine) {
-                Stepped::Went => {}
-                Stepped::Call => self.call(machine)?,
-                Stepped::Fault { .. } => self.end = End::Fault,
-            }
-            if !matches!(self.end, End::Running) {
-                break;
-            }
-        }
-        Ok(())
-    }
-
-    /// Whether there was a file to run.
-    pub fn has_file(&self) -> bool {
-        !matches!(self.end, End::NoFile)
-    }
-
-    /// The status, or how the run ended otherwise.
-    pub fn show_status(&self, out: &mut Printed) -> Result<(), Memory> {
-        match self.end {
-            End::Exited(status) => out.number(i64::from(status)),
-            End::Running => out.text("running"),
-            End::Fault => out.text("fault"),
-            End::NoFile => out.text("no file"),
+/// Whether a row says what a program does.
+pub fn has_run(row: &Row) -> bool {
+    for part in &row.parts {
+        if is_of_run(part.name.as_str()) {
+            return true;
         }
     }
+    false
 }
 
-/// The most instructions that a row asks for.
-pub fn steps_of(row: &Row) -> u32 {
+// The most instructions that a row asks for.
+fn steps_of(row: &Row) -> u32 {
     let Some(digits) = row.part("steps") else {
         return STEPS;
     };
@@ -162,20 +39,66 @@ pub fn steps_of(row: &Row) -> u32 {
     }
 }
 
-/// Runs what was built.
-pub fn run_of(alloc: Global, row: &Row, done: &Done) -> Result<Ran, Memory> {
-    let mut ran = Ran {
-        out: Bytes::new(alloc),
-        err: Bytes::new(alloc),
-        end: End::NoFile,
-    };
-    let Some(file) = done.file() else {
-        return Ok(ran);
-    };
-    if let Some(image) = image_in(alloc, file)? {
-        let mut machine = Machine::start(alloc, &image)?;
-        ran.end = End::Running;
-        ran.go_on(&mut machine, steps_of(row))?;
+// Compares how a program ended with what a row says: with status 0 where it says nothing.
+fn check_end(
+    alloc: Global,
+    row: &Row,
+    command: &str,
+    done: &Done,
+    report: &mut Report,
+) -> Result<(), Memory> {
+    let mut end = Printed::new(alloc);
+    done.show_end(alloc, &mut end)?;
+    let wanted = row.part("status").unwrap_or(b"0").trim_ascii();
+    report.expect_same(row.line, command, wanted, end.as_slice())
+}
+
+// Compares what a program did by a command with what a row says.
+fn check_done(
+    alloc: Global,
+    row: &Row,
+    command: &str,
+    done: &Done,
+    report: &mut Report,
+) -> Result<(), Memory> {
+    check_end(alloc, row, command, done, report)?;
+    report.compare(row, Stream::Out, done.out())?;
+    match done.err_of_program() {
+        Some(err) => report.compare(row, Stream::Err, err),
+        None => report.say(row.line, command, ": no line on spent steps"),
     }
-    Ok(ran)
+}
+
+fn check_by_run(alloc: Global, row: &Row, report: &mut Report) -> Result<(), Memory> {
+    let steps = steps_of(row);
+    let words = format!(in alloc; "run\n{MAIN}\n--heap=4096\n--steps={steps}\n")?;
+    let files = files_of(alloc, row)?;
+    let done = carried_out(alloc, row, words.as_str().as_bytes(), files)?;
+    check_done(alloc, row, "run", &done, report)
+}
+
+// The files of a row, with the file that is built from its source.
+fn files_with_built(alloc: Global, row: &Row) -> Result<MemFiles, Memory> {
+    let built = built_file(alloc, row.part("source").unwrap_or(b""))?;
+    let mut files = files_of(alloc, row)?;
+    files.add(TARGET, built.as_slice())?;
+    Ok(files)
+}
+
+fn check_by_exec(alloc: Global, row: &Row, report: &mut Report) -> Result<(), Memory> {
+    let steps = steps_of(row);
+    let words = format!(in alloc; "exec\n{TARGET}\n--steps={steps}\n")?;
+    let files = files_with_built(alloc, row)?;
+    let done = carried_out(alloc, row, words.as_str().as_bytes(), files)?;
+    check_done(alloc, row, "exec", &done, report)
+}
+
+/// Compares what a program does with what a row says. It writes nothing and ends with status 0
+/// where the row says nothing of it.
+pub fn check_program(alloc: Global, row: &Row, report: &mut Report) -> Result<(), Memory> {
+    if row.part("words").is_some() {
+        return report.say(row.line, "words of a program", "");
+    }
+    check_by_run(alloc, row, report)?;
+    check_by_exec(alloc, row, report)
 }
