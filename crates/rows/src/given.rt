@@ -57,19 +57,22 @@ fn part_for<'a>(row: &'a Row, kind: &str, name: &str) -> Option<&'a [u8]> {
     None
 }
 
+// Adds a byte behind its second digit. Gives the first one, where the second comes.
+fn put_digit(high: Option<u8>, digit: u8, bytes: &mut Bytes) -> Result<Option<u8>, Memory> {
+    let Some(high) = high else {
+        return Ok(Some(digit));
+    };
+    bytes.push((high << 4) | digit)?;
+    Ok(None)
+}
+
 /// The bytes of a text to base 16, where only digits count.
 pub fn hex_of(alloc: Global, text: &[u8]) -> Result<Bytes, Memory> {
     let mut bytes = Bytes::new(alloc);
     let mut high = None;
     for b in text {
         if let Some(digit) = digit_of(*b) {
-            match high {
-                None => high = Some(digit),
-                Some(first) => {
-                    bytes.push((first << 4) | digit)?;
-                    high = None;
-                }
-            }
+            high = put_digit(high, digit, &mut bytes)?;
         }
     }
     Ok(bytes)
@@ -193,21 +196,26 @@ pub fn is_of_files(part: &str) -> bool {
     }
 }
 
-// Whether both hold the same under a name.
-fn is_same(before: &MemFiles, after: &MemFiles, name: &str) -> bool {
-    before.entry(name) == after.entry(name)
+// Whether both hold the same under a name, or it is that of the file that may change.
+fn is_kept(before: &MemFiles, after: &MemFiles, name: &str, but: &str) -> bool {
+    name == but || before.entry(name) == after.entry(name)
+}
+
+// The same of all files that parts give.
+fn are_given_kept(row: &Row, before: &MemFiles, after: &MemFiles, but: &str) -> bool {
+    for part in &row.parts {
+        if let Some((_, name)) = form_of(part) {
+            if !is_kept(before, after, name, but) {
+                return false;
+            }
+        }
+    }
+    true
 }
 
 /// Whether the files of a row, but for that of a name, are in both the same.
 pub fn are_same_but(row: &Row, before: &MemFiles, after: &MemFiles, but: &str) -> bool {
-    let mut same = true;
-    for name in [MAIN, TARGET] {
-        same = same && (name == but || is_same(before, after, name));
-    }
-    for part in &row.parts {
-        if let Some((_, name)) = form_of(part) {
-            same = same && (name == but || is_same(before, after, name));
-        }
-    }
-    same
+    is_kept(before, after, MAIN, but)
+        && is_kept(before, after, TARGET, but)
+        && are_given_kept(row, before, after, but)
 }

@@ -53,15 +53,22 @@ pub fn step_of(alloc: Global, word: u32, first: u32, second: u32) -> Result<OneS
 }
 
 impl OneStep {
+    // Whether all registers but x1 and x2 are 0, as before the step.
+    fn are_others_zero(&self) -> bool {
+        for r in 3..32 {
+            if self.machine.reg(r) != 0 {
+                return false;
+            }
+        }
+        true
+    }
+
     // Whether registers and program counter are as before the step.
     fn is_unchanged(&self) -> bool {
-        let mut same = self.machine.pc() == CODE_AT
+        self.machine.pc() == CODE_AT
             && self.machine.reg(1) == self.first
-            && self.machine.reg(2) == self.second;
-        for r in 3..32 {
-            same = same && self.machine.reg(r) == 0;
-        }
-        same
+            && self.machine.reg(2) == self.second
+            && self.are_others_zero()
     }
 
     fn show_unless_changed(&self, text: &str, out: &mut Printed) -> Result<(), Memory> {
