@@ -5,7 +5,7 @@ use Rattle.arc_base.specs.Outside.{KeepsOthers, Stores}
 use Rattle.arc_base.specs.declared.outside.Loaded.TheVariants as loaded
 use Rattle.arc_base.specs.declared.outside.Stream.TheVariants.{Out, Err}
 use Rattle.elf32.specs.Elf.{File}
-use Rattle.nim_core.specs.Meaning.{meaning}
+use Rattle.int_core.specs.Meaning.{meaning}
 use Rattle.rv32_isa.specs.Image.{Image}
 use Rattle.rv32_isa.specs.State.{State, first_state}
 use Rattle.rv32_runner.specs.declared.runner.RunEnd.{RunEnd}

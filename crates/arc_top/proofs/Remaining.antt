@@ -6,7 +6,7 @@ use Rattle.arc_base.specs.declared.place.Code.{Code}
 use Rattle.elf32.specs.declared.file.ElfFault.{ElfFault}
 use Rattle.elf32.specs.Elf.{File, Elf}
 use Rattle.elf32.specs.Faults.{HasFault}
-use Rattle.nim_core.specs.Program.{Program}
+use Rattle.int_core.specs.Program.{Program}
 use Rattle.command_words.specs.Command.{Command, check, build, run, exec, file_of}
 use Rattle.source_compiler.specs.Source.{Module, Reads, Refuses, alone}
 use Rattle.source_compiler.specs.Compile.{IsProgram, source_most}

@@ -10,7 +10,7 @@ use Rattle.arc_base.specs.declared.outside.Loaded.TheVariants as loaded
 use Rattle.elf32.specs.declared.file.ElfFault.{ElfFault}
 use Rattle.elf32.specs.Elf.{File, Elf}
 use Rattle.elf32.specs.Faults.{HasFault}
-use Rattle.nim_core.specs.Meaning.{meaning}
+use Rattle.int_core.specs.Meaning.{meaning}
 use Rattle.rv32_runner.specs.Streams.{Streams, Tally}
 use Rattle.command_words.specs.Command.{Command, check, build, run, exec}
 use Rattle.source_compiler.specs.Source.{Module, alone}

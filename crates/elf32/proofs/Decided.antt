@@ -4,8 +4,8 @@ use Rattle.std.proofs.Common.{inr, subst, arith}
 use Rattle.std.proofs.lemmas.Bool.{cases_lt, cases_eq}
 use Rattle.std.proofs.lemmas.List.{length-append}
 use Rattle.std.specs.List.{flat_map}
-use Rattle.nim_core.specs.declared.plan.Act.{Act}
-use Rattle.nim_core.specs.declared.plan.Act.TheVariants.{Copy, Move, Final, Borrow}
+use Rattle.nim_plan.specs.declared.plan.Act.{Act}
+use Rattle.nim_plan.specs.declared.plan.Act.TheVariants.{Copy, Move, Final, Borrow}
 use Rattle.rv32_isa.specs.Words.{word_bytes}
 use Rattle.elf32.specs.Elf.{words, counted, hook_words, site_words, sink_words, skip_words, act_number}
 use Rattle.elf32.proofs.FilesWords.{parts_only, counted_only}

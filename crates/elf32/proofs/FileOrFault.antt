@@ -3,7 +3,7 @@ use Rattle.std.proofs.Common.{◌≡◌, ◌<◌, ℕ, ◌+◌, ◌%◌, List, [
 use Rattle.std.proofs.Common.{ltb, subst}
 use Rattle.std.specs.Prelude.{None}
 use Rattle.std.proofs.lemmas.List.{append-nil}
-use Rattle.nim_core.specs.declared.plan.Plan.{Plan}
+use Rattle.nim_plan.specs.declared.plan.Plan.{Plan}
 use Rattle.rv32_isa.specs.declared.image.HookAt.{HookAt}
 use Rattle.rv32_isa.specs.Hooks.{code_at, HooksStand}
 use Rattle.rv32_isa.specs.Words.{word_bytes}

@@ -3,10 +3,10 @@ use Rattle.std.proofs.Common.{◌≡◌, ◌≤◌, ◌<◌, ◌^◌, ℕ, ◌+�
 use Rattle.std.proofs.lemmas.List.{append_cancel_left}
 use Rattle.std.specs.Prelude.{codes}
 use Rattle.std.specs.List.{AllByRecursion, flat_map}
-use Rattle.nim_core.specs.declared.plan.Act.{Act}
-use Rattle.nim_core.specs.declared.plan.Act.TheVariants.{Copy, Move, Final, Borrow}
-use Rattle.nim_core.specs.declared.plan.SiteAct.{SiteAct}
-use Rattle.nim_core.specs.declared.plan.SkipAt.{SkipAt}
+use Rattle.nim_plan.specs.declared.plan.Act.{Act}
+use Rattle.nim_plan.specs.declared.plan.Act.TheVariants.{Copy, Move, Final, Borrow}
+use Rattle.nim_plan.specs.declared.plan.SiteAct.{SiteAct}
+use Rattle.nim_plan.specs.declared.plan.SkipAt.{SkipAt}
 use Rattle.rv32_isa.specs.declared.image.HookAt.{HookAt}
 use Rattle.rv32_isa.specs.Words.{word_bytes}
 use Rattle.rv32_isa.specs.Hooks.{code_at}

@@ -3,9 +3,9 @@ use Rattle.std.proofs.Common.{◌≡◌, ◌<◌, ◌≤◌, ◌^◌, ℕ, ◌*�
 use Rattle.std.proofs.lemmas.List.{length-append}
 use Rattle.std.proofs.Math.Nat.{div-lt_iff_lt-mul, mul_comm}
 use Rattle.std.specs.List.{flat_map}
-use Rattle.nim_core.specs.declared.plan.Act.{Act}
-use Rattle.nim_core.specs.declared.plan.Act.TheVariants.{Copy, Move, Final, Borrow}
-use Rattle.nim_core.specs.declared.plan.SiteAct.{SiteAct}
+use Rattle.nim_plan.specs.declared.plan.Act.{Act}
+use Rattle.nim_plan.specs.declared.plan.Act.TheVariants.{Copy, Move, Final, Borrow}
+use Rattle.nim_plan.specs.declared.plan.SiteAct.{SiteAct}
 use Rattle.rv32_isa.specs.Words.{word_bytes}
 use Rattle.elf32.specs.declared.file.ElfStop.{ElfStop}
 use Rattle.elf32.specs.declared.file.ElfStop.TheVariants.{Bad, Memory}

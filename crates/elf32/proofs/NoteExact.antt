@@ -1,8 +1,8 @@
 -- Which bytes are the note of a file: what the reader finds is it, and where the reader stops there is none.
 use Rattle.std.proofs.Common.{◌≡◌, ◌<◌, ◌≤◌, ◌^◌, ℕ, List, [], ◌++◌, length, take, drop, refl, ap, ◌∙◌}
-use Rattle.nim_core.specs.declared.plan.Plan.{Plan}
-use Rattle.nim_core.specs.declared.plan.SiteAct.{SiteAct}
-use Rattle.nim_core.specs.declared.plan.SkipAt.{SkipAt}
+use Rattle.nim_plan.specs.declared.plan.Plan.{Plan}
+use Rattle.nim_plan.specs.declared.plan.SiteAct.{SiteAct}
+use Rattle.nim_plan.specs.declared.plan.SkipAt.{SkipAt}
 use Rattle.rv32_isa.specs.declared.image.HookAt.{HookAt}
 use Rattle.elf32.specs.Elf.{File, IsFile, words, counted, hook_words, site_words, sink_words, skip_words, described, note, note_of}
 use Rattle.elf32.specs.Reading.{Lists, ListsNone, SaysNone, note_front}

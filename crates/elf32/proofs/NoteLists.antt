@@ -3,7 +3,7 @@ use Rattle.std.proofs.Common.{◌≡◌, ◌<◌, ◌≤◌, ◌^◌, ℕ, ◌+�
 use Rattle.std.proofs.lemmas.List.{length-append, length-drop, take-append-drop}
 use Rattle.std.specs.Prelude.{codes}
 use Rattle.std.specs.List.{AllByRecursion, flat_map}
-use Rattle.nim_core.specs.declared.plan.Plan.{Plan}
+use Rattle.nim_plan.specs.declared.plan.Plan.{Plan}
 use Rattle.rv32_isa.specs.declared.image.HookAt.{HookAt}
 use Rattle.rv32_isa.specs.Words.{word_bytes}
 use Rattle.elf32.specs.Elf.{words, counted, hook_words, site_words, sink_words, skip_words, note_of}

@@ -2,8 +2,8 @@
 use Rattle.std.proofs.Common.{◌≡◌, ◌<◌, ℕ, ◌+◌, ◌%◌, ◌⊎◌, inl, inr, Bool, true, false, ◌&&◌, ◌||◌, eqb, ltb, leb, List, [], ◌∷◌, refl}
 use Rattle.std.proofs.lemmas.Bool.{leb-true, le-leb, ltb-true, lt-ltb, eqb-true, eq-eqb}
 use Rattle.std.specs.Prelude.{Option, Some, None}
-use Rattle.nim_core.specs.declared.plan.SiteAct.{SiteAct}
-use Rattle.nim_core.specs.declared.plan.SkipAt.{SkipAt}
+use Rattle.nim_plan.specs.declared.plan.SiteAct.{SiteAct}
+use Rattle.nim_plan.specs.declared.plan.SkipAt.{SkipAt}
 use Rattle.rv32_isa.specs.declared.image.HookAt.{HookAt}
 use Rattle.rv32_isa.specs.Hooks.{HooksStand, code_at}
 use Rattle.elf32.specs.Elf.{Ordered}

@@ -2,7 +2,7 @@
 use Rattle.std.proofs.Common.{◌≡◌, ℕ, ◌+◌, ◌%◌, List, ◌++◌, length, take, drop, refl, sym, ap, ◌∙◌, arith}
 use Rattle.std.proofs.lemmas.List.{length-take-le, take_all, take-append-drop, drop-drop, length-drop}
 use Rattle.std.proofs.Math.Seq.{take-append_seam}
-use Rattle.nim_core.specs.declared.plan.Plan.{Plan}
+use Rattle.nim_plan.specs.declared.plan.Plan.{Plan}
 use Rattle.rv32_isa.specs.declared.image.HookAt.{HookAt}
 use Rattle.elf32.specs.Elf.{File, Elf, header, segments_of, note}
 use Rattle.elf32.specs.Faults.{AreSizes, HasSegments, HasFile}

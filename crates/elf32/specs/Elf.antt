@@ -2,11 +2,11 @@
 -- "Program Loading".
 use Rattle.std.specs.Prelude.{◌≡◌, ◌≤◌, ◌<◌, ◌⊎◌, ℕ, ◌+◌, ◌^◌, ◌/◌, ◌%◌, List, [], ◌∷◌, ◌++◌, length, codes}
 use Rattle.std.specs.List.{AllByRecursion, flat_map}
-use Rattle.nim_core.specs.declared.plan.Act.{Act}
-use Rattle.nim_core.specs.declared.plan.Act.TheVariants.{Copy, Move, Final, Borrow}
-use Rattle.nim_core.specs.declared.plan.SiteAct.{SiteAct}
-use Rattle.nim_core.specs.declared.plan.SkipAt.{SkipAt}
-use Rattle.nim_core.specs.declared.plan.Plan.{Plan}
+use Rattle.nim_plan.specs.declared.plan.Act.{Act}
+use Rattle.nim_plan.specs.declared.plan.Act.TheVariants.{Copy, Move, Final, Borrow}
+use Rattle.nim_plan.specs.declared.plan.SiteAct.{SiteAct}
+use Rattle.nim_plan.specs.declared.plan.SkipAt.{SkipAt}
+use Rattle.nim_plan.specs.declared.plan.Plan.{Plan}
 use Rattle.rv32_isa.specs.declared.image.HookAt.{HookAt}
 use Rattle.rv32_isa.specs.Words.{word_bytes}
 use Rattle.rv32_isa.specs.Hooks.{code_at}

@@ -2,8 +2,8 @@
 use Rattle.std.specs.Prelude.{◌≡◌, ◌≤◌, ◌<◌, ◌^◌, ℕ, ◌⊎◌, ◌+◌, ◌-◌, ◌*◌, ◌%◌, Bool, true, ◌&&◌, ◌||◌, eqb, ltb, leb, List, [], ◌∷◌, ◌++◌, take, drop}
 use Rattle.std.specs.Prelude.{length, Option, Some, None, ⊤, codes}
 use Rattle.std.specs.List.{AllByRecursion}
-use Rattle.nim_core.specs.declared.plan.SiteAct.{SiteAct}
-use Rattle.nim_core.specs.declared.plan.SkipAt.{SkipAt}
+use Rattle.nim_plan.specs.declared.plan.SiteAct.{SiteAct}
+use Rattle.nim_plan.specs.declared.plan.SkipAt.{SkipAt}
 use Rattle.rv32_isa.specs.declared.image.HookAt.{HookAt}
 use Rattle.rv32_isa.specs.Hooks.{code_at, HooksStand}
 use Rattle.rv32_isa.specs.Image.{Image}
@@ -11,7 +11,7 @@ use Rattle.rv32_isa.specs.Words.{word_bytes, little}
 use Rattle.elf32.specs.declared.file.ElfStop.{ElfStop}
 use Rattle.elf32.specs.declared.file.ElfStop.TheVariants.{Bad, Memory}
 use Rattle.elf32.specs.declared.file.ElfFault.{ElfFault}
-use Rattle.nim_core.specs.declared.plan.Plan.{Plan}
+use Rattle.nim_plan.specs.declared.plan.Plan.{Plan}
 use Rattle.elf32.specs.Elf.{File, IsFile, words, counted, described, note, note_of, Ordered}
 
 -- ---- answers

@@ -3,7 +3,7 @@ ghost use Rattle.std.specs.Prelude.{◌≡◌};
 ghost use Rattle.elf32.specs.Faults.{fault_number};
 
 use arc_base::Memory;
-use nim_core::Plan;
+use nim_plan::Plan;
 use rv32_isa::Image;
 use thiserror::Error;
 

@@ -9,7 +9,7 @@ ghost use Rattle.elf32.specs.Reading.{Because, Lists, ListsNone, CountsNone};
 use crate::file::{ElfFault, ElfStop};
 use crate::words::word_at;
 use arc_base::Items;
-use nim_core::{Act, SiteAct, SkipAt};
+use nim_plan::{Act, SiteAct, SkipAt};
 use rv32_isa::HookAt;
 use std::alloc::Global;
 

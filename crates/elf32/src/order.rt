@@ -3,7 +3,7 @@ ghost use Rattle.std.specs.Prelude.{◌≡◌, ◌≤◌, None, ltb};
 ghost use Rattle.elf32.specs.Reading.{follows, rises, site_before, skip_before, stand, stands};
 ghost use Rattle.rv32_isa.specs.Hooks.{code_at};
 
-use nim_core::{SiteAct, SkipAt};
+use nim_plan::{SiteAct, SkipAt};
 use rv32_isa::{CODE_AT, HookAt};
 
 // Whether a hook stands at an instruction of code that ends at `end`, from an address on.

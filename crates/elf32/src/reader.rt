@@ -15,7 +15,7 @@ use crate::writer::{
     HEADER, NAME, NAME_SIZE, NOTE_OFFSET, NOTE_TYPE, Sizes, VERSION, push_segments,
 };
 use arc_base::{Bytes, Items, Memory};
-use nim_core::Plan;
+use nim_plan::Plan;
 use rv32_isa::{HookAt, Image};
 use std::alloc::Global;
 

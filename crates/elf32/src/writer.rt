@@ -7,7 +7,7 @@ ghost use Rattle.elf32.specs.Elf.{site_words, sink_words, skip_words, descriptio
 use crate::file::ElfFile;
 use crate::words::{push_word, push_words};
 use arc_base::{Bytes, Memory};
-use nim_core::{Act, SiteAct, SkipAt};
+use nim_plan::{Act, SiteAct, SkipAt};
 use rv32_isa::{CODE_AT, HEAP_AT, HookAt, STACK_AT, STATICS_AT};
 use std::alloc::Global;
 

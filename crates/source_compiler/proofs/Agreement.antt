@@ -6,11 +6,11 @@ use Rattle.arc_base.specs.Behaviour.{Agrees, no_objects}
 use Rattle.arc_base.specs.BigStep.{Meter}
 use Rattle.arc_base.specs.Simulation.{Follows, WillEnd}
 use Rattle.arc_base.proofs.ForCallers.{comes_refl, follows_after, follows_map, agrees_by_units}
-use Rattle.nim_core.specs.declared.plan.Plan.{Plan}
-use Rattle.nim_core.specs.Program.{Program}
-use Rattle.nim_core.specs.Traps.{Trap, Overflow, DivisionByZero}
-use Rattle.nim_core.specs.Meaning.{Values, exec_all, meaning}
-use Rattle.nim_core.proofs.ForCallers.{meaning_sound}
+use Rattle.nim_plan.specs.declared.plan.Plan.{Plan}
+use Rattle.int_core.specs.Program.{Program}
+use Rattle.int_core.specs.Traps.{Trap, Overflow, DivisionByZero}
+use Rattle.int_core.specs.Meaning.{Values, exec_all, meaning}
+use Rattle.int_core.proofs.ForCallers.{meaning_sound}
 use Rattle.rv32_isa.specs.declared.instr.Instr.{Instr}
 use Rattle.rv32_isa.specs.Image.{Image}
 use Rattle.rv32_isa.specs.State.{first_state}

@@ -7,8 +7,8 @@ use borrow.Author.Differences.{up, down, read_fits}
 use Rattle.std.proofs.lemmas.Int.{ints, of_z-to_z, wrapping_mul_is, int_wrap_fits, unsigned_abs-mul, quot_fits}
 use Rattle.std.proofs.lemmas.Bool.{false_from_ne_true, eqb-true, eqb-false, cond-false}
 use Rattle.std.proofs.lemmas.Bool.Decides.{same_from_decides, Decides-eqb, Decides-int_eq}
-use Rattle.nim_core.specs.Ints.{low, fits, low_byte}
-use Rattle.nim_core.proofs.ForCallers.{rem_fits as remainder_fits, low_byte_is}
+use Rattle.int_core.specs.Ints.{low, fits, low_byte}
+use Rattle.int_core.proofs.ForCallers.{rem_fits as remainder_fits, low_byte_is}
 use Rattle.rv32_isa.specs.Values.{signed, added, subtracted, one_if, is_less_signed, low_product, high_product_signed, shifted_right_signed, quotient_signed}
 use Rattle.rv32_isa.specs.Values.{remainder_signed}
 use Rattle.source_compiler.specs.Code.{word}

@@ -3,9 +3,9 @@ use Rattle.std.proofs.Common.{◌≡◌, ◌≢◌, ℕ, zero, suc, ◌+◌, ◌
 use Rattle.std.proofs.Common.{append_assoc, length-append}
 use Rattle.std.specs.Prelude.{nat_eq}
 use Rattle.std.proofs.lemmas.Bool.{leb-true, eq-eqb, ne_eqb, cond-true, cond-false}
-use Rattle.nim_core.specs.Ints.{fits}
-use Rattle.nim_core.specs.Meaning.{Values, put}
-use Rattle.nim_core.specs.Traps.{Trap, Overflow, DivisionByZero}
+use Rattle.int_core.specs.Ints.{fits}
+use Rattle.int_core.specs.Meaning.{Values, put}
+use Rattle.int_core.specs.Traps.{Trap, Overflow, DivisionByZero}
 use Rattle.rv32_isa.specs.Words.{word_bytes}
 use Rattle.rv32_isa.proofs.ForCallers.{length-word_bytes}
 use Rattle.rv32_logic.specs.Data.{Holds}

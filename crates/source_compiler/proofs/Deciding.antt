@@ -8,7 +8,7 @@ use Rattle.indent_scanner.specs.Tokens.{Tokens}
 use Rattle.indent_scanner.specs.Tokens.{IsRefused as IsRefusedByBytes}
 use Rattle.nim_tree.specs.Statements.{Statements}
 use Rattle.parse_stmts.specs.Total.{Decided, is_tree, is_refused}
-use Rattle.nim_core.specs.Program.{Program}
+use Rattle.int_core.specs.Program.{Program}
 use Rattle.source_compiler.specs.Lines.{Lines}
 use Rattle.source_compiler.specs.Form.{form_of}
 use Rattle.source_compiler.specs.Names.{check}

@@ -3,7 +3,7 @@ use Rattle.std.proofs.Common.{◌≡◌, ℕ, suc, ◌+◌, ◌-◌, ◌^◌, �
 use Rattle.std.proofs.lemmas.List.{length-take-le}
 use Rattle.std.proofs.Math.Seq.{drop-append_seam}
 use Rattle.std.specs.Prelude.{unsigned_abs}
-use Rattle.nim_core.specs.Ints.{fits}
+use Rattle.int_core.specs.Ints.{fits}
 use Rattle.rv32_isa.specs.State.{put_bytes}
 use Rattle.rv32_isa.specs.Values.{subtracted, is_less_signed}
 use Rattle.source_compiler.specs.Code.{word}

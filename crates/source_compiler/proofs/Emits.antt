@@ -3,11 +3,11 @@ use Rattle.std.proofs.Common.{◌≡◌, ℕ, zero, suc, ◌+◌, ◌-◌, ◌*�
 use Rattle.std.proofs.Common.{append-nil, add-one, length-append, pos}
 use Rattle.std.proofs.lemmas.Grind.{flat_map-append}
 use Rattle.arc_base.specs.declared.place.Place.{Place}
-use Rattle.nim_core.specs.declared.program.Cond.{Cond as RustCond}
-use Rattle.nim_core.specs.declared.program.Stmt.{Stmt as RustStmt}
-use Rattle.nim_core.specs.declared.program.Stmt.TheVariants as rust_stmt
-use Rattle.nim_core.specs.Program.{Expr, Cond, Declare, Assign, EchoInt, Quit, If, While, Stmts, cond_of, stmt_of, stmts_of}
-use Rattle.nim_core.proofs.ForCallers.{conditional, repeated}
+use Rattle.int_core.specs.declared.program.Cond.{Cond as RustCond}
+use Rattle.int_core.specs.declared.program.Stmt.{Stmt as RustStmt}
+use Rattle.int_core.specs.declared.program.Stmt.TheVariants as rust_stmt
+use Rattle.int_core.specs.Program.{Expr, Cond, Declare, Assign, EchoInt, Quit, If, While, Stmts, cond_of, stmt_of, stmts_of}
+use Rattle.int_core.proofs.ForCallers.{conditional, repeated}
 use Rattle.rv32_isa.specs.declared.instr.Instr.{Instr}
 use Rattle.rv32_isa.specs.declared.instr.Instr.TheVariants.{Jal}
 use Rattle.rv32_isa.specs.Words.{word_bytes}

@@ -11,10 +11,10 @@ use Rattle.arc_base.specs.Simulation as generic
 use Rattle.arc_base.specs.Simulation.{Comes, Turned}
 use Rattle.arc_base.proofs.ForCallers.{comes_on, line, waits_here, follows_after, follows_paid, follows_then, follows_map, follows_here, follows_turns}
 use Rattle.arc_base.proofs.ForCallers.{follows_weaker}
-use Rattle.nim_core.specs.Program.{Expr, Number, Variable, Negate, Binary, Cond, Stmt, Declare, Assign, EchoInt, EchoText, Quit, If, While, Stmts, Empty, Then}
-use Rattle.nim_core.specs.declared.program.Operator.{Operator}
-use Rattle.nim_core.specs.Ints.{applied, negated, compared, low_byte}
-use Rattle.nim_core.specs.Meaning.{Values, put, line_of, outcome, eval, test, either, again, entered, turn, exec, exec_all}
+use Rattle.int_core.specs.Program.{Expr, Number, Variable, Negate, Binary, Cond, Stmt, Declare, Assign, EchoInt, EchoText, Quit, If, While, Stmts, Empty, Then}
+use Rattle.int_core.specs.declared.program.Operator.{Operator}
+use Rattle.int_core.specs.Ints.{applied, negated, compared, low_byte}
+use Rattle.int_core.specs.Meaning.{Values, put, line_of, outcome, eval, test, either, again, entered, turn, exec, exec_all}
 use Rattle.rv32_isa.specs.declared.instr.Instr.{Instr}
 use Rattle.rv32_isa.specs.Words.{little}
 use Rattle.rv32_isa.specs.Machine.{Run}

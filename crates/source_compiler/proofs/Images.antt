@@ -1,6 +1,6 @@
 -- The parts of an image, put together.
 use Rattle.std.proofs.Common.{◌≡◌, ℕ, ◌+◌, ◌*◌, ◌%◌, ◌≤◌, List, [], ◌++◌, length, ap, ◌∙◌, arith, length-append, append_assoc, pos}
-use Rattle.nim_core.specs.Program.{Stmts, Program}
+use Rattle.int_core.specs.Program.{Stmts, Program}
 use Rattle.rv32_isa.specs.Image.{Image}
 use Rattle.rv32_isa.proofs.ForCallers.{length-code}
 use Rattle.source_compiler.specs.Code.{code_bytes, variable_at, data_of, texts, stmts_code, start_code, end_code, program_code, ArePlain, stmts_weight}

@@ -1,10 +1,10 @@
 -- Every instruction of a program's code is in range.
 use Rattle.std.proofs.Common.{rules, ℕ, zero, suc, ◌+◌, ◌<◌, ◌≤◌, [], ◌∷◌, ◌++◌, length, arith, length-append}
-use Rattle.nim_core.specs.declared.program.Operator.{Operator}
-use Rattle.nim_core.specs.declared.program.Operator.TheVariants.{Add as Plus, Subtract, Multiply, Divide, Modulo}
-use Rattle.nim_core.specs.declared.program.Comparison.{Comparison}
-use Rattle.nim_core.specs.declared.program.Comparison.TheVariants.{Equal, Less, AtMost}
-use Rattle.nim_core.specs.Program.{Expr, Number, Variable, Negate, Binary, Cond, Stmt, Declare, Assign, EchoInt, EchoText, Quit, If, While, Stmts, Empty, Then}
+use Rattle.int_core.specs.declared.program.Operator.{Operator}
+use Rattle.int_core.specs.declared.program.Operator.TheVariants.{Add as Plus, Subtract, Multiply, Divide, Modulo}
+use Rattle.int_core.specs.declared.program.Comparison.{Comparison}
+use Rattle.int_core.specs.declared.program.Comparison.TheVariants.{Equal, Less, AtMost}
+use Rattle.int_core.specs.Program.{Expr, Number, Variable, Negate, Binary, Cond, Stmt, Declare, Assign, EchoInt, EchoText, Quit, If, While, Stmts, Empty, Then}
 use Rattle.rv32_isa.specs.declared.instr.Instr.TheVariants.{Lw, Sw, Addi, Ecall}
 use Rattle.rv32_isa.specs.Row.{IsInRange, AllInRange}
 use Rattle.rv32_logic.proofs.ForCallers.{all_in_range-append}

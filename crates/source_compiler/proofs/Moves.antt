@@ -10,9 +10,9 @@ use Rattle.arc_base.specs.Behaviour.{no_objects}
 use Rattle.arc_base.specs.BigStep.{Meter, told}
 use Rattle.arc_base.specs.Simulation.{Comes, Halts}
 use Rattle.arc_base.proofs.ForCallers.{comes_on, comes_halts}
-use Rattle.nim_core.specs.Ints.{fits}
-use Rattle.nim_core.specs.Meaning.{Values, put as put_value}
-use Rattle.nim_core.specs.Traps.{Trap, Overflow, DivisionByZero}
+use Rattle.int_core.specs.Ints.{fits}
+use Rattle.int_core.specs.Meaning.{Values, put as put_value}
+use Rattle.int_core.specs.Traps.{Trap, Overflow, DivisionByZero}
 use Rattle.rv32_isa.specs.declared.instr.Instr.{Instr}
 use Rattle.rv32_isa.specs.declared.instr.Instr.TheVariants.{Lui, Jalr, Beq, Bne, Blt, Bge, Lw, Sb, Sw, Addi, Ecall}
 use Rattle.rv32_isa.specs.Words.{little, word_bytes}

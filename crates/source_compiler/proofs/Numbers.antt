@@ -10,8 +10,8 @@ use Rattle.arc_base.specs.Event.{Event, writes}
 use Rattle.arc_base.specs.BigStep.{Meter, told}
 use Rattle.arc_base.specs.Simulation.{Comes}
 use Rattle.arc_base.proofs.ForCallers.{comes_on, reaches_paid}
-use Rattle.nim_core.specs.Ints.{fits}
-use Rattle.nim_core.specs.Meaning.{Values, line_of}
+use Rattle.int_core.specs.Ints.{fits}
+use Rattle.int_core.specs.Meaning.{Values, line_of}
 use Rattle.rv32_isa.specs.declared.instr.Instr.{Instr}
 use Rattle.rv32_isa.specs.declared.instr.Instr.TheVariants.{Bne, Bge, Sb, Addi, Sub, Divu, Remu, Ecall}
 use Rattle.rv32_isa.specs.Image.{stack_at}

@@ -5,13 +5,13 @@ use Rattle.std.proofs.lemmas.Bool.{cond-true}
 use Rattle.arc_base.specs.Event.{Event}
 use Rattle.arc_base.specs.BigStep.{Meter}
 use Rattle.arc_base.specs.Simulation.{Follows}
-use Rattle.nim_core.specs.declared.program.Operator.{Operator}
-use Rattle.nim_core.specs.declared.program.Operator.TheVariants.{Add as Plus, Subtract, Multiply, Divide, Modulo}
-use Rattle.nim_core.specs.declared.program.Comparison.{Comparison}
-use Rattle.nim_core.specs.declared.program.Comparison.TheVariants.{Equal, Less, AtMost}
-use Rattle.nim_core.specs.Ints.{low, fits, Checked, Fine, Trapped, checked, unless_zero, applied, negated, compared}
-use Rattle.nim_core.specs.Meaning.{Values, outcome}
-use Rattle.nim_core.specs.Traps.{Trap, Overflow, DivisionByZero}
+use Rattle.int_core.specs.declared.program.Operator.{Operator}
+use Rattle.int_core.specs.declared.program.Operator.TheVariants.{Add as Plus, Subtract, Multiply, Divide, Modulo}
+use Rattle.int_core.specs.declared.program.Comparison.{Comparison}
+use Rattle.int_core.specs.declared.program.Comparison.TheVariants.{Equal, Less, AtMost}
+use Rattle.int_core.specs.Ints.{low, fits, Checked, Fine, Trapped, checked, unless_zero, applied, negated, compared}
+use Rattle.int_core.specs.Meaning.{Values, outcome}
+use Rattle.int_core.specs.Traps.{Trap, Overflow, DivisionByZero}
 use Rattle.rv32_isa.specs.declared.instr.Instr.{Instr}
 use Rattle.rv32_isa.specs.declared.instr.Instr.TheVariants.{Lui, Beq, Bne, Addi, Slti, Srai, Add, Sub, Slt, Mul, Mulh, Div, Rem}
 use Rattle.rv32_isa.specs.Values.{added, subtracted, one_if, is_less_signed, low_product, high_product_signed, shifted_right_signed, quotient_signed}

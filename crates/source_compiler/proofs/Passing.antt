@@ -5,8 +5,8 @@ use Rattle.std.proofs.Math.Seq.{drop-cons}
 use Rattle.arc_base.specs.declared.place.Stop.{Stop}
 use Rattle.arc_base.specs.declared.place.Stop.TheVariants.{Refused, Memory}
 use Rattle.arc_base.specs.declared.place.Place.{Place}
-use Rattle.nim_core.specs.declared.program.Stmt.{Stmt as RustStmt}
-use Rattle.nim_core.specs.Program.{Cond, If, While, Stmt, Stmts, Empty, Then, stmt_of, stmts_of}
+use Rattle.int_core.specs.declared.program.Stmt.{Stmt as RustStmt}
+use Rattle.int_core.specs.Program.{Cond, If, While, Stmt, Stmts, Empty, Then, stmt_of, stmts_of}
 use Rattle.source_compiler.specs.declared.form.lines.Test.{Test as RustTest}
 use Rattle.source_compiler.specs.declared.form.lines.Line.{Line as RustLine}
 use Rattle.source_compiler.specs.declared.form.lines.Line.TheVariants as rust_line

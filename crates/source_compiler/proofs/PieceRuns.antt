@@ -10,11 +10,11 @@ use Rattle.arc_base.specs.Behaviour.{no_objects}
 use Rattle.arc_base.specs.BigStep.{Meter}
 use Rattle.arc_base.specs.Simulation.{Halts, Follows}
 use Rattle.arc_base.proofs.ForCallers.{follows_map, reaches_then, reaches_map, reaches_shows, reaches_halts, reaches_follows}
-use Rattle.nim_core.specs.declared.program.Operator.{Operator}
-use Rattle.nim_core.specs.declared.program.Comparison.{Comparison}
-use Rattle.nim_core.specs.declared.program.Comparison.TheVariants.{Equal, Less, AtMost}
-use Rattle.nim_core.specs.Ints.{fits, applied, negated, compared, low_byte}
-use Rattle.nim_core.specs.Meaning.{Values, put, line_of, outcome}
+use Rattle.int_core.specs.declared.program.Operator.{Operator}
+use Rattle.int_core.specs.declared.program.Comparison.{Comparison}
+use Rattle.int_core.specs.declared.program.Comparison.TheVariants.{Equal, Less, AtMost}
+use Rattle.int_core.specs.Ints.{fits, applied, negated, compared, low_byte}
+use Rattle.int_core.specs.Meaning.{Values, put, line_of, outcome}
 use Rattle.rv32_isa.specs.declared.instr.Instr.{Instr}
 use Rattle.rv32_isa.specs.declared.instr.Instr.TheVariants.{Lw, Sw, Addi, Ecall}
 use Rattle.rv32_isa.specs.Row.{word_of}

@@ -7,7 +7,7 @@ use Rattle.arc_base.specs.declared.place.Place.{Place}
 use Rattle.indent_scanner.specs.declared.token.Tok.TheVariants as T
 use Rattle.indent_scanner.specs.Words.{normal}
 use Rattle.indent_scanner.proofs.ForCallers.{meaning_short}
-use Rattle.nim_core.specs.Program.{Expr, Number, Variable, Negate, Binary, Cond, Stmt, Declare, Assign, EchoInt, Quit, If, While, Stmts, Then, Program}
+use Rattle.int_core.specs.Program.{Expr, Number, Variable, Negate, Binary, Cond, Stmt, Declare, Assign, EchoInt, Quit, If, While, Stmts, Then, Program}
 use Rattle.source_compiler.specs.Code.{IsPlainExpr, IsPlainCond, IsPlainStmt, ArePlain, expr_weight, cond_weight, stmt_weight, stmts_weight}
 use Rattle.arc_base.specs.Refusal.{and_then}
 use Rattle.source_compiler.specs.Lines.{Sum, int, name, opposite, operation, Test, Line, declare, assign, echo_int, echo_text, quit, branch, loop, Lines, empty}

@@ -14,7 +14,7 @@ use Rattle.nim_tree.specs.Statements.{Statements}
 use Rattle.parse_stmts.specs.Grammar.{IsModule}
 use Rattle.parse_stmts.specs.Parsed.{IsRefused}
 use Rattle.parse_stmts.proofs.ForCallers.{module_once, module_stands, refused_once as tokens_refused_once}
-use Rattle.nim_core.specs.Program.{Program}
+use Rattle.int_core.specs.Program.{Program}
 use Rattle.source_compiler.specs.declared.compiler.NotCompiled.{NotCompiled}
 use Rattle.source_compiler.specs.Compile.{IsStop, IsOkOrMemory, OnRefused}
 use Rattle.source_compiler.specs.Compile.{IsNoProgram as IsTurnedDown, source_most}

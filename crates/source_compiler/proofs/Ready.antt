@@ -7,9 +7,9 @@ use Rattle.arc_base.specs.Behaviour.{no_objects}
 use Rattle.arc_base.specs.Stepping.{Next}
 use Rattle.arc_base.specs.BigStep.{Meter}
 use Rattle.arc_base.specs.Simulation as generic
-use Rattle.nim_core.specs.Ints.{fits}
-use Rattle.nim_core.specs.Meaning.{Values}
-use Rattle.nim_core.specs.Traps.{Trap}
+use Rattle.int_core.specs.Ints.{fits}
+use Rattle.int_core.specs.Meaning.{Values}
+use Rattle.int_core.specs.Traps.{Trap}
 use Rattle.rv32_isa.specs.declared.image.HookAt.{HookAt}
 use Rattle.rv32_isa.specs.Words.{little}
 use Rattle.rv32_isa.specs.Hooks.{code_at}

@@ -9,7 +9,7 @@ use Rattle.indent_scanner.specs.Tokens.{token_bytes}
 use Rattle.nim_tree.specs.Statements.{Statements}
 use Rattle.nim_tree.specs.Weights as full
 use Rattle.parse_stmts.specs.Parsed.{HasFew}
-use Rattle.nim_core.specs.Program.{Program, program_of}
+use Rattle.int_core.specs.Program.{Program, program_of}
 use Rattle.source_compiler.specs.Code.{ArePlain, stmts_weight}
 use Rattle.source_compiler.specs.declared.form.lines.Line.{Line as RustLine}
 use Rattle.source_compiler.specs.Lines.{Lines, weights, lines_of}

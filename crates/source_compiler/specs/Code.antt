@@ -5,14 +5,14 @@
 use Rattle.std.specs.Prelude.{◌≡◌, ◌<◌, ℕ, zero, suc, ◌+◌, ◌-◌, ◌*◌, ◌/◌, ◌%◌, ◌^◌, ℤ, true, List, [], ◌∷◌, ◌++◌, length}
 use Rattle.std.specs.List.{flat_map}
 use Rattle.std.specs.Int.{w32, cast_unsigned}
-use Rattle.nim_core.specs.declared.program.Operator.{Operator}
-use Rattle.nim_core.specs.declared.program.Operator.TheVariants.{Add as Plus, Subtract, Multiply, Divide, Modulo}
-use Rattle.nim_core.specs.declared.program.Comparison.{Comparison}
-use Rattle.nim_core.specs.declared.program.Comparison.TheVariants.{Equal, Less, AtMost}
-use Rattle.nim_core.specs.Program.{Expr, Number, Variable, Negate, Binary, Cond, Stmt, Declare, Assign, EchoInt, EchoText, Quit, If, While, Stmts, Empty, Then}
-use Rattle.nim_core.specs.Traps.{Trap, Overflow, DivisionByZero, trap_text}
-use Rattle.nim_core.specs.Ints.{fits}
-use Rattle.nim_core.specs.Meaning.{Values, line_of}
+use Rattle.int_core.specs.declared.program.Operator.{Operator}
+use Rattle.int_core.specs.declared.program.Operator.TheVariants.{Add as Plus, Subtract, Multiply, Divide, Modulo}
+use Rattle.int_core.specs.declared.program.Comparison.{Comparison}
+use Rattle.int_core.specs.declared.program.Comparison.TheVariants.{Equal, Less, AtMost}
+use Rattle.int_core.specs.Program.{Expr, Number, Variable, Negate, Binary, Cond, Stmt, Declare, Assign, EchoInt, EchoText, Quit, If, While, Stmts, Empty, Then}
+use Rattle.int_core.specs.Traps.{Trap, Overflow, DivisionByZero, trap_text}
+use Rattle.int_core.specs.Ints.{fits}
+use Rattle.int_core.specs.Meaning.{Values, line_of}
 use Rattle.rv32_isa.specs.declared.instr.Instr.{Instr}
 use Rattle.rv32_isa.specs.declared.instr.Instr.TheVariants.{Lui, Jal, Jalr, Beq, Bne, Blt, Bge, Lw, Sb, Sw, Addi, Slti, Srai, Add, Sub, Slt, Mul, Mulh, Div}
 use Rattle.rv32_isa.specs.declared.instr.Instr.TheVariants.{Divu, Rem, Remu, Ecall}

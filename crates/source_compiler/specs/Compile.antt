@@ -9,9 +9,9 @@ use Rattle.arc_base.specs.declared.place.Place.{Place}
 use Rattle.arc_base.specs.declared.place.Code.{Code}
 use Rattle.arc_base.specs.declared.place.Stop.{Stop}
 use Rattle.arc_base.specs.declared.place.Stop.TheVariants as stop
-use Rattle.nim_core.specs.declared.plan.Plan.{Plan}
-use Rattle.nim_core.specs.Program.{Program}
-use Rattle.nim_core.specs.Meaning.{meaning}
+use Rattle.nim_plan.specs.declared.plan.Plan.{Plan}
+use Rattle.int_core.specs.Program.{Program}
+use Rattle.int_core.specs.Meaning.{meaning}
 use Rattle.rv32_isa.specs.Machine.{machine}
 use Rattle.elf32.specs.Elf.{File, IsFile}
 use Rattle.source_compiler.specs.declared.compiler.NotCompiled.{NotCompiled}

@@ -1,6 +1,6 @@
 -- What can be emitted.
 use Rattle.std.specs.Prelude.{◌≤◌, ◌+◌, ℕ, length}
-use Rattle.nim_core.specs.Program.{Expr, Cond, Stmt, Stmts}
+use Rattle.int_core.specs.Program.{Expr, Cond, Stmt, Stmts}
 use Rattle.rv32_isa.specs.Image.{statics_at}
 use Rattle.source_compiler.specs.Code.{stmt_texts, texts, stmt_code, stmts_code, IsPlainExpr, IsPlainCond, IsPlainStmt, ArePlain}
 

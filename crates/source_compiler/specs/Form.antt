@@ -17,10 +17,10 @@ use Rattle.nim_tree.specs.Terms.{Term, Parts, no_parts, part, Choices, no_choice
 use Rattle.nim_tree.specs.Types.{Written}
 use Rattle.nim_tree.specs.Statements as tree
 use Rattle.nim_tree.specs.Statements.{Definition, Statement, Statements, Branches}
-use Rattle.nim_core.specs.declared.program.Operator.{Operator}
-use Rattle.nim_core.specs.declared.program.Operator.TheVariants.{Add, Subtract, Multiply, Divide, Modulo}
-use Rattle.nim_core.specs.declared.program.Comparison.{Comparison}
-use Rattle.nim_core.specs.declared.program.Comparison.TheVariants.{Equal, Less, AtMost}
+use Rattle.int_core.specs.declared.program.Operator.{Operator}
+use Rattle.int_core.specs.declared.program.Operator.TheVariants.{Add, Subtract, Multiply, Divide, Modulo}
+use Rattle.int_core.specs.declared.program.Comparison.{Comparison}
+use Rattle.int_core.specs.declared.program.Comparison.TheVariants.{Equal, Less, AtMost}
 use Rattle.arc_base.specs.Refusal.{Refusal, and_then, refused}
 use Rattle.source_compiler.specs.Lines.{Sum, int, name, opposite, operation, Test, Line, declare, assign, echo_int, echo_text, quit, branch, loop, Lines}
 use Rattle.source_compiler.specs.Lines as built

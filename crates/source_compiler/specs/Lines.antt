@@ -2,8 +2,8 @@
 use Rattle.std.specs.Prelude.{ℕ, ℤ, suc, ◌+◌, List, [], ◌∷◌, length}
 use Rattle.arc_base.specs.declared.place.Place.{Place}
 use Rattle.nim_tree.specs.declared.name.Name.{Name}
-use Rattle.nim_core.specs.declared.program.Operator.{Operator}
-use Rattle.nim_core.specs.declared.program.Comparison.{Comparison}
+use Rattle.int_core.specs.declared.program.Operator.{Operator}
+use Rattle.int_core.specs.declared.program.Comparison.{Comparison}
 use Rattle.source_compiler.specs.declared.form.lines.Sum.{Sum as RustSum}
 use Rattle.source_compiler.specs.declared.form.lines.Sum.TheVariants as rust_sum
 use Rattle.source_compiler.specs.declared.form.lines.Test.{Test as RustTest}

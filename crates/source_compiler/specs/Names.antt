@@ -5,10 +5,10 @@ use Rattle.arc_base.specs.declared.place.Code.TheVariants.{UnknownName, Redefine
 use Rattle.indent_scanner.specs.Words.{normal}
 use Rattle.indent_scanner.specs.ByForm.{characters}
 use Rattle.nim_tree.specs.declared.name.Name.{Name}
-use Rattle.nim_core.specs.declared.program.PlaceDecl.{PlaceDecl}
-use Rattle.nim_core.specs.Ints.{fits}
-use Rattle.nim_core.specs.Program.{Expr, Number, Variable, Negate, Binary, Cond, Stmt, Declare, Assign, EchoInt, EchoText, Quit, If, While, Stmts, Empty, Then}
-use Rattle.nim_core.specs.Program.{Program}
+use Rattle.int_core.specs.declared.program.PlaceDecl.{PlaceDecl}
+use Rattle.int_core.specs.Ints.{fits}
+use Rattle.int_core.specs.Program.{Expr, Number, Variable, Negate, Binary, Cond, Stmt, Declare, Assign, EchoInt, EchoText, Quit, If, While, Stmts, Empty, Then}
+use Rattle.int_core.specs.Program.{Program}
 use Rattle.arc_base.specs.Refusal.{Refusal, and_then, refused}
 use Rattle.source_compiler.specs.Lines.{Sum, int, name, opposite, operation, Test, Line, declare, assign, echo_int, echo_text, quit, branch, loop, Lines, empty}
 use Rattle.source_compiler.specs.Lines.{then}

@@ -11,7 +11,7 @@ use Rattle.parse_exprs.specs.Look.{Origin}
 use Rattle.parse_stmts.specs.Grammar.{IsModule}
 use Rattle.parse_stmts.specs.Parsed.{HasFew}
 use Rattle.parse_stmts.specs.Parsed.{IsRefused as IsRefusedByTokens}
-use Rattle.nim_core.specs.Program.{Program}
+use Rattle.int_core.specs.Program.{Program}
 use Rattle.arc_base.specs.Refusal.{IsRefusal}
 use Rattle.source_compiler.specs.Lines.{Lines}
 use Rattle.source_compiler.specs.Form.{form_of}

@@ -4,9 +4,9 @@
 // depend on where it stands, so blocks are made on their own, and their sizes give the jumps over them.
 ghost use Rattle.std.specs.Prelude.{◌≡◌, ◌≤◌, ◌<◌, ◌+◌, ◌*◌, ◌^◌, ◌%◌, ◌++◌, [], ◌∷◌, List, ℕ, pos, suc, length, IfOk, OnOk};
 ghost use Rattle.arc_base.specs.Behaviour.{Agrees};
-ghost use Rattle.nim_core.specs.declared.plan.Plan.{Plan};
-ghost use Rattle.nim_core.specs.Program.{program_of, expr_of, cond_of, stmt_of, stmts_of};
-ghost use Rattle.nim_core.specs.Meaning.{meaning};
+ghost use Rattle.nim_plan.specs.declared.plan.Plan.{Plan};
+ghost use Rattle.int_core.specs.Program.{program_of, expr_of, cond_of, stmt_of, stmts_of};
+ghost use Rattle.int_core.specs.Meaning.{meaning};
 ghost use Rattle.rv32_isa.specs.declared.instr.Instr.{Instr};
 ghost use Rattle.rv32_isa.specs.declared.instr.Instr.TheVariants.{Ecall, Addi};
 ghost use Rattle.rv32_isa.specs.Image.{image_of};
@@ -31,7 +31,7 @@ use self::pieces::{
 };
 use crate::words::push_word;
 use arc_base::{Bytes, Items, Memory};
-use nim_core::{Cond, Expr, Program, Stmt};
+use int_core::{Cond, Expr, Program, Stmt};
 use rv32_isa::build::{jal, lui, sw};
 use rv32_isa::{Image, STATICS_AT};
 use std::alloc::Global;

@@ -10,7 +10,7 @@ use crate::names::check;
 use arc_base::{Code, Memory, Place, Stop};
 use elf32::ElfFile;
 use indent_scanner::scan;
-use nim_core::Plan;
+use nim_plan::Plan;
 use parse_stmts::parse;
 use std::alloc::Global;
 

@@ -2,7 +2,7 @@
 ghost use Rattle.std.specs.Prelude.{◌≡◌, ◌⊎◌, [], ◌∷◌, List};
 ghost use Rattle.arc_base.specs.declared.place.Code.{Code};
 ghost use Rattle.arc_base.specs.declared.place.Place.{Place};
-ghost use Rattle.nim_core.specs.Program.{Program};
+ghost use Rattle.int_core.specs.Program.{Program};
 ghost use Rattle.source_compiler.specs.Source.{Module, Reads, Refuses};
 
 use indent_scanner::one_reading;

@@ -1,6 +1,6 @@
 // Expressions and conditions.
 ghost use Rattle.std.specs.Prelude.{◌≡◌, ◌<◌, ◌^◌, ◌++◌, [], ◌∷◌, suc, OnOk};
-ghost use Rattle.nim_core.specs.Program.{expr_of, cond_of};
+ghost use Rattle.int_core.specs.Program.{expr_of, cond_of};
 ghost use Rattle.source_compiler.specs.Code.{code_bytes, word, variable_at, load_code, load_slot, save_slot};
 ghost use Rattle.source_compiler.specs.Code.{operator_code, negate_code, expr_code, skip_where, cond_code};
 ghost use Rattle.source_compiler.specs.Emission.{CanEmitExpr, CanEmitCond};
@@ -8,7 +8,7 @@ ghost use Rattle.source_compiler.specs.Emission.{CanEmitExpr, CanEmitCond};
 use super::operations::{emit_negate, emit_operator};
 use super::pieces::{LEFT, RESULT, RIGHT, emit, emit_load, load_slot, save_slot};
 use arc_base::{Bytes, Memory};
-use nim_core::{Comparison, Cond, Expr, Operator};
+use int_core::{Comparison, Cond, Expr, Operator};
 use rv32_isa::build::{beq, bge, blt, lw};
 use rv32_isa::{Instr, STATICS_AT};
 

@@ -1,6 +1,6 @@
 // Operations: from the operands' registers to that of the result, or to a trap.
 ghost use Rattle.std.specs.Prelude.{◌≡◌, ◌<◌, ◌++◌, [], ◌∷◌, OnOk};
-ghost use Rattle.nim_core.specs.Traps.{Overflow};
+ghost use Rattle.int_core.specs.Traps.{Overflow};
 ghost use Rattle.rv32_isa.specs.declared.instr.Instr.TheVariants.{Lui, Jalr, Beq};
 ghost use Rattle.source_compiler.specs.Code.{code_bytes, to_trap, add_code, subtract_code, multiply_code, divisor_code};
 ghost use Rattle.source_compiler.specs.Code.{divide_code, modulo_code, operator_code, negate_code};
@@ -9,7 +9,7 @@ use super::pieces::{
     FIRST_SCRATCH, LEFT, MINUS_ONE, RESULT, RIGHT, SECOND_SCRATCH, ZERO, emit, set,
 };
 use arc_base::{Bytes, Memory};
-use nim_core::Operator;
+use int_core::Operator;
 use rv32_isa::build::{add, beq, bne, div, jalr, lui, mul, mulh, rem, slt, slti, srai, sub};
 
 /// Where the code of the traps stands, from where the code begins.

@@ -1,6 +1,6 @@
 // The statements that are built.
 use arc_base::{Bytes, Place};
-use nim_core::{Comparison, Operator};
+use int_core::{Comparison, Operator};
 use nim_tree::Name;
 
 /// An expression of ints, with the place of its first token.

@@ -9,7 +9,7 @@ ghost use Rattle.source_compiler.specs.Form.{operator_of, comparison_of, as_sum,
 
 use crate::form::{Sum, Test};
 use arc_base::{Bytes, Code, Place, Stop};
-use nim_core::{Comparison, Operator};
+use int_core::{Comparison, Operator};
 use nim_tree::{BinaryOp, Expr, UnaryOp};
 use std::alloc::Global;
 

@@ -1,7 +1,7 @@
 use Rattle.std.proofs.Common.{drop, refl, sym, ap, ◌∙◌, ltb}
 use Rattle.std.specs.Prelude.{None}
 use Rattle.std.proofs.lemmas.Result.{err_from_is_err_and}
-use Rattle.nim_core.specs.declared.plan.Plan.{Plan}
+use Rattle.nim_plan.specs.declared.plan.Plan.{Plan}
 use Rattle.rv32_isa.specs.Hooks.{code_at}
 use Rattle.elf32.specs.declared.file.ElfFault.TheVariants.{Note}
 use Rattle.elf32.specs.Reading.{rises, site_before, skip_before, stand}

@@ -1,5 +1,5 @@
 use Rattle.std.proofs.Common.{◌≡◌, ◌≤◌, ◌+◌, ◌*◌, ◌++◌, drop, length}
-use Rattle.nim_core.specs.Program.{stmt_of, stmts_of}
+use Rattle.int_core.specs.Program.{stmt_of, stmts_of}
 use Rattle.source_compiler.specs.Code.{code_bytes, texts, stmts_code, stmt_weight, stmts_weight}
 use Rattle.source_compiler.specs.Emission.{CanEmitStmts}
 use Rattle.source_compiler.proofs.code.+emit_stmts.Given as goal

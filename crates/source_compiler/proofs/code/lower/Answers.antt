@@ -1,5 +1,5 @@
 use Rattle.std.proofs.Common.{◌+◌, ◌++◌, [], length, sym, ap, ◌∙◌, subst, pos}
-use Rattle.nim_core.specs.Program.{program_of, stmts_of}
+use Rattle.int_core.specs.Program.{program_of, stmts_of}
 use Rattle.source_compiler.specs.Code.{code_bytes, data_of, texts, stmts_code}
 use Rattle.source_compiler.specs.Emission.{CanEmitStmts}
 use Rattle.source_compiler.proofs.Agreement.{image_agrees}

@@ -1,5 +1,5 @@
 use Rattle.std.proofs.lemmas.Result.{on_ok_weaker}
-use Rattle.nim_core.specs.Traps.{Overflow, DivisionByZero}
+use Rattle.int_core.specs.Traps.{Overflow, DivisionByZero}
 use Rattle.source_compiler.specs.Code.{trap_line}
 use Rattle.source_compiler.proofs.Emits.{three_pieces}
 use Rattle.source_compiler.proofs.code.put_front.Goals as goal

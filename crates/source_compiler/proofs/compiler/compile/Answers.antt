@@ -1,7 +1,7 @@
 use Rattle.std.proofs.Common.{◌≡◌, ◌≤◌, rules, refl, sym, ap, subst, arith, length, Ok}
 use Rattle.indent_scanner.specs.Tokens.{Tokens, token_bytes}
 use Rattle.nim_tree.specs.Statements.{tree_of}
-use Rattle.nim_core.specs.Program.{program_of}
+use Rattle.int_core.specs.Program.{program_of}
 use Rattle.elf32.specs.Elf.{file_of}
 use Rattle.source_compiler.specs.Form.{form_of}
 use Rattle.source_compiler.specs.Lines.{lines_of}

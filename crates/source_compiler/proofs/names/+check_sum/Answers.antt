@@ -1,6 +1,6 @@
 use Rattle.std.proofs.Common.{◌≡◌, sym, ap, subst, ◌∙◌}
 use Rattle.arc_base.specs.Refusal.{Answers}
-use Rattle.nim_core.specs.Program.{expr_of}
+use Rattle.int_core.specs.Program.{expr_of}
 use Rattle.source_compiler.specs.Lines.{name, sum_of}
 use Rattle.source_compiler.specs.Names.{check_sum}
 use Rattle.source_compiler.proofs.names.+check_sum.Goals as goal

@@ -1,8 +1,8 @@
 use Rattle.std.proofs.Common.{Vec, Global, Err, refl, sym, ap, subst, ◌∙◌, arith, drop, ◌+◌}
 use Rattle.std.proofs.Math.ListN.{drop_of_length-le}
 use Rattle.source_compiler.specs.Lines.{test_of, line_of, lines_of, weight, weights}
-use Rattle.nim_core.specs.declared.program.Stmt.{Stmt as RustStmt}
-use Rattle.nim_core.specs.Program.{stmt_of, stmts_of}
+use Rattle.int_core.specs.declared.program.Stmt.{Stmt as RustStmt}
+use Rattle.int_core.specs.Program.{stmt_of, stmts_of}
 use Rattle.source_compiler.specs.Names.{check_line, check_lines, given, gives, FitsStmts}
 use Rattle.source_compiler.proofs.Passing.{is_branch, is_loop, said_as, branch_gives, first_refused, second_refused, loop_gives, body_refused, next_item}
 use Rattle.source_compiler.proofs.Passing.{with_rest, one_more, onto_none, ints_more}

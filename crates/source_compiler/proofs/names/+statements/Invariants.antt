@@ -1,7 +1,7 @@
 use Rattle.std.proofs.Common.{◌≡◌, ◌≤◌, ◌+◌, ◌*◌, drop, length}
 use Rattle.source_compiler.specs.Lines.{line_of, lines_of, weight, weights}
 use Rattle.source_compiler.specs.Names.{names_of, check_lines, FitsStmts}
-use Rattle.nim_core.specs.Program.{stmts_of}
+use Rattle.int_core.specs.Program.{stmts_of}
 use Rattle.source_compiler.proofs.Passing.{with_rest}
 use Rattle.source_compiler.proofs.names.+statements.Given as goal
 

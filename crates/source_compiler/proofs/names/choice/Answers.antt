@@ -1,4 +1,4 @@
-use Rattle.nim_core.proofs.ForCallers.{conditional}
+use Rattle.int_core.proofs.ForCallers.{conditional}
 use Rattle.source_compiler.proofs.names.choice.Goals as goal
 
 pub returns : goal.returns

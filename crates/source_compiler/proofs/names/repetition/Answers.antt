@@ -1,4 +1,4 @@
-use Rattle.nim_core.proofs.ForCallers.{repeated}
+use Rattle.int_core.proofs.ForCallers.{repeated}
 use Rattle.source_compiler.proofs.names.repetition.Goals as goal
 
 pub returns : goal.returns

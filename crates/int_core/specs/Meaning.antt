@@ -5,11 +5,11 @@ use Rattle.arc_base.specs.Event.{Event, writes}
 use Rattle.arc_base.specs.declared.outside.Stream.TheVariants.{Out, Err}
 use Rattle.arc_base.specs.Behaviour.{Behaviour, no_objects}
 use Rattle.arc_base.specs.BigStep.{Meter, Res, Got, Over, then_do, ticked, told, with_units, spend, Turn, Again, Leave, turns, begun, whole}
-use Rattle.nim_core.specs.declared.plan.Plan.{Plan}
-use Rattle.nim_core.specs.Program.{Expr, Number, Variable, Negate, Binary, Cond, Stmt, Declare, Assign, EchoInt, EchoText, Quit, If, While, Stmts, Empty, Then}
-use Rattle.nim_core.specs.Program.{Program}
-use Rattle.nim_core.specs.Traps.{trap_text}
-use Rattle.nim_core.specs.Ints.{Checked, Fine, Trapped, applied, negated, compared, low_byte}
+use Rattle.nim_plan.specs.declared.plan.Plan.{Plan}
+use Rattle.int_core.specs.Program.{Expr, Number, Variable, Negate, Binary, Cond, Stmt, Declare, Assign, EchoInt, EchoText, Quit, If, While, Stmts, Empty, Then}
+use Rattle.int_core.specs.Program.{Program}
+use Rattle.int_core.specs.Traps.{trap_text}
+use Rattle.int_core.specs.Ints.{Checked, Fine, Trapped, applied, negated, compared, low_byte}
 
 -- the units left, what was seen, and the work done
 abbrev pub State : Type 0

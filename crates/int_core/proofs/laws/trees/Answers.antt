@@ -1,5 +1,5 @@
-use Rattle.nim_core.proofs.Rows.{conditional, repeated}
-use Rattle.nim_core.proofs.laws.trees.Goals as goal
+use Rattle.int_core.proofs.Rows.{conditional, repeated}
+use Rattle.int_core.proofs.laws.trees.Goals as goal
 
 pub returns-clause-conditional : goal.returns-clause-conditional
 returns-clause-conditional c = conditional

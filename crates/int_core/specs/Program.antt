@@ -1,15 +1,15 @@
 -- A program as definitions speak of it: a tree without boxes and capacities.
 use Rattle.std.specs.Prelude.{ℕ, ℤ, List, [], ◌∷◌}
 use Rattle.arc_base.specs.declared.place.Place.{Place}
-use Rattle.nim_core.specs.declared.program.Operator.{Operator}
-use Rattle.nim_core.specs.declared.program.Comparison.{Comparison}
-use Rattle.nim_core.specs.declared.program.PlaceDecl.{PlaceDecl}
-use Rattle.nim_core.specs.declared.program.Expr.{Expr as RustExpr}
-use Rattle.nim_core.specs.declared.program.Expr.TheVariants as rust_expr
-use Rattle.nim_core.specs.declared.program.Cond.{Cond as RustCond}
-use Rattle.nim_core.specs.declared.program.Stmt.{Stmt as RustStmt, Row_of-Stmt, end_of-Stmt, more_of-Stmt}
-use Rattle.nim_core.specs.declared.program.Stmt.TheVariants as rust_stmt
-use Rattle.nim_core.specs.declared.program.Program.{Program as RustProgram}
+use Rattle.int_core.specs.declared.program.Operator.{Operator}
+use Rattle.int_core.specs.declared.program.Comparison.{Comparison}
+use Rattle.int_core.specs.declared.program.PlaceDecl.{PlaceDecl}
+use Rattle.int_core.specs.declared.program.Expr.{Expr as RustExpr}
+use Rattle.int_core.specs.declared.program.Expr.TheVariants as rust_expr
+use Rattle.int_core.specs.declared.program.Cond.{Cond as RustCond}
+use Rattle.int_core.specs.declared.program.Stmt.{Stmt as RustStmt, Row_of-Stmt, end_of-Stmt, more_of-Stmt}
+use Rattle.int_core.specs.declared.program.Stmt.TheVariants as rust_stmt
+use Rattle.int_core.specs.declared.program.Program.{Program as RustProgram}
 
 -- an expression, with the place of its first token
 pub data Expr : Type 0 where

@@ -1,12 +1,12 @@
 -- Small programs, whose meanings a law states.
 use Rattle.std.specs.Prelude.{ℕ, pos, List, [], ◌∷◌, codes}
 use Rattle.arc_base.specs.declared.place.Place.{Place}
-use Rattle.nim_core.specs.declared.program.Operator.{Operator}
-use Rattle.nim_core.specs.declared.program.Operator.TheVariants.{Add, Subtract, Multiply, Divide, Modulo}
-use Rattle.nim_core.specs.declared.program.Comparison.{Comparison}
-use Rattle.nim_core.specs.declared.program.Comparison.TheVariants.{Equal, Less, AtMost}
-use Rattle.nim_core.specs.Program.{Expr, Number, Variable, Negate, Binary, Cond, Stmt, Declare, Assign, EchoInt, EchoText, Quit, If, While, Stmts, Empty, Then}
-use Rattle.nim_core.specs.Program.{Program}
+use Rattle.int_core.specs.declared.program.Operator.{Operator}
+use Rattle.int_core.specs.declared.program.Operator.TheVariants.{Add, Subtract, Multiply, Divide, Modulo}
+use Rattle.int_core.specs.declared.program.Comparison.{Comparison}
+use Rattle.int_core.specs.declared.program.Comparison.TheVariants.{Equal, Less, AtMost}
+use Rattle.int_core.specs.Program.{Expr, Number, Variable, Negate, Binary, Cond, Stmt, Declare, Assign, EchoInt, EchoText, Quit, If, While, Stmts, Empty, Then}
+use Rattle.int_core.specs.Program.{Program}
 
 -- ---- trees whose nodes all stand at one place
 

@@ -1,10 +1,8 @@
-//! The typed program, its plan and its meaning.
+//! Programs of ints: the small tree that is built and run until the back end takes the typed program, and its meaning.
 #![tactic(auto)]
 
 mod laws;
-mod plan;
 mod program;
 
 pub use laws::{examples, ints, meanings, trees};
-pub use plan::{Act, Plan, SiteAct, SkipAt};
 pub use program::{Comparison, Cond, Expr, Operator, PlaceDecl, Program, Stmt};

@@ -1,7 +1,7 @@
 use Rattle.std.proofs.Common.{refl}
 use Rattle.std.specs.Fmt.{digits}
-use Rattle.nim_core.proofs.Idle.{idle_runs, idle_writes}
-use Rattle.nim_core.proofs.laws.examples.Goals as goal
+use Rattle.int_core.proofs.Idle.{idle_runs, idle_writes}
+use Rattle.int_core.proofs.laws.examples.Goals as goal
 
 pub returns-clause-opposite : goal.returns-clause-opposite
 unfolding digits

@@ -1,6 +1,6 @@
 -- A remainder of an int is an int, and the low byte is that of its word.
 use Rattle.std.proofs.Common.{rules, ◌≡◌, IsTrue, ℕ, ◌*◌, ◌%◌, ℤ, pos, ◌+ℤ◌, int_rem}
-use Rattle.nim_core.specs.Ints.{fits, low_byte}
+use Rattle.int_core.specs.Ints.{fits, low_byte}
 
 pub rem_fits : (x y : ℤ) → IsTrue (fits x) → IsTrue (fits (int_rem x y))
 rem_fits x y h = search rules

@@ -3,11 +3,11 @@ use Rattle.std.specs.Prelude.{ℕ, zero, suc, ◌-◌, ◌^◌, Bool, ◌&&◌, 
 use Rattle.std.specs.Prelude.{unsigned_abs}
 use Rattle.std.specs.Ordering.{int_eq}
 use Rattle.std.specs.Int.{int_rem_euclid}
-use Rattle.nim_core.specs.declared.program.Operator.{Operator}
-use Rattle.nim_core.specs.declared.program.Operator.TheVariants.{Add, Subtract, Multiply, Divide, Modulo}
-use Rattle.nim_core.specs.declared.program.Comparison.{Comparison}
-use Rattle.nim_core.specs.declared.program.Comparison.TheVariants.{Equal, Less, AtMost}
-use Rattle.nim_core.specs.Traps.{Trap, Overflow, DivisionByZero}
+use Rattle.int_core.specs.declared.program.Operator.{Operator}
+use Rattle.int_core.specs.declared.program.Operator.TheVariants.{Add, Subtract, Multiply, Divide, Modulo}
+use Rattle.int_core.specs.declared.program.Comparison.{Comparison}
+use Rattle.int_core.specs.declared.program.Comparison.TheVariants.{Equal, Less, AtMost}
+use Rattle.int_core.specs.Traps.{Trap, Overflow, DivisionByZero}
 
 -- the least and the greatest int; `negsuc n` is -(n + 1)
 abbrev pub low : ℤ

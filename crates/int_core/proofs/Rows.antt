@@ -2,10 +2,10 @@
 use Rattle.std.proofs.Common.{◌≡◌, Vec, refl, ap, ap₂, ◌∙◌, Global}
 use mathlib.Core.Former.{Count}
 use Rattle.arc_base.specs.declared.place.Place.{Place}
-use Rattle.nim_core.specs.declared.program.Cond.{Cond as RustCond}
-use Rattle.nim_core.specs.declared.program.Stmt.{Stmt as RustStmt, Row_of-Stmt, end_of-Stmt, more_of-Stmt, items-the_row-Stmt, items_hidden-the_row-Stmt-0}
-use Rattle.nim_core.specs.declared.program.Stmt.TheVariants as rust_stmt
-use Rattle.nim_core.specs.Program.{If, While, Then, cond_of, stmt_of, row_of, stmts_of}
+use Rattle.int_core.specs.declared.program.Cond.{Cond as RustCond}
+use Rattle.int_core.specs.declared.program.Stmt.{Stmt as RustStmt, Row_of-Stmt, end_of-Stmt, more_of-Stmt, items-the_row-Stmt, items_hidden-the_row-Stmt-0}
+use Rattle.int_core.specs.declared.program.Stmt.TheVariants as rust_stmt
+use Rattle.int_core.specs.Program.{If, While, Then, cond_of, stmt_of, row_of, stmts_of}
 
 row_is : (n : Count) (row : Row_of-Stmt n) → row_of row ≡ stmts_of (items-the_row-Stmt n row)
 row_is n end_of-Stmt = refl

@@ -1,5 +1,5 @@
-use Rattle.nim_core.proofs.Steadiness.{meaning_steady, meaning_sound}
-use Rattle.nim_core.proofs.laws.meanings.Goals as goal
+use Rattle.int_core.proofs.Steadiness.{meaning_steady, meaning_sound}
+use Rattle.int_core.proofs.laws.meanings.Goals as goal
 
 pub returns-clause-steady : goal.returns-clause-steady
 returns-clause-steady c = meaning_steady

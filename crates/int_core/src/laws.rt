@@ -8,16 +8,16 @@ ghost use Rattle.arc_base.specs.Event.{writes};
 ghost use Rattle.arc_base.specs.declared.outside.Stream.TheVariants.{Out, Err};
 ghost use Rattle.arc_base.specs.Behaviour.{Running, Ended, no_objects, Steady, Sound};
 ghost use Rattle.arc_base.specs.Stepping.{seen};
-ghost use Rattle.nim_core.specs.declared.plan.Plan.{Plan};
-ghost use Rattle.nim_core.specs.declared.program.Operator.{Operator};
-ghost use Rattle.nim_core.specs.declared.program.Cond.{Cond as RustCond};
-ghost use Rattle.nim_core.specs.declared.program.Stmt.{Stmt as RustStmt};
-ghost use Rattle.nim_core.specs.declared.program.Stmt.TheVariants as rust_stmt;
-ghost use Rattle.nim_core.specs.Program.{Program, If, While, cond_of, stmt_of, stmts_of};
-ghost use Rattle.nim_core.specs.Ints.{fits, Fine, applied, negated, low_byte};
-ghost use Rattle.nim_core.specs.Meaning.{meaning};
-ghost use Rattle.nim_core.specs.Examples.{overflowing, opposite, least_div, least_mod, zero_div, zero_mod, rounding, left_first, counting, endless, idle};
-ghost use Rattle.nim_core.specs.Examples.{quitting, choosing};
+ghost use Rattle.nim_plan.specs.declared.plan.Plan.{Plan};
+ghost use Rattle.int_core.specs.declared.program.Operator.{Operator};
+ghost use Rattle.int_core.specs.declared.program.Cond.{Cond as RustCond};
+ghost use Rattle.int_core.specs.declared.program.Stmt.{Stmt as RustStmt};
+ghost use Rattle.int_core.specs.declared.program.Stmt.TheVariants as rust_stmt;
+ghost use Rattle.int_core.specs.Program.{Program, If, While, cond_of, stmt_of, stmts_of};
+ghost use Rattle.int_core.specs.Ints.{fits, Fine, applied, negated, low_byte};
+ghost use Rattle.int_core.specs.Meaning.{meaning};
+ghost use Rattle.int_core.specs.Examples.{overflowing, opposite, least_div, least_mod, zero_div, zero_mod, rounding, left_first, counting, endless, idle};
+ghost use Rattle.int_core.specs.Examples.{quitting, choosing};
 
 /// The trees of statements with blocks.
 pub fn trees()

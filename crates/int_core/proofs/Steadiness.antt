@@ -8,12 +8,12 @@ use Rattle.arc_base.specs.BigStep.{Res, Got, Over, Going, Errs, then_do, ticked,
 use Rattle.arc_base.specs.Growth.{Tame, Falls, Spends, Right, bare}
 use Rattle.arc_base.proofs.ForCallers.{adds_charged, adds_told, tame_got, tame_over, tame_first, tame_then, tame_spend, tame_loop, steady_by_tame, right_then}
 use Rattle.arc_base.proofs.ForCallers.{right_spend, right_turns, sound_by_right}
-use Rattle.nim_core.specs.declared.plan.Plan.{Plan}
-use Rattle.nim_core.specs.Program.{Expr, Number, Variable, Negate, Binary, Cond, Stmt, Declare, Assign, EchoInt, EchoText, Quit, If, While, Stmts, Empty, Then}
-use Rattle.nim_core.specs.Program.{Program}
-use Rattle.nim_core.specs.Traps.{trap_text}
-use Rattle.nim_core.specs.Ints.{Checked, Fine, Trapped, applied, negated, compared, low_byte}
-use Rattle.nim_core.specs.Meaning.{State, Values, put, line_of, outcome, eval, test, either, again, entered, turn, exec, exec_all, meaning}
+use Rattle.nim_plan.specs.declared.plan.Plan.{Plan}
+use Rattle.int_core.specs.Program.{Expr, Number, Variable, Negate, Binary, Cond, Stmt, Declare, Assign, EchoInt, EchoText, Quit, If, While, Stmts, Empty, Then}
+use Rattle.int_core.specs.Program.{Program}
+use Rattle.int_core.specs.Traps.{trap_text}
+use Rattle.int_core.specs.Ints.{Checked, Fine, Trapped, applied, negated, compared, low_byte}
+use Rattle.int_core.specs.Meaning.{State, Values, put, line_of, outcome, eval, test, either, again, entered, turn, exec, exec_all, meaning}
 
 -- ---- with more units a meaning goes further
 

@@ -3,11 +3,11 @@ use Rattle.std.proofs.Common.{◌≡◌, ℕ, zero, suc, pos, List, [], ◌∷�
 use Rattle.arc_base.specs.Event.{Event}
 use Rattle.arc_base.specs.Behaviour.{Running, no_objects, Seen}
 use Rattle.arc_base.specs.BigStep.{Res, then_do, turns, seen_of}
-use Rattle.nim_core.specs.declared.plan.Plan.{Plan}
-use Rattle.nim_core.specs.declared.program.Comparison.TheVariants.{Less}
-use Rattle.nim_core.specs.Program.{Assign, Empty}
-use Rattle.nim_core.specs.Meaning.{State, Values, put, test, turn, exec_all, meaning}
-use Rattle.nim_core.specs.Examples.{here, int, comparing, block, idle}
+use Rattle.nim_plan.specs.declared.plan.Plan.{Plan}
+use Rattle.int_core.specs.declared.program.Comparison.TheVariants.{Less}
+use Rattle.int_core.specs.Program.{Assign, Empty}
+use Rattle.int_core.specs.Meaning.{State, Values, put, test, turn, exec_all, meaning}
+use Rattle.int_core.specs.Examples.{here, int, comparing, block, idle}
 
 -- so many turns, and the statements that would follow
 abbrev from_here : ℕ → Values → ℕ → Res State Values
