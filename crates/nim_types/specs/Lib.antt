@@ -1,0 +1,6 @@
+pub mod Types
+pub mod Forms
+pub mod Table
+pub mod Kept
+pub mod Blocks
+pub mod Examples
