@@ -1,0 +1,38 @@
+// The laws of the meaning.
+ghost use Rattle.std.specs.Prelude.{◌≡◌, ◌+ℤ◌, ◌*ℤ◌, ◌*◌, ◌/◌, ◌%◌, ◌<◌, ◌↔◌, IsTrue, FitsSigned};
+ghost use Rattle.std.specs.Prelude.{ℕ, ℤ, pos, List, unsigned_abs, int_div, int_rem};
+ghost use Rattle.std.specs.Int.{w32};
+ghost use Rattle.arc_base.specs.Behaviour.{Steady, Sound};
+ghost use Rattle.nim_plan.specs.declared.plan.Plan.{Plan};
+ghost use Rattle.nim_core.specs.declared.expr.Operator.{Operator};
+ghost use Rattle.nim_core.specs.declared.expr.UnaryOperator.{UnaryOperator};
+ghost use Rattle.nim_core.specs.Program.{Program};
+ghost use Rattle.nim_core.specs.Ints.{fits, Fine, applied, applied_to, low_byte};
+ghost use Rattle.nim_core.specs.Meaning.{meaning, goes_through, at_first};
+ghost use Rattle.nim_core.specs.Kept.{IsKept, Framed};
+
+/// With more units a meaning shows more, what has ended stays so, and no meaning is wrong. Where
+/// the start code comes to its end, no call is active.
+pub fn meanings()
+    ensures steady { (program : Program) (plan : Plan) (heap : ℕ) (input : List ℕ) →
+        Steady (meaning program plan heap input) }
+    ensures sound { (program : Program) (plan : Plan) (heap : ℕ) (input : List ℕ) →
+        Sound (meaning program plan heap input) }
+    ensures framed { (program : Program) (n : ℕ) →
+        IsKept (λ flow. Framed 0) (goes_through program (at_first program n)) }
+{}
+
+/// The ints are the numbers of 32 bits, and operations on them give no others. A quotient is
+/// rounded toward zero.
+pub fn ints()
+    ensures range { (z : ℤ) → IsTrue (fits z) ↔ FitsSigned w32 z }
+    ensures closed { (operator : Operator) (x y z : ℤ) → IsTrue (fits x) →
+        applied operator x y ≡ Fine z → IsTrue (fits z) }
+    ensures closed_one { (operator : UnaryOperator) (x z : ℤ) → IsTrue (fits x) →
+        applied_to operator x ≡ Fine z → IsTrue (fits z) }
+    ensures quotient { (x y : ℤ) → unsigned_abs (int_div x y) ≡ unsigned_abs x / unsigned_abs y }
+    ensures remainder { (x y : ℤ) → int_div x y *ℤ y +ℤ int_rem x y ≡ x }
+    ensures below { (x y : ℤ) → 0 < unsigned_abs y → unsigned_abs (int_rem x y) < unsigned_abs y }
+    ensures status { (z : ℤ) (turns word : ℕ) →
+        z +ℤ pos (turns * 256) ≡ pos word → low_byte z ≡ word % 256 }
+{}

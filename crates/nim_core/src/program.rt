@@ -1,0 +1,74 @@
+// A typed program.
+use crate::Stmt;
+use arc_base::{Bytes, Items, Place};
+use nim_types::{TypeId, TypeTable};
+
+/// How many calls may be active at once. One more ends the run.
+pub const ACTIVE_CALLS: u32 = 2000;
+
+/// A declared place.
+#[derive(Drop)]
+pub struct PlaceDecl {
+    /// Its number, in order of text. The result of a procedure comes after its parameters.
+    pub number: u32,
+    /// Its name, as declared.
+    pub name: Bytes,
+    /// The place of its name; for a result, of its type.
+    pub at: Place,
+    pub ty: TypeId,
+}
+
+/// How a parameter takes its argument.
+#[derive(Clone, Copy, Debug, PartialEq, Eq)]
+pub enum Mode {
+    Plain,
+    /// `sink`
+    Sink,
+    /// `var`
+    Var,
+}
+
+/// A parameter.
+#[derive(Drop)]
+pub struct Param {
+    pub place: PlaceDecl,
+    pub mode: Mode,
+}
+
+/// What a procedure does, or the start code of all modules.
+#[derive(Drop)]
+pub struct Body {
+    /// The number of the first of its places, which follow one another: parameters, result, and
+    /// what is declared in it. The start code begins at 0 and spans the places of all procedures.
+    pub first: u32,
+    /// How many places it spans.
+    pub places: u32,
+    pub result: Option<PlaceDecl>,
+    pub stmts: Vec<Stmt>,
+}
+
+/// A procedure.
+#[derive(Drop)]
+pub struct Proc {
+    /// Its name, as declared.
+    pub name: Bytes,
+    /// The place of the word `proc`.
+    pub at: Place,
+    pub params: Items<Param>,
+    /// The type of its result.
+    pub gives: Option<TypeId>,
+    /// None where the built-in operation of the base is meant.
+    pub body: Option<Body>,
+}
+
+/// A program.
+#[derive(Drop)]
+pub struct Program {
+    pub types: TypeTable,
+    /// The procedures, by number.
+    pub procs: Vec<Proc>,
+    /// The globals, in order of declaration. Each is declared once more by a statement of the start
+    /// code, which fills it.
+    pub globals: Items<PlaceDecl>,
+    pub start: Body,
+}
