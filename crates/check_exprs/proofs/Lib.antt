@@ -1,0 +1,15 @@
+mod Means
+mod Steps
+mod Sound
+mod Complete
+mod RefusalsComplete
+mod Once
+mod Covering
+mod Numbers
+mod Numbered
+mod Chosen
+mod OperationRows
+mod Planned
+mod Called
+mod Covers
+mod Agree
