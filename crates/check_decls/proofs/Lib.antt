@@ -1,0 +1,13 @@
+mod Means
+mod Values
+mod Sections
+mod Definitions
+mod Statements
+mod Complete
+mod Programs
+mod Once
+mod Least
+mod Parts
+mod Naming
+mod Places
+mod Nodes
