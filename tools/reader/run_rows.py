@@ -1,0 +1,118 @@
+"""Compares this reader's answers with all rows of crates/rows/data/typing and crates/rows/data/plain, and with the
+examples of docs/TYPING.md.
+
+    python3 tools/reader/run_rows.py [--only typing|plain|examples]
+
+Says what differs, and the number of rows; ends with status 1 where something does.
+"""
+from __future__ import annotations
+
+import argparse
+import re
+import sys
+from typing import List, NamedTuple, Optional
+
+from check import answer, check
+from interp import run, with_deep_stack
+from rows import REPOSITORY, Row, files_of, read
+from scan import Refusal
+
+UNITS = 5_000_000
+"""Where a row says nothing of its steps."""
+
+STEPS_WORD = '--steps='
+STEPS_SPENT = 'StepsSpent'
+SPENT_LINE = 'nimarc: steps spent\n'
+SOURCE_FILE = 't.nim:'
+LINE_END = '\u23ce'
+"""How the page writes it."""
+
+
+class Written(NamedTuple):
+    """What a program does; `status` None: it has spent its units."""
+    status: Optional[int]
+    out: str
+    err: str
+
+
+def wanted_answer(row: Row) -> str:
+    """The row has status and line, as `65 t.nim:1:5: E8 NotTyped`; the answer is `1:5: E8`."""
+    given = row.parts['check'].strip()
+    return given if given == '0' else given.split(SOURCE_FILE)[1].rsplit(' ', 1)[0]
+
+
+def typing_difference(row: Row) -> Optional[str]:
+    """What differs in a row of the typing rules."""
+    wanted = wanted_answer(row)
+    got = answer(row.parts['source'])
+    return None if wanted == got else 'wanted %s, got %s' % (wanted, got)
+
+
+def wanted_run(row: Row) -> Written:
+    out, err = row.parts.get('out', ''), row.parts.get('err', '')
+    call = row.parts.get('call', '').split()
+    if not call:
+        return Written(int(row.parts.get('status', '0')), out, err)
+    return Written(None if call[1] == STEPS_SPENT else int(call[0]), out, err)
+
+
+def units_of(row: Row) -> int:
+    for word in row.parts.get('words', '').split('\n'):
+        if word.startswith(STEPS_WORD):
+            return int(word[len(STEPS_WORD):])
+    return UNITS
+
+
+def plain_difference(row: Row) -> Optional[str]:
+    """What differs in a row of a plain program."""
+    try:
+        program = check(row.parts['source'])
+    except Refusal as refusal:
+        return 'wanted a program, got %s' % refusal
+    outcome = run(program, units_of(row), row.parts.get('input', '').encode('latin-1'))
+    err = outcome.err.decode('latin-1') + (SPENT_LINE if outcome.status is None else '')
+    got = Written(outcome.status, outcome.out.decode('latin-1'), err)
+    wanted = wanted_run(row)
+    return None if wanted == got else 'wanted %r, got %r' % (tuple(wanted), tuple(got))
+
+
+def examples() -> List[Row]:
+    """Those of docs/TYPING.md, as rows of the typing rules. A line is ``| `SOURCE` | E8 1:5 | why |``."""
+    page = REPOSITORY / 'docs' / 'TYPING.md'
+    line = re.compile(r'\| (`+) ?(?P<source>.*?) ?\1 \| (?P<code>E\d+) (?P<place>\d+:\d+) \|')
+    rows = []
+    for number, text in enumerate(page.read_text(encoding='utf-8').split('\n'), 1):
+        example = line.match(text)
+        if example is not None:
+            source = example['source'].replace(LINE_END, '\n')
+            check_part = '65 %s%s: %s Name' % (SOURCE_FILE, example['place'], example['code'])
+            rows.append(Row(page, number, {'source': source, 'check': check_part}))
+    return rows
+
+
+DIFFERENCES = {'typing': typing_difference, 'plain': plain_difference, 'examples': typing_difference}
+
+
+def differing_rows(folder: str) -> int:
+    """Prints what differs in a folder; gives the number of rows that do."""
+    rows = examples() if folder == 'examples' else [row for path in files_of(folder) for row in read(path)]
+    differing = 0
+    for row in rows:
+        difference = DIFFERENCES[folder](row)
+        if difference is not None:
+            differing += 1
+            print('%s: %s' % (row, difference))
+    print('%s: %d rows, %d differ' % (folder, len(rows), differing))
+    return differing
+
+
+def main() -> None:
+    parser = argparse.ArgumentParser(description='Compares rows of the repository with the answers of this reader.')
+    parser.add_argument('--only', choices=list(DIFFERENCES), help='all of them, if it is not there')
+    only = parser.parse_args().only
+    folders = list(DIFFERENCES) if only is None else [only]
+    sys.exit(1 if with_deep_stack(lambda: sum(differing_rows(folder) for folder in folders)) else 0)
+
+
+if __name__ == '__main__':
+    main()
