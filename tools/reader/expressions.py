@@ -275,7 +275,7 @@ class ExpressionChecker:
 
     def fields(self, type_number: Optional[int]) -> Optional[List[Tuple[str, int]]]:
         """None where it is no object type that is known."""
-        if type_number is None or self.types.kind(type_number) != 'object':
+        if type_number is None or self.types.kind(type_number) != 'object' or not self.types.is_known(type_number):
             return None
         return self.types.fields(type_number)
 
@@ -489,12 +489,14 @@ class ExpressionChecker:
     def conversion(self, call: AnyCall, target: Optional[int], arguments: List[tree.Expression],
                    types: ArgumentTypes) -> Tuple[bool, Optional[int]]:
         """Whether it fits, and its type; also of `T()`."""
-        kind = '' if target is None else self.types.kind(target)
+        if target is None or not self.types.is_known(target):
+            return False, None
         if not arguments:
             call.meaning = EmptyConstruction()
             return self.fields(target) is not None, target
-        if target is None or len(arguments) != 1:
+        if len(arguments) != 1:
             return False, None
+        kind = self.types.kind(target)
         argument = types[0]
         call.meaning = Conversion(arguments[0], kind == 'enum' and argument == INT)
         if call.meaning.to_enum:

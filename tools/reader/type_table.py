@@ -1,7 +1,7 @@
 """The types of a program (docs/TYPING.md, "Types"). A type is a number, and equal types have equal numbers."""
 from __future__ import annotations
 
-from typing import Dict, List, NamedTuple, Optional, Tuple
+from typing import Dict, FrozenSet, List, NamedTuple, Optional, Set, Tuple
 
 LARGEST_SIZE = 1_048_576
 LARGEST_LENGTH = 65_536
@@ -46,6 +46,7 @@ class TypeTable:
         self.numbers = {form: number for number, form in enumerate(self.forms)}
         self.declared: Dict[int, DeclaredType] = {}
         self._sizes: Dict[int, int] = {}
+        self._known: Set[int] = set()
 
     def make(self, form: Form) -> int:
         number = self.numbers.get(form)
@@ -91,6 +92,35 @@ class TypeTable:
     def fields(self, object_type: int) -> Optional[List[Tuple[str, int]]]:
         fields = self.declaration(object_type).fields
         return None if fields is None else [(name, self.resolved(field_type)) for name, field_type in fields]
+
+    def is_known(self, type_number: int, within: FrozenSet[int] = frozenset()) -> bool:
+        """Whether its definition stands before, and those of all types in it; `within` are the ones around it."""
+        if type_number in self._known:
+            return True
+        form = self.forms[type_number]
+        parts = list(form.parts) if form.element is None else [form.element]
+        if form.declaration:
+            if form.declaration in within:
+                return False
+            within |= {form.declaration}
+            said = self._said_of(form)
+            if said is None:
+                return False
+            parts = said
+        if not all(self.is_known(part, within) for part in parts):
+            return False
+        self._known.add(type_number)
+        return True
+
+    def _said_of(self, form: Form) -> Optional[List[int]]:
+        """The types that a declared one is made of; None before its definition."""
+        declared = self.declared[form.declaration]
+        if form.kind == 'enum':
+            return [] if declared.members else None
+        if form.kind == 'object':
+            return None if declared.fields is None else [field_type for _, field_type in declared.fields]
+        part = declared.base if form.kind == 'distinct' else declared.target
+        return None if part is None else [part]
 
     def has_text(self, type_number: Optional[int]) -> bool:
         """Whether it is string or has strings as its parts, but not in sequences; False of None."""
