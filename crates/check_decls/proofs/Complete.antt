@@ -19,7 +19,7 @@ use Rattle.check_decls.specs.Rules as R
 use Rattle.check_decls.specs.Rules.{IsCondition, IsStated, AreStated, IsBlock, AreBranches, AreArms}
 use Rattle.check_decls.specs.Refusals as F
 use Rattle.check_decls.specs.Refusals.{IsNoCondition, IsNotStated, AreNotStated, IsNoBlock, AreNoBranches, AreNoArms}
-use Rattle.check_decls.proofs.Means.{bind_ok, bind_err}
+use Rattle.check_decls.proofs.Means.{holding, failing, bind_ok, bind_err}
 use Rattle.check_decls.proofs.Values.{Below, typed_complete, refused_complete, value_complete, no_value_complete, value_as_complete, no_value_as_complete}
 use Rattle.check_decls.proofs.Sections.{section_complete, no_section_complete}
 use Rattle.check_decls.proofs.Definitions.{definitions_complete, no_definitions_complete, constants_complete, no_constants_complete, head_complete}
@@ -54,8 +54,8 @@ mutual
   stated_complete l (R.s_discard_value h) = bind_ok _ (value_complete l h) refl
   stated_complete l (R.s_return e) = bind_ok _ e refl
   stated_complete l (R.s_return_value e h r) = bind_ok _ e (bind_ok _ (typed_complete l h) (bind_ok _ r refl))
-  stated_complete l (R.s_break e) = bind_ok _ e refl
-  stated_complete l (R.s_continue e) = bind_ok _ e refl
+  stated_complete l (R.s_break e) = bind_ok _ (holding _ e) refl
+  stated_complete l (R.s_continue e) = bind_ok _ (holding _ e) refl
   stated_complete l (R.s_evaluate h e) = bind_ok _ (typed_complete l h) (bind_ok _ e refl)
   stated_complete l (R.s_command h e) = bind_ok _ (typed_complete l h) (bind_ok _ e refl)
   stated_complete l (R.s_assign h e f k g) =
@@ -73,7 +73,7 @@ mutual
       bind_ok _ (value_as_complete l h) (bind_ok _ (value_as_complete l g) (bind_ok _ (block_complete l k) refl))
   stated_complete l (R.s_for_below h g k) =
       bind_ok _ (value_as_complete l h) (bind_ok _ (value_as_complete l g) (bind_ok _ (block_complete l k) refl))
-  stated_complete l (R.s_procedure e g j) = bind_ok _ e (bind_ok _ (head_complete l g) (bind_ok _ (all_stated_complete l j) refl))
+  stated_complete l (R.s_procedure e g j) = bind_ok _ (holding _ e) (bind_ok _ (head_complete l g) (bind_ok _ (all_stated_complete l j) refl))
 
   pub all_stated_complete : Below → {a : Around} {ends : Option Ty} {st : State} {all : Statements} {x : Stated} → AreStated a ends st all x
       → all_stated a ends st all ≡ Ok x
@@ -105,8 +105,8 @@ mutual
   not_stated_complete l F.r_import = refl
   not_stated_complete l F.r_try = refl
   not_stated_complete l F.r_defer = refl
-  not_stated_complete l (F.r_break r) = bind_err _ r
-  not_stated_complete l (F.r_continue r) = bind_err _ r
+  not_stated_complete l (F.r_break e) = bind_err _ (failing _ e)
+  not_stated_complete l (F.r_continue e) = bind_err _ (failing _ e)
   not_stated_complete l (F.r_expression w) = bind_err _ (refused_complete l w)
   not_stated_complete l (F.r_evaluate h r) = bind_ok _ (typed_complete l h) (bind_err _ r)
   not_stated_complete l (F.r_call w) = bind_err _ (refused_complete l w)
@@ -143,9 +143,9 @@ mutual
   not_stated_complete l (F.r_end h w) = bind_ok _ (value_as_complete l h) (bind_err _ (no_value_as_complete l w))
   not_stated_complete l (F.r_below_body h g w) =
       bind_ok _ (value_as_complete l h) (bind_ok _ (value_as_complete l g) (bind_err _ (no_block_complete l w)))
-  not_stated_complete l (F.r_level r) = bind_err _ r
-  not_stated_complete l (F.r_head e w) = bind_ok _ e (bind_err _ (no_head_complete l w))
-  not_stated_complete l (F.r_body e g w) = bind_ok _ e (bind_ok _ (head_complete l g) (bind_err _ (none_stated_complete l w)))
+  not_stated_complete l (F.r_level e) = bind_err _ (failing _ e)
+  not_stated_complete l (F.r_head e w) = bind_ok _ (holding _ e) (bind_err _ (no_head_complete l w))
+  not_stated_complete l (F.r_body e g w) = bind_ok _ (holding _ e) (bind_ok _ (head_complete l g) (bind_err _ (none_stated_complete l w)))
 
   pub none_stated_complete : Below → {a : Around} {ends : Option Ty} {st : State} {all : Statements} {c : Code} {p : Place}
       → AreNotStated a ends st all c p → IsRefusal (all_stated a ends st all) c p

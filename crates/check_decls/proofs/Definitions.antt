@@ -153,7 +153,8 @@ value_sound_of l st ty names t =
 
 pub constant_of_sound : Below → (st : State) (ty : Option Ty) (names : List Declared) (t : Option Term)
     → ConstantOfSo st ty names t (constants_by st ty t names)
-constant_of_sound l st ty names None = m_ok d_no_constant
+constant_of_sound l st ty [] None = m_ok d_no_constant
+constant_of_sound l st ty (d ∷ rest) None = m_err F.f_no_constant
 constant_of_sound l st ty names (Some t) = means_then (value_sound_of l st ty names t) (λ w h. m_ok (constant_from h)) (λ c p r. r)
 
 pub constant_of_complete : Below → {st s : State} {ty : Option Ty} {names : List Declared} {t : Option Term} → IsConstantOf st ty names t s
@@ -163,6 +164,7 @@ constant_of_complete l (d_constant h e) = bind_ok _ (bind_ok _ (defined_complete
 
 pub no_constant_of_complete : Below → {st : State} {ty : Option Ty} {names : List Declared} {t : Option Term} {c : Code} {p : Place}
     → IsNoConstantOf st ty names t c p → IsRefusal (constants_by st ty t names) c p
+no_constant_of_complete l F.f_no_constant = refl
 no_constant_of_complete l (F.f_constant_value w) = bind_err _ (bind_err _ (not_defined_complete l w))
 no_constant_of_complete l (F.f_constant h r) = bind_err _ (bind_ok _ (defined_complete l h) r)
 

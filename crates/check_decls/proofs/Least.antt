@@ -1,5 +1,5 @@
 -- What grows from step to step, over a list, grows no more after as many steps as the list has members.
-use Rattle.std.proofs.Common.{◌≡◌, ℕ, zero, suc, ◌≤◌, ◌<◌, Bool, true, false, List, [], ◌∷◌, length, refl, subst, sym, inl, inr, arith}
+use Rattle.std.proofs.Common.{◌≡◌, ℕ, zero, suc, ◌≤◌, Bool, true, false, List, [], ◌∷◌, length, refl, subst, sym, inl, inr, arith}
 use Rattle.std.specs.Prelude.{◌⊎◌}
 
 pub either_way : (b : Bool) → (b ≡ true) ⊎ (b ≡ false)

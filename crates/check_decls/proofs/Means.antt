@@ -1,10 +1,12 @@
 -- Answers that mean what rules say.
 use Rattle.std.proofs.Common.{◌≡◌, refl, ap, subst, ◌∙◌}
-use Rattle.std.specs.Prelude.{Ok, Err}
+use Rattle.std.specs.Prelude.{Bool, true, false, Ok, Err}
 use Rattle.arc_base.specs.declared.place.Place.{Place}
 use Rattle.arc_base.specs.declared.place.Code.{Code}
+use Rattle.arc_base.specs.declared.place.Code.TheVariants.{NotTyped}
 use Rattle.arc_base.specs.Refusal.{Refusal, and_then, IsRefusal}
 use Rattle.check_exprs.specs.Answers.{Answer}
+use Rattle.check_decls.specs.State.{if_typed}
 
 -- what it gives is D, what it refuses is F
 pub data Means {A : Type 0} (D : A → Type 0) (F : Code → Place → Type 0) : Answer A → Type 0 where
@@ -32,6 +34,24 @@ pub means_last : {A : Type 0} {E : A → Type 0} {G : Code → Place → Type 0}
     → ((c : Code) (p : Place) → IsRefusal r c p → G c p) → Means E G r
 means_last (Ok a) h f = m_ok (h a refl)
 means_last (Err e) h f = m_err (f e.code e.at refl)
+
+-- ---- a test of what has to hold
+
+pub data IsAt (k : Code) (q : Place) : Code → Place → Type 0 where
+  is_at : IsAt k q k q
+
+pub at_once : (F : Code → Place → Type 0) {k c : Code} {q p : Place} → IsAt k q c p → F k q → F c p
+at_once F is_at f = f
+
+pub tested : (b : Bool) (at : Place) → Means (λ _. b ≡ true) (λ c p. (b ≡ false) × IsAt NotTyped at c p) (if_typed b at)
+tested true at = m_ok refl
+tested false at = m_err (refl, is_at)
+
+pub holding : {b : Bool} (at : Place) → b ≡ true → if_typed b at ≡ Ok tt
+holding at e = ap (λ b. if_typed b at) e
+
+pub failing : {b : Bool} (at : Place) → b ≡ false → IsRefusal (if_typed b at) NotTyped at
+failing at e = ap (λ b. if_typed b at) e
 
 -- ---- and back
 

@@ -1,14 +1,20 @@
 -- What types are made of and which are known: what is computed is the least set.
 use Rattle.std.proofs.Common.{◌≡◌, ℕ, zero, suc, Bool, true, false, List, [], ◌∷◌, length, refl, sym, ap, subst, ◌∙◌, inl, inr}
-use Rattle.std.specs.Prelude.{◌⊎◌, not, ◌||◌, if◌then◌else◌, Option, Some, None}
+use Rattle.std.specs.Prelude.{◌⊎◌, not, ◌||◌, if◌then◌else◌, Option, Some, None, Ok}
+use Rattle.arc_base.specs.declared.place.Place.{Place}
+use Rattle.arc_base.specs.declared.place.Code.TheVariants.{NotTyped}
+use Rattle.arc_base.specs.Refusal.{IsRefusal}
+use Rattle.check_exprs.specs.Answers.{Answer}
 use Rattle.nim_types.specs.Types as type
 use Rattle.nim_types.specs.Types.{Ty, Tys, Key, same_key}
 use Rattle.nim_types.proofs.ForCallers.{same_sound, same_refl}
 use Rattle.check_decls.specs.Meanings.{Meant, Defined, meant_in, made_of, occurs, occurs_in, occurs_in_any, contains, is_key_among, is_made_of, known_within}
-use Rattle.check_decls.specs.Meanings.{is_known}
 use Rattle.check_decls.specs.Parts.{Occurs, o_name, o_sequence, o_array, o_tuple, o_object, OccursAmong, o_first, o_rest, OccursInAny, o_in_first, o_in_rest}
 use Rattle.check_decls.specs.Parts.{Contains, c_part, c_through, IsKnown, k_known, ContainmentFound, KnownFound}
-use Rattle.check_decls.proofs.Least.{either_way, no_bool, IsIn, here, further, Grows, stable, reached}
+use Rattle.check_decls.specs.Sections.{containment_rule}
+use Rattle.check_decls.specs.Parts.{NoneContainsItself, n_none, n_more, FirstContainsItself, n_itself, n_later}
+use Rattle.check_decls.proofs.Means.{Means, m_ok, means_then, means_map, IsAt, is_at, at_once, tested, holding, failing, bind_ok, bind_err}
+use Rattle.check_decls.proofs.Least.{either_way, no_bool, IsIn, here, further, Grows, stable}
 
 -- ---- bools
 
@@ -29,6 +35,10 @@ not_false e = ap not e
 not_true : (b : Bool) → not b ≡ true → b ≡ false
 not_true true e = cc
 not_true false e = refl
+
+no_false : (b : Bool) → not b ≡ false → b ≡ true
+no_false true e = refl
+no_false false e = cc
 
 -- ---- keys
 
@@ -181,6 +191,42 @@ so_contained {all} {inner} {outer} (c_through {between = k} o h) =
 pub containment_found : ContainmentFound
 containment_found all inner outer = (λ e. contained_so all inner (length all) outer e, λ h. so_contained h)
 
+not_contained : (all : List Defined) (key : Key) → contains (length all) all key key ≡ false → Contains all key key → ⊥
+not_contained all key e h = no_bool (so_contained h) e
+
+contained : (all : List Defined) (key : Key) → (contains (length all) all key key ≡ true) ⊎ (contains (length all) all key key ≡ false)
+contained all key = either_way (contains (length all) all key key)
+
+not_so : (all : List Defined) (key : Key) → (Contains all key key → ⊥) → contains (length all) all key key ≡ false
+not_so all key h = by_value (contained all key)
+  where
+    by_value : (contains (length all) all key key ≡ true) ⊎ (contains (length all) all key key ≡ false) → contains (length all) all key key ≡ false
+    by_value (inl e) = absurd (h (contained_so all key (length all) key e))
+    by_value (inr e) = e
+
+abbrev ContainmentSo : List Defined → List Defined → Answer (Unit {0}) → Type 0
+ContainmentSo all ds = Means (λ _. NoneContainsItself all ds) (λ c p. FirstContainsItself all ds p × IsAt NotTyped p c p)
+
+pub containment_sound : (all ds : List Defined) → ContainmentSo all ds (containment_rule all ds)
+containment_sound all [] = m_ok n_none
+containment_sound all (d ∷ rest) =
+    means_then (tested (not (contains (length all) all d.key d.key)) d.key.at)
+    (λ _ e. means_map (containment_sound all rest) (λ _ h. n_more (not_contained all d.key (not_true _ e)) h)
+    (λ c p r. (n_later (not_contained all d.key (not_true _ e)) r.0, r.1)))
+    (λ c p r. at_once (λ c p. FirstContainsItself all (d ∷ rest) p × IsAt NotTyped p c p) r.1
+    (n_itself (contained_so all d.key (length all) d.key (no_false _ r.0)), is_at))
+
+pub containment_complete : (all : List Defined) {ds : List Defined} → NoneContainsItself all ds → containment_rule all ds ≡ Ok tt
+containment_complete all n_none = refl
+containment_complete all (n_more {d = d} h more) =
+    bind_ok _ (holding d.key.at (not_false (not_so all d.key h))) (containment_complete all more)
+
+pub no_containment_complete : (all : List Defined) {ds : List Defined} {p : Place} → FirstContainsItself all ds p
+    → IsRefusal (containment_rule all ds) NotTyped p
+no_containment_complete all (n_itself {d = d} h) = bind_err _ (failing d.key.at (ap not (so_contained h)))
+no_containment_complete all (n_later {d = d} h more) =
+    bind_ok _ (holding d.key.at (not_false (not_so all d.key h))) (no_containment_complete all more)
+
 -- ---- which types are known
 
 abbrev outside_or : List Key → (Key → Bool) → Key → Bool
@@ -264,7 +310,8 @@ known_so section all (suc n) key e =
 so_known : {section : List Key} {all : List Defined} {key : Key} → IsKnown section all key → K section all (length all) key ≡ true
 so_known {section} {all} {key} (k_known {m = m} s rest) =
     stable (known_grows section all) key
-    (so_made (outside_or section (K section all (length all))) key all m s (λ k o. by_among k (λ h. so_known (rest k h o)) (either_way (is_key_among k section))))
+    (so_made (outside_or section (K section all (length all))) key all m s
+    (λ k o. by_among k (λ h. so_known (rest k h o)) (either_way (is_key_among k section))))
   where
     by_among : (k : Key) → (is_key_among k section ≡ true → K section all (length all) k ≡ true)
         → (is_key_among k section ≡ true) ⊎ (is_key_among k section ≡ false) → outside_or section (K section all (length all)) k ≡ true

@@ -18,13 +18,14 @@ use Rattle.check_exprs.specs.Answers.{node}
 use Rattle.check_exprs.specs.Numbers.{Run, run_over, run_on, Leads}
 use Rattle.check_decls.specs.State.{Around, State, Step, does, declares, declares_as, Stated, Blocked, block_of, noting}
 use Rattle.check_decls.specs.Values.{assigned, evaluated_by, given_if, evaluated, is_result}
-use Rattle.check_decls.specs.Stated.{Branched, Armed, level_rule}
+use Rattle.check_decls.specs.Stated.{Branched, Armed}
 use Rattle.check_decls.specs.Heads.{Given}
 use Rattle.check_decls.specs.Bodies.{params_from, result_at, results}
 use Rattle.check_decls.specs.Rules as R
 use Rattle.check_decls.specs.Rules.{IsVariable, AreVariables, IsDefinition, AreDefinitions, IsConstantOf, AreConstants, IsStated, AreStated}
 use Rattle.check_decls.specs.Rules.{IsBlock, AreBranches, AreArms}
 use Rattle.check_decls.specs.Places.{stmt_places, block_places, branch_places, arm_places, step_places, param_places, result_places}
+use Rattle.check_decls.proofs.Least.{no_bool}
 use Rattle.check_decls.specs.Places.{is_procedure, PlacesNumbered, ProcedureNumbered}
 
 -- ---- numbers in a row
@@ -122,14 +123,10 @@ noted_place false one = refl
 later_leads : {k : ℕ} {f : List ℕ → List ℕ} (b : Bool) (one : Stated) → Leads (noting b one).place k f → Leads one.state.place k f
 later_leads {k} {f} b one h = subst (λ n. Leads n k f) (noted_place b one) h
 
-no_level : (b : Bool) (at : Place) → b ≡ false → level_rule b at ≡ Ok tt → ⊥
-no_level true at e h = cc
-no_level false at e h = cc
-
 -- no procedure stands in a block
 pub no_procedure : (a : Around) (ends : Option Ty) (st : State) (s : Statement) (x : Stated) → IsStated a ends st s x → a.outermost ≡ false
     → is_procedure s ≡ false
-no_procedure a ends st s x (R.s_procedure h i k) e = absurd (no_level _ _ e h)
+no_procedure a ends st s x (R.s_procedure h i k) e = no_bool h e
 no_procedure a ends st s x R.s_discard e = refl
 no_procedure a ends st s x (R.s_discard_value h) e = refl
 no_procedure a ends st s x (R.s_return h) e = refl

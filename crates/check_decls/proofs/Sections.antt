@@ -14,14 +14,15 @@ use Rattle.check_exprs.specs.Env.{Env}
 use Rattle.check_exprs.specs.Answers.{Answer}
 use Rattle.check_decls.specs.State.{State}
 use Rattle.check_decls.specs.Written.{later}
-use Rattle.check_decls.specs.Sections.{Section, Bodied, is_plain_object, body_rule, definition_rule, definitions_rule, section_rule, names_env, known_env}
+use Rattle.check_decls.specs.Sections.{Section, Bodied, is_plain_object, body_rule, declaration_rule, declarations_rule, section_rule, names_env, known_env}
 use Rattle.check_decls.specs.Sections.{none_read}
 use Rattle.check_decls.specs.Meanings.{key_of}
 use Rattle.check_decls.specs.TypeRules.{IsBody, b_object, b_enum, b_distinct, b_alias, IsTypeDefinition, d_type, AreTypeDefinitions, d_no_types, d_types}
 use Rattle.check_decls.specs.TypeRules.{IsSection, d_section}
 use Rattle.check_decls.specs.TypeRefusals as F
 use Rattle.check_decls.specs.TypeRefusals.{IsNoBody, IsNoTypeDefinition, AreNoTypeDefinitions, IsNoSection}
-use Rattle.check_decls.proofs.Means.{Means, m_ok, m_err, means_then, means_map, itself, bind_ok, bind_err}
+use Rattle.check_decls.proofs.Means.{at_once, Means, m_ok, m_err, means_then, means_map, itself, bind_ok, bind_err}
+use Rattle.check_decls.proofs.Parts.{containment_sound, containment_complete, no_containment_complete}
 use Rattle.check_decls.proofs.Values.{Below, spelled_sound, parts_sound, spelled_complete, parts_complete, not_spelled_complete, no_parts_complete}
 
 -- ---- bodies
@@ -70,7 +71,7 @@ abbrev pub DefinitionSo : State → List Declaration → Section → Declaration
 DefinitionSo st all s d = Means (λ t. IsTypeDefinition st all s d t) (λ c p. IsNoTypeDefinition st all s d c p)
 
 pub definition_sound : Below → (st : State) (all : List Declaration) (s : Section) (d : Declaration)
-    → DefinitionSo st all s d (definition_rule st all s d)
+    → DefinitionSo st all s d (declaration_rule st all s d)
 definition_sound l st all s d =
     means_then (itself _)
     (λ _ e. means_then (itself _)
@@ -78,11 +79,11 @@ definition_sound l st all s d =
     (λ b h. m_ok (d_type e f h)) (λ c p r. F.f_body e f r)) (λ c p r. F.f_generic e r)) (λ c p r. F.f_declared r)
 
 pub definition_complete : Below → {st : State} {all : List Declaration} {s t : Section} {d : Declaration} → IsTypeDefinition st all s d t
-    → definition_rule st all s d ≡ Ok t
+    → declaration_rule st all s d ≡ Ok t
 definition_complete l (d_type e f h) = bind_ok _ e (bind_ok _ f (bind_ok _ (body_complete l h) refl))
 
 pub no_definition_complete : Below → {st : State} {all : List Declaration} {s : Section} {d : Declaration} {c : Code} {p : Place}
-    → IsNoTypeDefinition st all s d c p → IsRefusal (definition_rule st all s d) c p
+    → IsNoTypeDefinition st all s d c p → IsRefusal (declaration_rule st all s d) c p
 no_definition_complete l (F.f_declared r) = bind_err _ r
 no_definition_complete l (F.f_generic e r) = bind_ok _ e (bind_err _ r)
 no_definition_complete l (F.f_body e f w) = bind_ok _ e (bind_ok _ f (bind_err _ (no_body_complete l w)))
@@ -91,19 +92,19 @@ abbrev pub DefinitionsSo : State → List Declaration → Section → List Decla
 DefinitionsSo st all s ds = Means (λ t. AreTypeDefinitions st all s ds t) (λ c p. AreNoTypeDefinitions st all s ds c p)
 
 pub definitions_sound : Below → (st : State) (all : List Declaration) (s : Section) (ds : List Declaration)
-    → DefinitionsSo st all s ds (definitions_rule st all s ds)
+    → DefinitionsSo st all s ds (declarations_rule st all s ds)
 definitions_sound l st all s [] = m_ok d_no_types
 definitions_sound l st all s (d ∷ rest) =
     means_then (definition_sound l st all s d)
     (λ t h. means_map (definitions_sound l st all t rest) (λ u k. d_types h k) (λ c p r. F.f_rest_types h r)) (λ c p r. F.f_first_type r)
 
 pub definitions_complete : Below → {st : State} {all : List Declaration} {s t : Section} {ds : List Declaration} → AreTypeDefinitions st all s ds t
-    → definitions_rule st all s ds ≡ Ok t
+    → declarations_rule st all s ds ≡ Ok t
 definitions_complete l d_no_types = refl
 definitions_complete l (d_types h k) = bind_ok _ (definition_complete l h) (definitions_complete l k)
 
 pub no_definitions_complete : Below → {st : State} {all : List Declaration} {s : Section} {ds : List Declaration} {c : Code} {p : Place}
-    → AreNoTypeDefinitions st all s ds c p → IsRefusal (definitions_rule st all s ds) c p
+    → AreNoTypeDefinitions st all s ds c p → IsRefusal (declarations_rule st all s ds) c p
 no_definitions_complete l (F.f_first_type w) = bind_err _ (no_definition_complete l w)
 no_definitions_complete l (F.f_rest_types h w) = bind_ok _ (definition_complete l h) (no_definitions_complete l w)
 
@@ -115,14 +116,15 @@ SectionSo st all = Means (λ env. IsSection st all env) (λ c p. IsNoSection st 
 pub section_sound : Below → (st : State) (all : List Declaration) → SectionSo st all (section_rule st all)
 section_sound l st all =
     means_then (definitions_sound l st all none_read all)
-    (λ s h. means_then (itself _) (λ _ e. means_then (itself _) (λ _ f. m_ok (d_section h e f)) (λ c p r. F.f_sizes h e r))
-    (λ c p r. F.f_containment h r)) (λ c p r. F.f_types r)
+    (λ s h. means_then (containment_sound s.defined s.defined)
+    (λ _ e. means_then (itself _) (λ _ f. m_ok (d_section h e f)) (λ c p r. F.f_sizes h e r))
+    (λ c p r. at_once (λ c q. IsNoSection st all c p) r.1 (F.f_containment h r.0))) (λ c p r. F.f_types r)
 
 pub section_complete : Below → {st : State} {all : List Declaration} {env : Env} → IsSection st all env → section_rule st all ≡ Ok env
-section_complete l (d_section h e f) = bind_ok _ (definitions_complete l h) (bind_ok _ e (bind_ok _ f refl))
+section_complete l (d_section {s = s} h e f) = bind_ok _ (definitions_complete l h) (bind_ok _ (containment_complete s.defined e) (bind_ok _ f refl))
 
 pub no_section_complete : Below → {st : State} {all : List Declaration} {c : Code} {p : Place} → IsNoSection st all c p
     → IsRefusal (section_rule st all) c p
 no_section_complete l (F.f_types w) = bind_err _ (no_definitions_complete l w)
-no_section_complete l (F.f_containment h r) = bind_ok _ (definitions_complete l h) (bind_err _ r)
-no_section_complete l (F.f_sizes h e r) = bind_ok _ (definitions_complete l h) (bind_ok _ e (bind_err _ r))
+no_section_complete l (F.f_containment {s = s} h r) = bind_ok _ (definitions_complete l h) (bind_err _ (no_containment_complete s.defined r))
+no_section_complete l (F.f_sizes {s = s} h e r) = bind_ok _ (definitions_complete l h) (bind_ok _ (containment_complete s.defined e) (bind_err _ r))

@@ -21,7 +21,7 @@ use Rattle.check_decls.specs.Rules as R
 use Rattle.check_decls.specs.Rules.{IsCondition, IsStated, AreStated, IsBlock, AreBranches, AreArms}
 use Rattle.check_decls.specs.Refusals as F
 use Rattle.check_decls.specs.Refusals.{IsNoCondition, IsNotStated, AreNotStated, IsNoBlock, AreNoBranches, AreNoArms}
-use Rattle.check_decls.proofs.Means.{Means, m_ok, m_err, means_then, means_map, itself}
+use Rattle.check_decls.proofs.Means.{tested, at_once, Means, m_ok, m_err, means_then, means_map, itself}
 use Rattle.check_decls.proofs.Values.{Below, typed_sound, value_sound, value_as_sound}
 use Rattle.check_decls.proofs.Sections.{section_sound}
 use Rattle.check_decls.proofs.Definitions.{definitions_sound, constants_sound, head_sound}
@@ -66,8 +66,12 @@ mutual
       (λ x h. means_then (itself _) (λ v r. m_ok (R.s_return_value e h r)) (λ c p r. F.r_return_value e h r)) (λ c p r. F.r_return_term e r))
       (λ c p r. F.r_return r)
   stated_sound l a ends st (raises at t) = m_err F.r_raise
-  stated_sound l a ends st (breaks at) = means_then (itself _) (λ _ e. m_ok (R.s_break e)) (λ c p r. F.r_break r)
-  stated_sound l a ends st (continues at) = means_then (itself _) (λ _ e. m_ok (R.s_continue e)) (λ c p r. F.r_continue r)
+  stated_sound l a ends st (breaks at) =
+      means_then (tested a.in_loop at) (λ _ e. m_ok (R.s_break e))
+      (λ c p r. at_once (λ c p. IsNotStated a ends st (breaks at) c p) r.1 (F.r_break r.0))
+  stated_sound l a ends st (continues at) =
+      means_then (tested a.in_loop at) (λ _ e. m_ok (R.s_continue e))
+      (λ c p r. at_once (λ c p. IsNotStated a ends st (continues at) c p) r.1 (F.r_continue r.0))
   stated_sound l a ends st (imports at names) = m_err F.r_import
   stated_sound l a ends st (evaluates at t) =
       means_then (typed_sound l st.env (result_want ends) (suc st.node) t)
@@ -122,10 +126,11 @@ mutual
   stated_sound l a ends st (tries at body all finally) = m_err F.r_try
   stated_sound l a ends st (defers at body) = m_err F.r_defer
   stated_sound l a ends st (proclaims at h body) =
-      means_then (itself _)
+      means_then (tested a.outermost at)
       (λ _ e. means_then (head_sound l st at h (has_statements body))
       (λ k g. means_then (all_stated_sound l (in_body k.signature.gives) k.signature.gives (before_body (behind_head st at h k) h k) body)
-      (λ s j. m_ok (R.s_procedure e g j)) (λ c p r. F.r_body e g r)) (λ c p r. F.r_head e r)) (λ c p r. F.r_level r)
+      (λ s j. m_ok (R.s_procedure e g j)) (λ c p r. F.r_body e g r)) (λ c p r. F.r_head e r))
+      (λ c p r. at_once (λ c p. IsNotStated a ends st (proclaims at h body) c p) r.1 (F.r_level r.0))
 
   pub all_stated_sound : Below → (a : Around) (ends : Option Ty) (st : State) (all : Statements) → AllStatedSo a ends st all (all_stated a ends st all)
   all_stated_sound l a ends st empty = m_ok R.s_none

@@ -1,5 +1,5 @@
 -- What is known behind a procedure's head and behind its body; and the variable of a `for`.
-use Rattle.std.specs.Prelude.{ℕ, suc, ◌+◌, ◌-◌, Bool, true, false, if◌then◌else◌, nat_eq, List, [], ◌∷◌, ◌++◌, length, codes, slice_get, slice_set}
+use Rattle.std.specs.Prelude.{ℕ, suc, ◌+◌, ◌-◌, Bool, true, false, if◌then◌else◌, List, [], ◌∷◌, ◌++◌, length, codes, slice_set}
 use Rattle.std.specs.Prelude.{Option, Some, None}
 use Rattle.arc_base.specs.declared.place.Place.{Place}
 use Rattle.indent_scanner.specs.Words.{normal}
@@ -9,7 +9,7 @@ use Rattle.nim_tree.specs.Statements.{Head}
 use Rattle.nim_types.specs.Types.{Ty}
 use Rattle.nim_core.specs.Program.{Declared, Param, Body, Proc}
 use Rattle.check_exprs.specs.Env.{Entry, variable, procedure}
-use Rattle.check_decls.specs.State.{State, declaring, entered, left, Standing, awaited, late, complete, Announced, announces, code, Stated, block_of}
+use Rattle.check_decls.specs.State.{State, declaring, entered, left, Item, announces, completes, Stated, block_of}
 use Rattle.check_decls.specs.Written.{type_place}
 use Rattle.check_decls.specs.Heads.{Given, Headed, parameters_of, with_parameters, procedure_name}
 
@@ -23,7 +23,8 @@ params_from place (g ∷ rest) =
 -- `result` stands where its type is written
 abbrev pub result_at : ℕ → Option Written → Option Ty → Option Declared
 result_at place (Some t) (Some ty) = Some (record { number = place; name = codes "result"; at = type_place t; of = ty })
-result_at place _ _ = None
+result_at place (Some t) None = None
+result_at place None ty = None
 
 -- behind the parameters
 abbrev pub result_of : State → Head → Headed → Option Declared
@@ -59,18 +60,14 @@ proc_of at h k place body =
     }
 
 -- what is borrowed needs no body
-abbrev pub first_standing : State → Bool → Standing
-first_standing st true = complete
-first_standing st false = awaited (length st.globals)
-
-abbrev pub announced : State → Place → Head → Headed → Announced
-announced st at h k = record { proc = proc_of at h k st.place None; at = at; standing = first_standing st k.borrowed }
+abbrev pub announced : Place → Headed → List Item
+announced at k = if k.borrowed then [] else announces k.number at ∷ []
 
 abbrev pub with_procedure : State → Place → Head → Headed → State
 with_procedure st at h k =
     record (declaring st (procedure_entry h k ∷ [])) {
-      procs = st.procs ++ announced st at h k ∷ [];
-      text = st.text ++ announces k.number ∷ [];
+      procs = st.procs ++ proc_of at h k st.place None ∷ [];
+      text = st.text ++ announced at k;
     }
 
 -- A first declaration declares the procedure; one that completes another declares nothing.
@@ -89,25 +86,12 @@ abbrev pub body_of : State → Head → Headed → Stated → Body
 body_of st h k s =
     record { first = st.place; places = s.state.place - st.place; result = result_of st h k; stmts = block_of s.steps }
 
--- its body came behind so many globals
-abbrev pub standing_behind : ℕ → Standing → Standing
-standing_behind globals (awaited before) = if nat_eq before globals then complete else late
-standing_behind globals other = other
-
-abbrev pub completed : ℕ → Proc → Announced → Announced
-completed globals p a = record { proc = p; at = a.at; standing = standing_behind globals a.standing }
-
-abbrev pub completed_in : ℕ → Proc → ℕ → List Announced → Option Announced → List Announced
-completed_in globals p number all (Some a) = slice_set all number (completed globals p a)
-completed_in globals p number all None = all
-
 -- The procedure has the name, the place and the parameters of the declaration with its body.
 abbrev pub with_body : State → Place → Head → Headed → Stated → State
 with_body st at h k s =
     record (left st s.state) {
-      procs = completed_in (length st.globals) (proc_of at h k st.place (Some (body_of st h k s))) k.number s.state.procs
-          (slice_get s.state.procs k.number);
-      text = s.state.text ++ code (block_of s.steps) ∷ [];
+      procs = slice_set s.state.procs k.number (proc_of at h k st.place (Some (body_of st h k s)));
+      text = s.state.text ++ completes k.number (block_of s.steps) ∷ [];
     }
 
 -- the parameters of what is borrowed have places, those of a forward declaration have none

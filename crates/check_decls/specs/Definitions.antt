@@ -1,5 +1,5 @@
 -- Definitions of variables and constants.
-use Rattle.std.specs.Prelude.{ℕ, suc, Bool, true, false, ◌&&◌, ◌||◌, List, [], ◌∷◌, ◌++◌, Option, Some, None, Ok}
+use Rattle.std.specs.Prelude.{ℕ, suc, Bool, true, false, ◌&&◌, ◌||◌, List, [], ◌∷◌, ◌++◌, Option, Some, None, is_some, Ok}
 use Rattle.arc_base.specs.declared.place.Place.{Place}
 use Rattle.arc_base.specs.Refusal.{and_then}
 use Rattle.indent_scanner.specs.Words.{normal}
@@ -18,7 +18,7 @@ use Rattle.check_exprs.specs.Env.{Env, Entry, variable, constant}
 use Rattle.check_exprs.specs.Answers.{Answer, not_typed, node, Valued}
 use Rattle.check_exprs.specs.Constructions.{is_among}
 use Rattle.check_exprs.specs.Constants.{constant_rule}
-use Rattle.check_decls.specs.State.{State, Around, own_entries, is_declared, if_new, declaring, declares, declares_as, Stated, stated_as, and_more}
+use Rattle.check_decls.specs.State.{State, Around, own_entries, is_declared, if_new, if_typed, declaring, declares, declares_as, Stated, stated_as, and_more}
 use Rattle.check_decls.specs.Values.{Value, valued_term, of_type, result_want}
 use Rattle.check_decls.specs.Written.{if_written}
 
@@ -34,18 +34,10 @@ abbrev pub all_fit : List Pragma → Bool
 all_fit [] = true
 all_fit (p ∷ rest) = is_fitting p.kind && all_fit rest
 
-abbrev pub is_there : {A : Type 0} → Option A → Bool
-is_there None = false
-is_there (Some a) = true
-
 -- a value, or of a `var` a type
 abbrev pub is_whole : Binding → Definition → Bool
-is_whole binding.Var d = is_there d.value || is_there d.annotation
-is_whole _ d = is_there d.value
-
-abbrev pub if_typed : Bool → Place → Answer (Unit {0})
-if_typed true at = Ok tt
-if_typed false at = not_typed at
+is_whole binding.Var d = is_some d.value || is_some d.annotation
+is_whole _ d = is_some d.value
 
 -- a name behind others of its definition
 abbrev pub name_rule : State → List (List ℕ) → Bool → Declared → Answer (Unit {0})
@@ -76,9 +68,9 @@ definition_value env ty n t = and_then (valued_term env (result_want ty) n t) (�
 
 -- ---- variables
 
-abbrev pub is_var : Binding → Bool
-is_var binding.Var = true
-is_var _ = false
+abbrev pub is_var_binding : Binding → Bool
+is_var_binding binding.Var = true
+is_var_binding _ = false
 
 abbrev pub place_for : State → Declared → Ty → P.Declared
 place_for st d ty = record { number = st.place; name = d.text; at = d.at; of = ty }
@@ -88,7 +80,7 @@ if_global true p = p ∷ []
 if_global false p = []
 
 abbrev pub entry_for : State → Around → Binding → Declared → Ty → Entry
-entry_for st a b d ty = variable (normal d.text) st.place ty (is_var b) a.outermost
+entry_for st a b d ty = variable (normal d.text) st.place ty (is_var_binding b) a.outermost
 
 -- with a further variable, and the next node
 abbrev pub with_variable : State → Around → Binding → Declared → Ty → ℕ → State
@@ -153,7 +145,8 @@ constant_value env ty t = and_then (definition_value env ty 0 t) (λ v. fixed_va
 
 abbrev pub constants_by : State → Option Ty → Option Term → List Declared → Answer State
 constants_by st ty (Some t) names = and_then (constant_value st.env ty t) (λ c. Ok (declaring st (constant_entries c.of c.literal names)))
-constants_by st ty None names = Ok st
+constants_by st ty None [] = Ok st
+constants_by st ty None (d ∷ rest) = not_typed d.at
 
 abbrev pub constants_in : State → Definition → Answer State
 constants_in st d =

@@ -5,11 +5,11 @@
 use Rattle.std.specs.Prelude.{ℕ, List, [], ◌∷◌, None, Ok}
 use Rattle.arc_base.specs.Refusal.{and_then}
 use Rattle.nim_tree.specs.Statements.{Statements}
-use Rattle.nim_core.specs.Program.{Proc, Program}
+use Rattle.nim_core.specs.Program.{Program}
 use Rattle.check_exprs.specs.Env.{outermost}
 use Rattle.check_exprs.specs.Answers.{Answer}
 use Rattle.check_decls.specs.LeftOut.{nothing_left_out}
-use Rattle.check_decls.specs.State.{in_module, Announced, State, entered, Stated, stated_as, and_more, block_of}
+use Rattle.check_decls.specs.State.{in_module, State, entered, Stated, stated_as, and_more, block_of}
 use Rattle.check_decls.specs.Stated.{all_stated}
 use Rattle.check_decls.specs.Whole.{text_rule}
 
@@ -47,16 +47,12 @@ modules_stated st [] = Ok (stated_as [] st)
 modules_stated st (m ∷ rest) =
     and_then (module_stated st m) (λ one. and_then (modules_stated one.state rest) (λ more. Ok (and_more one more)))
 
-abbrev pub procs_of : List Announced → List Proc
-procs_of [] = []
-procs_of (a ∷ rest) = a.proc ∷ procs_of rest
-
 -- the start code spans the places of all procedures
 abbrev pub program_of : Stated → Program
 program_of s =
     record {
       facts = s.state.env.facts;
-      procs = procs_of s.state.procs;
+      procs = s.state.procs;
       globals = s.state.globals;
       start = record { first = 0; places = s.state.place; result = None; stmts = block_of s.steps };
     }

@@ -1,6 +1,6 @@
 -- Heads of procedures: parameters, results, forward declarations and what is borrowed.
-use Rattle.std.specs.Prelude.{ℕ, suc, ◌+◌, Bool, true, false, not, ◌&&◌, ◌||◌, if◌then◌else◌, List, [], ◌∷◌, ◌++◌, length, codes, slice_get}
-use Rattle.std.specs.Prelude.{Option, Some, None, Ok}
+use Rattle.std.specs.Prelude.{ℕ, suc, ◌+◌, Bool, true, false, not, ◌&&◌, ◌||◌, if◌then◌else◌, List, [], ◌∷◌, ◌++◌, length, codes}
+use Rattle.std.specs.Prelude.{Option, Some, None, is_some, Ok}
 use Rattle.arc_base.specs.declared.place.Place.{Place}
 use Rattle.arc_base.specs.declared.place.Code.TheVariants.{Redefined}
 use Rattle.arc_base.specs.Refusal.{and_then, refused}
@@ -20,12 +20,12 @@ use Rattle.nim_types.specs.Types.{Ty, same, same_text}
 use Rattle.nim_core.specs.declared.program.Mode.{Mode}
 use Rattle.nim_core.specs.declared.program.Mode.TheVariants.{Plain, Sink, Var}
 use Rattle.check_exprs.specs.Env.{Env, Entry, variable, procedure, name_in, Parameter, Procedure, known_as, callable}
-use Rattle.check_exprs.specs.Answers.{Answer, not_typed}
+use Rattle.check_exprs.specs.Answers.{Answer}
 use Rattle.check_exprs.specs.Builtins.{is_shown}
 use Rattle.check_exprs.specs.Calls.{comparisons, comparison_named}
 use Rattle.check_exprs.specs.Choices.{same_value}
 use Rattle.check_exprs.specs.Constructions.{base_of, is_among}
-use Rattle.check_decls.specs.State.{State, own_entries, is_declared, if_new, declaring, entered, Standing, awaited, late, complete, Announced}
+use Rattle.check_decls.specs.State.{State, own_entries, is_declared, if_new, if_typed, declaring, entered, Item, is_completed}
 use Rattle.check_decls.specs.Written.{written_type, if_written}
 
 -- ---- parameters
@@ -105,10 +105,6 @@ parameters_of (g ∷ rest) = record { mode = g.mode; of = g.of } ∷ parameters_
 abbrev pub is_dollar : List ℕ → Bool
 is_dollar x = same_text x (codes "$")
 
-abbrev pub is_some : {A : Type 0} → Option A → Bool
-is_some None = false
-is_some (Some a) = true
-
 abbrev pub is_comparison : List ℕ → Bool
 is_comparison x = is_some (comparison_named x comparisons)
 
@@ -154,28 +150,22 @@ abbrev pub earlier : List ℕ → List Parameter → List Entry → Earlier
 earlier x params [] = nothing_earlier
 earlier x params (e ∷ rest) = if same_text x (name_in e) then earlier_by params e (earlier x params rest) else earlier x params rest
 
-abbrev pub waits : Standing → Bool
-waits (awaited globals) = true
-waits late = false
-waits complete = false
-
-abbrev pub is_awaited : Option Announced → Bool
-is_awaited (Some a) = waits a.standing
-is_awaited None = false
-
 abbrev pub completes_if : Bool → Place → Procedure → Answer (Option ℕ)
 completes_if true at p = Ok (Some p.number)
 completes_if false at p = refused Redefined at
 
+abbrev pub is_awaited : List Item → Procedure → Bool
+is_awaited text p = not (p.borrowed || is_completed p.number text)
+
 -- whether a further declaration completes the procedure
-abbrev pub is_completion : List Announced → (has_body : Bool) → List Parameter → Option Ty → Procedure → Bool
-is_completion procs has_body params gives p =
-    (has_body && is_awaited (slice_get procs p.number)) && (same_modes p.params params && same_value p.gives gives)
+abbrev pub is_completion : List Item → (has_body : Bool) → List Parameter → Option Ty → Procedure → Bool
+is_completion text has_body params gives p =
+    (has_body && is_awaited text p) && (same_modes p.params params && same_value p.gives gives)
 
 -- the number of the procedure that is completed, None of a new one
 abbrev pub completion_rule : State → Place → (has_body : Bool) → List Parameter → Option Ty → Earlier → Answer (Option ℕ)
 completion_rule st at has_body params gives nothing_earlier = Ok None
-completion_rule st at has_body params gives (one_earlier p) = completes_if (is_completion st.procs has_body params gives p) at p
+completion_rule st at has_body params gives (one_earlier p) = completes_if (is_completion st.text has_body params gives p) at p
 completion_rule st at has_body params gives no_procedure = refused Redefined at
 
 -- ---- names in backticks and pragmas
@@ -242,10 +232,6 @@ head_fits env h borrowed has_body params gives =
     && (name_fits h.name.quoted (procedure_name h.name) borrowed params gives
     && borrow_fits env borrowed h.name.quoted has_body (procedure_name h.name) params gives)
 
-abbrev pub if_fits : Bool → Place → Answer (Unit {0})
-if_fits true at = Ok tt
-if_fits false at = not_typed at
-
 -- ---- the procedure that a head is of
 
 -- what is known at `proc`
@@ -274,7 +260,7 @@ abbrev pub head_by : State → Place → Head → (has_body : Bool) → Signatur
 head_by st at h has_body s =
     and_then (completion_rule st at has_body (parameters_of s.params) s.gives
     (earlier (procedure_name h.name) (parameters_of s.params) (own_entries st))) (λ completed.
-    and_then (if_fits (head_fits st.env h (has_pragma is_borrow h.pragmas) has_body (parameters_of s.params) s.gives) at) (λ _.
+    and_then (if_typed (head_fits st.env h (has_pragma is_borrow h.pragmas) has_body (parameters_of s.params) s.gives) at) (λ _.
     Ok (headed st h s completed)))
 
 abbrev pub head_rule : State → Place → Head → (has_body : Bool) → Answer Headed

@@ -60,8 +60,8 @@ abbrev pub declared_types : List Declaration → List (List ℕ)
 declared_types [] = []
 declared_types (d ∷ rest) = normal d.name.text ∷ declared_types rest
 
-abbrev pub procedure_name : Declared → List (List ℕ)
-procedure_name d = if d.quoted then [] else normal d.text ∷ []
+abbrev pub named_procedure : Declared → List (List ℕ)
+named_procedure d = if d.quoted then [] else normal d.text ∷ []
 
 abbrev mutual
   -- the names of its procedures and types
@@ -73,7 +73,7 @@ abbrev mutual
   declared_by (counts at variable course body) = declared_in body
   declared_by (tries at body all finally) = declared_in body ++ (declared_in_handlers all ++ declared_in finally)
   declared_by (defers at body) = declared_in body
-  declared_by (proclaims at head body) = procedure_name head.name ++ declared_in body
+  declared_by (proclaims at head body) = named_procedure head.name ++ declared_in body
   declared_by (discards at a) = []
   declared_by (returns at a) = []
   declared_by (raises at a) = []

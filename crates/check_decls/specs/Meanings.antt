@@ -1,7 +1,6 @@
 -- What the definitions of a section of types say. In them each type of the section is a name, that is, a distinct type of which nothing
 -- is said. What names mean is looked up in the definitions: behind the last one, or in a length in those so far.
-use Rattle.std.specs.Prelude.{ℕ, zero, suc, Bool, true, false, not, ◌||◌, ◌&&◌, if◌then◌else◌, List, [], ◌∷◌, ◌++◌, length, Option, Some, None}
-use Rattle.indent_scanner.specs.Words.{normal}
+use Rattle.std.specs.Prelude.{ℕ, zero, suc, Bool, true, false, not, ◌||◌, if◌then◌else◌, List, [], ◌∷◌, ◌++◌, length, Option, Some, None}
 use Rattle.nim_tree.specs.Types.{Declaration}
 use Rattle.nim_types.specs.Types as type
 use Rattle.nim_types.specs.Types.{Ty, Tys, Key, Field, Facts, same_key}

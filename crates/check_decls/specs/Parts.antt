@@ -1,5 +1,6 @@
 -- What types are made of and which are known, as least sets.
-use Rattle.std.specs.Prelude.{◌≡◌, ◌↔◌, ℕ, true, List, ◌∷◌, length, Some}
+use Rattle.std.specs.Prelude.{◌≡◌, ◌↔◌, ℕ, true, List, [], ◌∷◌, length, Some}
+use Rattle.arc_base.specs.declared.place.Place.{Place}
 use Rattle.nim_types.specs.Types as type
 use Rattle.nim_types.specs.Types.{Ty, Tys, Key}
 use Rattle.check_decls.specs.Meanings.{Meant, Defined, meant_in, made_of, contains, is_key_among, is_known}
@@ -25,6 +26,17 @@ pub data OccursInAny (key : Key) : List Ty → Type 0 where
 pub data Contains (all : List Defined) (inner : Key) : Key → Type 0 where
   c_part : {outer : Key} → OccursInAny inner (made_of (meant_in outer all)) → Contains all inner outer
   c_through : {outer between : Key} → OccursInAny between (made_of (meant_in outer all)) → Contains all inner between → Contains all inner outer
+
+-- no type of these contains itself
+pub data NoneContainsItself (all : List Defined) : List Defined → Type 0 where
+  n_none : NoneContainsItself all []
+  n_more : {d : Defined} {rest : List Defined} → (Contains all d.key d.key → ⊥) → NoneContainsItself all rest → NoneContainsItself all (d ∷ rest)
+
+-- the first of these that contains itself stands at the place
+pub data FirstContainsItself (all : List Defined) : List Defined → Place → Type 0 where
+  n_itself : {d : Defined} {rest : List Defined} → Contains all d.key d.key → FirstContainsItself all (d ∷ rest) d.key.at
+  n_later : {d : Defined} {rest : List Defined} {p : Place} → (Contains all d.key d.key → ⊥) → FirstContainsItself all rest p
+      → FirstContainsItself all (d ∷ rest) p
 
 -- A type is known where it is defined, and so are all types of the section that its definition names.
 pub data IsKnown (section : List Key) (all : List Defined) : Key → Type 0 where

@@ -1,6 +1,6 @@
 -- Which statements are refused, with the code and the place that say why: one constructor for each way of failing. What stands before
 -- a failing part is typed, so the first failure in order of text is meant.
-use Rattle.std.specs.Prelude.{◌≡◌, ℕ, suc, Bool, false, List, [], ◌∷◌, ◌++◌, Option, Some, None, Ok}
+use Rattle.std.specs.Prelude.{◌≡◌, ℕ, suc, Bool, true, false, List, [], ◌∷◌, ◌++◌, Option, Some, None, Ok}
 use Rattle.arc_base.specs.declared.place.Place.{Place}
 use Rattle.arc_base.specs.declared.place.Code.{Code}
 use Rattle.arc_base.specs.declared.place.Code.TheVariants.{NotTyped, LeftOut}
@@ -31,7 +31,7 @@ use Rattle.check_decls.specs.Values.{single_test, selector_rule, target_at}
 use Rattle.check_decls.specs.Definitions.{names_rule, annotated, fixed_value}
 use Rattle.check_decls.specs.Heads.{Given, given_as, mode_of, group_names, with_parameters, Signature, has_result, Headed, head_by}
 use Rattle.check_decls.specs.Bodies.{behind_head, before_body}
-use Rattle.check_decls.specs.Stated.{loop_rule, level_rule, has_statements, ends_with, covered, Branched, Armed, for_state, is_constant}
+use Rattle.check_decls.specs.Stated.{has_statements, ends_with, covered, Branched, Armed, for_state, is_constant}
 use Rattle.check_decls.specs.TypeRules.{IsValue, IsValueAs, IsWritten, IfWritten}
 use Rattle.check_decls.specs.TypeRefusals.{IsNoValue, IsNoValueAs, IsNotWritten, IfNotWritten, IsNoSection}
 use Rattle.check_decls.specs.Rules.{IsDefined, IsVariable, IsDefinition, IsConstant, AreGiven, IsSignature, IsHead}
@@ -73,11 +73,13 @@ pub data AreNoDefinitions (a : Around) (at : Place) (b : Binding) : State → Li
   f_rest : {st : State} {d : Definition} {rest : List Definition} {one : Stated} {c : Code} {p : Place} → IsDefinition a at b st d one
       → AreNoDefinitions a at b one.state rest c p → AreNoDefinitions a at b st (d ∷ rest) c p
 
-pub data IsNoConstantOf (st : State) (ty : Option Ty) (names : List Declared) : Option Term → Code → Place → Type 0 where
-  f_constant_value : {t : Term} {c : Code} {p : Place} → IsNotDefined st.env ty 0 t c p → IsNoConstantOf st ty names (Some t) c p
+pub data IsNoConstantOf (st : State) (ty : Option Ty) : List Declared → Option Term → Code → Place → Type 0 where
+  f_constant_value : {names : List Declared} {t : Term} {c : Code} {p : Place} → IsNotDefined st.env ty 0 t c p → IsNoConstantOf st ty names (Some t) c p
   -- known only in a run
-  f_constant : {t : Term} {v : Value} {c : Code} {p : Place} → IsDefined st.env ty 0 t v
+  f_constant : {names : List Declared} {t : Term} {v : Value} {c : Code} {p : Place} → IsDefined st.env ty 0 t v
       → IsRefusal (fixed_value st.env v.given) c p → IsNoConstantOf st ty names (Some t) c p
+  -- no value
+  f_no_constant : {d : Declared} {rest : List Declared} → IsNoConstantOf st ty (d ∷ rest) None NotTyped d.at
 
 pub data IsNoConstant (st : State) : Definition → Code → Place → Type 0 where
   f_constant_names : {d : Definition} {c : Code} {p : Place} → IsRefusal (names_rule st binding.Const d) c p → IsNoConstant st d c p
@@ -138,10 +140,8 @@ mutual
     r_try : {a : Around} {ends : Option Ty} {st : State} {at : Place} {body finally : Statements} {all : Handlers}
         → IsNotStated a ends st (tries at body all finally) LeftOut at
     r_defer : {a : Around} {ends : Option Ty} {st : State} {at : Place} {body : Statements} → IsNotStated a ends st (defers at body) LeftOut at
-    r_break : {a : Around} {ends : Option Ty} {st : State} {at p : Place} {c : Code} → IsRefusal (loop_rule a.in_loop at) c p
-        → IsNotStated a ends st (breaks at) c p
-    r_continue : {a : Around} {ends : Option Ty} {st : State} {at p : Place} {c : Code} → IsRefusal (loop_rule a.in_loop at) c p
-        → IsNotStated a ends st (continues at) c p
+    r_break : {a : Around} {ends : Option Ty} {st : State} {at : Place} → a.in_loop ≡ false → IsNotStated a ends st (breaks at) NotTyped at
+    r_continue : {a : Around} {ends : Option Ty} {st : State} {at : Place} → a.in_loop ≡ false → IsNotStated a ends st (continues at) NotTyped at
     r_expression : {a : Around} {ends : Option Ty} {st : State} {at p : Place} {t : Term} {c : Code} → IsRefused st.env (result_want ends) (suc st.node) t c p
         → IsNotStated a ends st (evaluates at t) c p
     -- a value that nobody takes
@@ -226,12 +226,12 @@ mutual
         → IsValueAs st.env type.int (suc st.node) t v → IsValueAs st.env type.int v.next u w
         → IsNoBlock (looping a) (for_state st w x type.int) body c p → IsNotStated a ends st (counts at x (below t u) body) c p
     -- in a block
-    r_level : {a : Around} {ends : Option Ty} {st : State} {at p : Place} {h : Head} {body : Statements} {c : Code} → IsRefusal (level_rule a.outermost at) c p
-        → IsNotStated a ends st (proclaims at h body) c p
-    r_head : {a : Around} {ends : Option Ty} {st : State} {at p : Place} {h : Head} {body : Statements} {c : Code} → level_rule a.outermost at ≡ Ok tt
+    r_level : {a : Around} {ends : Option Ty} {st : State} {at : Place} {h : Head} {body : Statements} → a.outermost ≡ false
+        → IsNotStated a ends st (proclaims at h body) NotTyped at
+    r_head : {a : Around} {ends : Option Ty} {st : State} {at p : Place} {h : Head} {body : Statements} {c : Code} → a.outermost ≡ true
         → IsNoHead st at h (has_statements body) c p → IsNotStated a ends st (proclaims at h body) c p
     r_body : {a : Around} {ends : Option Ty} {st : State} {at p : Place} {h : Head} {body : Statements} {k : Headed} {c : Code}
-        → level_rule a.outermost at ≡ Ok tt → IsHead st at h (has_statements body) k
+        → a.outermost ≡ true → IsHead st at h (has_statements body) k
         → AreNotStated (in_body k.signature.gives) k.signature.gives (before_body (behind_head st at h k) h k) body c p
         → IsNotStated a ends st (proclaims at h body) c p
 

@@ -35,7 +35,7 @@ use Rattle.check_decls.specs.Values.{element_rule, single_test, selector_rule, t
 use Rattle.check_decls.specs.Definitions.{names_rule, annotated, initialised, defaulted, constant_entries, Fixed, fixed_value}
 use Rattle.check_decls.specs.Heads.{Given, given_as, mode_of, group_names, with_parameters, Signature, has_result, Headed, head_by}
 use Rattle.check_decls.specs.Bodies.{behind_head, before_body, behind_body}
-use Rattle.check_decls.specs.Stated.{loop_rule, level_rule, has_statements, ends_with, covered, passed, Branched, Armed, branch_before, arm_before, branched}
+use Rattle.check_decls.specs.Stated.{has_statements, ends_with, covered, passed, Branched, Armed, branch_before, arm_before, branched}
 use Rattle.check_decls.specs.Stated.{selected, repeated, gone_over, counted, for_state, is_constant}
 use Rattle.check_decls.specs.TypeRules.{IsValue, IsValueAs, IsWritten, IfWritten, IsSection}
 
@@ -68,10 +68,11 @@ pub data AreDefinitions (a : Around) (at : Place) (b : Binding) : State → List
       → AreDefinitions a at b one.state rest more → AreDefinitions a at b st (d ∷ rest) (and_more one more)
 
 -- the value of a constant, which is known before any run
-pub data IsConstantOf (st : State) (ty : Option Ty) (names : List Declared) : Option Term → State → Type 0 where
-  d_constant : {t : Term} {v : Value} {c : Fixed} → IsDefined st.env ty 0 t v → fixed_value st.env v.given ≡ Ok c
+pub data IsConstantOf (st : State) (ty : Option Ty) : List Declared → Option Term → State → Type 0 where
+  d_constant : {names : List Declared} {t : Term} {v : Value} {c : Fixed} → IsDefined st.env ty 0 t v → fixed_value st.env v.given ≡ Ok c
       → IsConstantOf st ty names (Some t) (declaring st (constant_entries c.of c.literal names))
-  d_no_constant : IsConstantOf st ty names None st
+  -- no name needs no value
+  d_no_constant : IsConstantOf st ty [] None st
 
 pub data IsConstant (st : State) : Definition → State → Type 0 where
   d_constants : {d : Definition} {ty : Option Ty} {behind : State} → names_rule st binding.Const d ≡ Ok tt → IfWritten st.env d.annotation ty
@@ -117,9 +118,9 @@ mutual
     s_return_value : {a : Around} {ends gives : Option Ty} {st : State} {at : Place} {t : Term} {e : Expr} {m : ℕ} {v : Valued}
         → procedure_rule at a.inside ≡ Ok gives → IsTyped st.env (result_want gives) (suc st.node) t e m → returned gives e ≡ Ok v
         → IsStated a ends st (returns at (Some t)) (did st (P.ReturnValue (node st.node at) v.expr) m)
-    s_break : {a : Around} {ends : Option Ty} {st : State} {at : Place} → loop_rule a.in_loop at ≡ Ok tt
+    s_break : {a : Around} {ends : Option Ty} {st : State} {at : Place} → a.in_loop ≡ true
         → IsStated a ends st (breaks at) (did st (P.Break (node st.node at)) (suc st.node))
-    s_continue : {a : Around} {ends : Option Ty} {st : State} {at : Place} → loop_rule a.in_loop at ≡ Ok tt
+    s_continue : {a : Around} {ends : Option Ty} {st : State} {at : Place} → a.in_loop ≡ true
         → IsStated a ends st (continues at) (did st (P.Continue (node st.node at)) (suc st.node))
     s_evaluate : {a : Around} {ends : Option Ty} {st : State} {at : Place} {t : Term} {e : Expr} {m : ℕ} {s : Stmt}
         → IsTyped st.env (result_want ends) (suc st.node) t e m → evaluated ends (node st.node at) e ≡ Ok s
@@ -159,7 +160,7 @@ mutual
         → IsBlock (looping a) (for_state st w x type.int) body b
         → IsStated a ends st (counts at x (below t u) body) (counted st.node at st x v w false b)
     s_procedure : {a : Around} {ends : Option Ty} {st : State} {at : Place} {h : Head} {body : Statements} {k : Headed} {s : Stated}
-        → level_rule a.outermost at ≡ Ok tt → IsHead st at h (has_statements body) k
+        → a.outermost ≡ true → IsHead st at h (has_statements body) k
         → AreStated (in_body k.signature.gives) k.signature.gives (before_body (behind_head st at h k) h k) body s
         → IsStated a ends st (proclaims at h body) (stated_as [] (behind_body (has_statements body) (behind_head st at h k) at h k s))
 

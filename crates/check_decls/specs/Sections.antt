@@ -1,5 +1,5 @@
 -- Sections of types: the walk through the definitions, and what is said behind the last one.
-use Rattle.std.specs.Prelude.{ℕ, suc, pos, Bool, true, false, ◌||◌, if◌then◌else◌, List, [], ◌∷◌, ◌++◌, length, Option, Some, None, Ok}
+use Rattle.std.specs.Prelude.{ℕ, suc, pos, Bool, true, false, not, ◌||◌, if◌then◌else◌, List, [], ◌∷◌, ◌++◌, length, Option, None, Ok}
 use Rattle.arc_base.specs.declared.place.Place.{Place}
 use Rattle.arc_base.specs.declared.place.Code.TheVariants.{LeftOut}
 use Rattle.arc_base.specs.Refusal.{and_then, refused}
@@ -12,8 +12,8 @@ use Rattle.nim_types.specs.Types.{Ty, Key, Facts}
 use Rattle.nim_core.specs.Program.{Number}
 use Rattle.check_exprs.specs.Env.{Env, Entry, constant, named, name_in}
 use Rattle.check_exprs.specs.Constructions.{is_among}
-use Rattle.check_exprs.specs.Answers.{Answer, not_typed}
-use Rattle.check_decls.specs.State.{State, own_entries, is_declared, if_new}
+use Rattle.check_exprs.specs.Answers.{Answer}
+use Rattle.check_decls.specs.State.{State, own_entries, is_declared, if_new, if_typed}
 use Rattle.check_decls.specs.Meanings.{Meant, an_object, an_enum, a_distinct, an_alias, Defined, key_of, keys_of, resolved, known_of, facts_by, contains}
 use Rattle.check_decls.specs.Written.{Formed, later, spelled, parts_spelled, fields_of, within_size}
 
@@ -111,26 +111,22 @@ with_definition s d b =
       defined = s.defined ++ record { key = key_of d; meant = b.meant; formed = b.formed } ∷ [];
     }
 
-abbrev pub definition_rule : State → List Declaration → Section → Declaration → Answer Section
-definition_rule st all s d =
+abbrev pub declaration_rule : State → List Declaration → Section → Declaration → Answer Section
+declaration_rule st all s d =
     and_then (new_in_section st s.names d.name.at (normal d.name.text)) (λ _.
     and_then (if_single d.parameters d.name.at) (λ _.
     and_then (body_rule st (normal d.name.text ∷ s.names) (names_env st all s) (known_env st all s) (key_of d) d.body) (λ b.
     Ok (with_definition s d b))))
 
-abbrev pub definitions_rule : State → List Declaration → Section → List Declaration → Answer Section
-definitions_rule st all s [] = Ok s
-definitions_rule st all s (d ∷ rest) = and_then (definition_rule st all s d) (λ s. definitions_rule st all s rest)
+abbrev pub declarations_rule : State → List Declaration → Section → List Declaration → Answer Section
+declarations_rule st all s [] = Ok s
+declarations_rule st all s (d ∷ rest) = and_then (declaration_rule st all s d) (λ s. declarations_rule st all s rest)
 
 -- ---- types that contain themselves
 
-abbrev pub unless : Bool → Place → Answer (Unit {0})
-unless true at = not_typed at
-unless false at = Ok tt
-
 abbrev pub containment_rule : List Defined → List Defined → Answer (Unit {0})
 containment_rule all [] = Ok tt
-containment_rule all (d ∷ rest) = and_then (unless (contains (length all) all d.key d.key) d.key.at) (λ _. containment_rule all rest)
+containment_rule all (d ∷ rest) = and_then (if_typed (not (contains (length all) all d.key d.key)) d.key.at) (λ _. containment_rule all rest)
 
 -- ---- sizes
 
@@ -156,6 +152,6 @@ none_read = record { names = []; members = []; defined = [] }
 -- what is declared behind a section
 abbrev pub section_rule : State → List Declaration → Answer Env
 section_rule st all =
-    and_then (definitions_rule st all none_read all) (λ s.
+    and_then (declarations_rule st all none_read all) (λ s.
     and_then (containment_rule s.defined s.defined) (λ _.
     and_then (sizes_rule (known_env st all s).facts s.defined s.defined) (λ _. Ok (known_env st all s))))

@@ -1,5 +1,5 @@
 -- What stands around a statement, and what is known behind it.
-use Rattle.std.specs.Prelude.{ℕ, Bool, true, false, ◌||◌, List, [], ◌∷◌, ◌++◌, length, drop, Option, Ok}
+use Rattle.std.specs.Prelude.{ℕ, Bool, true, false, ◌||◌, nat_eq, List, [], ◌∷◌, ◌++◌, length, drop, Option, Ok}
 use Rattle.arc_base.specs.declared.place.Place.{Place}
 use Rattle.arc_base.specs.declared.place.Code.TheVariants.{Redefined}
 use Rattle.arc_base.specs.Refusal.{refused}
@@ -7,7 +7,7 @@ use Rattle.nim_types.specs.Types.{Ty, same_text}
 use Rattle.nim_core.specs.declared.expr.Node.{Node}
 use Rattle.nim_core.specs.Program.{Expr, Declared, Stmt, Stmts, Empty, Then, Declare, DeclareAs, Proc}
 use Rattle.check_exprs.specs.Env.{Env, Entry, name_in}
-use Rattle.check_exprs.specs.Answers.{Answer}
+use Rattle.check_exprs.specs.Answers.{Answer, not_typed}
 
 -- ---- around
 
@@ -35,28 +35,23 @@ deeper a = record a { outermost = false }
 abbrev pub looping : Around → Around
 looping a = record a { in_loop = true }
 
--- ---- procedures and the order of the text
-
--- whether a procedure has its body
-pub data Standing : Type 0 where
-  -- not yet; so many globals were declared before it
-  awaited : (globals : ℕ) → Standing
-  -- it came behind a further global
-  late : Standing
-  complete : Standing
-
--- a procedure, with the place of its first declaration
-pub record Announced : Type 0 where
-  pub proc : Proc
-  pub at : Place
-  pub standing : Standing
+-- ---- the order of the text
 
 -- the text in order, as far as what needs the whole of it asks
 pub data Item : Type 0 where
-  -- the first declaration of the procedure with the number
-  announces : (proc : ℕ) → Item
-  -- statements of a procedure or of module code
+  -- the first declaration, at `proc`, of the procedure with the number, which needs a body
+  announces : (proc : ℕ) → Place → Item
+  -- its body
+  completes : (proc : ℕ) → Stmts → Item
+  -- statements of module code
   code : Stmts → Item
+
+-- whether the body of the procedure has come
+abbrev pub is_completed : ℕ → List Item → Bool
+is_completed p [] = false
+is_completed p (announces q at ∷ rest) = is_completed p rest
+is_completed p (completes q stmts ∷ rest) = nat_eq p q || is_completed p rest
+is_completed p (code stmts ∷ rest) = is_completed p rest
 
 -- ---- behind
 
@@ -68,7 +63,7 @@ pub record State : Type 0 where
   pub node : ℕ
   pub place : ℕ
   -- by number
-  pub procs : List Announced
+  pub procs : List Proc
   pub globals : List Declared
   pub text : List Item
 
@@ -108,6 +103,12 @@ if_new false at = Ok tt
 
 abbrev pub new_name : State → Place → List ℕ → Answer (Unit {0})
 new_name st at x = if_new (is_declared x (own_entries st)) at
+
+-- ---- what has to hold
+
+abbrev pub if_typed : Bool → Place → Answer (Unit {0})
+if_typed true at = Ok tt
+if_typed false at = not_typed at
 
 -- ---- typed statements in order
 

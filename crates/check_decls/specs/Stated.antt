@@ -1,5 +1,6 @@
 -- The typed statements that stand for a statement, and what is known behind it, as a computation: by the rules of the other files,
--- and `and_then`. The first refusal in order of text counts.
+-- and `and_then`. The first refusal in order of text counts. Forms that are left out have been refused before; they are refused here
+-- too, so that each form has a case.
 use Rattle.std.specs.Prelude.{ℕ, suc, Bool, true, false, List, [], ◌∷◌, ◌++◌, Option, Some, None, Ok}
 use Rattle.arc_base.specs.declared.place.Place.{Place}
 use Rattle.arc_base.specs.declared.place.Code.TheVariants.{LeftOut}
@@ -15,12 +16,12 @@ use Rattle.nim_types.specs.Types as type
 use Rattle.nim_types.specs.Types.{Ty, Facts}
 use Rattle.nim_core.specs.Program as P
 use Rattle.nim_core.specs.Program.{Label, Stmt, Arms, NoArm, AnArm, NoBranch, ABranch}
-use Rattle.check_exprs.specs.Answers.{Answer, not_typed, node, nothing}
+use Rattle.check_exprs.specs.Answers.{Answer, node, nothing}
 use Rattle.check_exprs.specs.Builtins.{write_rule}
 use Rattle.check_exprs.specs.Choices.{cover_rule}
 use Rattle.check_exprs.specs.Paths.{path_of}
 use Rattle.check_exprs.specs.Typed.{typed, labels}
-use Rattle.check_decls.specs.State.{Around, in_body, deeper, looping, State, up_to_node, entered, left, does, Stated, stated_as, did}
+use Rattle.check_decls.specs.State.{if_typed, Around, in_body, deeper, looping, State, up_to_node, entered, left, does, Stated, stated_as, did}
 use Rattle.check_decls.specs.State.{noting, and_more, Blocked, closed}
 use Rattle.check_decls.specs.Values.{Value, valued_term, value_as, selector_rule, target_at, condition, procedure_rule, result_want, returned, evaluated}
 use Rattle.check_decls.specs.Values.{target_rule, source_want}
@@ -31,16 +32,6 @@ use Rattle.check_decls.specs.Heads.{head_rule}
 use Rattle.check_decls.specs.Bodies.{behind_head, before_body, behind_body, loop_variable, with_loop_variable}
 
 -- ---- rules of statements
-
--- in a loop
-abbrev pub loop_rule : Bool → Place → Answer (Unit {0})
-loop_rule true at = Ok tt
-loop_rule false at = not_typed at
-
--- at the outermost level of a module
-abbrev pub level_rule : Bool → Place → Answer (Unit {0})
-level_rule true at = Ok tt
-level_rule false at = not_typed at
 
 abbrev pub has_statements : Statements → Bool
 has_statements empty = false
@@ -124,8 +115,8 @@ abbrev mutual
       and_then (typed st.env (result_want gives) (suc st.node) t) (λ x.
       and_then (returned gives x.expr) (λ v. Ok (did st (P.ReturnValue (node st.node at) v.expr) x.next))))
   stated a ends st (raises at t) = refused LeftOut at
-  stated a ends st (breaks at) = and_then (loop_rule a.in_loop at) (λ _. Ok (did st (P.Break (node st.node at)) (suc st.node)))
-  stated a ends st (continues at) = and_then (loop_rule a.in_loop at) (λ _. Ok (did st (P.Continue (node st.node at)) (suc st.node)))
+  stated a ends st (breaks at) = and_then (if_typed a.in_loop at) (λ _. Ok (did st (P.Break (node st.node at)) (suc st.node)))
+  stated a ends st (continues at) = and_then (if_typed a.in_loop at) (λ _. Ok (did st (P.Continue (node st.node at)) (suc st.node)))
   stated a ends st (imports at names) = refused LeftOut at
   stated a ends st (evaluates at t) =
       and_then (typed st.env (result_want ends) (suc st.node) t) (λ x.
@@ -174,7 +165,7 @@ abbrev mutual
   stated a ends st (tries at body all finally) = refused LeftOut at
   stated a ends st (defers at body) = refused LeftOut at
   stated a ends st (proclaims at h body) =
-      and_then (level_rule a.outermost at) (λ _.
+      and_then (if_typed a.outermost at) (λ _.
       and_then (head_rule st at h (has_statements body)) (λ k.
       and_then (all_stated (in_body k.signature.gives) k.signature.gives (before_body (behind_head st at h k) h k) body) (λ s.
       Ok (stated_as [] (behind_body (has_statements body) (behind_head st at h k) at h k s)))))

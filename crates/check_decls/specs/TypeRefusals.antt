@@ -3,7 +3,7 @@
 use Rattle.std.specs.Prelude.{◌≡◌, ℕ, ℤ, Bool, false, List, [], ◌∷◌, Option, Some, None, Ok}
 use Rattle.arc_base.specs.declared.place.Place.{Place}
 use Rattle.arc_base.specs.declared.place.Code.{Code}
-use Rattle.arc_base.specs.declared.place.Code.TheVariants.{LeftOut}
+use Rattle.arc_base.specs.declared.place.Code.TheVariants.{NotTyped, LeftOut}
 use Rattle.arc_base.specs.Refusal.{IsRefusal}
 use Rattle.indent_scanner.specs.Words.{normal}
 use Rattle.nim_tree.specs.declared.name.Name.{Name}
@@ -21,10 +21,11 @@ use Rattle.check_exprs.specs.Rules.{IsTyped}
 use Rattle.check_exprs.specs.Refusals.{IsRefused}
 use Rattle.check_decls.specs.State.{State}
 use Rattle.check_decls.specs.Values.{Value, of_type}
-use Rattle.check_decls.specs.Written.{Spelled, Sizing, at_once, later, length_env, formed_rule, named_by, array_rule, Parted, names_rule, tuple_of}
+use Rattle.check_decls.specs.Written.{Spelled, Sizing, at_once, later, length_env, formed_rule, named_by, array_rule, Parted, field_names_rule, tuple_of}
+use Rattle.check_decls.specs.Parts.{NoneContainsItself, FirstContainsItself}
 use Rattle.check_decls.specs.Sections.{Section, is_plain_object, members_rule, if_single, new_in_section, names_env, known_env}
 use Rattle.check_decls.specs.Meanings.{key_of}
-use Rattle.check_decls.specs.Sections.{containment_rule, sizes_rule, none_read}
+use Rattle.check_decls.specs.Sections.{sizes_rule, none_read}
 use Rattle.check_decls.specs.TypeRules.{IsValue, HasLength, IsSpelled, AreSpelled, AreParts, IsTypeDefinition, AreTypeDefinitions}
 
 -- ---- values
@@ -81,11 +82,11 @@ mutual
   pub data AreNoParts (sizing : Sizing) (env : Env) : List (List ℕ) → Fields → Code → Place → Type 0 where
     -- a name twice
     f_names : {before : List (List ℕ)} {all : List Declared} {of : Written} {rest : Fields} {c : Code} {p : Place}
-        → IsRefusal (names_rule before all) c p → AreNoParts sizing env before (fields all of rest) c p
+        → IsRefusal (field_names_rule before all) c p → AreNoParts sizing env before (fields all of rest) c p
     f_type : {before names : List (List ℕ)} {all : List Declared} {of : Written} {rest : Fields} {c : Code} {p : Place}
-        → names_rule before all ≡ Ok names → IsNotSpelled sizing env of c p → AreNoParts sizing env before (fields all of rest) c p
+        → field_names_rule before all ≡ Ok names → IsNotSpelled sizing env of c p → AreNoParts sizing env before (fields all of rest) c p
     f_parts : {before names : List (List ℕ)} {all : List Declared} {of : Written} {rest : Fields} {s : Spelled} {c : Code} {p : Place}
-        → names_rule before all ≡ Ok names → IsSpelled sizing env of s → AreNoParts sizing env names rest c p
+        → field_names_rule before all ≡ Ok names → IsSpelled sizing env of s → AreNoParts sizing env names rest c p
         → AreNoParts sizing env before (fields all of rest) c p
 
 pub data IsNotWritten (env : Env) : Written → Code → Place → Type 0 where
@@ -130,9 +131,9 @@ pub data AreNoTypeDefinitions (st : State) (all : List Declaration) : Section �
 pub data IsNoSection (st : State) : List Declaration → Code → Place → Type 0 where
   f_types : {all : List Declaration} {c : Code} {p : Place} → AreNoTypeDefinitions st all none_read all c p → IsNoSection st all c p
   -- a type that contains itself
-  f_containment : {all : List Declaration} {s : Section} {c : Code} {p : Place} → AreTypeDefinitions st all none_read all s
-      → IsRefusal (containment_rule s.defined s.defined) c p → IsNoSection st all c p
+  f_containment : {all : List Declaration} {s : Section} {p : Place} → AreTypeDefinitions st all none_read all s
+      → FirstContainsItself s.defined s.defined p → IsNoSection st all NotTyped p
   -- one that is too large
   f_sizes : {all : List Declaration} {s : Section} {c : Code} {p : Place} → AreTypeDefinitions st all none_read all s
-      → containment_rule s.defined s.defined ≡ Ok tt → IsRefusal (sizes_rule (known_env st all s).facts s.defined s.defined) c p
+      → NoneContainsItself s.defined s.defined → IsRefusal (sizes_rule (known_env st all s).facts s.defined s.defined) c p
       → IsNoSection st all c p

@@ -20,12 +20,13 @@ use Rattle.check_exprs.specs.Names.{callee_rule, length_rule}
 use Rattle.check_exprs.specs.Rules.{IsTyped}
 use Rattle.check_decls.specs.State.{State}
 use Rattle.check_decls.specs.Values.{Value, as_value, of_type}
-use Rattle.check_decls.specs.Written.{Spelled, Sizing, at_once, later, length_env, formed_rule, named_by, array_rule, Parted, parts_behind, names_rule}
+use Rattle.check_decls.specs.Written.{Spelled, Sizing, at_once, later, length_env, formed_rule, named_by, array_rule, Parted, parts_behind, field_names_rule}
 use Rattle.check_decls.specs.Written.{tuple_of}
 use Rattle.check_decls.specs.Written.{fields_of}
+use Rattle.check_decls.specs.Parts.{NoneContainsItself}
 use Rattle.check_decls.specs.Sections.{Section, Bodied, says, members_rule, texts_of, if_single}
 use Rattle.check_decls.specs.Meanings.{an_object, an_enum, a_distinct, an_alias}
-use Rattle.check_decls.specs.Sections.{new_in_section, names_env, known_env, with_definition, containment_rule, sizes_rule, none_read}
+use Rattle.check_decls.specs.Sections.{new_in_section, names_env, known_env, with_definition, sizes_rule, none_read}
 use Rattle.check_decls.specs.Meanings.{key_of}
 
 -- ---- values
@@ -65,7 +66,7 @@ mutual
   pub data AreParts (sizing : Sizing) (env : Env) : List (List ℕ) → Fields → Parted → Type 0 where
     w_no_parts : {before : List (List ℕ)} → AreParts sizing env before no_fields (record { parts = []; formed = [] })
     w_parts : {before names : List (List ℕ)} {all : List Declared} {of : Written} {rest : Fields} {s : Spelled} {more : Parted}
-        → names_rule before all ≡ Ok names → IsSpelled sizing env of s → AreParts sizing env names rest more
+        → field_names_rule before all ≡ Ok names → IsSpelled sizing env of s → AreParts sizing env names rest more
         → AreParts sizing env before (fields all of rest) (parts_behind all s more)
 
 -- a type that is written but in a section of types
@@ -102,5 +103,5 @@ pub data AreTypeDefinitions (st : State) (all : List Declaration) : Section → 
 
 -- what is declared behind a section
 pub data IsSection (st : State) : List Declaration → Env → Type 0 where
-  d_section : {all : List Declaration} {s : Section} → AreTypeDefinitions st all none_read all s → containment_rule s.defined s.defined ≡ Ok tt
+  d_section : {all : List Declaration} {s : Section} → AreTypeDefinitions st all none_read all s → NoneContainsItself s.defined s.defined
       → sizes_rule (known_env st all s).facts s.defined s.defined ≡ Ok tt → IsSection st all (known_env st all s)

@@ -95,9 +95,9 @@ abbrev pub parts_behind : List Declared → Spelled → Parted → Parted
 parts_behind names s more = record { parts = parts_as names s.of ++ more.parts; formed = s.formed ++ more.formed }
 
 -- each name once, behind others
-abbrev pub names_rule : List (List ℕ) → List Declared → Answer (List (List ℕ))
-names_rule before [] = Ok before
-names_rule before (d ∷ rest) = and_then (if_new (is_among (normal d.text) before) d.at) (λ _. names_rule (normal d.text ∷ before) rest)
+abbrev pub field_names_rule : List (List ℕ) → List Declared → Answer (List (List ℕ))
+field_names_rule before [] = Ok before
+field_names_rule before (d ∷ rest) = and_then (if_new (is_among (normal d.text) before) d.at) (λ _. field_names_rule (normal d.text ∷ before) rest)
 
 abbrev pub names_of : List Part → List (List ℕ)
 names_of [] = []
@@ -136,7 +136,7 @@ abbrev mutual
   pub parts_spelled : Sizing → Env → List (List ℕ) → Fields → Answer Parted
   parts_spelled sizing env before no_fields = Ok (record { parts = []; formed = [] })
   parts_spelled sizing env before (fields all of rest) =
-      and_then (names_rule before all) (λ names.
+      and_then (field_names_rule before all) (λ names.
       and_then (spelled sizing env of) (λ s. and_then (parts_spelled sizing env names rest) (λ more. Ok (parts_behind all s more))))
 
 -- where a type is written but in a section of types

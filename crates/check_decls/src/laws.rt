@@ -1,7 +1,9 @@
 // The laws of the typing rules of programs.
 ghost use Rattle.std.specs.Prelude.{◌≡◌};
-ghost use Rattle.check_decls.specs.Laws.{EachStatement, OneStated, OneRefusal, NotBoth, StatementsComputed, RefusalsComputed};
-ghost use Rattle.check_decls.specs.Laws.{EachProgram, OneProgram, OneReason, NeverBoth, ProgramsComputed, ReasonsComputed};
+ghost use Rattle.check_decls.specs.Laws.{EachStatement, OneStated, OneRefusal, NotBoth};
+ghost use Rattle.check_decls.specs.Laws.{StatementsComputed, RefusalsComputed};
+ghost use Rattle.check_decls.specs.Laws.{EachProgram, OneProgram, OneReason, NeverBoth};
+ghost use Rattle.check_decls.specs.Laws.{ProgramsComputed, ReasonsComputed};
 ghost use Rattle.check_decls.specs.Examples.{Holds};
 ghost use Rattle.check_decls.specs.StatementRows.{statement_rows, loop_rows, case_rows};
 ghost use Rattle.check_decls.specs.DefinitionRows.{variable_rows, constant_rows, scope_rows};
@@ -27,8 +29,8 @@ pub fn one_statement()
     typing_computed();
 }
 
-/// The rules of statements and their computation say the same: it gives the typed statements and the state behind, and refuses with
-/// the code and at the place that the rules name.
+/// The rules of statements and their computation say the same: it gives the typed statements and
+/// the state behind, and refuses with the code and at the place that the rules name.
 pub fn statements_computed()
     ensures statements { StatementsComputed }
     ensures refusals { RefusalsComputed }
@@ -54,21 +56,22 @@ pub fn programs_computed()
     typing_computed();
 }
 
-/// A procedure is found to name a global exactly where a use of it stands in its body, or in that of a procedure which it calls, and
-/// so on.
+/// A procedure is found to name a global exactly where a use of it stands in its body, or in that
+/// of a procedure which it calls, and so on.
 pub fn names_found()
     ensures { NamesFound }
 {}
 
-/// The places that statements and procedures declare are numbered one by one, in order of text: those of a statement from the next
-/// number on, up to the next one behind it; of a procedure its parameters, its result, and what its body declares.
+/// The places that statements and procedures declare are numbered one by one, in order of text:
+/// those of a statement from the next number on, up to the next one behind it; of a procedure its
+/// parameters, its result, and what its body declares.
 pub fn places_numbered()
     ensures statements { PlacesNumbered }
     ensures procedures { ProcedureNumbered }
 {}
 
-/// The nodes of typed statements are numbered one by one, in order of text: those of a statement from the next number on, up to the next
-/// one behind it; and those of the body of a procedure.
+/// The nodes of typed statements are numbered one by one, in order of text: those of a statement
+/// from the next number on, up to the next one behind it; and those of the body of a procedure.
 pub fn statements_numbered()
     ensures statements { NodesNumbered }
     ensures bodies { BodyNumbered }
@@ -76,8 +79,9 @@ pub fn statements_numbered()
     nodes_numbered();
 }
 
-/// A type of a section is found to contain another exactly where that is a part of it, or of one of its parts, and so on; and it is
-/// found to be known exactly where it is defined and all types of the section in it are known.
+/// A type of a section is found to contain another exactly where that is a part of it, or of one of
+/// its parts, and so on; and it is found to be known exactly where it is defined and all types of
+/// the section in it are known.
 pub fn types_found()
     ensures containment { ContainmentFound }
     ensures known { KnownFound }
