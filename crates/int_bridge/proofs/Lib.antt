@@ -1,0 +1,5 @@
+mod Twins
+mod Frames
+mod Evaluations
+mod Statements
+mod Whole
