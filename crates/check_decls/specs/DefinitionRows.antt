@@ -19,17 +19,23 @@ variable_rows =
     1)))) ∷ [])) (s.then (s.assigns (at 2 1) assign.Set (t.name (at 2 1) (codes "x")) (t.int (at 2 5) (pos 2))) s.empty))
     -- var x = 1
     -- x = 2
-    ∷ row accepted (s.then (s.defines (at 1 1) binding.Var ((defined ((declared (at 1 5) (codes "x")) ∷ []) [] None (Some (t.int (at 1 9) (pos 1)))) ∷ []))
+    ∷ row accepted
+    (s.then (s.defines (at 1 1) binding.Var
+    ((defined ((declared (at 1 5) (codes "x")) ∷ []) [] None (Some (t.int (at 1 9) (pos 1)))) ∷ []))
     (s.then (s.assigns (at 2 1) assign.Set (t.name (at 2 1) (codes "x")) (t.int (at 2 5) (pos 2))) s.empty))
     -- true = false
     ∷ row (stops NotAssignable 1 1) (s.then (s.assigns (at 1 1) assign.Set (t.name (at 1 1) (codes "true")) (t.name (at 1 8) (codes "false"))) s.empty)
     -- var x = 1
     -- x += 2
-    ∷ row accepted (s.then (s.defines (at 1 1) binding.Var ((defined ((declared (at 1 5) (codes "x")) ∷ []) [] None (Some (t.int (at 1 9) (pos 1)))) ∷ []))
+    ∷ row accepted
+    (s.then (s.defines (at 1 1) binding.Var
+    ((defined ((declared (at 1 5) (codes "x")) ∷ []) [] None (Some (t.int (at 1 9) (pos 1)))) ∷ []))
     (s.then (s.assigns (at 2 1) assign.Plus (t.name (at 2 1) (codes "x")) (t.int (at 2 6) (pos 2))) s.empty))
     -- var s = "a"
     -- s &= "b"
-    ∷ row accepted (s.then (s.defines (at 1 1) binding.Var ((defined ((declared (at 1 5) (codes "s")) ∷ []) [] None (Some (t.text (at 1 9) (codes "\"a\""))))
+    ∷ row accepted
+    (s.then (s.defines (at 1 1) binding.Var
+    ((defined ((declared (at 1 5) (codes "s")) ∷ []) [] None (Some (t.text (at 1 9) (codes "\"a\""))))
     ∷ [])) (s.then (s.assigns (at 2 1) assign.Join (t.name (at 2 1) (codes "s")) (t.text (at 2 6) (codes "\"b\""))) s.empty))
     -- var a = [1, 2]
     -- a[0] = 3
@@ -50,7 +56,9 @@ variable_rows =
     -- inc(x, 2)
     -- x.inc(2)
     -- inc x, 2
-    ∷ row accepted (s.then (s.defines (at 1 1) binding.Var ((defined ((declared (at 1 5) (codes "x")) ∷ []) [] None (Some (t.int (at 1 9) (pos 1)))) ∷ []))
+    ∷ row accepted
+    (s.then (s.defines (at 1 1) binding.Var
+    ((defined ((declared (at 1 5) (codes "x")) ∷ []) [] None (Some (t.int (at 1 9) (pos 1)))) ∷ []))
     (s.then (s.evaluates (at 2 1) (t.call (at 2 1) (t.name (at 2 1) (codes "inc")) (t.part (t.name (at 2 5) (codes "x")) t.no_parts))) (s.then (s.commands
     (at 3 1) (t.name (at 3 1) (codes "inc")) (t.part (t.name (at 3 5) (codes "x")) t.no_parts)) (s.then (s.evaluates (at 4 1) (t.field (at 4 1) (t.name (at 4
     1) (codes "x")) (codes "inc"))) (s.then (s.evaluates (at 5 1) (t.call (at 5 1) (t.name (at 5 1) (codes "inc")) (t.part (t.name (at 5 5) (codes "x"))
@@ -59,12 +67,16 @@ variable_rows =
     (t.part (t.int (at 7 8) (pos 2)) t.no_parts))) s.empty)))))))
     -- let x = 1
     -- echo x, x + 1
-    ∷ row accepted (s.then (s.defines (at 1 1) binding.Let ((defined ((declared (at 1 5) (codes "x")) ∷ []) [] None (Some (t.int (at 1 9) (pos 1)))) ∷ []))
+    ∷ row accepted
+    (s.then (s.defines (at 1 1) binding.Let
+    ((defined ((declared (at 1 5) (codes "x")) ∷ []) [] None (Some (t.int (at 1 9) (pos 1)))) ∷ []))
     (s.then (s.commands (at 2 1) (t.name (at 2 1) (codes "echo")) (t.part (t.name (at 2 6) (codes "x")) (t.part (t.binary (at 2 9) sign.Plus (t.name (at 2 9)
     (codes "x")) (t.int (at 2 13) (pos 1))) t.no_parts))) s.empty))
     -- var x {.inline.}: int
     -- echo x
-    ∷ row accepted (s.then (s.defines (at 1 1) binding.Var ((defined ((declared (at 1 5) (codes "x")) ∷ []) ((pragma_of pragma.Inline) ∷ []) (Some (w.named
+    ∷ row accepted
+    (s.then (s.defines (at 1 1) binding.Var
+    ((defined ((declared (at 1 5) (codes "x")) ∷ []) ((pragma_of pragma.Inline) ∷ []) (Some (w.named
     (at 1 19) (codes "int") w.no_arguments)) None) ∷ [])) (s.then (s.commands (at 2 1) (t.name (at 2 1) (codes "echo")) (t.part (t.name (at 2 6) (codes "x"))
     t.no_parts)) s.empty))
     ∷ []
@@ -84,7 +96,9 @@ constant_rows =
     -- var y = 1
     -- const x = y
     ∷ row (stops NotTyped 2 11) (s.then (s.defines (at 1 1) binding.Var ((defined ((declared (at 1 5) (codes "y")) ∷ []) [] None (Some (t.int (at 1 9) (pos
-    1)))) ∷ [])) (s.then (s.defines (at 2 1) binding.Const ((defined ((declared (at 2 7) (codes "x")) ∷ []) [] None (Some (t.name (at 2 11) (codes "y")))) ∷
+    1)))) ∷ []))
+    (s.then (s.defines (at 2 1) binding.Const
+    ((defined ((declared (at 2 7) (codes "x")) ∷ []) [] None (Some (t.name (at 2 11) (codes "y")))) ∷
     [])) s.empty))
     -- let y = "a"
     -- const x = y.len
@@ -92,14 +106,16 @@ constant_rows =
     (codes "\"a\"")))) ∷ [])) (s.then (s.defines (at 2 1) binding.Const ((defined ((declared (at 2 7) (codes "x")) ∷ []) [] None (Some (t.field (at 2 11)
     (t.name (at 2 11) (codes "y")) (codes "len")))) ∷ [])) s.empty))
     -- const x: int = true
-    ∷ row (stops NotTyped 1 16) (s.then (s.defines (at 1 1) binding.Const ((defined ((declared (at 1 7) (codes "x")) ∷ []) [] (Some (w.named (at 1 10) (codes
+    ∷ row (stops NotTyped 1 16)
+    (s.then (s.defines (at 1 1) binding.Const ((defined ((declared (at 1 7) (codes "x")) ∷ []) [] (Some (w.named (at 1 10) (codes
     "int") w.no_arguments)) (Some (t.name (at 1 16) (codes "true")))) ∷ [])) s.empty)
     -- const x: T = 1
     ∷ row (stops UnknownName 1 10) (s.then (s.defines (at 1 1) binding.Const ((defined ((declared (at 1 7) (codes "x")) ∷ []) [] (Some (w.named (at 1 10)
     (codes "T") w.no_arguments)) (Some (t.int (at 1 14) (pos 1)))) ∷ [])) s.empty)
     -- const x = 1
     -- x = 2
-    ∷ row (stops NotAssignable 2 1) (s.then (s.defines (at 1 1) binding.Const ((defined ((declared (at 1 7) (codes "x")) ∷ []) [] None (Some (t.int (at 1 11)
+    ∷ row (stops NotAssignable 2 1)
+    (s.then (s.defines (at 1 1) binding.Const ((defined ((declared (at 1 7) (codes "x")) ∷ []) [] None (Some (t.int (at 1 11)
     (pos 1)))) ∷ [])) (s.then (s.assigns (at 2 1) assign.Set (t.name (at 2 1) (codes "x")) (t.int (at 2 5) (pos 2))) s.empty))
     -- var a: array[2 + 1, int]
     -- echo a.len
@@ -123,12 +139,15 @@ scope_rows =
     -- const x = 1
     -- const x = 2
     ∷ row (stops Redefined 2 7) (s.then (s.defines (at 1 1) binding.Const ((defined ((declared (at 1 7) (codes "x")) ∷ []) [] None (Some (t.int (at 1 11)
-    (pos 1)))) ∷ [])) (s.then (s.defines (at 2 1) binding.Const ((defined ((declared (at 2 7) (codes "x")) ∷ []) [] None (Some (t.int (at 2 11) (pos 2)))) ∷
+    (pos 1)))) ∷ []))
+    (s.then (s.defines (at 2 1) binding.Const
+    ((defined ((declared (at 2 7) (codes "x")) ∷ []) [] None (Some (t.int (at 2 11) (pos 2)))) ∷
     [])) s.empty))
     -- type C = enum red, blue
     -- var red = 1
     ∷ row (stops Redefined 2 5) (s.then (s.types (at 1 1) ((declaration (declared (at 1 6) (codes "C")) [] (w.enum (at 1 6) ((name_at (at 1 15) (codes
-    "red")) ∷ (name_at (at 1 20) (codes "blue")) ∷ []))) ∷ [])) (s.then (s.defines (at 2 1) binding.Var ((defined ((declared (at 2 5) (codes "red")) ∷ []) []
+    "red")) ∷ (name_at (at 1 20) (codes "blue")) ∷ []))) ∷ []))
+    (s.then (s.defines (at 2 1) binding.Var ((defined ((declared (at 2 5) (codes "red")) ∷ []) []
     None (Some (t.int (at 2 11) (pos 1)))) ∷ [])) s.empty))
     -- var red = 1
     -- type C = enum red, blue
@@ -157,14 +176,17 @@ scope_rows =
     -- type C = enum red, blue
     -- proc red() = discard
     ∷ row (stops Redefined 2 1) (s.then (s.types (at 1 1) ((declaration (declared (at 1 6) (codes "C")) [] (w.enum (at 1 6) ((name_at (at 1 15) (codes
-    "red")) ∷ (name_at (at 1 20) (codes "blue")) ∷ []))) ∷ [])) (s.then (s.proclaims (at 2 1) (head (declared (at 2 1) (codes "red")) [] [] None []) (s.then
+    "red")) ∷ (name_at (at 1 20) (codes "blue")) ∷ []))) ∷ []))
+    (s.then (s.proclaims (at 2 1) (head (declared (at 2 1) (codes "red")) [] [] None []) (s.then
     (s.discards (at 2 14) None) s.empty)) s.empty))
     -- var x = 1
     -- if true:
     --   var x = "a"
     --   echo x.len
     -- echo x + 1
-    ∷ row accepted (s.then (s.defines (at 1 1) binding.Var ((defined ((declared (at 1 5) (codes "x")) ∷ []) [] None (Some (t.int (at 1 9) (pos 1)))) ∷ []))
+    ∷ row accepted
+    (s.then (s.defines (at 1 1) binding.Var
+    ((defined ((declared (at 1 5) (codes "x")) ∷ []) [] None (Some (t.int (at 1 9) (pos 1)))) ∷ []))
     (s.then (s.branches (at 2 1) (s.branch (at 2 1) (t.part (t.name (at 2 4) (codes "true")) t.no_parts) (s.then (s.defines (at 3 3) binding.Var ((defined
     ((declared (at 3 7) (codes "x")) ∷ []) [] None (Some (t.text (at 3 11) (codes "\"a\"")))) ∷ [])) (s.then (s.commands (at 4 3) (t.name (at 4 3) (codes
     "echo")) (t.part (t.field (at 4 8) (t.name (at 4 8) (codes "x")) (codes "len")) t.no_parts)) s.empty)) s.no_branches) s.empty) (s.then (s.commands (at 5
@@ -185,7 +207,9 @@ scope_rows =
     --   let x = 1
     --   x + 1
     -- echo f(), x.len
-    ∷ row accepted (s.then (s.defines (at 1 1) binding.Let ((defined ((declared (at 1 5) (codes "x")) ∷ []) [] None (Some (t.text (at 1 9) (codes "\"a\""))))
+    ∷ row accepted
+    (s.then (s.defines (at 1 1) binding.Let
+    ((defined ((declared (at 1 5) (codes "x")) ∷ []) [] None (Some (t.text (at 1 9) (codes "\"a\""))))
     ∷ [])) (s.then (s.proclaims (at 2 1) (head (declared (at 2 1) (codes "f")) [] [] (Some (w.named (at 2 11) (codes "int") w.no_arguments)) []) (s.then
     (s.defines (at 3 3) binding.Let ((defined ((declared (at 3 7) (codes "x")) ∷ []) [] None (Some (t.int (at 3 11) (pos 1)))) ∷ [])) (s.then (s.evaluates
     (at 4 3) (t.binary (at 4 3) sign.Plus (t.name (at 4 3) (codes "x")) (t.int (at 4 7) (pos 1)))) s.empty))) (s.then (s.commands (at 5 1) (t.name (at 5 1)
@@ -206,7 +230,8 @@ scope_rows =
     --   x = 1
     ∷ row (stops NotTyped 4 7) (s.then (s.defines (at 1 1) binding.Var ((defined ((declared (at 1 5) (codes "x")) ∷ []) [] None (Some (t.int (at 1 9) (pos
     1)))) ∷ [])) (s.then (s.branches (at 2 1) (s.branch (at 2 1) (t.part (t.name (at 2 4) (codes "true")) t.no_parts) (s.then (s.defines (at 3 3) binding.Var
-    ((defined ((declared (at 3 7) (codes "x")) ∷ []) [] None (Some (t.text (at 3 11) (codes "\"a\"")))) ∷ [])) (s.then (s.assigns (at 4 3) assign.Set (t.name
+    ((defined ((declared (at 3 7) (codes "x")) ∷ []) [] None (Some (t.text (at 3 11) (codes "\"a\"")))) ∷ []))
+    (s.then (s.assigns (at 4 3) assign.Set (t.name
     (at 4 3) (codes "x")) (t.int (at 4 7) (pos 1))) s.empty)) s.no_branches) s.empty) s.empty))
     -- var x = 1
     -- if true:
@@ -224,7 +249,8 @@ scope_rows =
     ∷ row (stops NotTyped 5 8) (s.then (s.defines (at 1 1) binding.Let ((defined ((declared (at 1 5) (codes "x")) ∷ []) [] None (Some (t.int (at 1 9) (pos
     1)))) ∷ [])) (s.then (s.branches (at 2 1) (s.branch (at 2 1) (t.part (t.name (at 2 4) (codes "true")) t.no_parts) (s.then (s.commands (at 3 3) (t.name
     (at 3 3) (codes "echo")) (t.part (t.name (at 3 8) (codes "x")) t.no_parts)) (s.then (s.defines (at 4 3) binding.Let ((defined ((declared (at 4 7) (codes
-    "x")) ∷ []) [] None (Some (t.text (at 4 11) (codes "\"a\"")))) ∷ [])) (s.then (s.commands (at 5 3) (t.name (at 5 3) (codes "echo")) (t.part (t.binary (at
+    "x")) ∷ []) [] None (Some (t.text (at 4 11) (codes "\"a\"")))) ∷ []))
+    (s.then (s.commands (at 5 3) (t.name (at 5 3) (codes "echo")) (t.part (t.binary (at
     5 8) sign.Plus (t.name (at 5 8) (codes "x")) (t.int (at 5 12) (pos 1))) t.no_parts)) s.empty))) s.no_branches) s.empty) s.empty))
     -- proc f(): int =
     --   let result = "a"
@@ -242,7 +268,8 @@ scope_rows =
     ∷ row (stops NotTyped 5 8) (s.then (s.proclaims (at 1 1) (head (declared (at 1 1) (codes "f")) [] ((parameters ((name_at (at 1 8) (codes "x")) ∷ [])
     mode.Plain (w.named (at 1 11) (codes "int") w.no_arguments)) ∷ []) (Some (w.named (at 1 17) (codes "int") w.no_arguments)) []) (s.then (s.evaluates (at 1
     23) (t.name (at 1 23) (codes "x"))) s.empty)) (s.then (s.proclaims (at 2 1) (head (declared (at 2 1) (codes "g")) [] [] None []) (s.then (s.defines (at 3
-    3) binding.Let ((defined ((declared (at 3 7) (codes "f")) ∷ []) [] None (Some (t.int (at 3 11) (pos 1)))) ∷ [])) (s.then (s.commands (at 4 3) (t.name (at
+    3) binding.Let ((defined ((declared (at 3 7) (codes "f")) ∷ []) [] None (Some (t.int (at 3 11) (pos 1)))) ∷ []))
+    (s.then (s.commands (at 4 3) (t.name (at
     4 3) (codes "echo")) (t.part (t.name (at 4 8) (codes "f")) t.no_parts)) (s.then (s.commands (at 5 3) (t.name (at 5 3) (codes "echo")) (t.part (t.call (at
     5 8) (t.name (at 5 8) (codes "f")) (t.part (t.int (at 5 10) (pos 2)) t.no_parts)) t.no_parts)) s.empty)))) s.empty))
     -- proc f(x: int): int = x

@@ -24,7 +24,8 @@ global_rows =
     -- var g = 1
     -- proc f(x: var int) = g = x
     -- f(g)
-    ∷ row (stops VarOfGlobal 3 3) (s.then (s.defines (at 1 1) binding.Var ((defined ((declared (at 1 5) (codes "g")) ∷ []) [] None (Some (t.int (at 1 9) (pos
+    ∷ row (stops VarOfGlobal 3 3)
+    (s.then (s.defines (at 1 1) binding.Var ((defined ((declared (at 1 5) (codes "g")) ∷ []) [] None (Some (t.int (at 1 9) (pos
     1)))) ∷ [])) (s.then (s.proclaims (at 2 1) (head (declared (at 2 1) (codes "f")) [] ((parameters ((name_at (at 2 8) (codes "x")) ∷ []) mode.Var (w.named
     (at 2 15) (codes "int") w.no_arguments)) ∷ []) None []) (s.then (s.assigns (at 2 22) assign.Set (t.name (at 2 22) (codes "g")) (t.name (at 2 26) (codes
     "x"))) s.empty)) (s.then (s.evaluates (at 3 1) (t.call (at 3 1) (t.name (at 3 1) (codes "f")) (t.part (t.name (at 3 3) (codes "g")) t.no_parts)))
@@ -32,7 +33,8 @@ global_rows =
     -- var g = 1
     -- proc f(x: int, y: var int) = echo g
     -- f(g, g)
-    ∷ row (stops VarOfGlobal 3 6) (s.then (s.defines (at 1 1) binding.Var ((defined ((declared (at 1 5) (codes "g")) ∷ []) [] None (Some (t.int (at 1 9) (pos
+    ∷ row (stops VarOfGlobal 3 6)
+    (s.then (s.defines (at 1 1) binding.Var ((defined ((declared (at 1 5) (codes "g")) ∷ []) [] None (Some (t.int (at 1 9) (pos
     1)))) ∷ [])) (s.then (s.proclaims (at 2 1) (head (declared (at 2 1) (codes "f")) [] ((parameters ((name_at (at 2 8) (codes "x")) ∷ []) mode.Plain
     (w.named (at 2 11) (codes "int") w.no_arguments)) ∷ (parameters ((name_at (at 2 16) (codes "y")) ∷ []) mode.Var (w.named (at 2 23) (codes "int")
     w.no_arguments)) ∷ []) None []) (s.then (s.commands (at 2 30) (t.name (at 2 30) (codes "echo")) (t.part (t.name (at 2 35) (codes "g")) t.no_parts))
@@ -41,7 +43,9 @@ global_rows =
     -- var g = 1
     -- proc f(g: var int) = g = 2
     -- f(g)
-    ∷ row accepted (s.then (s.defines (at 1 1) binding.Var ((defined ((declared (at 1 5) (codes "g")) ∷ []) [] None (Some (t.int (at 1 9) (pos 1)))) ∷ []))
+    ∷ row accepted
+    (s.then (s.defines (at 1 1) binding.Var
+    ((defined ((declared (at 1 5) (codes "g")) ∷ []) [] None (Some (t.int (at 1 9) (pos 1)))) ∷ []))
     (s.then (s.proclaims (at 2 1) (head (declared (at 2 1) (codes "f")) [] ((parameters ((name_at (at 2 8) (codes "g")) ∷ []) mode.Var (w.named (at 2 15)
     (codes "int") w.no_arguments)) ∷ []) None []) (s.then (s.assigns (at 2 22) assign.Set (t.name (at 2 22) (codes "g")) (t.int (at 2 26) (pos 2))) s.empty))
     (s.then (s.evaluates (at 3 1) (t.call (at 3 1) (t.name (at 3 1) (codes "f")) (t.part (t.name (at 3 3) (codes "g")) t.no_parts))) s.empty)))
@@ -50,7 +54,9 @@ global_rows =
     --   let g = 2
     --   x = g
     -- f(g)
-    ∷ row accepted (s.then (s.defines (at 1 1) binding.Var ((defined ((declared (at 1 5) (codes "g")) ∷ []) [] None (Some (t.int (at 1 9) (pos 1)))) ∷ []))
+    ∷ row accepted
+    (s.then (s.defines (at 1 1) binding.Var
+    ((defined ((declared (at 1 5) (codes "g")) ∷ []) [] None (Some (t.int (at 1 9) (pos 1)))) ∷ []))
     (s.then (s.proclaims (at 2 1) (head (declared (at 2 1) (codes "f")) [] ((parameters ((name_at (at 2 8) (codes "x")) ∷ []) mode.Var (w.named (at 2 15)
     (codes "int") w.no_arguments)) ∷ []) None []) (s.then (s.defines (at 3 3) binding.Let ((defined ((declared (at 3 7) (codes "g")) ∷ []) [] None (Some
     (t.int (at 3 11) (pos 2)))) ∷ [])) (s.then (s.assigns (at 4 3) assign.Set (t.name (at 4 3) (codes "x")) (t.name (at 4 7) (codes "g"))) s.empty))) (s.then
@@ -68,7 +74,8 @@ global_rows =
     -- proc h() = echo g
     -- proc f(x: var int) = h()
     -- f(g)
-    ∷ row (stops VarOfGlobal 4 3) (s.then (s.defines (at 1 1) binding.Var ((defined ((declared (at 1 5) (codes "g")) ∷ []) [] None (Some (t.int (at 1 9) (pos
+    ∷ row (stops VarOfGlobal 4 3)
+    (s.then (s.defines (at 1 1) binding.Var ((defined ((declared (at 1 5) (codes "g")) ∷ []) [] None (Some (t.int (at 1 9) (pos
     1)))) ∷ [])) (s.then (s.proclaims (at 2 1) (head (declared (at 2 1) (codes "h")) [] [] None []) (s.then (s.commands (at 2 12) (t.name (at 2 12) (codes
     "echo")) (t.part (t.name (at 2 17) (codes "g")) t.no_parts)) s.empty)) (s.then (s.proclaims (at 3 1) (head (declared (at 3 1) (codes "f")) []
     ((parameters ((name_at (at 3 8) (codes "x")) ∷ []) mode.Var (w.named (at 3 15) (codes "int") w.no_arguments)) ∷ []) None []) (s.then (s.evaluates (at 3
@@ -79,7 +86,9 @@ global_rows =
     -- proc b() = a()
     -- proc f(x: var int) = b()
     -- f(g)
-    ∷ row accepted (s.then (s.defines (at 1 1) binding.Var ((defined ((declared (at 1 5) (codes "g")) ∷ []) [] None (Some (t.int (at 1 9) (pos 1)))) ∷ []))
+    ∷ row accepted
+    (s.then (s.defines (at 1 1) binding.Var
+    ((defined ((declared (at 1 5) (codes "g")) ∷ []) [] None (Some (t.int (at 1 9) (pos 1)))) ∷ []))
     (s.then (s.proclaims (at 2 1) (head (declared (at 2 1) (codes "a")) [] [] None []) (s.then (s.commands (at 2 12) (t.name (at 2 12) (codes "echo"))
     (t.part (t.int (at 2 17) (pos 1)) t.no_parts)) s.empty)) (s.then (s.proclaims (at 3 1) (head (declared (at 3 1) (codes "b")) [] [] None []) (s.then
     (s.evaluates (at 3 12) (t.call (at 3 12) (t.name (at 3 12) (codes "a")) t.no_parts)) s.empty)) (s.then (s.proclaims (at 4 1) (head (declared (at 4 1)
@@ -91,7 +100,8 @@ global_rows =
     -- proc f(x: var int) = h()
     -- f(g)
     -- proc h() = echo g
-    ∷ row (stops VarOfGlobal 4 3) (s.then (s.defines (at 1 1) binding.Var ((defined ((declared (at 1 5) (codes "g")) ∷ []) [] None (Some (t.int (at 1 9) (pos
+    ∷ row (stops VarOfGlobal 4 3)
+    (s.then (s.defines (at 1 1) binding.Var ((defined ((declared (at 1 5) (codes "g")) ∷ []) [] None (Some (t.int (at 1 9) (pos
     1)))) ∷ [])) (s.then (s.proclaims (at 2 1) (head (declared (at 2 1) (codes "h")) [] [] None []) s.empty) (s.then (s.proclaims (at 3 1) (head (declared
     (at 3 1) (codes "f")) [] ((parameters ((name_at (at 3 8) (codes "x")) ∷ []) mode.Var (w.named (at 3 15) (codes "int") w.no_arguments)) ∷ []) None [])
     (s.then (s.evaluates (at 3 22) (t.call (at 3 22) (t.name (at 3 22) (codes "h")) t.no_parts)) s.empty)) (s.then (s.evaluates (at 4 1) (t.call (at 4 1)
@@ -111,18 +121,22 @@ global_rows =
     --   var h = 1
     --   f(h)
     -- k()
-    ∷ row accepted (s.then (s.defines (at 1 1) binding.Var ((defined ((declared (at 1 5) (codes "g")) ∷ []) [] None (Some (t.int (at 1 9) (pos 1)))) ∷ []))
+    ∷ row accepted
+    (s.then (s.defines (at 1 1) binding.Var
+    ((defined ((declared (at 1 5) (codes "g")) ∷ []) [] None (Some (t.int (at 1 9) (pos 1)))) ∷ []))
     (s.then (s.proclaims (at 2 1) (head (declared (at 2 1) (codes "f")) [] ((parameters ((name_at (at 2 8) (codes "x")) ∷ []) mode.Var (w.named (at 2 15)
     (codes "int") w.no_arguments)) ∷ []) None []) (s.then (s.assigns (at 2 22) assign.Set (t.name (at 2 22) (codes "x")) (t.name (at 2 26) (codes "g")))
     s.empty)) (s.then (s.proclaims (at 3 1) (head (declared (at 3 1) (codes "k")) [] [] None []) (s.then (s.defines (at 4 3) binding.Var ((defined ((declared
-    (at 4 7) (codes "h")) ∷ []) [] None (Some (t.int (at 4 11) (pos 1)))) ∷ [])) (s.then (s.evaluates (at 5 3) (t.call (at 5 3) (t.name (at 5 3) (codes "f"))
+    (at 4 7) (codes "h")) ∷ []) [] None (Some (t.int (at 4 11) (pos 1)))) ∷ []))
+    (s.then (s.evaluates (at 5 3) (t.call (at 5 3) (t.name (at 5 3) (codes "f"))
     (t.part (t.name (at 5 5) (codes "h")) t.no_parts))) s.empty))) (s.then (s.evaluates (at 6 1) (t.call (at 6 1) (t.name (at 6 1) (codes "k")) t.no_parts))
     s.empty))))
     -- var g = 1
     -- proc f(x: var int) = x = g
     -- proc k(y: var int) = f(y)
     -- k(g)
-    ∷ row (stops VarOfGlobal 4 3) (s.then (s.defines (at 1 1) binding.Var ((defined ((declared (at 1 5) (codes "g")) ∷ []) [] None (Some (t.int (at 1 9) (pos
+    ∷ row (stops VarOfGlobal 4 3)
+    (s.then (s.defines (at 1 1) binding.Var ((defined ((declared (at 1 5) (codes "g")) ∷ []) [] None (Some (t.int (at 1 9) (pos
     1)))) ∷ [])) (s.then (s.proclaims (at 2 1) (head (declared (at 2 1) (codes "f")) [] ((parameters ((name_at (at 2 8) (codes "x")) ∷ []) mode.Var (w.named
     (at 2 15) (codes "int") w.no_arguments)) ∷ []) None []) (s.then (s.assigns (at 2 22) assign.Set (t.name (at 2 22) (codes "x")) (t.name (at 2 26) (codes
     "g"))) s.empty)) (s.then (s.proclaims (at 3 1) (head (declared (at 3 1) (codes "k")) [] ((parameters ((name_at (at 3 8) (codes "y")) ∷ []) mode.Var
@@ -131,13 +145,17 @@ global_rows =
     3) (codes "g")) t.no_parts))) s.empty))))
     -- var g = 1
     -- inc(g, g)
-    ∷ row accepted (s.then (s.defines (at 1 1) binding.Var ((defined ((declared (at 1 5) (codes "g")) ∷ []) [] None (Some (t.int (at 1 9) (pos 1)))) ∷ []))
+    ∷ row accepted
+    (s.then (s.defines (at 1 1) binding.Var
+    ((defined ((declared (at 1 5) (codes "g")) ∷ []) [] None (Some (t.int (at 1 9) (pos 1)))) ∷ []))
     (s.then (s.evaluates (at 2 1) (t.call (at 2 1) (t.name (at 2 1) (codes "inc")) (t.part (t.name (at 2 5) (codes "g")) (t.part (t.name (at 2 8) (codes
     "g")) t.no_parts)))) s.empty))
     -- var g, h = 1
     -- proc f() = swap(g, h)
     -- f()
-    ∷ row accepted (s.then (s.defines (at 1 1) binding.Var ((defined ((declared (at 1 5) (codes "g")) ∷ (declared (at 1 8) (codes "h")) ∷ []) [] None (Some
+    ∷ row accepted
+    (s.then (s.defines (at 1 1) binding.Var
+    ((defined ((declared (at 1 5) (codes "g")) ∷ (declared (at 1 8) (codes "h")) ∷ []) [] None (Some
     (t.int (at 1 12) (pos 1)))) ∷ [])) (s.then (s.proclaims (at 2 1) (head (declared (at 2 1) (codes "f")) [] [] None []) (s.then (s.evaluates (at 2 12)
     (t.call (at 2 12) (t.name (at 2 12) (codes "swap")) (t.part (t.name (at 2 17) (codes "g")) (t.part (t.name (at 2 20) (codes "h")) t.no_parts))))
     s.empty)) (s.then (s.evaluates (at 3 1) (t.call (at 3 1) (t.name (at 3 1) (codes "f")) t.no_parts)) s.empty)))
@@ -176,10 +194,12 @@ left_out_rows =
     ∷ row (stops LeftOut 3 1) (s.then (s.types (at 1 1) ((declaration (declared (at 1 6) (codes "T")) [] (w.object (at 1 10) false None (w.fields ((declared
     (at 2 3) (codes "x")) ∷ []) (w.named (at 2 6) (codes "int") w.no_arguments) w.no_fields))) ∷ [])) (s.then (s.proclaims (at 3 1) (head (quoted (at 3 1)
     (codes "`=sink`")) [] ((parameters ((name_at (at 3 14) (codes "dest")) ∷ []) mode.Var (w.named (at 3 24) (codes "T") w.no_arguments)) ∷ (parameters
-    ((name_at (at 3 27) (codes "source")) ∷ []) mode.Plain (w.named (at 3 35) (codes "T") w.no_arguments)) ∷ []) None []) (s.then (s.discards (at 3 40) None)
+    ((name_at (at 3 27) (codes "source")) ∷ []) mode.Plain (w.named (at 3 35) (codes "T") w.no_arguments)) ∷ []) None [])
+    (s.then (s.discards (at 3 40) None)
     s.empty)) s.empty))
     -- proc f[T](x: T) = discard
-    ∷ row (stops LeftOut 1 1) (s.then (s.proclaims (at 1 1) (head (declared (at 1 1) (codes "f")) (name_at (at 1 1) [] ∷ []) ((parameters ((name_at (at 1 11)
+    ∷ row (stops LeftOut 1 1)
+    (s.then (s.proclaims (at 1 1) (head (declared (at 1 1) (codes "f")) (name_at (at 1 1) [] ∷ []) ((parameters ((name_at (at 1 11)
     (codes "x")) ∷ []) mode.Plain (w.named (at 1 14) (codes "T") w.no_arguments)) ∷ []) None []) (s.then (s.discards (at 1 19) None) s.empty)) s.empty)
     -- type Pair[A, B] = tuple[a: A, b: B]
     ∷ row (stops LeftOut 1 6) (s.then (s.types (at 1 1) ((declaration (declared (at 1 6) (codes "Pair")) (name_at (at 1 1) [] ∷ []) (w.alias (w.tuple_of (at
@@ -241,7 +261,8 @@ order_rows =
     w.no_arguments)) None) ∷ [])) s.empty))
     -- let s = "a"
     -- s += 1
-    ∷ row (stops NotTyped 2 1) (s.then (s.defines (at 1 1) binding.Let ((defined ((declared (at 1 5) (codes "s")) ∷ []) [] None (Some (t.text (at 1 9) (codes
+    ∷ row (stops NotTyped 2 1)
+    (s.then (s.defines (at 1 1) binding.Let ((defined ((declared (at 1 5) (codes "s")) ∷ []) [] None (Some (t.text (at 1 9) (codes
     "\"a\"")))) ∷ [])) (s.then (s.assigns (at 2 1) assign.Plus (t.name (at 2 1) (codes "s")) (t.int (at 2 6) (pos 1))) s.empty))
     -- let s = [1]
     -- s &= "a"
@@ -279,7 +300,8 @@ order_rows =
     -- proc f(x: var int) = echo g
     -- f(g)
     -- echo y
-    ∷ row (stops UnknownName 4 6) (s.then (s.defines (at 1 1) binding.Var ((defined ((declared (at 1 5) (codes "g")) ∷ []) [] None (Some (t.int (at 1 9) (pos
+    ∷ row (stops UnknownName 4 6)
+    (s.then (s.defines (at 1 1) binding.Var ((defined ((declared (at 1 5) (codes "g")) ∷ []) [] None (Some (t.int (at 1 9) (pos
     1)))) ∷ [])) (s.then (s.proclaims (at 2 1) (head (declared (at 2 1) (codes "f")) [] ((parameters ((name_at (at 2 8) (codes "x")) ∷ []) mode.Var (w.named
     (at 2 15) (codes "int") w.no_arguments)) ∷ []) None []) (s.then (s.commands (at 2 22) (t.name (at 2 22) (codes "echo")) (t.part (t.name (at 2 27) (codes
     "g")) t.no_parts)) s.empty)) (s.then (s.evaluates (at 3 1) (t.call (at 3 1) (t.name (at 3 1) (codes "f")) (t.part (t.name (at 3 3) (codes "g"))

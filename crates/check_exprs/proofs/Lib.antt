@@ -13,3 +13,4 @@ mod Planned
 mod Called
 mod Covers
 mod Agree
+pub mod ForCallers
