@@ -1,8 +1,0 @@
-use Rattle.check_decls.proofs.Parts.{containment_found, known_found}
-use Rattle.check_decls.proofs.laws.types_found.Goals as goal
-
-pub returns-clause-containment : goal.returns-clause-containment
-returns-clause-containment c = containment_found
-
-pub returns-clause-known : goal.returns-clause-known
-returns-clause-known c = known_found
