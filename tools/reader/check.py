@@ -320,7 +320,8 @@ class Checker(ExpressionChecker):
         self.scopes.pop()
         head = Procedure([variable.type for variable in variables], modes, result_type, 'borrow' in proc.pragmas,
                          proc.position, self.globals)
-        procedure = self.completed(proc, head)
+        is_none = proc.is_quoted and proc.name != '$' and proc.name not in COMPARISONS
+        procedure = None if is_none else self.completed(proc, head)
         if 'error' in proc.pragmas or not self.has_allowed_name(proc, head) or not self.may_borrow(proc, head):
             raise Refusal('E8', proc.position)
         if procedure is None:

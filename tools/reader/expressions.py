@@ -550,7 +550,7 @@ class ExpressionChecker:
         first = self.meaning_of(arguments[0])
         if name == READ_LINE:
             return isinstance(first, StandardInput)
-        return len(arguments) == 1 and isinstance(first, TypeName)
+        return len(arguments) == 1 and isinstance(first, TypeName) and not first.constructor
 
     def meaning_of(self, operand: tree.Expression) -> Optional[Declaration]:
         """Of an operand that is a name."""
