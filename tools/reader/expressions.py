@@ -6,8 +6,8 @@ from typing import Any, Callable, Dict, List, NamedTuple, NoReturn, Optional, Se
 import tree
 from evaluate import Evaluator, Trap
 from meanings import (BUILT_IN_DOLLAR, NEW_SEQ, READ_LINE, SET_LEN, BuiltInCall, Constant, Conversion, Declaration,
-                      DollarCall, EmptyConstruction, Operation, Overloads, Procedure, ProcedureCall, StandardInput,
-                      TypeName, Variable)
+                      DollarCall, EmptyConstruction, Operation, Overloads, PendingType, Procedure, ProcedureCall,
+                      StandardInput, TypeName, Variable)
 from scan import Position, Refusal
 from tree import is_open, place_of, without_parentheses
 from type_table import BOOL, CHAR, INT, LARGEST_LENGTH, LARGEST_SIZE, ORDINALS_AND_STRING, STRING, TypeTable
@@ -68,6 +68,8 @@ class ExpressionChecker:
         self.procedure: Optional[Procedure] = None
         """Whose body is walked."""
         self.section: Optional[Section] = None
+        self.in_length = False
+        """In a length inside a section."""
         self.global_arguments: List[Tuple[Position, Variable, Procedure]] = []
         """Globals that are `var` arguments, and of which procedure."""
         self.reads_of_input: List[Position] = []
@@ -86,8 +88,14 @@ class ExpressionChecker:
     def look_up(self, name: str) -> Optional[Declaration]:
         for scope in reversed(self.scopes):
             if name in scope:
-                return scope[name]
+                return self.as_known(scope[name])
         return None
+
+    def as_known(self, declaration: Declaration) -> Declaration:
+        """In a length inside a section, a type that isn't known yet is no type."""
+        if self.in_length and isinstance(declaration, TypeName) and declaration.type is not None:
+            return declaration if self.types.is_known(declaration.type) else PendingType()
+        return declaration
 
     def type_named(self, declaration: TypeName) -> Optional[int]:
         return None if declaration.type is None else self.types.resolved(declaration.type)
@@ -138,15 +146,13 @@ class ExpressionChecker:
             if declaration.constructor == 'seq' and types is not None and len(types) == 1:
                 return self.types.sequence(types[0])
             if declaration.type is not None and types is None:
-                return declaration.type if self.section is not None else self.types.resolved(declaration.type)
+                return declaration.type if self.is_in_types() else self.types.resolved(declaration.type)
         raise Refusal('E8', position)
 
     def array_type(self, position: Position, length: tree.Expression, element: tree.Node,
                    read: Callable[..., int]) -> int:
         declaration = self.look_up('array')
-        if self.value(length) != INT:
-            refuse('E8', length)
-        size = self.constant(length)
+        size = self.length(length)
         element_type = read(element)
         is_array = isinstance(declaration, TypeName) and declaration.constructor == 'array'
         if not is_array or not 1 <= size <= LARGEST_LENGTH:
@@ -155,9 +161,22 @@ class ExpressionChecker:
         self.refuse_too_large(result, position)
         return result
 
+    def length(self, length: tree.Expression) -> int:
+        around = self.in_length
+        self.in_length = self.section is not None
+        if self.value(length) != INT:
+            refuse('E8', length)
+        result = self.constant(length)
+        self.in_length = around
+        return result
+
+    def is_in_types(self) -> bool:
+        """In a section, but not in its lengths."""
+        return self.section is not None and not self.in_length
+
     def refuse_too_large(self, type_number: int, position: Position) -> None:
         """In a type section only behind it, since the size isn't known before."""
-        if self.section is not None:
+        if self.is_in_types():
             self.section.written.append((type_number, position))
         elif self.types.size(type_number) > LARGEST_SIZE:
             raise Refusal('E8', position)
@@ -274,8 +293,8 @@ class ExpressionChecker:
         return result
 
     def fields(self, type_number: Optional[int]) -> Optional[List[Tuple[str, int]]]:
-        """None where it is no object type that is known."""
-        if type_number is None or self.types.kind(type_number) != 'object' or not self.types.is_known(type_number):
+        """None where it is no object type."""
+        if type_number is None or self.types.kind(type_number) != 'object':
             return None
         return self.types.fields(type_number)
 
@@ -489,7 +508,7 @@ class ExpressionChecker:
     def conversion(self, call: AnyCall, target: Optional[int], arguments: List[tree.Expression],
                    types: ArgumentTypes) -> Tuple[bool, Optional[int]]:
         """Whether it fits, and its type; also of `T()`."""
-        if target is None or not self.types.is_known(target):
+        if target is None:
             return False, None
         if not arguments:
             call.meaning = EmptyConstruction()

@@ -41,6 +41,10 @@ class TypeName(NamedTuple):
     """'seq' or 'array'."""
 
 
+class PendingType:
+    """A type of a section that isn't known yet, in a length."""
+
+
 class Operation(NamedTuple):
     """What is built in under a name, in normal form."""
     name: str
@@ -78,7 +82,7 @@ class Procedure:
 Overloads = List[Procedure]
 """The visible procedures of one name."""
 
-Declaration = Union[Variable, Constant, TypeName, Operation, StandardInput, Overloads]
+Declaration = Union[Variable, Constant, TypeName, PendingType, Operation, StandardInput, Overloads]
 
 
 class ProcedureCall(NamedTuple):

@@ -29,15 +29,15 @@ one_more g (suc n) a e = g.step n (suc n) (one_more g n) a e
 
 -- ---- so many
 
-abbrev count_if : Bool → ℕ → ℕ
+abbrev pub count_if : Bool → ℕ → ℕ
 count_if true n = suc n
 count_if false n = n
 
-abbrev count : {B : Type 0} → List B → (B → Bool) → ℕ
+abbrev pub count : {B : Type 0} → List B → (B → Bool) → ℕ
 count [] f = 0
 count (b ∷ rest) f = count_if (f b) (count rest f)
 
-count_most : {B : Type 0} (all : List B) (f : B → Bool) → count all f ≤ length all
+pub count_most : {B : Type 0} (all : List B) (f : B → Bool) → count all f ≤ length all
 count_most [] f = omega arith
 count_most (b ∷ rest) f = by_first (f b) (count_most rest f)
   where
@@ -55,7 +55,7 @@ count_least (b ∷ rest) f h more = by_first (f b) (h b) (more b) (count_least r
     by_first false true m e = omega (arith, e)
     by_first false false m e = e
 
-count_less : {B : Type 0} {b : B} {all : List B} (f h : B → Bool) → ((c : B) → f c ≡ true → h c ≡ true) → IsIn b all → f b ≡ false → h b ≡ true
+pub count_less : {B : Type 0} {b : B} {all : List B} (f h : B → Bool) → ((c : B) → f c ≡ true → h c ≡ true) → IsIn b all → f b ≡ false → h b ≡ true
     → suc (count all f) ≤ count all h
 count_less {B} {b} {all} f h more (here {rest = rest}) e i = at_first (f b) (h b) e i (count_least rest f h more)
   where
@@ -79,7 +79,7 @@ Gap {A} {B} name grown n all = (b : B) × IsIn b all × (grown n (name b) ≡ fa
 abbrev NoGap : {A B : Type 0} → (B → A) → (ℕ → A → Bool) → ℕ → List B → Type 0
 NoGap {A} {B} name grown n all = (b : B) → IsIn b all → grown (suc n) (name b) ≡ true → grown n (name b) ≡ true
 
-nowhere : {X B : Type 0} {b : B} → IsIn b [] → X
+pub nowhere : {X B : Type 0} {b : B} → IsIn b [] → X
 nowhere l = elim l [ ]
 
 gap : {A B : Type 0} (name : B → A) (grown : ℕ → A → Bool) (n : ℕ) (all : List B) → NoGap name grown n all ⊎ Gap name grown n all

@@ -1,6 +1,8 @@
 -- What types are made of and which are known: what is computed is the least set.
-use Rattle.std.proofs.Common.{◌≡◌, ℕ, zero, suc, Bool, true, false, List, [], ◌∷◌, length, refl, sym, ap, subst, ◌∙◌, inl, inr}
-use Rattle.std.specs.Prelude.{◌⊎◌, not, ◌||◌, if◌then◌else◌, Option, Some, None, Ok}
+use Rattle.std.proofs.Common.{◌≡◌, ℕ, zero, suc, ◌≤◌, Bool, true, false, List, [], ◌∷◌, ◌++◌, length, refl, sym, ap, subst, ◌∙◌, inl, inr}
+use Rattle.std.proofs.Common.{append-nil, append_assoc, arith}
+use Rattle.std.proofs.lemmas.Option.{none-some, same_Some}
+use Rattle.std.specs.Prelude.{◌⊎◌, not, ◌||◌, ◌&&◌, if◌then◌else◌, Option, Some, None, Ok}
 use Rattle.arc_base.specs.declared.place.Place.{Place}
 use Rattle.arc_base.specs.declared.place.Code.TheVariants.{NotTyped}
 use Rattle.arc_base.specs.Refusal.{IsRefusal}
@@ -8,13 +10,15 @@ use Rattle.expr_rules.specs.Answers.{Answer}
 use Rattle.nim_types.specs.Types as type
 use Rattle.nim_types.specs.Types.{Ty, Tys, Key, same_key}
 use Rattle.nim_types.proofs.ForCallers.{same_sound, same_refl}
-use Rattle.decl_rules.specs.Meanings.{Meant, Defined, meant_in, made_of, occurs, occurs_in, occurs_in_any, contains, is_key_among, is_made_of, known_within}
+use Rattle.decl_rules.specs.Meanings.{Meant, Defined, meant_in, made_of, occurs, occurs_in, occurs_in_any, contains, is_key_among, is_made_of}
+use Rattle.decl_rules.specs.Meanings.{KnownType, known_keys, is_usable, is_next, next_in, as_known, known_more, and_known, known_behind}
+use Rattle.decl_rules.specs.Meanings.{known_through, known_of}
 use Rattle.decl_rules.specs.Parts.{Occurs, o_name, o_sequence, o_array, o_tuple, o_object, OccursAmong, o_first, o_rest, OccursInAny, o_in_first, o_in_rest}
 use Rattle.decl_rules.specs.Parts.{Contains, c_part, c_through, IsKnown, k_known, ContainmentFound, KnownFound}
 use Rattle.decl_rules.specs.Sections.{containment_rule}
 use Rattle.decl_rules.specs.Parts.{NoneContainsItself, n_none, n_more, FirstContainsItself, n_itself, n_later}
 use Rattle.decl_rules.proofs.Means.{Means, m_ok, means_then, means_map, IsAt, is_at, at_once, tested, holding, failing, bind_ok, bind_err}
-use Rattle.decl_rules.proofs.Least.{either_way, no_bool, IsIn, here, further, Grows, stable}
+use Rattle.decl_rules.proofs.Least.{either_way, no_bool, IsIn, here, further, nowhere, count, count_most, count_less, Grows, stable}
 
 -- ---- bools
 
@@ -229,9 +233,6 @@ no_containment_complete all (n_later {d = d} h more) =
 
 -- ---- which types are known
 
-abbrev outside_or : List Key → (Key → Bool) → Key → Bool
-outside_or section f k = not (is_key_among k section) || f k
-
 abbrev All : (Key → Bool) → Meant → Type 0
 All f m = (k : Key) → OccursInAny k (made_of (Some m)) → f k ≡ true
 
@@ -267,56 +268,220 @@ so_made : (f : Key → Bool) (key : Key) (all : List Defined) (m : Meant) → me
     → is_made_of f (meant_in key all) ≡ true
 so_made f key all m s h = ap (λ x. is_made_of f x) s ∙ all_made f m h
 
-abbrev K : List Key → List Defined → ℕ → Key → Bool
-K section all n key = known_within n section all key
+-- ---- in the order in which they become known
 
-outside_more : (section : List Key) (f h : Key → Bool) → ((k : Key) → f k ≡ true → h k ≡ true) → (k : Key) → outside_or section f k ≡ true
-    → outside_or section h k ≡ true
-outside_more section f h more k e = by_part (by_or (not (is_key_among k section)) e)
+abbrev Among : Key → List KnownType → Bool
+Among key known = is_key_among key (known_keys known)
+
+among_more : (key : Key) (known : List KnownType) (k : KnownType) → Among key known ≡ true → Among key (known ++ k ∷ []) ≡ true
+among_more key [] k e = cc
+among_more key (x ∷ known) k e = by_first (by_or (same_key key x.key) e) (among_more key known k)
   where
-    by_part : (not (is_key_among k section) ≡ true) ⊎ (f k ≡ true) → outside_or section h k ≡ true
-    by_part (inl o) = or_left (h k) o
-    by_part (inr m) = or_right (not (is_key_among k section)) (more k m)
+    by_first : (same_key key x.key ≡ true) ⊎ (Among key known ≡ true) → (Among key known ≡ true → Among key (known ++ k ∷ []) ≡ true)
+        → Among key (x ∷ known ++ k ∷ []) ≡ true
+    by_first (inl h) rest = or_left (Among key (known ++ k ∷ [])) h
+    by_first (inr h) rest = or_right (same_key key x.key) (rest h)
 
-known_grows : (section : List Key) (all : List Defined) → Grows key_in all (K section all)
-known_grows section all =
-    record {
-      none = λ a. refl;
-      step = λ n m more a e. by_made n m more a (made_so (outside_or section (K section all n)) a all e);
-      among = λ n a e. by_defined n a e (defined_or a all);
-    }
+among_last : (known : List KnownType) (k : KnownType) → Among k.key (known ++ k ∷ []) ≡ true
+among_last [] k = or_left false (key_refl k.key)
+among_last (x ∷ known) k = or_right (same_key k.key x.key) (among_last known k)
+
+among_or : (key : Key) (known : List KnownType) (k : KnownType) → Among key (known ++ k ∷ []) ≡ true → (Among key known ≡ true) ⊎ (key ≡ k.key)
+among_or key [] k e = by_last (by_or (same_key key k.key) e)
   where
-    by_made : (n m : ℕ) → ((a : Key) → K section all n a ≡ true → K section all m a ≡ true) → (a : Key)
-        → Made (outside_or section (K section all n)) a all → K section all (suc m) a ≡ true
-    by_made n m more a r =
-        so_made (outside_or section (K section all m)) a all r.0 r.1
-        (λ k o. outside_more section (K section all n) (K section all m) more k (r.2 k o))
-
-    by_defined : (n : ℕ) (a : Key) → K section all (suc n) a ≡ true → IsDefined a all ⊎ (meant_in a all ≡ None) → IsDefined a all
-    by_defined n a e (inl d) = d
-    by_defined n a e (inr s) = no_bool e (ap (λ m. is_made_of (outside_or section (K section all n)) m) s)
-
-known_so : (section : List Key) (all : List Defined) (n : ℕ) (key : Key) → K section all n key ≡ true → IsKnown section all key
-known_so section all zero key e = cc
-known_so section all (suc n) key e =
-    let r = made_so (outside_or section (K section all n)) key all e in
-    k_known r.1 (λ k among o. known_so section all n k (inside k among (by_or (not (is_key_among k section)) (r.2 k o))))
+    by_last : (same_key key k.key ≡ true) ⊎ (false ≡ true) → (Among key [] ≡ true) ⊎ (key ≡ k.key)
+    by_last (inl h) = inr (key_sound key k.key h)
+    by_last (inr h) = inl h
+among_or key (x ∷ known) k e = by_first (by_or (same_key key x.key) e) (among_or key known k)
   where
-    inside : (k : Key) → is_key_among k section ≡ true → (not (is_key_among k section) ≡ true) ⊎ (K section all n k ≡ true)
-        → K section all n k ≡ true
-    inside k among (inl h) = no_bool among (not_true (is_key_among k section) h)
-    inside k among (inr h) = h
+    behind : (Among key known ≡ true) ⊎ (key ≡ k.key) → (Among key (x ∷ known) ≡ true) ⊎ (key ≡ k.key)
+    behind (inl h) = inl (or_right (same_key key x.key) h)
+    behind (inr h) = inr h
 
-so_known : {section : List Key} {all : List Defined} {key : Key} → IsKnown section all key → K section all (length all) key ≡ true
-so_known {section} {all} {key} (k_known {m = m} s rest) =
-    stable (known_grows section all) key
-    (so_made (outside_or section (K section all (length all))) key all m s
-    (λ k o. by_among k (λ h. so_known (rest k h o)) (either_way (is_key_among k section))))
+    by_first : (same_key key x.key ≡ true) ⊎ (Among key (known ++ k ∷ []) ≡ true)
+        → (Among key (known ++ k ∷ []) ≡ true → (Among key known ≡ true) ⊎ (key ≡ k.key)) → (Among key (x ∷ known) ≡ true) ⊎ (key ≡ k.key)
+    by_first (inl h) rest = inl (or_left (Among key known) h)
+    by_first (inr h) rest = behind (rest h)
+
+-- what comes next
+next_so : (f : Key → Bool) (all : List Defined) (d : Defined) → next_in f all ≡ Some d → IsIn d all × (f d.key ≡ true)
+next_so f [] d e = cc
+next_so f (x ∷ rest) d e = by_first (f x.key) refl e (next_so f rest d)
   where
-    by_among : (k : Key) → (is_key_among k section ≡ true → K section all (length all) k ≡ true)
-        → (is_key_among k section ≡ true) ⊎ (is_key_among k section ≡ false) → outside_or section (K section all (length all)) k ≡ true
-    by_among k more (inl h) = or_right (not (is_key_among k section)) (more h)
-    by_among k more (inr h) = or_left (K section all (length all) k) (not_false h)
+    by_first : (b : Bool) → f x.key ≡ b → (if b then Some x else next_in f rest) ≡ Some d
+        → (next_in f rest ≡ Some d → IsIn d rest × (f d.key ≡ true)) → IsIn d (x ∷ rest) × (f d.key ≡ true)
+    by_first true h e more = subst (λ y. IsIn y (x ∷ rest) × (f y.key ≡ true)) (same_Some x d e) (here, h)
+    by_first false h e more = let r = more e in (further r.0, r.1)
+
+in_or : {B : Type 0} {b c : B} {rest : List B} → IsIn b (c ∷ rest) → (b ≡ c) ⊎ IsIn b rest
+in_or here = inl refl
+in_or (further l) = inr l
+
+next_none : (f : Key → Bool) (all : List Defined) → next_in f all ≡ None → (d : Defined) → IsIn d all → f d.key ≡ false
+next_none f [] e d l = nowhere l
+next_none f (x ∷ rest) e d l = by_first (f x.key) refl e (in_or l) (λ e l. next_none f rest e d l)
+  where
+    by_first : (b : Bool) → f x.key ≡ b → (if b then Some x else next_in f rest) ≡ None → (d ≡ x) ⊎ IsIn d rest
+        → (next_in f rest ≡ None → IsIn d rest → f d.key ≡ false) → f d.key ≡ false
+    by_first true h e l more = absurd (none-some x (sym e))
+    by_first false h e (inl i) more = ap (λ y. f y.key) i ∙ h
+    by_first false h e (inr l) more = more e l
+
+both_true : (a : Bool) {b : Bool} → (a && b) ≡ true → (a ≡ true) × (b ≡ true)
+both_true true e = (refl, e)
+both_true false e = cc
+
+both_hold : {a b : Bool} → a ≡ true → b ≡ true → (a && b) ≡ true
+both_hold {a} {b} e f = ap (λ x. x && b) e ∙ f
+
+usable_so : (section : List Key) (known : List KnownType) (k : Key) → is_usable section known k ≡ true → is_key_among k section ≡ true
+    → Among k known ≡ true
+usable_so section known k e among = by_part (by_or (not (is_key_among k section)) e)
+  where
+    by_part : (not (is_key_among k section) ≡ true) ⊎ (Among k known ≡ true) → Among k known ≡ true
+    by_part (inl h) = no_bool among (not_true (is_key_among k section) h)
+    by_part (inr h) = h
+
+-- ---- what becomes known is so
+
+abbrev Sound : List Key → List Defined → List KnownType → Type 0
+Sound section all known = (key : Key) → Among key known ≡ true → IsKnown section all key
+
+one_sound : (section : List Key) (all : List Defined) (known : List KnownType) (d : Defined) → Sound section all known
+    → is_next section all known d.key ≡ true → Sound section all (known ++ as_known known d ∷ [])
+one_sound section all known d h e key among = by_last (among_or key known (as_known known d) among)
+  where
+    by_made : Made (is_usable section known) d.key all → IsKnown section all d.key
+    by_made r = k_known r.1 (λ k s o. h k (usable_so section known k (r.2 k o) s))
+
+    by_last : (Among key known ≡ true) ⊎ (key ≡ d.key) → IsKnown section all key
+    by_last (inl m) = h key m
+    by_last (inr m) =
+        subst (λ k. IsKnown section all k) (sym m)
+        (by_made (made_so (is_usable section known) d.key all (both_true (not (Among d.key known)) e).1))
+
+more_sound : (n : ℕ) (section : List Key) (all : List Defined) (known : List KnownType) → Sound section all known
+    → Sound section all (known_more n section all known)
+more_sound zero section all known h = h
+more_sound (suc n) section all known h = by_next (next_in (is_next section all known) all) refl (more_sound n section all)
+  where
+    by_next : (o : Option Defined) → next_in (is_next section all known) all ≡ o
+        → ((known : List KnownType) → Sound section all known → Sound section all (known_more n section all known))
+        → Sound section all (and_known (known_more n section all) known o)
+    by_next None e more = h
+    by_next (Some d) e more =
+        more (known ++ as_known known d ∷ [])
+        (one_sound section all known d h (next_so (is_next section all known) all d e).1)
+
+meant_more : (key : Key) (all : List Defined) (d : Defined) (m : Meant) → meant_in key all ≡ Some m → meant_in key (all ++ d ∷ []) ≡ Some m
+meant_more key [] d m e = absurd (none-some m e)
+meant_more key (x ∷ all) d m e = by_first (same_key key x.key) e (meant_more key all d m)
+  where
+    by_first : (b : Bool) → (if b then Some x.meant else meant_in key all) ≡ Some m
+        → (meant_in key all ≡ Some m → meant_in key (all ++ d ∷ []) ≡ Some m)
+        → (if b then Some x.meant else meant_in key (all ++ d ∷ [])) ≡ Some m
+    by_first true e rest = e
+    by_first false e rest = rest e
+
+still_known : {section : List Key} {all : List Defined} {key : Key} (d : Defined) → IsKnown section all key → IsKnown section (all ++ d ∷ []) key
+still_known {all = all} {key = key} d (k_known {m = m} s rest) =
+    k_known (meant_more key all d m s) (λ k among o. still_known d (rest k among o))
+
+through_sound : (section : List Key) (read : List Defined) (known : List KnownType) (rest : List Defined) → Sound section read known
+    → Sound section (read ++ rest) (known_through section read known rest)
+through_sound section read known [] h = subst (λ all. Sound section all known) (sym (append-nil read)) h
+through_sound section read known (d ∷ rest) h =
+    let now = read ++ d ∷ [] in
+    let more = known_behind section now known in
+    subst (λ all. Sound section all (known_through section now more rest)) (append_assoc read (d ∷ []) rest)
+    (through_sound section now more rest (more_sound (length now) section now known (λ key e. still_known d (h key e))))
+
+-- ---- and nothing is left
+
+abbrev Closed : List Key → List Defined → List KnownType → Type 0
+Closed section all known = (d : Defined) → IsIn d all → is_next section all known d.key ≡ false
+
+abbrev is_left : List KnownType → Defined → Bool
+is_left known d = not (Among d.key known)
+
+none_counted : (all : List Defined) (f : Defined → Bool) (d : Defined) → IsIn d all → count all f ≤ 0 → f d ≡ false
+none_counted all f d l e = by_value (either_way (f d))
+  where
+    by_value : (f d ≡ true) ⊎ (f d ≡ false) → f d ≡ false
+    by_value (inr h) = h
+    by_value (inl h) = let less = count_less (λ x. false) f (λ x e. cc) l refl h in absurd (omega (arith, less, e))
+
+left_less : (section : List Key) (all : List Defined) (known : List KnownType) (d : Defined) → IsIn d all → is_next section all known d.key ≡ true
+    → suc (count all (is_left (known ++ as_known known d ∷ []))) ≤ count all (is_left known)
+left_less section all known d l e =
+    let k = as_known known d in
+    count_less (is_left (known ++ k ∷ [])) (is_left known) (λ x h. still_left x (either_way (Among x.key known)) h) l (ap not (among_last known k))
+    (both_true (not (Among d.key known)) e).0
+  where
+    still_left : (x : Defined) → (Among x.key known ≡ true) ⊎ (Among x.key known ≡ false) → is_left (known ++ as_known known d ∷ []) x ≡ true
+        → is_left known x ≡ true
+    still_left x (inl m) h =
+        no_bool (among_more x.key known (as_known known d) m) (not_true (Among x.key (known ++ as_known known d ∷ [])) h)
+    still_left x (inr m) h = not_false m
+
+not_next : (section : List Key) (all : List Defined) (known : List KnownType) (d : Defined) → is_left known d ≡ false
+    → is_next section all known d.key ≡ false
+not_next section all known d e = ap (λ b. b && is_made_of (is_usable section known) (meant_in d.key all)) e
+
+more_closed : (n : ℕ) (section : List Key) (all : List Defined) (known : List KnownType) → count all (is_left known) ≤ n
+    → Closed section all (known_more n section all known)
+more_closed zero section all known e = λ d l. not_next section all known d (none_counted all (is_left known) d l e)
+more_closed (suc n) section all known e = by_next (next_in (is_next section all known) all) refl (more_closed n section all)
+  where
+    by_next : (o : Option Defined) → next_in (is_next section all known) all ≡ o
+        → ((known : List KnownType) → count all (is_left known) ≤ n → Closed section all (known_more n section all known))
+        → Closed section all (and_known (known_more n section all) known o)
+    by_next None s more = next_none (is_next section all known) all s
+    by_next (Some d) s more =
+        let r = next_so (is_next section all known) all d s in
+        let less = left_less section all known d r.0 r.1 in
+        more (known ++ as_known known d ∷ []) (omega (arith, less, e))
+
+through_closed : (section : List Key) (read : List Defined) (known : List KnownType) (rest : List Defined) → Closed section read known
+    → Closed section (read ++ rest) (known_through section read known rest)
+through_closed section read known [] h = subst (λ all. Closed section all known) (sym (append-nil read)) h
+through_closed section read known (d ∷ rest) h =
+    let now = read ++ d ∷ [] in
+    let more = known_behind section now known in
+    subst (λ all. Closed section all (known_through section now more rest)) (append_assoc read (d ∷ []) rest)
+    (through_closed section now more rest (more_closed (length now) section now known (count_most now (is_left known))))
+
+none_next : (section : List Key) (all : List Defined) (known : List KnownType) (key : Key) → Closed section all known → IsDefined key all
+    → is_next section all known key ≡ true → (A : Type 0) → A
+none_next section all known key c d e A =
+    no_bool (subst (λ k. is_next section all known k ≡ true) (sym d.2) e) (c d.0 d.1)
+
+abbrev AllAmong : List Key → List KnownType → Meant → Type 0
+AllAmong section known m = (k : Key) → is_key_among k section ≡ true → OccursInAny k (made_of (Some m)) → Among k known ≡ true
+
+so_known : {section : List Key} {all : List Defined} {key : Key} (known : List KnownType) → Closed section all known → IsKnown section all key
+    → Among key known ≡ true
+so_known {section} {all} {key} known c (k_known {m = m} s rest) =
+    by_value (λ k h o. so_known known c (rest k h o)) (either_way (Among key known))
+  where
+    usable : (k : Key) → (is_key_among k section ≡ true → Among k known ≡ true)
+        → (is_key_among k section ≡ true) ⊎ (is_key_among k section ≡ false) → is_usable section known k ≡ true
+    usable k more (inl h) = or_right (not (is_key_among k section)) (more h)
+    usable k more (inr h) = or_left (Among k known) (not_false h)
+
+    made : AllAmong section known m → is_made_of (is_usable section known) (meant_in key all) ≡ true
+    made more = so_made (is_usable section known) key all m s (λ k o. usable k (λ h. more k h o) (either_way (is_key_among k section)))
+
+    by_defined : AllAmong section known m → Among key known ≡ false → IsDefined key all ⊎ (meant_in key all ≡ None) → Among key known ≡ true
+    by_defined more e (inl d) = none_next section all known key c d (both_hold (not_false e) (made more)) (Among key known ≡ true)
+    by_defined more e (inr n) = absurd (none-some m (sym n ∙ s))
+
+    by_value : AllAmong section known m → (Among key known ≡ true) ⊎ (Among key known ≡ false) → Among key known ≡ true
+    by_value more (inl h) = h
+    by_value more (inr h) = by_defined more h (defined_or key all)
 
 pub known_found : KnownFound
-known_found section all key = (λ e. known_so section all (length all) key e, λ h. so_known h)
+known_found section all key = (
+  λ e. through_sound section [] [] all (λ k h. cc) key e,
+  λ h. so_known (known_of section all) (through_closed section [] [] all (λ d l. nowhere l)) h,
+)

@@ -73,6 +73,13 @@ edge_rows =
     None) ∷ [])) (s.then (s.commands (at 7 1) (t.name (at 7 1) (codes "echo")) (t.part (t.index (at 7 6) (t.name (at 7 6) (codes "a")) (t.part (t.int (at 7
     8) (pos 0)) t.no_parts)) t.no_parts)) s.empty)))
     -- type
+    --   A = array[len(newSeq[U](3)), int]
+    --   U = int
+    ∷ row (stops NotTyped 2 24) (s.then (s.types (at 1 1) ((declaration (declared (at 2 3) (codes "A")) [] (w.alias (w.array (at 2 7) (t.call (at 2 13)
+    (t.name (at 2 13) (codes "len")) (t.part (t.call (at 2 17) (t.index (at 2 17) (t.name (at 2 17) (codes "newSeq")) (t.part (t.name (at 2 24) (codes "U"))
+    t.no_parts)) (t.part (t.int (at 2 27) (pos 3)) t.no_parts)) t.no_parts)) (w.named (at 2 32) (codes "int") w.no_arguments)))) ∷ (declaration (declared (at
+    3 3) (codes "U")) [] (w.alias (w.named (at 3 7) (codes "int") w.no_arguments))) ∷ [])) s.empty)
+    -- type
     --   A = array[ord(E(1)), int]
     --   E = enum a, b
     ∷ row (stops NotTyped 2 17) (s.then (s.types (at 1 1) ((declaration (declared (at 2 3) (codes "A")) [] (w.alias (w.array (at 2 7) (t.call (at 2 13)

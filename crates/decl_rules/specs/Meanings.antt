@@ -1,6 +1,7 @@
 -- What the definitions of a section of types say. In them each type of the section is a name, that is, a distinct type of which nothing
--- is said. What names mean is looked up in the definitions: behind the last one, or in a length in those so far.
-use Rattle.std.specs.Prelude.{ℕ, zero, suc, Bool, true, false, not, ◌||◌, if◌then◌else◌, List, [], ◌∷◌, ◌++◌, length, Option, Some, None}
+-- is said. A type becomes known behind its definition and those of all types of the section in it; then its name has a meaning.
+use Rattle.std.specs.Prelude.{ℕ, zero, suc, Bool, true, false, not, ◌||◌, ◌&&◌, if◌then◌else◌, List, [], ◌∷◌, ◌++◌, length}
+use Rattle.std.specs.Prelude.{Option, Some, None}
 use Rattle.nim_tree.specs.Types.{Declaration}
 use Rattle.nim_types.specs.Types as type
 use Rattle.nim_types.specs.Types.{Ty, Tys, Key, Field, Facts, same_key}
@@ -50,22 +51,50 @@ abbrev mutual
   renamed_all by type.no_types = type.no_types
   renamed_all by (type.types t ts) = type.types (renamed by t) (renamed_all by ts)
 
+-- A type of the section that is known: what its name means, and what is said of it.
+pub record KnownType : Type 0 where
+  pub key : Key
+  pub means : Ty
+  pub says : Facts
+
+abbrev pub meaning_in : Key → List KnownType → Option Ty
+meaning_in key [] = None
+meaning_in key (k ∷ rest) = if same_key key k.key then Some k.means else meaning_in key rest
+
+-- what isn't known stays a name
+abbrev pub or_name : Key → Option Ty → Ty
+or_name key (Some t) = t
+or_name key None = type.distinct key
+
+-- a type in which names are what they mean
+abbrev pub resolved : List KnownType → Ty → Ty
+resolved known t = renamed (λ key. or_name key (meaning_in key known)) t
+
+abbrev pub resolved_fields : List KnownType → List Field → List Field
+resolved_fields known [] = []
+resolved_fields known (f ∷ rest) = record f { of = resolved known f.of } ∷ resolved_fields known rest
+
 -- an alias is what it names
-abbrev pub meaning_by : (by : Key → Ty) → Key → Option Meant → Ty
-meaning_by by key (Some (an_object all)) = type.object key type.no_types
-meaning_by by key (Some (an_enum all)) = type.enum key
-meaning_by by key (Some (a_distinct base)) = type.distinct key
-meaning_by by key (Some (an_alias of)) = renamed by of
-meaning_by by key None = type.distinct key
+abbrev pub meaning_of : List KnownType → Key → Meant → Ty
+meaning_of known key (an_object all) = type.object key type.no_types
+meaning_of known key (an_enum all) = type.enum key
+meaning_of known key (a_distinct base) = type.distinct key
+meaning_of known key (an_alias of) = resolved known of
 
--- what a name means, at most so many aliases looked through
-abbrev pub meaning : ℕ → List Defined → Key → Ty
-meaning zero all key = type.distinct key
-meaning (suc n) all key = meaning_by (meaning n all) key (meant_in key all)
+abbrev pub facts_of : List KnownType → Key → Meant → Facts
+facts_of known key (an_object all) =
+    record { of = type.object key type.no_types; fact = type.fields (resolved_fields known all) false } ∷ []
+facts_of known key (an_enum all) = record { of = type.enum key; fact = type.members all } ∷ []
+facts_of known key (a_distinct base) = record { of = type.distinct key; fact = type.base (resolved known base) } ∷ []
+facts_of known key (an_alias of) = []
 
--- by the definitions so far; what they don't define stays a name
-abbrev pub resolved : List Defined → Ty → Ty
-resolved all t = renamed (meaning (length all) all) t
+-- a type whose definition names known ones alone
+abbrev pub as_known : List KnownType → Defined → KnownType
+as_known known d = record { key = d.key; means = meaning_of known d.key d.meant; says = facts_of known d.key d.meant }
+
+abbrev pub known_facts : List KnownType → Facts
+known_facts [] = []
+known_facts (k ∷ rest) = k.says ++ known_facts rest
 
 -- ---- what types are made of
 
@@ -127,35 +156,41 @@ abbrev pub is_made_of : (is_meant : Key → Bool) → Option Meant → Bool
 is_made_of is_meant None = false
 is_made_of is_meant (Some m) = not (occurs_in_any (λ key. not (is_meant key)) (made_of (Some m)))
 
--- Whether a type of the section is known: by its own definition, and those of all types of the section in it; through at most so
--- many definitions.
-abbrev pub known_within : ℕ → (section : List Key) → List Defined → Key → Bool
-known_within zero keys all key = false
-known_within (suc n) keys all key = is_made_of (λ k. not (is_key_among k keys) || known_within n keys all k) (meant_in key all)
+abbrev pub known_keys : List KnownType → List Key
+known_keys [] = []
+known_keys (k ∷ rest) = k.key ∷ known_keys rest
 
-abbrev pub is_known : (section : List Key) → List Defined → Key → Bool
-is_known keys all key = known_within (length all) keys all key
+-- whether a name isn't that of a type of the section, or is known
+abbrev pub is_usable : (section : List Key) → List KnownType → Key → Bool
+is_usable section known key = not (is_key_among key section) || is_key_among key (known_keys known)
 
-abbrev pub only_known : (is_known : Key → Bool) → List Defined → List Defined
-only_known known [] = []
-only_known known (d ∷ rest) = if known d.key then d ∷ only_known known rest else only_known known rest
+-- what becomes known next: it isn't known yet, and names known types alone
+abbrev pub is_next : (section : List Key) → List Defined → List KnownType → Key → Bool
+is_next section all known key = not (is_key_among key (known_keys known)) && is_made_of (is_usable section known) (meant_in key all)
 
--- the definitions of the types that are known
-abbrev pub known_of : (section : List Key) → List Defined → List Defined
-known_of keys all = only_known (is_known keys all) all
+-- the first of these
+abbrev pub next_in : (is_next : Key → Bool) → List Defined → Option Defined
+next_in is_next [] = None
+next_in is_next (d ∷ rest) = if is_next d.key then Some d else next_in is_next rest
 
--- ---- what is said of declared types
+abbrev pub and_known : (more : List KnownType → List KnownType) → List KnownType → Option Defined → List KnownType
+and_known more known None = known
+and_known more known (Some d) = more (known ++ as_known known d ∷ [])
 
-abbrev pub resolved_fields : List Defined → List Field → List Field
-resolved_fields all [] = []
-resolved_fields all (f ∷ rest) = record f { of = resolved all f.of } ∷ resolved_fields all rest
+-- the types that are known behind these definitions, where these were known before; in so many steps at most
+abbrev pub known_more : ℕ → (section : List Key) → List Defined → List KnownType → List KnownType
+known_more zero section all known = known
+known_more (suc n) section all known = and_known (known_more n section all) known (next_in (is_next section all known) all)
 
-abbrev pub fact_by : List Defined → Key → Meant → Facts
-fact_by all key (an_object fs) = record { of = type.object key type.no_types; fact = type.fields (resolved_fields all fs) false } ∷ []
-fact_by all key (an_enum names) = record { of = type.enum key; fact = type.members names } ∷ []
-fact_by all key (a_distinct base) = record { of = type.distinct key; fact = type.base (resolved all base) } ∷ []
-fact_by all key (an_alias of) = []
+-- each step takes a definition
+abbrev pub known_behind : (section : List Key) → List Defined → List KnownType → List KnownType
+known_behind section all known = known_more (length all) section all known
 
-abbrev pub facts_by : List Defined → List Defined → Facts
-facts_by all [] = []
-facts_by all (d ∷ rest) = fact_by all d.key d.meant ++ facts_by all rest
+-- the types that are known behind definitions, which are read one after another
+abbrev pub known_through : (section : List Key) → (read : List Defined) → List KnownType → List Defined → List KnownType
+known_through section read known [] = known
+known_through section read known (d ∷ rest) =
+    known_through section (read ++ d ∷ []) (known_behind section (read ++ d ∷ []) known) rest
+
+abbrev pub known_of : (section : List Key) → List Defined → List KnownType
+known_of section all = known_through section [] [] all

@@ -3,7 +3,7 @@ use Rattle.std.specs.Prelude.{◌≡◌, ◌↔◌, ℕ, true, List, [], ◌∷�
 use Rattle.arc_base.specs.declared.place.Place.{Place}
 use Rattle.nim_types.specs.Types as type
 use Rattle.nim_types.specs.Types.{Ty, Tys, Key}
-use Rattle.decl_rules.specs.Meanings.{Meant, Defined, meant_in, made_of, contains, is_key_among, is_known}
+use Rattle.decl_rules.specs.Meanings.{Meant, Defined, meant_in, made_of, contains, is_key_among, known_of, known_keys}
 
 mutual
   -- a name that occurs in a type
@@ -48,4 +48,5 @@ abbrev pub ContainmentFound : Type 0
 ContainmentFound = (all : List Defined) (inner outer : Key) → (contains (length all) all inner outer ≡ true) ↔ Contains all inner outer
 
 abbrev pub KnownFound : Type 0
-KnownFound = (section : List Key) (all : List Defined) (key : Key) → (is_known section all key ≡ true) ↔ IsKnown section all key
+KnownFound = (section : List Key) (all : List Defined) (key : Key)
+    → (is_key_among key (known_keys (known_of section all)) ≡ true) ↔ IsKnown section all key

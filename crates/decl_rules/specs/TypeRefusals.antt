@@ -25,7 +25,7 @@ use Rattle.decl_rules.specs.Written.{Spelled, Sizing, at_once, later, length_env
 use Rattle.decl_rules.specs.Parts.{NoneContainsItself, FirstContainsItself}
 use Rattle.decl_rules.specs.Sections.{Section, is_plain_object, members_rule, if_single, new_in_section, names_env, known_env}
 use Rattle.decl_rules.specs.Meanings.{key_of}
-use Rattle.decl_rules.specs.Sections.{sizes_rule, none_read}
+use Rattle.decl_rules.specs.Sections.{all_sized, none_read}
 use Rattle.decl_rules.specs.TypeRules.{IsValue, HasLength, IsSpelled, AreSpelled, AreParts, IsTypeDefinition, AreTypeDefinitions}
 
 -- ---- values
@@ -135,5 +135,5 @@ pub data IsNoSection (st : State) : List Declaration → Code → Place → Type
       → FirstContainsItself s.defined s.defined p → IsNoSection st all NotTyped p
   -- one that is too large
   f_sizes : {all : List Declaration} {s : Section} {c : Code} {p : Place} → AreTypeDefinitions st all none_read all s
-      → NoneContainsItself s.defined s.defined → IsRefusal (sizes_rule (known_env st all s).facts s.defined s.defined) c p
+      → NoneContainsItself s.defined s.defined → IsRefusal (all_sized st all s) c p
       → IsNoSection st all c p

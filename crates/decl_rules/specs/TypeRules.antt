@@ -26,7 +26,7 @@ use Rattle.decl_rules.specs.Written.{fields_of}
 use Rattle.decl_rules.specs.Parts.{NoneContainsItself}
 use Rattle.decl_rules.specs.Sections.{Section, Bodied, says, members_rule, texts_of, if_single}
 use Rattle.decl_rules.specs.Meanings.{an_object, an_enum, a_distinct, an_alias}
-use Rattle.decl_rules.specs.Sections.{new_in_section, names_env, known_env, with_definition, sizes_rule, none_read}
+use Rattle.decl_rules.specs.Sections.{new_in_section, names_env, known_env, with_definition, all_sized, none_read}
 use Rattle.decl_rules.specs.Meanings.{key_of}
 
 -- ---- values
@@ -94,7 +94,7 @@ pub data IsTypeDefinition (st : State) (all : List Declaration) : Section → De
   d_type : {s : Section} {d : Declaration} {b : Bodied} → new_in_section st s.names d.name.at (normal d.name.text) ≡ Ok tt
       → if_single d.parameters d.name.at ≡ Ok tt
       → IsBody st (normal d.name.text ∷ s.names) (names_env st all s) (known_env st all s) (key_of d) d.body b
-      → IsTypeDefinition st all s d (with_definition s d b)
+      → IsTypeDefinition st all s d (with_definition all s d b)
 
 pub data AreTypeDefinitions (st : State) (all : List Declaration) : Section → List Declaration → Section → Type 0 where
   d_no_types : {s : Section} → AreTypeDefinitions st all s [] s
@@ -104,4 +104,4 @@ pub data AreTypeDefinitions (st : State) (all : List Declaration) : Section → 
 -- what is declared behind a section
 pub data IsSection (st : State) : List Declaration → Env → Type 0 where
   d_section : {all : List Declaration} {s : Section} → AreTypeDefinitions st all none_read all s → NoneContainsItself s.defined s.defined
-      → sizes_rule (known_env st all s).facts s.defined s.defined ≡ Ok tt → IsSection st all (known_env st all s)
+      → all_sized st all s ≡ Ok tt → IsSection st all (known_env st all s)

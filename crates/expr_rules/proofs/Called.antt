@@ -248,6 +248,7 @@ type_sound env n at x os env_of.unknown c k h = operation_sound env n at x os (n
 type_sound env n at x os (env_of.a_variable place of w g) c k h = operation_sound env n at x os (no_procedure c h (ap is_a_type k))
 type_sound env n at x os (env_of.a_constant of l) c k h = operation_sound env n at x os (no_procedure c h (ap is_a_type k))
 type_sound env n at x os (env_of.procedures all) c k h = operation_sound env n at x os (no_procedure c h (ap is_a_type k))
+type_sound env n at x os env_of.a_pending_type c k h = operation_sound env n at x os (no_procedure c h (ap is_a_type k))
 type_sound env n at x os env_of.the_input c k h = operation_sound env n at x os (no_procedure c h (ap is_a_type k))
 
 chosen_sound : (env : Env) (n : ℕ) (at : Place) (x : List ℕ) (os : List Operand) (fs : List Fit) → IsChosen x → fitting (overloads env x) os ≡ fs
@@ -294,6 +295,7 @@ no_type env n at x os env_of.unknown e = refl
 no_type env n at x os (env_of.a_variable place of w g) e = refl
 no_type env n at x os (env_of.a_constant of l) e = refl
 no_type env n at x os (env_of.procedures all) e = refl
+no_type env n at x os env_of.a_pending_type e = refl
 no_type env n at x os env_of.the_input e = refl
 
 by_operation : (env : Env) (n : ℕ) (at : Place) (x : List ℕ) (os : List Operand) → IsOperation env x os

@@ -372,6 +372,7 @@ root_so env (term.name at x) e = by_known (known env x) refl e
     by_known (env_of.a_constant of l) k e = cc
     by_known (env_of.a_type ty) k e = cc
     by_known (env_of.procedures all) k e = cc
+    by_known env_of.a_pending_type k e = cc
     by_known env_of.the_input k e = cc
 root_so env (term.paren at a) e = root_paren (root_so env a e)
 root_so env (term.field at a x) e = root_field (root_so env a e)

@@ -419,6 +419,7 @@ type_node env n at env_of.unknown x os = operation_node (node n at) x os
 type_node env n at (env_of.a_variable p t w g) x os = operation_node (node n at) x os
 type_node env n at (env_of.a_constant ty l) x os = operation_node (node n at) x os
 type_node env n at (env_of.procedures all) x os = operation_node (node n at) x os
+type_node env n at env_of.a_pending_type x os = operation_node (node n at) x os
 type_node env n at env_of.the_input x os = operation_node (node n at) x os
 
 named_node : (env : Env) (n : ℕ) (at : Place) (x : List ℕ) (os : List Operand) → Sure (Node_of n (all_numbers os)) (call_named env n at x os)

@@ -38,6 +38,7 @@ unknown_so env x e = by_built (is_built_in x) refl e
     by_known (env_of.a_constant of l) k b e = cc
     by_known (env_of.a_type ty) k b e = cc
     by_known (env_of.procedures all) k b e = cc
+    by_known env_of.a_pending_type k b e = cc
     by_known env_of.the_input k b e = cc
 
     by_built : (b : Bool) → is_built_in x ≡ b → (if b then false else is_unknown (known_as env x)) ≡ true → IsUnknown env x

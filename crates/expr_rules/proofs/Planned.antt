@@ -111,6 +111,7 @@ plan_sound env at x names = by_known (known env x) refl
         with_plan_sound env at x names None (ap (λ k. object_of env k) k) (known_name env x (env_of.a_constant of l) k refl)
     by_known (env_of.procedures all) k =
         with_plan_sound env at x names None (ap (λ k. object_of env k) k) (known_name env x (env_of.procedures all) k refl)
+    by_known env_of.a_pending_type k = with_plan_sound env at x names None (ap (λ k. object_of env k) k) (known_name env x env_of.a_pending_type k refl)
     by_known env_of.the_input k = with_plan_sound env at x names None (ap (λ k. object_of env k) k) (known_name env x env_of.the_input k refl)
 
 -- a name that is no unknown one
@@ -121,6 +122,7 @@ some_object env at x names (env_of.a_type t) ty o = ap (λ a. plan_with env at a
 some_object env at x names (env_of.a_variable place of w g) ty o = cc
 some_object env at x names (env_of.a_constant of l) ty o = cc
 some_object env at x names (env_of.procedures all) ty o = cc
+some_object env at x names env_of.a_pending_type ty o = cc
 some_object env at x names env_of.the_input ty o = cc
 
 pub plan_back : (env : Env) (at : Place) (x : List ℕ) {names : List (List ℕ)} {ty : Ty} {chosen : List Found} → object_of env (known env x) ≡ Some ty
@@ -150,6 +152,7 @@ no_object_refused env at x names f o = by_known (known env x) refl o
     by_known (env_of.a_variable place of w g) k o = refl
     by_known (env_of.a_constant of l) k o = refl
     by_known (env_of.procedures all) k o = refl
+    by_known env_of.a_pending_type k o = refl
     by_known env_of.the_input k o = refl
 
 -- ---- a value for each field

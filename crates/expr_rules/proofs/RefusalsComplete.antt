@@ -59,6 +59,7 @@ value_refused env n at x f e = by_known (known env x) refl e
     by_known (env_of.a_constant of l) k e = cc
     by_known (env_of.a_type ty) k e = refl
     by_known (env_of.procedures all) k e = refl
+    by_known env_of.a_pending_type k e = refl
     by_known env_of.the_input k e = refl
 
 type_name_refused : (env : Env) (at : Place) (x : List ℕ) → (IsUnknown env (normal x) → ⊥) → is_a_type (known env x) ≡ false
@@ -71,6 +72,7 @@ type_name_refused env at x f e = by_known (known env x) refl e
     by_known (env_of.a_constant of l) k e = refl
     by_known (env_of.a_type ty) k e = cc
     by_known (env_of.procedures all) k e = refl
+    by_known env_of.a_pending_type k e = refl
     by_known env_of.the_input k e = refl
 
 mutual

@@ -95,6 +95,7 @@ name_sound env want n at x (env_of.a_variable place of writable global) e = m_ok
 name_sound env want n at x (env_of.a_constant of l) e = m_ok (t_constant e)
 name_sound env want n at x (env_of.a_type ty) e = m_err (no_value_sound env want n at x (env_of.a_type ty) e refl refl)
 name_sound env want n at x (env_of.procedures all) e = m_err (no_value_sound env want n at x (env_of.procedures all) e refl refl)
+name_sound env want n at x env_of.a_pending_type e = m_err (no_value_sound env want n at x env_of.a_pending_type e refl refl)
 name_sound env want n at x env_of.the_input e = m_err (no_value_sound env want n at x env_of.the_input e refl refl)
 
 pub no_type_sound : (env : Env) (at : Place) (x : List ℕ) (k : Known) → known env x ≡ k → is_a_type k ≡ false → is_unknown k ≡ false
@@ -113,6 +114,7 @@ type_name_sound env at x (env_of.a_variable place of writable global) e =
     m_err (no_type_sound env at x (env_of.a_variable place of writable global) e refl refl)
 type_name_sound env at x (env_of.a_constant of l) e = m_err (no_type_sound env at x (env_of.a_constant of l) e refl refl)
 type_name_sound env at x (env_of.procedures all) e = m_err (no_type_sound env at x (env_of.procedures all) e refl refl)
+type_name_sound env at x env_of.a_pending_type e = m_err (no_type_sound env at x env_of.a_pending_type e refl refl)
 type_name_sound env at x env_of.the_input e = m_err (no_type_sound env at x env_of.the_input e refl refl)
 
 -- a refusal of a look-up

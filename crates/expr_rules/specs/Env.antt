@@ -23,6 +23,8 @@ pub data Entry : Type 0 where
   variable : (name : List ℕ) → (place : ℕ) → (of : Ty) → (writable global : Bool) → Entry
   constant : (name : List ℕ) → (of : Ty) → (value : Literal) → Entry
   named : (name : List ℕ) → (of : Ty) → Entry
+  -- a type of a section that isn't known yet
+  pending : (name : List ℕ) → Entry
   procedure : (name : List ℕ) → Procedure → Entry
   -- standard input
   input : (name : List ℕ) → Entry
@@ -37,6 +39,7 @@ abbrev pub name_in : Entry → List ℕ
 name_in (variable name place of writable global) = name
 name_in (constant name of value) = name
 name_in (named name of) = name
+name_in (pending name) = name
 name_in (procedure name callee) = name
 name_in (input name) = name
 
@@ -47,6 +50,7 @@ pub data Known : Type 0 where
   a_variable : (place : ℕ) → (of : Ty) → (writable global : Bool) → Known
   a_constant : (of : Ty) → (value : Literal) → Known
   a_type : Ty → Known
+  a_pending_type : Known
   -- all procedures of the name that nothing else of the name hides
   procedures : List Procedure → Known
   the_input : Known
@@ -61,6 +65,7 @@ abbrev pub known_next : Known → Entry → Known
 known_next before (variable name place of writable global) = a_variable place of writable global
 known_next before (constant name of value) = a_constant of value
 known_next before (named name of) = a_type of
+known_next before (pending name) = a_pending_type
 known_next before (procedure name callee) = procedures (callable before ++ callee ∷ [])
 known_next before (input name) = the_input
 
