@@ -16,3 +16,4 @@ mod KindLemmas
 mod LentLemmas
 mod LentBlocks
 mod ConstantLemmas
+pub mod ForCallers

@@ -1,6 +1,7 @@
 -- What the trees of the code stand for under a list of types, by their numbers.
-use Rattle.std.specs.Prelude.{ℕ, zero, suc, List, [], ◌∷◌, Option, Some, None, option_map, map}
-use Rattle.nim_types.specs.Types.{Ty, int, Facts}
+use Rattle.std.specs.Prelude.{ℕ, List, [], ◌∷◌, Option, Some, None, option_map, map}
+use Rattle.nim_types.specs.Types.{Ty, Facts}
+use Rattle.nim_types.specs.Table.{type_at}
 use Rattle.nim_core.specs.declared.expr.Node.{Node}
 use Rattle.nim_core.specs.declared.expr.Operator.{Operator}
 use Rattle.nim_core.specs.declared.expr.Label.{Label as RustLabel}
@@ -34,12 +35,6 @@ use Rattle.nim_core.specs.declared.program.Program.{Program as RustProgram}
 use Rattle.nim_core.specs.Program as T
 use Rattle.nim_core.specs.Program.{Label, Literal, Literals, Expr, Exprs, Path, Inits, Args, Choices, Picks, Declared, Stmt, Stmts, Branches, Arms, Param, Body}
 use Rattle.nim_core.specs.Program.{Proc, Program}
-
--- the type of a number
-abbrev pub type_at : List Ty → ℕ → Ty
-type_at [] i = int
-type_at (t ∷ ts) zero = t
-type_at (t ∷ ts) (suc i) = type_at ts i
 
 abbrev pub if_type : List Ty → Option ℕ → Option Ty
 if_type ts None = None

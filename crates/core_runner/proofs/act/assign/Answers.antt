@@ -1,0 +1,36 @@
+use Rattle.std.proofs.Common.{◌∙◌, ap, sym}
+use Rattle.std.specs.Prelude.{option_map}
+use Rattle.nim_core.specs.State.{store}
+use Rattle.nim_core.specs.Acts.{Out, Broke}
+use Rattle.core_runner.specs.Table.{types_of}
+use Rattle.core_runner.specs.Left.{Comes}
+use Rattle.core_runner.specs.View.{program_of, answer_of, aim_of, location_of, caller_of, stack_of, world_of}
+use Rattle.core_runner.proofs.Arrive.{opens_in}
+use Rattle.core_runner.proofs.Moves as moves
+use Rattle.core_runner.proofs.act.assign.Goals as goal
+
+pub returns-in-None : goal.returns-in-None
+returns-in-None c =
+    λ p.
+    let r = c.args.rest.now in
+    let ts = types_of p.types in
+    let program = program_of p in
+    let at = caller_of ts r.at in
+    let world = world_of r.frames.items in
+    let todo = stack_of ts r.todo.items in
+    let a = answer_of c.args.answer in
+    moves.assigns_stops program todo at r.units world a (aim_of c.args.aim.now) (sym c.in_ok-find.ensures ∙ ap (option_map location_of) c.in-None.is)
+
+pub returns-in-Some : goal.returns-in-Some
+returns-in-Some c =
+    λ p.
+    let r = c.args.rest.now in
+    let ts = types_of p.types in
+    let program = program_of p in
+    let at = caller_of ts r.at in
+    let world = world_of r.frames.items in
+    let todo = stack_of ts r.todo.items in
+    let a = answer_of c.args.answer in
+    let location = location_of c.in-Some.location in
+    opens_in program ts _ r todo (Comes (Out (Broke 0))) c.gives.result _ _ _ (c.gives.ensures ts) (c.store.ensures ∙ ap (store world location) c.value_in.ensures)
+    (moves.assigns_goes program todo at r.units world a (aim_of c.args.aim.now) location (sym c.in_ok-find.ensures ∙ ap (option_map location_of) c.in-Some.is))

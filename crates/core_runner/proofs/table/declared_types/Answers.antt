@@ -1,0 +1,20 @@
+use Rattle.std.proofs.Common.{◌+◌, ◌∙◌, ap, sym, arith, drop}
+use Rattle.core_runner.specs.Table.{says_count, one_if}
+use Rattle.core_runner.proofs.TableRows.{says_next}
+use Rattle.core_runner.proofs.table.declared_types.Goals as goal
+use Rattle.core_runner.proofs.table.declared_types.Goals.{then-says, else-says}
+
+pub loop-id-preserved : goal.loop-id-preserved
+loop-id-preserved c =
+    let ds = c.args.types.now in
+    let i = c.loop-id.id in
+    let e = says_next ds i c.get.result.now c.get.ensures.entry in
+    let h = c.loop-id.invariant in
+    elim c.if-says.branch [
+      | then-says w ↦
+          let s = ap (λ b. one_if b (says_count (drop (i + 1) ds))) (sym c.says.ensures ∙ w.if-says.true) in
+          (omega (arith, e, s, h.0, w.n-is), omega (arith, h.1, w.n-is), h.2)
+      | else-says w ↦
+          let s = ap (λ b. one_if b (says_count (drop (i + 1) ds))) (sym c.says.ensures ∙ w.if-says.false) in
+          (omega (arith, e, s, h.0, w.n-is), omega (arith, h.1, w.n-is), h.2)
+    ]

@@ -1,0 +1,12 @@
+pub mod Left
+pub mod Ends
+pub mod Look
+pub mod Step
+pub mod Opens
+pub mod Table
+pub mod View
+pub mod ValueView
+pub mod Mean
+pub mod Checked
+pub mod Entered
+pub mod Turned

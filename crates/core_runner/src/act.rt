@@ -1,0 +1,342 @@
+// What waits for an answer and looks at places, changes the world, or traps.
+ghost use Rattle.std.specs.Prelude.{◌≡◌, IfOk, OnOk, Some, None, Option, option_map, pos};
+ghost use Rattle.core_runner.specs.Step.{result_put};
+ghost use Rattle.nim_core.specs.declared.program.Program.{Program as RustProgram};
+ghost use Rattle.nim_core.specs.Values.{Number};
+ghost use Rattle.nim_core.specs.Meaning.{measured};
+ghost use Rattle.nim_core.specs.State.{load, store};
+ghost use Rattle.nim_core.specs.Acts.{On};
+ghost use Rattle.nim_types.specs.Table.{type_at};
+ghost use Rattle.core_runner.specs.Table.{types_of};
+ghost use Rattle.core_runner.specs.Left.{Comes, Applies, Operates, Converts, Gets, Measures, Looks};
+ghost use Rattle.core_runner.specs.Left.{Moves, StepsByOne, Steps, Adds, Swaps, Assigns, Results};
+ghost use Rattle.core_runner.specs.Left.{Returns};
+ghost use Rattle.core_runner.specs.Checked.{Changes};
+ghost use Rattle.core_runner.specs.View.{answer_of, value_of, aim_of, int_of, location_of};
+ghost use Rattle.core_runner.specs.View.{world_of, run_of, with_waiting, StepOf};
+
+use crate::expr::{gives, goes};
+use crate::follow::{aim_in, value_in};
+use crate::number::{apply, calculate, one_of};
+use crate::place::{fill, find, length_at, load, number_at, store};
+use crate::state::{Aim, Answer, Base, Frame, Location, Now, Rest, Step, Trap, Way};
+use crate::table::{default_value, limit_of};
+use crate::value::{Value, number};
+use arc_base::Memory;
+use nim_core::{Measure, Operator, PlaceDecl, Program, UnaryOperator};
+use nim_types::TypeId;
+use std::alloc::Global;
+
+/// An operation on one operand.
+pub fn unary<'a>(operator: UnaryOperator, answer: Answer, rest: &Rest<'a>) -> Step<'a>
+    ensures { (p : RustProgram) → StepOf p (with_waiting (Applies operator)
+        (run_of p (Comes (On (answer_of answer))) rest.now)) result rest.now }
+{
+    match apply(operator, number(&value_in(answer))) {
+        Ok(z) => Step::Goes(gives(Value::Number(z))),
+        Err(trap) => Step::Traps(trap),
+    }
+}
+
+/// An operation on two operands.
+pub fn operate<'a>(operator: Operator, left: &Value, answer: Answer, rest: &Rest<'a>) -> Step<'a>
+    ensures { (p : RustProgram) → StepOf p (with_waiting (Operates operator (value_of left.now))
+        (run_of p (Comes (On (answer_of answer))) rest.now)) result rest.now }
+{
+    match calculate(operator, number(left), number(&value_in(answer))) {
+        Ok(z) => Step::Goes(gives(Value::Number(z))),
+        Err(trap) => Step::Traps(trap),
+    }
+}
+
+/// The same value as one of another type.
+pub fn convert<'a>(program: &Program, ty: TypeId, answer: Answer, rest: &Rest<'a>) -> Step<'a>
+    ensures { StepOf program.now (with_waiting (Converts (type_at (types_of program.now.types) ty))
+        (run_of program.now (Comes (On (answer_of answer))) rest.now)) result rest.now }
+{
+    match limit_of(&program.types, ty) {
+        None => Step::Goes(gives(value_in(answer))),
+        Some(values) => match one_of(values, number(&value_in(answer))) {
+            Ok(z) => Step::Goes(gives(Value::Number(z))),
+            Err(trap) => Step::Traps(trap),
+        },
+    }
+}
+
+/// The value at a path.
+pub fn get<'a>(alloc: Global, answer: Answer, rest: &Rest<'a>) -> Result<Step<'a>, Memory>
+    ensures { (p : RustProgram) → IfOk result (λ step. StepOf p
+        (with_waiting Gets (run_of p (Comes (On (answer_of answer))) rest.now)) step rest.now) }
+{
+    match find(alloc, &rest.frames, &aim_in(alloc, answer))? {
+        None => Ok(Step::Traps(Trap::IndexOutOfBounds)),
+        Some(location) => {
+            let v = load(alloc, &rest.frames, &location)?;
+            Ok(Step::Goes(gives(v)))
+        }
+    }
+}
+
+// A length, or one less.
+fn measured(measure: Measure, len: usize) -> Result<Value, Memory>
+    ensures { IfOk result (λ v. value_of v ≡ Number (measured measure len)) }
+{
+    match i32::try_from(len) {
+        Err(_) => Err(Memory),
+        Ok(n) => match measure {
+            Measure::Len => Ok(Value::Number(n)),
+            Measure::High => Ok(Value::Number(n - 1)),
+        },
+    }
+}
+
+/// The length of what stands at a path, or one less.
+pub fn measure<'a>(
+    alloc: Global,
+    measure: Measure,
+    answer: Answer,
+    rest: &Rest<'a>,
+) -> Result<Step<'a>, Memory>
+    ensures { (p : RustProgram) → IfOk result (λ step. StepOf p
+        (with_waiting (Measures measure) (run_of p (Comes (On (answer_of answer))) rest.now)) step
+        rest.now) }
+{
+    match find(alloc, &rest.frames, &aim_in(alloc, answer))? {
+        None => Ok(Step::Traps(Trap::IndexOutOfBounds)),
+        Some(location) => {
+            let v = measured(measure, length_at(&rest.frames, &location))?;
+            Ok(Step::Goes(gives(v)))
+        }
+    }
+}
+
+/// A look-up alone.
+pub fn look<'a>(alloc: Global, answer: Answer, rest: &Rest<'a>) -> Result<Step<'a>, Memory>
+    ensures { (p : RustProgram) → IfOk result (λ step. StepOf p
+        (with_waiting Looks (run_of p (Comes (On (answer_of answer))) rest.now)) step rest.now) }
+{
+    match find(alloc, &rest.frames, &aim_in(alloc, answer))? {
+        None => Ok(Step::Traps(Trap::IndexOutOfBounds)),
+        Some(_) => Ok(Step::Goes(gives(Value::Number(0)))),
+    }
+}
+
+/// A look-up behind a value.
+pub fn add<'a>(
+    alloc: Global,
+    aim: &Aim,
+    answer: Answer,
+    rest: &Rest<'a>,
+) -> Result<Step<'a>, Memory>
+    ensures { (p : RustProgram) → IfOk result (λ step. StepOf p
+        (with_waiting (Adds (aim_of aim.now)) (run_of p (Comes (On (answer_of answer))) rest.now))
+        step rest.now) }
+{
+    match find(alloc, &rest.frames, aim)? {
+        None => Ok(Step::Traps(Trap::IndexOutOfBounds)),
+        Some(_) => Ok(Step::Goes(gives(Value::Number(0)))),
+    }
+}
+
+/// The value at a path, where the default of its type stands then.
+pub fn move_out<'a>(
+    alloc: Global,
+    program: &Program,
+    ty: TypeId,
+    answer: Answer,
+    rest: &mut Rest<'a>,
+) -> Result<Step<'a>, Memory>
+    ensures { IfOk result (λ step. StepOf program.now
+        (with_waiting (Moves (type_at (types_of program.now.types) ty))
+        (run_of program.now (Comes (On (answer_of answer))) rest.old)) step rest.new) }
+{
+    match find(alloc, &rest.frames, &aim_in(alloc, answer))? {
+        None => Ok(Step::Traps(Trap::IndexOutOfBounds)),
+        Some(location) => {
+            let v = load(alloc, &rest.frames, &location)?;
+            let blank = default_value(alloc, &program.types, ty)?;
+            store(&mut rest.frames, &location, blank);
+            Ok(Step::Goes(gives(v)))
+        }
+    }
+}
+
+// Changes a number at a location.
+fn change(operator: Operator, frames: &mut Vec<Frame>, location: &Location, y: i32) -> Option<Trap>
+    ensures { Changes operator (world_of frames.old.items) (location_of location.now) y result
+        (world_of frames.new.items) }
+{
+    match calculate(operator, number_at(frames, location), y) {
+        Err(trap) => Some(trap),
+        Ok(z) => {
+            store(frames, location, Value::Number(z));
+            None
+        }
+    }
+}
+
+/// A step of a number at a path by one.
+pub fn step_by_one<'a>(
+    alloc: Global,
+    operator: Operator,
+    answer: Answer,
+    rest: &mut Rest<'a>,
+) -> Result<Step<'a>, Memory>
+    ensures { (p : RustProgram) → IfOk result (λ step. StepOf p
+        (with_waiting (StepsByOne operator) (run_of p (Comes (On (answer_of answer))) rest.old))
+        step rest.new) }
+{
+    match find(alloc, &rest.frames, &aim_in(alloc, answer))? {
+        None => Ok(Step::Traps(Trap::IndexOutOfBounds)),
+        Some(location) => match change(operator, &mut rest.frames, &location, 1) {
+            Some(trap) => Ok(Step::Traps(trap)),
+            None => Ok(Step::Goes(gives(Value::Number(0)))),
+        },
+    }
+}
+
+/// A step of a number at a path by a value.
+pub fn step<'a>(
+    alloc: Global,
+    operator: Operator,
+    aim: &Aim,
+    answer: Answer,
+    rest: &mut Rest<'a>,
+) -> Result<Step<'a>, Memory>
+    ensures { (p : RustProgram) → IfOk result (λ step. StepOf p
+        (with_waiting (Steps operator (aim_of aim.now))
+        (run_of p (Comes (On (answer_of answer))) rest.old)) step rest.new) }
+{
+    match find(alloc, &rest.frames, aim)? {
+        None => Ok(Step::Traps(Trap::IndexOutOfBounds)),
+        Some(location) => {
+            match change(
+                operator,
+                &mut rest.frames,
+                &location,
+                number(&value_in(answer)),
+            ) {
+                Some(trap) => Ok(Step::Traps(trap)),
+                None => Ok(Step::Goes(gives(Value::Number(0)))),
+            }
+        }
+    }
+}
+
+// The values at two locations change places.
+fn exchange(
+    alloc: Global,
+    frames: &mut Vec<Frame>,
+    location: &Location,
+    other: &Location,
+) -> Result<(), Memory>
+    ensures { OnOk result (world_of frames.new.items
+        ≡ store (store (world_of frames.old.items) (location_of other.now)
+        (load (world_of frames.old.items) (location_of location.now))) (location_of location.now)
+        (load (world_of frames.old.items) (location_of other.now))) }
+{
+    let v = load(alloc, frames, location)?;
+    let w = load(alloc, frames, other)?;
+    store(frames, other, v);
+    store(frames, location, w);
+    Ok(())
+}
+
+/// The values at two paths change places.
+pub fn swap<'a>(
+    alloc: Global,
+    aim: &Aim,
+    answer: Answer,
+    rest: &mut Rest<'a>,
+) -> Result<Step<'a>, Memory>
+    ensures { (p : RustProgram) → IfOk result (λ step. StepOf p
+        (with_waiting (Swaps (aim_of aim.now)) (run_of p (Comes (On (answer_of answer))) rest.old))
+        step rest.new) }
+{
+    match find(alloc, &rest.frames, aim)? {
+        None => Ok(Step::Traps(Trap::IndexOutOfBounds)),
+        Some(location) => match find(alloc, &rest.frames, &aim_in(alloc, answer))? {
+            None => Ok(Step::Traps(Trap::IndexOutOfBounds)),
+            Some(other) => {
+                exchange(alloc, &mut rest.frames, &location, &other)?;
+                Ok(Step::Goes(gives(Value::Number(0))))
+            }
+        },
+    }
+}
+
+/// A value becomes that at a path.
+pub fn assign<'a>(
+    alloc: Global,
+    aim: &Aim,
+    answer: Answer,
+    rest: &mut Rest<'a>,
+) -> Result<Step<'a>, Memory>
+    ensures { (p : RustProgram) → IfOk result (λ step. StepOf p
+        (with_waiting (Assigns (aim_of aim.now)) (run_of p
+        (Comes (On (answer_of answer))) rest.old)) step rest.new) }
+{
+    match find(alloc, &rest.frames, aim)? {
+        None => Ok(Step::Traps(Trap::IndexOutOfBounds)),
+        Some(location) => {
+            store(&mut rest.frames, &location, value_in(answer));
+            Ok(Step::Goes(gives(Value::Number(0))))
+        }
+    }
+}
+
+// A value becomes the result of a call, where it has one.
+fn put_result(
+    alloc: Global,
+    frames: &mut Vec<Frame>,
+    level: usize,
+    place: &Option<PlaceDecl>,
+    v: Value,
+)
+    ensures { world_of frames.new.items ≡ result_put (option_map (λ d. d.number) place.now) level
+        (value_of v) (world_of frames.old.items) }
+{
+    match place {
+        None => (),
+        Some(place) => {
+            let location = Location {
+                base: Base::Standing {
+                    level,
+                    number: place.number,
+                },
+                path: Vec::new(alloc),
+            };
+            store(frames, &location, v);
+        }
+    }
+}
+
+/// A value becomes the result.
+pub fn give<'a>(alloc: Global, answer: Answer, rest: &mut Rest<'a>) -> Step<'a>
+    ensures { (p : RustProgram) → StepOf p (with_waiting Results
+        (run_of p (Comes (On (answer_of answer))) rest.old)) result rest.new }
+{
+    put_result(
+        alloc,
+        &mut rest.frames,
+        rest.at.level,
+        rest.at.result,
+        value_in(answer),
+    );
+    Step::Goes(gives(Value::Number(0)))
+}
+
+/// A value becomes the result, and the call is left.
+pub fn give_back<'a>(alloc: Global, by: u32, answer: Answer, rest: &mut Rest<'a>) -> Step<'a>
+    ensures { (p : RustProgram) → StepOf p (with_waiting (Returns by)
+        (run_of p (Comes (On (answer_of answer))) rest.old)) result rest.new }
+{
+    put_result(
+        alloc,
+        &mut rest.frames,
+        rest.at.level,
+        rest.at.result,
+        value_in(answer),
+    );
+    Step::Goes(goes(Now::Leave(Way::Returned(by))))
+}

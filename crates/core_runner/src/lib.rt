@@ -1,0 +1,26 @@
+//! Runs the meaning of a program.
+#![tactic(auto)]
+
+mod act;
+mod call;
+mod expr;
+mod follow;
+mod label;
+mod listed;
+pub mod mean;
+mod number;
+mod parts;
+mod place;
+mod same;
+mod state;
+mod stmt;
+mod table;
+mod turn;
+mod typed;
+mod value;
+
+pub use state::{
+    Aim, Answer, Base, Caller, Evaluated, Follow, Frame, Hop, Listed, Location, Loop, Now, OfPath,
+    OfStmt, Opening, Part, Ready, Rest, Shape, Slot, Step, Todo, Trap, Way,
+};
+pub use value::Value;

@@ -1,0 +1,5 @@
+mod TableRows
+mod ExprRows
+mod StmtRows
+mod OutRows
+mod StmtOut

@@ -1,0 +1,14 @@
+use Rattle.std.proofs.Common.{◌∙◌, ap, sym}
+use Rattle.std.specs.Prelude.{option_map}
+use Rattle.nim_core.specs.LeftOut.{left_out_in_head, or_none}
+use Rattle.nim_core.specs.View.{declared_of}
+use Rattle.plain_core.specs.Known.{known_types, known_facts}
+use Rattle.plain_core.proofs.OutRows.{or_nothing}
+use Rattle.plain_core.proofs.plain.of_result.Goals as goal
+
+pub returns-in-Some : goal.returns-in-Some
+returns-in-Some c =
+    let ts = known_types c.args.known.now in
+    let facts = known_facts c.args.known.now in
+    c.of_place.ensures ∙ sym (or_nothing _) ∙
+    sym (ap (λ p. left_out_in_head facts c.args.number (or_none (option_map (declared_of ts) p))) c.in-Some.is)

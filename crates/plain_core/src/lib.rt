@@ -1,0 +1,11 @@
+//! The first node of a program whose meaning isn't built.
+#![tactic(auto)]
+
+mod hooks;
+mod known;
+mod lacking;
+mod plain;
+mod table;
+mod typed;
+
+pub use plain::left_out;
