@@ -1,6 +1,8 @@
 -- The lemmas that proofs of other crates may cite.
 
--- ---- types
+-- ---- types and their forms
 pub use Rattle.nim_types.proofs.Equality.{same_sound, same_refl}
+pub use Rattle.nim_types.proofs.Forming.{the_form}
 -- ---- tables
-pub use Rattle.nim_types.proofs.Numbering.{count, at_entry, said_at}
+pub use Rattle.nim_types.proofs.Numbering.{count, front, meant_front, said_front, at_entry, said_at, entry_inside, interned, said_number}
+pub use Rattle.nim_types.proofs.Numbering.{one_more, all_more, within_more, get_front}

@@ -1,0 +1,33 @@
+use Rattle.std.proofs.Common.{[], ◌∷◌, sym, ap, ◌∙◌, subst, length}
+use Rattle.std.specs.Prelude.{Ok}
+use Rattle.arc_base.specs.declared.place.Code.TheVariants.{NotTyped}
+use Rattle.nim_types.specs.Table.{type_at, IsBelow}
+use Rattle.nim_core.specs.Program as T
+use Rattle.nim_core.specs.View.{expr_of}
+use Rattle.expr_rules.specs.Answers.{node}
+use Rattle.expr_rules.specs.Calls.{borrowed_call}
+use Rattle.expr_parts.specs.View.{valued_of}
+use Rattle.expr_parts.proofs.Fields.{if_ok}
+use Rattle.expr_parts.proofs.AnswerSteps.{answers_as, makes, refuses}
+use Rattle.expr_parts.proofs.TypeNumbers.{text_under, text_below}
+use Rattle.expr_parts.proofs.borrowed.borrowed_on_one.Goals as goal
+
+pub returns-in-None-clause-answers : goal.returns-in-None-clause-answers
+returns-in-None-clause-answers c = λ ts facts u p.
+    let n = node c.args.number c.args.at in
+    let vs = (p, valued_of ts c.args.value) ∷ [] in
+    let made = T.Show n (type_at ts c.args.kinds.text) (expr_of ts c.args.value.expr) in
+    answers_as (expr_of ts) (borrowed_call c.args.number c.args.at c.args.comparison vs) (Ok made) c.shown.result
+    (ap (λ o. borrowed_call c.args.number c.args.at o vs) c.in-None.is
+    ∙ ap (λ t. Ok (T.Show n t (expr_of ts c.args.value.expr))) (sym (text_under {k = c.args.kinds} u c.requires)))
+    (makes (expr_of ts) made c.shown.result (if_ok c.shown.result c.shown.ensures.expr (λ e h. h ts)) c.shown.ensures.memory)
+
+pub returns-in-Some-clause-answers : goal.returns-in-Some-clause-answers
+returns-in-Some-clause-answers c = λ ts facts u p.
+    let vs = (p, valued_of ts c.args.value) ∷ [] in
+    refuses (expr_of ts) (borrowed_call c.args.number c.args.at c.args.comparison vs) NotTyped c.args.at c.refusal.result c.refusal.ensures
+    (ap (λ o. borrowed_call c.args.number c.args.at o vs) c.in-Some.is)
+
+pub returns-in-None-clause-within : goal.returns-in-None-clause-within
+returns-in-None-clause-within c =
+    if_ok c.shown.result c.shown.ensures.number (λ e h. subst (IsBelow (length c.args.types.now)) (sym h) (text_below {k = c.args.kinds} c.requires))

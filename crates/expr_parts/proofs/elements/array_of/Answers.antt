@@ -1,0 +1,21 @@
+use Rattle.std.proofs.Common.{ap, ◌∙◌, length}
+use Rattle.std.specs.Prelude.{map}
+use Rattle.nim_types.specs.Table.{type_at}
+use Rattle.nim_core.specs.View.{expr_of, exprs_of}
+use Rattle.expr_rules.specs.Constructions.{array_rule}
+use Rattle.expr_parts.specs.View.{valued_of, array_by}
+use Rattle.expr_parts.proofs.AnswerSteps.{answers_as}
+use Rattle.expr_parts.proofs.Settling.{array_from}
+use Rattle.expr_parts.proofs.elements.array_of.Goals as goal
+
+pub returns-clause-answers : goal.returns-clause-answers
+returns-clause-answers c = λ ts env u v vs is ty.
+    let n = c.args.number in
+    let at = c.args.at in
+    let es = c.in_ok-parts.parts.items in
+    answers_as (expr_of ts) (array_rule env n at (map (valued_of ts) c.args.values.items))
+    (array_by env.facts n at (length es) (type_at ts c.args.of) (exprs_of ts es)) c.array.result
+    (ap (λ all. array_rule env n at (map (valued_of ts) all)) is
+    ∙ array_from ts env n at v vs es (c.in_ok-parts.ensures.exprs ∙ ap (map (λ v. v.expr)) is)
+    ∙ ap (λ i. array_by env.facts n at (length es) (type_at ts i) (exprs_of ts es)) ty)
+    (c.array.ensures.answers ts env.facts u)

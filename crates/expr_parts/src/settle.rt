@@ -1,0 +1,93 @@
+// Operands as values of a type.
+ghost use Rattle.std.specs.Prelude.{◌≡◌, ◌<◌, false, List, length, is_some, option_map, IfSome};
+ghost use Rattle.nim_types.specs.Types.{Ty, Facts};
+ghost use Rattle.nim_types.specs.Table.{type_at, meant};
+ghost use Rattle.nim_core.specs.Program.{Sequence, NoExpr};
+ghost use Rattle.nim_core.specs.View.{expr_of};
+ghost use Rattle.expr_rules.specs.Answers.{node, settled, open_as, only_if};
+ghost use Rattle.expr_parts.specs.View.{Under, OperandWithin, operand_of, valued_of};
+ghost use Rattle.expr_parts.specs.View.{no_fit_at};
+
+use crate::kinds::{entry, is_same, is_sequence};
+use crate::value::{Operand, Value};
+use arc_base::Place;
+use nim_core::{Expr, Node};
+use nim_types::{TypeDef, TypeId, TypeTable};
+use std::alloc::Global;
+
+/// Whether an operand is a value of a type.
+pub fn settles(types: &TypeTable, ty: TypeId, operand: &Operand) -> bool
+    requires ty { ty < length types.now }
+    requires operand { OperandWithin (length types.now) operand.now }
+    ensures { (ts : List Ty) (facts : Facts) → Under types.now ts facts
+        → is_some (settled (type_at ts ty) (operand_of ts operand.now)) ≡ result }
+{
+    match operand {
+        Operand::Value(value) => is_same(types, ty, value.ty),
+        Operand::Open { .. } => is_sequence(entry(types, ty)),
+        _ => false,
+    }
+}
+
+pub fn only_if(holds: bool, value: Value) -> Option<Value>
+    ensures { result ≡ only_if holds value }
+{
+    if holds { Some(value) } else { None }
+}
+
+// `@[]` of a type of sequences.
+fn open_as(alloc: Global, def: &TypeDef, ty: TypeId, at: Place, number: u32) -> Option<Value>
+    ensures given { (ts : List Ty) → type_at ts ty ≡ meant ts def.now
+        → option_map (valued_of ts) result ≡ open_as (type_at ts ty) at number }
+    ensures ty { IfSome result (λ v. v.ty ≡ ty) }
+{
+    if is_sequence(def) {
+        Some(no_elements(alloc, ty, at, number))
+    } else {
+        None
+    }
+}
+
+fn no_elements(alloc: Global, ty: TypeId, at: Place, number: u32) -> Value
+    ensures expr { (ts : List Ty) →
+        expr_of ts result.expr ≡ Sequence (node number at) (type_at ts ty) NoExpr }
+    ensures ty { result.ty ≡ ty }
+    ensures writable { result.writable ≡ false }
+{
+    Value {
+        expr: Expr::Sequence {
+            node: Node { number, at },
+            ty,
+            parts: Vec::new(alloc),
+        },
+        ty,
+        writable: false,
+    }
+}
+
+/// The operand as a value of a type.
+pub fn settle(alloc: Global, types: &TypeTable, ty: TypeId, operand: Operand) -> Option<Value>
+    requires ty { ty < length types.now }
+    requires operand { OperandWithin (length types.now) operand }
+    ensures given { (ts : List Ty) (facts : Facts) → Under types.now ts facts
+        → option_map (valued_of ts) result ≡ settled (type_at ts ty) (operand_of ts operand) }
+    ensures within { IfSome result (λ v. v.ty < length types.now) }
+{
+    match operand {
+        Operand::Value(value) => only_if(is_same(types, ty, value.ty), value),
+        Operand::Open { at, number } => open_as(alloc, entry(types, ty), ty, at, number),
+        _ => None,
+    }
+}
+
+/// The place of the first operand that has no type by itself, else of the operation.
+pub fn place_of_no_fit(at: Place, operands: &[Operand]) -> Place
+    ensures { no_fit_at at operands.now ≡ result }
+{
+    for operand in operands {
+        if let Operand::Open { at, .. } = operand {
+            return *at;
+        }
+    }
+    at
+}

@@ -1,0 +1,98 @@
+// Typed expressions, operands, and what is wanted of them.
+ghost use Rattle.std.specs.Prelude.{◌≡◌, List, map, IfOk, IfErr};
+ghost use Rattle.arc_base.specs.declared.place.Stop.TheVariants as Stop;
+ghost use Rattle.arc_base.specs.Refusal.{Answers};
+ghost use Rattle.nim_types.specs.Types.{Ty};
+ghost use Rattle.expr_rules.specs.Builtins.{write_rule};
+ghost use Rattle.expr_rules.specs.Typed.{accepted_by};
+ghost use Rattle.expr_parts.specs.View.{valued_of, if_allowed};
+
+use crate::nodes::node_of;
+use arc_base::{Code, Place, Stop};
+use nim_core::{Expr, Node};
+use nim_types::TypeId;
+use std::alloc::Global;
+
+/// A typed expression, its type where it gives a value, and the first number behind its nodes.
+#[derive(Drop)]
+pub struct Typed {
+    pub expr: Expr,
+    pub ty: Option<TypeId>,
+    pub next: u32,
+}
+
+/// An expression that gives a value of a type, and whether it can be written.
+#[derive(Drop)]
+pub struct Value {
+    pub expr: Expr,
+    pub ty: TypeId,
+    pub writable: bool,
+}
+
+/// The type that the place of an expression gives.
+#[derive(Clone, Copy, Debug, PartialEq, Eq)]
+pub enum Want {
+    Nothing,
+    /// That of a place which gets the value itself.
+    Whole(TypeId),
+    /// That of an element, a part, a field or a branch: a tuple without names doesn't take it.
+    Inner(TypeId),
+}
+
+/// An operand of an operation.
+#[derive(Drop)]
+pub enum Operand {
+    Value(Value),
+    /// `@[]`, whose type the operation gives.
+    Open { at: Place, number: u32 },
+    Type(TypeId),
+    /// Standard input.
+    Input,
+}
+
+pub fn refusal(code: Code, at: Place) -> Stop
+    ensures { result ≡ Stop.Refused code at }
+{
+    Stop::Refused { code, at }
+}
+
+/// Refuses what doesn't hold.
+pub fn allow(holds: bool, code: Code, at: Place) -> Result<(), Stop>
+    ensures { Answers (λ _. tt) (if_allowed holds code at) result }
+{
+    if !holds {
+        return Err(refusal(code, at));
+    }
+    Ok(())
+}
+
+/// Refuses a value that is written and can't be.
+pub fn check_writable(value: &Value) -> Result<(), Stop>
+    ensures { (ts : List Ty) → Answers (λ _. tt) (write_rule (valued_of ts value.now)) result }
+{
+    allow(value.writable, Code::NotAssignable, node_of(&value.expr).at)
+}
+
+/// A value that is what is asked for, else no rule fits at it.
+pub fn accepted_by(accepts: bool, value: Value) -> Result<Value, Stop>
+    ensures answers { (ts : List Ty) →
+        Answers (valued_of ts) (accepted_by accepts (valued_of ts value)) result }
+    ensures same { IfOk result (λ v. v ≡ value) }
+{
+    if !accepts {
+        return Err(refusal(Code::NotTyped, node_of(&value.expr).at));
+    }
+    Ok(value)
+}
+
+/// The expressions of values, in order.
+pub fn exprs_in(alloc: Global, values: Vec<Value>) -> Result<Vec<Expr>, Stop>
+    ensures exprs { IfOk result (λ es. es.items ≡ map (λ v. v.expr) values.items) }
+    ensures memory { IfErr result (λ stop. stop ≡ Stop.Memory) }
+{
+    let mut exprs = Vec::new(alloc);
+    for value in values {
+        exprs.push(value.expr)?;
+    }
+    Ok(exprs)
+}
