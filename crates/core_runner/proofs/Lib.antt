@@ -5,10 +5,9 @@ mod Turning
 mod Calling
 mod Calm
 mod ValueRows
-mod ExprRows
+mod ReadRows
 mod Settling
 mod Placing
-mod StmtRows
 mod Arrive
 mod Ranges
 mod Running

@@ -1,12 +1,12 @@
 -- The types of a table, and what is known of them; and what that comes to by the entry of a number, None beyond the table.
 -- But for the first two it serves proofs alone: the promise of `mean` doesn't speak of it.
-use Rattle.std.specs.Prelude.{ℕ, suc, ℤ, unsigned_abs, Bool, true, false, List, [], ◌∷◌, length, nat_eq, Option, Some, None, slice_get}
+use Rattle.std.specs.Prelude.{ℕ, ℤ, unsigned_abs, Bool, List, [], ◌∷◌, length, Option, Some, None, slice_get}
 use Rattle.std.specs.Fmt.{signed_decimal}
-use Rattle.nim_types.specs.Types.{Ty, int, Fact, Facts}
+use Rattle.nim_types.specs.Types.{Ty, int, Facts}
 use Rattle.nim_types.specs.Forms.{form_in, forms_in, form_within}
 use Rattle.nim_types.specs.declared.types.TypeDef.{TypeDef}
 use Rattle.nim_types.specs.declared.types.TypeDef.TheVariants as D
-use Rattle.nim_types.specs.Table.{type_at, types_at, meant, types_in, said_of, facts_in}
+use Rattle.nim_types.specs.Table.{type_at, types_at, types_in, facts_in}
 use Rattle.nim_core.specs.Ints.{is_true, within}
 use Rattle.nim_core.specs.Constants.{Evaluated, Comes_to, Varies, as_checked}
 use Rattle.nim_core.specs.Texts.{bool_text, text_in}
@@ -19,14 +19,6 @@ abbrev pub facts_of : List TypeDef → Facts
 facts_of table = facts_in table
 
 -- ---- by an entry
-
-abbrev pub meant_at : List Ty → Option TypeDef → Ty
-meant_at ts None = int
-meant_at ts (Some d) = meant ts d
-
-abbrev pub said_at : List Ty → Option TypeDef → Option Fact
-said_at ts None = None
-said_at ts (Some d) = said_of ts d
 
 -- how many values it has where an int is converted to it with a check
 abbrev pub limit_at : Option TypeDef → Option ℕ
@@ -51,22 +43,6 @@ text_for _ z = []
 abbrev pub base_at : Option TypeDef → Option ℕ
 base_at (Some (D.Distinct name at i)) = Some i
 base_at _ = None
-
--- whether anything is said of it
-abbrev pub says : TypeDef → Bool
-says (D.Enum name at all) = true
-says (D.Object name at is all own_hooks parts) = nat_eq (length all) (length parts)
-says (D.Distinct name at i) = true
-says (D.Exception name at parent) = true
-says _ = false
-
-abbrev pub one_if : Bool → ℕ → ℕ
-one_if false n = n
-one_if true n = suc n
-
-abbrev pub says_count : List TypeDef → ℕ
-says_count [] = 0
-says_count (d ∷ ds) = one_if (says d) (says_count ds)
 
 -- ---- what a place starts at, so many declared types looked through
 

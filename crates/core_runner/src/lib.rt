@@ -16,7 +16,6 @@ mod state;
 mod stmt;
 mod table;
 mod turn;
-mod typed;
 mod value;
 
 pub use state::{

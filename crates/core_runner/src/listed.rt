@@ -14,10 +14,9 @@ use crate::expr::{gives, goes};
 use crate::follow::{aim_in, value_in};
 use crate::state::{Answer, Listed, Now, Opening, Part, Ready};
 use crate::table::push_text;
-use crate::typed::type_of;
 use crate::value::{Value, number};
 use arc_base::{Bytes, Memory};
-use nim_core::{Arg, Expr};
+use nim_core::{Arg, Expr, type_of};
 use nim_types::TypeTable;
 use std::alloc::Global;
 

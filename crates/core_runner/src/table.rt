@@ -1,7 +1,7 @@
 // What a run asks of the types of a program.
-ghost use Rattle.std.specs.Prelude.{◌≡◌, ◌≤◌, ◌++◌, length, IfOk, OnOk, IfSome, Some, option_map, slice_get};
+ghost use Rattle.std.specs.Prelude.{◌≡◌, ◌++◌, IfOk, OnOk, Some, option_map, slice_get};
 ghost use Rattle.std.specs.Fmt.{signed_decimal};
-ghost use Rattle.nim_types.specs.Table.{IsTable, IsWithin, AllBelow, parts_of};
+ghost use Rattle.nim_types.specs.Table.{AllBelow};
 ghost use Rattle.nim_core.specs.Values.{default_of, Number, Parts, Nil, repeated};
 ghost use Rattle.nim_core.specs.Meaning.{limit_of};
 ghost use Rattle.nim_core.specs.Constants.{converted_to};
@@ -10,7 +10,7 @@ ghost use Rattle.nim_core.specs.Ints.{is_true};
 ghost use Rattle.nim_core.specs.View.{if_type};
 ghost use Rattle.nim_types.specs.Table.{type_at};
 ghost use Rattle.core_runner.specs.Table.{types_of, facts_of, limit_at, conversion_at, text_for};
-ghost use Rattle.core_runner.specs.Table.{base_at, says, says_count, starts_at, starts_all};
+ghost use Rattle.core_runner.specs.Table.{base_at, starts_at, starts_all};
 ghost use Rattle.core_runner.specs.View.{value_of, values_of, evaluated_as};
 ghost use Rattle.nim_types.specs.declared.types.TypeDef.TheVariants.{Char};
 
@@ -19,22 +19,8 @@ use crate::state::Evaluated;
 use crate::value::{Value, copied};
 use arc_base::{Bytes, Memory};
 use itoa::Buffer;
-use nim_types::{TypeDef, TypeId, TypeTable};
+use nim_types::{TypeDef, TypeId, TypeTable, declared_types, entry, says};
 use std::alloc::Global;
-
-// The entry of a number, None beyond the table.
-fn entry(types: &TypeTable, ty: TypeId) -> Option<&TypeDef>
-    ensures is { option_map (λ d. d.now) result ≡ slice_get types.now ty }
-    ensures within { IfSome result (λ d. IsWithin ty d.now) }
-    ensures parts { IfSome result (λ d. AllBelow (length types.now) (parts_of d.now)) }
-    ensures table { IsTable types.now }
-{
-    if ty < types.count() {
-        Some(types.get(ty))
-    } else {
-        None
-    }
-}
 
 // ---- conversions
 
@@ -106,42 +92,6 @@ pub fn converted_to(types: &TypeTable, ty: TypeId, z: i32) -> Evaluated
     ensures { evaluated_as result ≡ converted_to (type_at (types_of types.now) ty) z }
 {
     conversion_at(entry(types, ty), z)
-}
-
-// ---- how much is said
-
-fn says(def: &TypeDef) -> bool
-    ensures { result ≡ says def.now }
-{
-    match def {
-        TypeDef::Enum { .. } => true,
-        TypeDef::Object { fields, parts, .. } => fields.as_slice().len() == parts.as_slice().len(),
-        TypeDef::Distinct { .. } => true,
-        TypeDef::Exception { .. } => true,
-        TypeDef::Int
-        | TypeDef::Bool
-        | TypeDef::Char
-        | TypeDef::Text
-        | TypeDef::Seq(_)
-        | TypeDef::Param(_)
-        | TypeDef::Array { .. }
-        | TypeDef::Tuple { .. }
-        | TypeDef::Ref { .. } => false,
-    }
-}
-
-// How many declared types there are of which something is said.
-fn declared_types(types: &TypeTable) -> u32
-    ensures count { result ≡ says_count types.now }
-    ensures table { IsTable types.now }
-{
-    let mut n = 0_u32;
-    for id in 0..types.count() {
-        if says(types.get(id)) {
-            n += 1;
-        }
-    }
-    n
 }
 
 // ---- texts

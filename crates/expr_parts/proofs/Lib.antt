@@ -11,3 +11,4 @@ mod Rows
 mod Settling
 mod Sizing
 mod TypeNumbers
+pub mod ForCallers

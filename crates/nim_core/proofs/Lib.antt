@@ -16,4 +16,6 @@ mod KindLemmas
 mod LentLemmas
 mod LentBlocks
 mod ConstantLemmas
+mod ExprRows
+mod StmtRows
 pub mod ForCallers

@@ -5,6 +5,7 @@ mod Settling
 mod Slots
 mod Powers
 mod Numbering
+mod EntryLemmas
 mod Keeping
 mod Completing
 mod Sizes

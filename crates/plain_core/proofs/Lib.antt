@@ -1,5 +1,3 @@
 mod TableRows
-mod ExprRows
-mod StmtRows
 mod OutRows
 mod StmtOut

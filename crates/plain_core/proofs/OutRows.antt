@@ -12,7 +12,7 @@ use Rattle.nim_core.specs.Program.{Expr, Declared}
 use Rattle.nim_core.specs.View.{expr_of, path_of, picks_of}
 use Rattle.nim_core.specs.LeftOut.{is_hooked, out_if, ◌or_then◌, left_out_in, left_out_in_path, left_out_in_picks, left_out_in_head, earlier}
 use Rattle.plain_core.specs.Lacking.{here_in, left_out_if}
-use Rattle.plain_core.proofs.ExprRows.{picked, picked_else}
+use Rattle.nim_core.proofs.ForCallers.{picked, picked_else}
 
 pub or_nothing : (x : Option Node) → (x or_then None) ≡ x
 or_nothing None = refl

@@ -8,9 +8,8 @@ ghost use Rattle.plain_core.specs.Entries.{hooked_at, hooked_among};
 ghost use Rattle.plain_core.specs.Known.{known_types, known_facts};
 
 use crate::known::Known;
-use crate::table::{entry, says};
 use nim_core::Node;
-use nim_types::{TypeDef, TypeId, TypeTable};
+use nim_types::{TypeDef, TypeId, TypeTable, entry, says};
 
 // So many parts that are alike.
 fn of_some(count: u32, each: bool) -> bool

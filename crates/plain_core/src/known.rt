@@ -2,8 +2,7 @@
 ghost use Rattle.std.specs.Prelude.{◌≡◌, length};
 ghost use Rattle.nim_types.specs.Table.{facts_in};
 
-use crate::table::declared_types;
-use nim_types::TypeTable;
+use nim_types::{TypeTable, declared_types};
 
 /// A table of types, and of how many declared types it says something.
 #[derive(Clone, Copy)]

@@ -13,8 +13,7 @@ ghost use Rattle.plain_core.specs.Lacking.{here_in, left_out_if};
 
 use crate::hooks::{if_either, if_hooked, or_then};
 use crate::known::Known;
-use crate::typed::{type_at, type_of};
-use nim_core::{Arg, Choice, Expr, Init, Node, Path, Pick};
+use nim_core::{Arg, Choice, Expr, Init, Node, Path, Pick, type_at, type_of};
 
 // An expression that is left out itself, whatever its parts are.
 fn here(known: &Known, expr: &Expr) -> Option<Node>

@@ -5,7 +5,5 @@ mod hooks;
 mod known;
 mod lacking;
 mod plain;
-mod table;
-mod typed;
 
 pub use plain::left_out;

@@ -16,9 +16,10 @@ ghost use Rattle.plain_core.specs.Lacking.{left_out_if};
 use crate::hooks::{if_either, if_hooked, or_then};
 use crate::known::{Known, known_of};
 use crate::lacking::{of_expr, of_path};
-use crate::typed::{type_at, type_of};
 use arc_base::Place;
-use nim_core::{Body, Branch, CaseBranch, Expr, Node, Param, PlaceDecl, Proc, Program, Stmt};
+use nim_core::{
+    Body, Branch, CaseBranch, Expr, Node, Param, PlaceDecl, Proc, Program, Stmt, type_at, type_of,
+};
 
 // ---- statements
 

@@ -1,7 +1,7 @@
 use Rattle.std.proofs.Common.{◌≡◌, ◌∙◌, ap, sym, ◌+◌}
 use Rattle.nim_core.specs.Program.{Read, Fresh}
 use Rattle.nim_core.specs.View.{expr_of, path_of}
-use Rattle.core_runner.proofs.ExprRows.{fresh_as}
+use Rattle.core_runner.proofs.ReadRows.{fresh_as}
 use Rattle.core_runner.proofs.expr.+fresh.Goals as goal
 
 pub innermost_at-returns-in-Some : goal.innermost_at-returns-in-Some

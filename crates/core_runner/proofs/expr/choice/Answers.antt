@@ -2,14 +2,14 @@ use Rattle.std.proofs.Common.{◌∙◌, ap, sym}
 use Rattle.nim_core.specs.declared.expr.Expr.TheVariants as E
 use Rattle.nim_core.specs.View.{expr_of}
 use Rattle.core_runner.specs.Opens.{opens}
-use Rattle.core_runner.proofs.ExprRows.{chosen, picked, picked_else}
+use Rattle.nim_core.proofs.ForCallers.{chosen_by, picked, picked_else}
 use Rattle.core_runner.proofs.expr.choice.Goals as goal
 
 pub returns-in-If : goal.returns-in-If
 returns-in-If c =
     λ ts facts.
     let given = c.in-If in
-    c.choices.ensures ts ∙ sym (ap (λ e. opens facts (expr_of ts e)) given.is ∙ ap (opens facts) (chosen ts given.node given.ty given.branches given.otherwise))
+    c.choices.ensures ts ∙ sym (ap (λ e. opens facts (expr_of ts e)) given.is ∙ ap (opens facts) (chosen_by ts given.node given.ty given.branches given.otherwise))
 
 pub returns-in-None : goal.returns-in-None
 returns-in-None c =

@@ -4,7 +4,7 @@ use Rattle.nim_core.specs.View.{expr_of}
 use Rattle.core_runner.specs.Table.{types_of, facts_of}
 use Rattle.core_runner.specs.Opens.{opens}
 use Rattle.core_runner.specs.View.{opening_of}
-use Rattle.core_runner.proofs.ExprRows.{made, sequenced, echoed, constructs, called}
+use Rattle.nim_core.proofs.ForCallers.{made, sequenced, echoed, constructed, called}
 use Rattle.core_runner.proofs.expr.evaluate.Goals as goal
 
 pub returns-in-Read : goal.returns-in-Read
@@ -31,7 +31,7 @@ returns-in-Construct c =
     let ts = types_of c.args.types.now in
     let facts = facts_of c.args.types.now in
     let given = c.in-Construct in
-    c.object.ensures ts ∙ sym (ap (λ e. opens facts (expr_of ts e)) given.is ∙ ap (opens facts) (constructs ts given.node given.ty given.parts))
+    c.object.ensures ts ∙ sym (ap (λ e. opens facts (expr_of ts e)) given.is ∙ ap (opens facts) (constructed ts given.node given.ty given.parts))
 
 pub returns-in-Call : goal.returns-in-Call
 returns-in-Call c =

@@ -1,7 +1,7 @@
 use Rattle.std.proofs.Common.{◌∙◌, ap, sym}
 use Rattle.nim_core.specs.Program.{Fresh}
 use Rattle.nim_core.specs.View.{expr_of, path_of}
-use Rattle.core_runner.proofs.ExprRows.{read_as}
+use Rattle.core_runner.proofs.ReadRows.{read_as}
 use Rattle.core_runner.proofs.expr.read.Goals as goal
 
 pub returns-in-Fresh : goal.returns-in-Fresh

@@ -5,7 +5,7 @@ use Rattle.core_runner.specs.Left.{Runs, Carries, Follows, Todo, Rest}
 use Rattle.core_runner.specs.Opens.{Opening, opened, opens_block}
 use Rattle.core_runner.specs.View.{program_of, run_of, caller_of, stack_of, world_of}
 use Rattle.core_runner.proofs.Arrive.{goes_as, goes_on, stepped_as, stack_snoc, there}
-use Rattle.core_runner.proofs.StmtRows.{then_first}
+use Rattle.nim_core.proofs.ForCallers.{then_first}
 use Rattle.core_runner.proofs.Opened.{first_goes, stmt_goes}
 use Rattle.core_runner.proofs.stmt.begin.Goals as goal
 

@@ -3,7 +3,7 @@ use Rattle.std.specs.Prelude.{option_map}
 use Rattle.nim_core.specs.View.{stmt_before, declared_of}
 use Rattle.core_runner.specs.Table.{types_of}
 use Rattle.core_runner.specs.Opens.{opens_block}
-use Rattle.core_runner.proofs.StmtRows.{decided, selected, repeated, counted, gone_over}
+use Rattle.nim_core.proofs.ForCallers.{decided, selected, repeated, counted, gone_over}
 use Rattle.core_runner.proofs.stmt.carry.Goals as goal
 
 pub returns-in-If : goal.returns-in-If

@@ -2,8 +2,10 @@ use Rattle.std.proofs.Common.{◌≡◌, ◌<◌, ◌-◌, suc, ◌∙◌, ap, s
 use Rattle.std.specs.Prelude.{option_map, length}
 use Rattle.nim_types.specs.declared.types.TypeDef.TheVariants as D
 use Rattle.nim_core.specs.Values.{Parts, repeated}
-use Rattle.core_runner.specs.Table.{says, starts_at, starts_all}
-use Rattle.core_runner.proofs.TableRows.{if_ok, index_get, one_below, starts_on, start_entry, start_object, start_unknown, start_zero, start_zero_distinct}
+use Rattle.core_runner.specs.Table.{starts_at, starts_all}
+use Rattle.nim_types.specs.Entries.{says}
+use Rattle.core_runner.proofs.TableRows.{if_ok, starts_on, start_entry, start_object, start_unknown, start_zero, start_zero_distinct}
+use Rattle.nim_types.proofs.ForCallers.{index_get, one_below}
 use Rattle.core_runner.proofs.TableRows.{start_distinct}
 use Rattle.core_runner.proofs.table.+starts.Goals as goal
 

@@ -8,7 +8,7 @@ use Rattle.nim_core.specs.View.{exprs_of}
 use Rattle.expr_rules.specs.declared.limits.TheConstants.{MOST_ELEMENTS}
 use Rattle.expr_rules.specs.Answers.{node, not_typed}
 use Rattle.expr_rules.specs.Sizes.{is_sized}
-use Rattle.expr_parts.proofs.Rows.{made}
+use Rattle.nim_core.proofs.ForCallers.{made}
 use Rattle.expr_parts.proofs.elements.array.Goals as goal
 
 pub returns-clause-answers : goal.returns-clause-answers

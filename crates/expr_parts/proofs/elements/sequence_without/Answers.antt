@@ -5,7 +5,7 @@ use Rattle.nim_core.specs.Program as T
 use Rattle.nim_core.specs.View.{exprs_of}
 use Rattle.expr_rules.specs.Answers.{node}
 use Rattle.expr_parts.specs.View.{is_sequence}
-use Rattle.expr_parts.proofs.Rows.{sequenced}
+use Rattle.nim_core.proofs.ForCallers.{sequenced}
 use Rattle.expr_parts.proofs.Settling.{empty_is}
 use Rattle.expr_parts.proofs.elements.sequence_without.Goals as goal
 

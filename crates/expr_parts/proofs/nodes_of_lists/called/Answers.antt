@@ -1,5 +1,5 @@
 use Rattle.expr_rules.specs.Answers.{node}
-use Rattle.expr_parts.proofs.Rows as rows
+use Rattle.nim_core.proofs.ForCallers as rows
 use Rattle.expr_parts.proofs.nodes_of_lists.called.Goals as goal
 
 pub returns-clause-expr : goal.returns-clause-expr

@@ -3,7 +3,7 @@ use Rattle.nim_types.specs.Table.{type_at}
 use Rattle.nim_core.specs.Program as T
 use Rattle.nim_core.specs.View.{exprs_of}
 use Rattle.expr_rules.specs.Answers.{node}
-use Rattle.expr_parts.proofs.Rows.{sequenced}
+use Rattle.nim_core.proofs.ForCallers.{sequenced}
 use Rattle.expr_parts.proofs.settle.no_elements.Goals as goal
 
 pub returns-clause-expr : goal.returns-clause-expr

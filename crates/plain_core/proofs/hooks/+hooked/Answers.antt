@@ -2,8 +2,10 @@ use Rattle.std.proofs.Common.{◌≡◌, ◌<◌, ◌-◌, suc, ◌∙◌, ap, s
 use Rattle.std.specs.Prelude.{option_map, length, ◌||◌}
 use Rattle.nim_types.specs.Forms.{of_some, hooked}
 use Rattle.nim_types.specs.declared.types.TypeDef.TheVariants as D
-use Rattle.plain_core.specs.Entries.{says, hooked_at, hooked_among}
-use Rattle.plain_core.proofs.TableRows.{index_get, one_below, hook_entry, hook_object, form_unknown, form_zero, form_zero_distinct, form_distinct}
+use Rattle.plain_core.specs.Entries.{hooked_at, hooked_among}
+use Rattle.nim_types.specs.Entries.{says}
+use Rattle.plain_core.proofs.TableRows.{hook_entry, hook_object, form_unknown, form_zero, form_zero_distinct, form_distinct}
+use Rattle.nim_types.proofs.ForCallers.{index_get, one_below}
 use Rattle.plain_core.proofs.hooks.+hooked.Goals as goal
 
 pub hooked-returns-in-None : goal.hooked-returns-in-None

@@ -2,7 +2,7 @@ use Rattle.std.proofs.Common.{◌∙◌, ap, ap₂, sym, refl}
 use Rattle.nim_core.specs.LeftOut.{◌or_then◌, left_out_in}
 use Rattle.nim_core.specs.View.{expr_of}
 use Rattle.plain_core.specs.Known.{known_types, known_facts}
-use Rattle.plain_core.proofs.ExprRows.{made, constructs, called, chosen, echoed}
+use Rattle.nim_core.proofs.ForCallers.{made, constructed, called, chosen_by, echoed}
 use Rattle.plain_core.proofs.OutRows.{with_here, case_out, quit_out, step_out}
 use Rattle.plain_core.proofs.lacking.+lacking.Goals as goal
 
@@ -20,7 +20,7 @@ of_expr-returns-in-Construct t c =
     let facts = known_facts c.args.known.now in
     let given = c.in-Construct in
     with_here facts (expr_of ts c.args.expr.now) _ c.here-here.result c.of_inits.result c.or_then-in-Construct.result _
-    (ap (expr_of ts) given.is ∙ constructs ts given.node given.ty given.parts) c.or_then-in-Construct.ensures c.here-here.ensures c.of_inits.ensures refl
+    (ap (expr_of ts) given.is ∙ constructed ts given.node given.ty given.parts) c.or_then-in-Construct.ensures c.here-here.ensures c.of_inits.ensures refl
 
 pub of_expr-returns-in-Call : goal.of_expr-returns-in-Call
 of_expr-returns-in-Call t c =
@@ -37,7 +37,7 @@ of_expr-returns-in-If t c =
     let given = c.in-If in
     let inside = ap₂ (λ a b. a or_then b) c.of_choices-choices.ensures (c.of_expr-in-If.ensures ∙ ap (λ e. left_out_in facts (expr_of ts e)) c.deref-in-If.ensures) in
     with_here facts (expr_of ts c.args.expr.now) _ c.here-here.result c.or_then-in-If.result c.or_then-in-If-2.result _
-    (ap (expr_of ts) given.is ∙ chosen ts given.node given.ty given.branches given.otherwise) c.or_then-in-If-2.ensures c.here-here.ensures
+    (ap (expr_of ts) given.is ∙ chosen_by ts given.node given.ty given.branches given.otherwise) c.or_then-in-If-2.ensures c.here-here.ensures
     (c.or_then-in-If.ensures ∙ inside) refl
 
 pub of_expr-returns-in-Case : goal.of_expr-returns-in-Case

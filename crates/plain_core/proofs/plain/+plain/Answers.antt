@@ -3,7 +3,7 @@ use Rattle.std.specs.Prelude.{◌||◌}
 use Rattle.nim_core.specs.LeftOut.{◌or_then◌, gives_hooked, out_if, left_out_in_block}
 use Rattle.nim_core.specs.View.{if_type, stmt_before}
 use Rattle.plain_core.specs.Known.{known_types, known_facts}
-use Rattle.plain_core.proofs.StmtRows.{decided, selected, repeated, counted, gone_over}
+use Rattle.nim_core.proofs.ForCallers.{decided, selected, repeated, counted, gone_over}
 use Rattle.plain_core.proofs.StmtOut.{out_as, discard_out, return_out, declare_out}
 use Rattle.plain_core.proofs.plain.+plain.Goals as goal
 

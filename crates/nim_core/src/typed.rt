@@ -4,7 +4,7 @@ ghost use Rattle.nim_types.specs.Types.{Ty};
 ghost use Rattle.nim_core.specs.Program.{type_of, type_at_path};
 ghost use Rattle.nim_core.specs.View.{expr_of, path_of, if_type};
 
-use nim_core::{Expr, Path};
+use crate::expr::{Expr, Path};
 use nim_types::TypeId;
 
 /// The type of its value, None where it gives none.

@@ -1,8 +1,7 @@
 -- Expressions as the code has them.
-use Rattle.std.proofs.Common.{◌≡◌, ℕ, suc, ◌+◌, List, Vec, Global, refl, sym, ap, subst, ◌∙◌, arith, Option, Some, None}
-use Rattle.std.specs.Prelude.{Result, IfOk, map}
+use Rattle.std.proofs.Common.{◌≡◌, ℕ, List, Vec, Global, refl, ap, ◌∙◌, Option, Some, None}
+use Rattle.std.specs.Prelude.{map}
 use mathlib.Core.Former.{Count}
-use Rattle.arc_base.specs.declared.bytes.Memory.{Memory}
 use Rattle.nim_types.specs.Types.{Ty}
 use Rattle.nim_types.specs.Table.{type_at}
 use Rattle.nim_core.specs.declared.expr.Node.{Node}
@@ -14,24 +13,8 @@ use Rattle.nim_core.specs.declared.expr.Arg.{Arg as RustArg}
 use Rattle.nim_core.specs.declared.expr.Choice.{Choice as RustChoice}
 use Rattle.nim_core.specs.declared.expr.Pick.{Pick as RustPick}
 use Rattle.nim_core.specs.Program as T
-use Rattle.nim_core.specs.Program.{Expr, Read, Fresh}
 use Rattle.nim_core.specs.View.{if_type, expr_of, expr_row, exprs_of, init_row, inits_of, arg_before, arg_row, args_of, choice_row, choices_of}
-use Rattle.nim_core.specs.View.{pick_row}
-use Rattle.nim_core.specs.View.{picks_of, label_of}
-use Rattle.core_runner.specs.declared.state.Opening.{Opening as RustOpening}
-use Rattle.core_runner.specs.Left.{Again}
-use Rattle.core_runner.specs.Opens.{inmost, reads, evaluates_for, opens_read}
-use Rattle.core_runner.specs.View.{opening_of}
-
-pub fresh_as : (e v : Expr) (n more : ℕ) (r : Result RustOpening Memory) (ts : List Ty) → e ≡ Read (Fresh v) → more ≡ n + 1 →
-    IfOk r (λ o. opening_of ts o ≡ evaluates_for (inmost v) (Again (more + reads v))) →
-    IfOk r (λ o. opening_of ts o ≡ evaluates_for (inmost e) (Again (n + reads e)))
-fresh_as e v n more r ts f g h =
-    let k : more + reads v ≡ n + suc (reads v) = omega (arith, g) in
-    subst (λ e. IfOk r (λ o. opening_of ts o ≡ evaluates_for (inmost e) (Again (n + reads e)))) (sym f)
-    (subst (λ m. IfOk r (λ o. opening_of ts o ≡ evaluates_for (inmost v) (Again m))) k h)
-
--- ---- rows
+use Rattle.nim_core.specs.View.{pick_row, picks_of, label_of}
 
 module _ (ts : List Ty) where
   exprs_are : (n : Count) (row : B.Row_of-Expr n) → expr_row ts row ≡ exprs_of ts (B.items-the_row-Expr n row)
@@ -80,9 +63,9 @@ module _ (ts : List Ty) where
   init_items (E.Construct' _ _ _ row) = (_, row)
   init_items _ = (_, B.end_of-Init)
 
-  pub constructs : (node : Node) (ty : ℕ) (parts : Vec RustInit Global) →
+  pub constructed : (node : Node) (ty : ℕ) (parts : Vec RustInit Global) →
       expr_of ts (E.Construct node ty parts) ≡ T.Construct node (type_at ts ty) (inits_of ts parts.items)
-  constructs node ty parts =
+  constructed node ty parts =
       let row = init_items (E.Construct node ty parts) in
       ap (T.Construct node (type_at ts ty)) (inits_are row.0 row.1 ∙ ap (inits_of ts) (B.items_hidden-the_row-Init-1 parts))
 
@@ -100,9 +83,9 @@ module _ (ts : List Ty) where
   choice_items (E.If' _ _ _ row _ _) = (_, row)
   choice_items _ = (_, B.end_of-Choice)
 
-  pub chosen : (node : Node) (ty : Option ℕ) (choices : Vec RustChoice Global) (otherwise : _) →
+  pub chosen_by : (node : Node) (ty : Option ℕ) (choices : Vec RustChoice Global) (otherwise : _) →
       expr_of ts (E.If node ty choices otherwise) ≡ T.If node (if_type ts ty) (choices_of ts choices.items) (expr_of ts otherwise.value)
-  chosen node ty choices otherwise =
+  chosen_by node ty choices otherwise =
       let row = choice_items (E.If node ty choices otherwise) in
       ap (λ l. T.If node (if_type ts ty) l (expr_of ts otherwise.value))
       (choices_are row.0 row.1 ∙ ap (choices_of ts) (B.items_hidden-the_row-Choice-3 choices))
@@ -124,9 +107,3 @@ module _ (ts : List Ty) where
       let row = pick_items (E.Case node ty selector picks (Some other)) in
       ap (λ l. T.CaseElse node (if_type ts ty) (expr_of ts selector.value) l (expr_of ts other.value))
       (picks_are row.0 row.1 ∙ ap (picks_of ts) (B.items_hidden-the_row-Pick-4 picks))
-
-  pub read_as : (p : T.Path) (v : Expr) (r : Result RustOpening Memory) → p ≡ Fresh v →
-      IfOk r (λ o. opening_of ts o ≡ evaluates_for (inmost v) (Again (1 + reads v))) → IfOk r (λ o. opening_of ts o ≡ opens_read p)
-  read_as p v r e h =
-      let k : 1 + reads v ≡ suc (reads v) = omega arith in
-      subst (λ p. IfOk r (λ o. opening_of ts o ≡ opens_read p)) (sym e) (subst (λ m. IfOk r (λ o. opening_of ts o ≡ evaluates_for (inmost v) (Again m))) k h)

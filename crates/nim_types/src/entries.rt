@@ -1,9 +1,10 @@
-// The entries of the table of types.
+// The entries of a table, and of how many types something is said.
 ghost use Rattle.std.specs.Prelude.{◌≡◌, length, IfSome, option_map, slice_get};
-ghost use Rattle.nim_types.specs.Table.{IsTable, IsWithin, AllBelow, parts_of};
-ghost use Rattle.plain_core.specs.Entries.{says, says_count};
+ghost use Rattle.nim_types.specs.Entries.{says};
+ghost use Rattle.nim_types.specs.Table.{IsTable, IsWithin, AllBelow, parts_of, facts_in};
 
-use nim_types::{TypeDef, TypeId, TypeTable};
+use crate::table::TypeTable;
+use crate::types::{TypeDef, TypeId};
 
 /// The entry of a number, None beyond the table.
 pub fn entry(types: &TypeTable, ty: TypeId) -> Option<&TypeDef>
@@ -19,7 +20,7 @@ pub fn entry(types: &TypeTable, ty: TypeId) -> Option<&TypeDef>
     }
 }
 
-/// Whether something is said of the type of an entry.
+/// Whether something is said of the type of an entry: it is an enum, an object whose parts are known, a distinct type or an exception.
 pub fn says(def: &TypeDef) -> bool
     ensures { result ≡ says def.now }
 {
@@ -40,9 +41,9 @@ pub fn says(def: &TypeDef) -> bool
     }
 }
 
-/// How many declared types there are of which something is said.
+/// Of how many types something is said.
 pub fn declared_types(types: &TypeTable) -> u32
-    ensures count { result ≡ says_count types.now }
+    ensures count { result ≡ length (facts_in types.now) }
     ensures table { IsTable types.now }
 {
     let mut n = 0_u32;

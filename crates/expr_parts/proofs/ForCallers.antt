@@ -1,0 +1,9 @@
+-- The lemmas that proofs of other crates may cite.
+pub use Rattle.expr_parts.proofs.AnswerSteps.{answers_as, goes, makes, refuses, stops}
+pub use Rattle.expr_parts.proofs.Arguing.{nothing_left}
+pub use Rattle.expr_parts.proofs.Fields.{all_fields, all_known, if_ok, none_known}
+pub use Rattle.expr_parts.proofs.Growing.{grown_same}
+pub use Rattle.expr_parts.proofs.Rows.{all_count, elements_held, literal_count, next_item, none_left, parts_held}
+pub use Rattle.nim_core.proofs.ForCallers.{constructed, made, sequenced}
+pub use Rattle.expr_parts.proofs.Settling.{counted, exprs_are, no_fit_is}
+pub use Rattle.expr_parts.proofs.TypeNumbers.{bool_below, bool_under, char_below, char_under, entry_under, front_of, int_below, int_under, interned_under, text_below, text_under}
