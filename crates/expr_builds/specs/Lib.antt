@@ -1,0 +1,3 @@
+pub mod ViewBuilt
+pub mod KeptLabels
+pub mod ViewLabels

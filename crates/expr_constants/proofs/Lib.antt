@@ -1,0 +1,6 @@
+mod ConstantFields
+mod ConstantLists
+mod ConstantSteps
+mod ConstantTypes
+mod LiteralSizes
+pub mod ForCallers

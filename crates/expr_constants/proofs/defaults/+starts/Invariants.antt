@@ -1,0 +1,13 @@
+use Rattle.std.proofs.Common.{◌≡◌, ◌+◌, ◌*◌, take}
+use Rattle.nim_core.specs.View.{literals_of}
+use Rattle.expr_constants.specs.ViewConstants.{starts_all}
+use Rattle.expr_constants.proofs.defaults.+starts.Given as goal
+
+abbrev pub decreases-start : goal.decreases-start
+decreases-start l = (l.within * 4294967296 + l.ty) * 2 + 1
+
+abbrev pub decreases-start_all : goal.decreases-start_all
+decreases-start_all l = (l.within * 4294967296 + l.bound) * 2
+
+abbrev pub invariant-start_all-loop-id : goal.invariant-start_all-loop-id
+invariant-start_all-loop-id l = literals_of l.all.items ≡ starts_all l.within l.types (take l.id-index l.ids)

@@ -1,0 +1,124 @@
+-- What the code's values of constants stand for. It serves proofs: no public contract speaks of it but that of `value_in`.
+use Rattle.std.specs.Prelude.{ℕ, suc, ◌^◌, ◌-◌, ℤ, pos, negsuc, unsigned_abs, Bool, true, false, List, [], ◌∷◌, ◌++◌}
+use Rattle.std.specs.Prelude.{length, map, nat_eq, int_le, if◌then◌else◌, Option, Some, None, Ok, Vec}
+use Rattle.std.specs.declared.alloc.Global.{Global}
+use Rattle.nim_types.specs.Types.{Ty, Facts}
+use Rattle.nim_types.specs.Forms.{form_in, forms_in, form_within}
+use Rattle.nim_types.specs.declared.types.TypeDef.{TypeDef}
+use Rattle.nim_types.specs.declared.types.TypeDef.TheVariants as D
+use Rattle.nim_types.specs.Table.{type_at, types_at, types_in, facts_in}
+use Rattle.nim_core.specs.declared.expr.Literal.{Literal as RustLiteral}
+use Rattle.arc_base.specs.declared.place.Place.{Place}
+use Rattle.expr_rules.specs.Answers.{Answer, not_typed}
+use Rattle.nim_core.specs.Program.{Label, Ordinals, Literal, Literals, Number, Characters, NoLiteral, ALiteral}
+use Rattle.nim_core.specs.View.{literal_of, literals_of}
+use Rattle.expr_constants.specs.declared.evaluated.Evaluated.{Evaluated as RustEvaluated}
+use Rattle.expr_constants.specs.declared.evaluated.Evaluated.TheVariants as V
+use Rattle.expr_constants.specs.declared.evaluated.Given.{Given}
+use Rattle.expr_rules.specs.Constants.{given_or, Evaluated, comes_to, traps, varies}
+use Rattle.expr_rules.specs.Literals.{default_literal, blank_literal, blank_literals}
+
+abbrev pub evaluated_of : {A B : Type 0} → (A → B) → RustEvaluated A → Evaluated B
+evaluated_of of (V.Comes a) = comes_to (of a)
+evaluated_of of V.Traps = traps
+evaluated_of of V.Varies = varies
+
+-- what an operation on numbers gives
+abbrev pub number_or_trap : Option ℤ → Evaluated Literal
+number_or_trap (Some z) = comes_to (Number z)
+number_or_trap None = traps
+
+-- a number that isn't negative
+abbrev pub natural : ℤ → Option ℕ
+natural (pos n) = Some n
+natural (negsuc n) = None
+
+-- ---- texts and chars
+
+abbrev pub has_letters : Literal → Bool
+has_letters (Number z) = true
+has_letters (Characters bytes) = true
+has_letters _ = false
+
+abbrev pub letters : Literal → List ℕ
+letters (Number z) = unsigned_abs z ∷ []
+letters (Characters bytes) = bytes
+letters _ = []
+
+-- ---- `and` and `or`
+
+abbrev pub number_in : Evaluated Literal → Option ℤ
+number_in (comes_to (Number z)) = Some z
+number_in _ = None
+
+abbrev pub left_of : Evaluated Literal → Evaluated Literal → Evaluated Literal
+left_of a varies = varies
+left_of a b = a
+
+-- ---- lists
+
+abbrev pub values_of : Vec RustLiteral Global → Literals
+values_of all = literals_of all.items
+
+-- with one more at the end
+abbrev pub and_last : Literals → Literal → Literals
+and_last NoLiteral l = ALiteral l NoLiteral
+and_last (ALiteral first rest) l = ALiteral first (and_last rest l)
+
+abbrev pub and_value : Literals → Literal → Evaluated Literals
+and_value all l = comes_to (and_last all l)
+
+abbrev pub given_of : Given → ℕ × Literal
+given_of g = (g.field, literal_of g.value)
+
+abbrev pub all_given : Vec Given Global → List (ℕ × Literal)
+all_given all = map given_of all.items
+
+abbrev pub and_given : (field : ℕ) → List (ℕ × Literal) → Literal → Evaluated (List (ℕ × Literal))
+and_given field all l = comes_to (all ++ (field, l) ∷ [])
+
+-- ---- what a place starts at, so many declared types looked through
+
+abbrev pub starts_at : ℕ → List TypeDef → ℕ → Literal
+starts_at n ds i = blank_literal (form_in (form_within n (facts_in ds)) (type_at (types_in ds) i))
+
+abbrev pub starts_all : ℕ → List TypeDef → List ℕ → Literals
+starts_all n ds is = blank_literals (forms_in (form_within n (facts_in ds)) (types_at (types_in ds) is))
+
+-- ---- objects
+
+abbrev pub literal_or : {R : Type 0} → (R → Literal) → Literal → Option R → Literal
+literal_or of other None = other
+literal_or of other (Some l) = of l
+
+-- the types of an object's fields, where they are known
+abbrev pub known_parts : TypeDef → List ℕ
+known_parts (D.Object name at is all own_hooks parts) = if nat_eq (length all) (length parts) then parts else []
+known_parts _ = []
+
+-- the fields of these types from a number on
+abbrev pub field_values : Facts → List Ty → ℕ → List ℕ → List (ℕ × Literal) → Literals
+field_values facts ts i [] given = NoLiteral
+field_values facts ts i (p ∷ ps) given =
+    ALiteral (given_or i given (default_literal facts (type_at ts p))) (field_values facts ts (suc i) ps given)
+
+-- ---- labels
+
+abbrev pub range_by : Place → ℤ → ℤ → Answer Label
+range_by at a b = if int_le a b then Ok (Ordinals a b) else not_typed at
+
+-- ---- parts of tuples
+
+abbrev pub tuple_parts : TypeDef → Option (List ℕ)
+tuple_parts (D.Tuple names is) = Some is
+tuple_parts _ = None
+
+abbrev pub behind : Option (List ℕ) → (behind_value behind_index : ℕ) → ℕ
+behind (Some is) m k = m
+behind None m k = k
+
+-- ---- sizes
+
+-- the most bytes that are told apart
+abbrev pub most : ℕ
+most = 2 ^ 64 - 1

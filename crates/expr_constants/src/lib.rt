@@ -1,0 +1,11 @@
+//! The values of constant expressions, and what needs them.
+#![tactic(auto)]
+
+pub mod arithmetic;
+pub mod constant_rules;
+pub mod defaults;
+pub mod evaluated;
+pub mod evaluation;
+pub mod indexing;
+pub mod literal_sizes;
+pub mod shown;

@@ -1,0 +1,3 @@
+mod OneOperand
+mod Written
+pub mod ForCallers

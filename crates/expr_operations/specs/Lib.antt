@@ -1,0 +1,2 @@
+pub mod ViewOperands
+pub mod ViewOperations
