@@ -1,0 +1,7 @@
+mod Adding
+mod Stamping
+mod Listing
+mod Searching
+mod Timing
+mod Alike
+mod Answering

@@ -1,0 +1,6 @@
+pub mod View
+pub mod Uses
+pub mod Numbers
+pub mod Known
+pub mod Search
+pub mod InTime
