@@ -11,3 +11,5 @@ pub use Rattle.arc_base.proofs.Grows.{tame_spend, tame_loop, steady_by_tame}
 pub use Rattle.arc_base.proofs.Right.{right_then, right_spend, right_turns, sound_by_right}
 -- ---- sinks that got bytes in several calls
 pub use Rattle.arc_base.proofs.Grown.{grown_more}
+-- ---- answers of parts and of the whole
+pub use Rattle.arc_base.proofs.AnswerSteps.{answers_as, forgets, goes, makes, refuses, stops}

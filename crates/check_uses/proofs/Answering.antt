@@ -1,9 +1,9 @@
 -- From the answers of parts to the answer of the whole.
-use Rattle.std.proofs.Common.{◌≡◌, sym, ap, subst, List, [], map}
+use Rattle.std.proofs.Common.{◌≡◌, subst, List, [], map}
 use Rattle.std.specs.Prelude.{Result, Ok, Err}
 use Rattle.arc_base.specs.declared.place.Stop.{Stop}
-use Rattle.arc_base.specs.declared.place.Stop.TheVariants as stop
 use Rattle.arc_base.specs.Refusal.{Refusal, and_then, Answers}
+use Rattle.arc_base.proofs.ForCallers.{answers_as, goes, stops}
 use Rattle.nim_types.specs.Types.{Ty}
 use Rattle.nim_core.specs.declared.program.Proc.{Proc as RustProc}
 use Rattle.nim_core.specs.declared.stmt.Stmt.{Stmt as RustStmt}
@@ -18,17 +18,16 @@ abbrev pub Says : Result (Unit {0}) Refusal → Result (Unit {0}) Stop → Type 
 Says said result = Answers {A = Unit {0}} (λ _. tt) said result
 
 pub says_as : (a b : Result (Unit {0}) Refusal) (result : Result (Unit {0}) Stop) → a ≡ b → Says b result → Says a result
-says_as a b result e h = subst (λ z. Says z result) (sym e) h
+says_as a b result e h = answers_as (λ _. tt) a b result e h
 
 -- what is refused first is refused
 pub says_stop : (a b : Result (Unit {0}) Refusal) (s : Stop) → Says a (Err s) → Says (and_then a (λ _. b)) (Err s)
-says_stop a b (stop.Refused code at) h = ap (λ z. and_then z (λ _. b)) h
-says_stop a b stop.Memory h = tt
+says_stop a b s h = stops {S = Unit {0}} {T = Unit {0}} (λ _. tt) (λ _. tt) a (λ _. b) s h
 
 -- behind what isn't refused
 pub says_next : (a b : Result (Unit {0}) Refusal) (u : Unit {0}) (result : Result (Unit {0}) Stop) → Says a (Ok u) → Says b result →
     Says (and_then a (λ _. b)) result
-says_next a b u result e h = subst (λ z. Says (and_then z (λ _. b)) result) (sym e) h
+says_next a b u result e h = goes (λ _. tt) (λ _. tt) a (λ _. b) u result e h
 
 pub says_text : (known procs : List RustProc) (start : List RustStmt) (text : List RustItem) (result : Result (Unit {0}) Stop) → known ≡ procs →
     Says (text_rule (map (proc_of []) known) (items_of [] known start text)) result →
