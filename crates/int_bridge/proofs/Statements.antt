@@ -1,166 +1,43 @@
 -- Statements, side by side.
-use Rattle.std.proofs.Common.{◌≡◌, refl, sym, ap, ◌∙◌, subst, ℕ, zero, suc, ◌-◌, ◌+◌, ◌≤◌, ℤ, Bool, true, false}
-use Rattle.std.proofs.Common.{List, [], ◌++◌, arith, Option, Some, None, length, append-nil}
-use Rattle.std.proofs.lemmas.List.{length-map}
+use Rattle.std.proofs.Common.{◌≡◌, refl, sym, subst, ℕ, suc, ◌-◌, ◌+◌, ◌≤◌, ℤ, Bool, true, false}
+use Rattle.std.proofs.Common.{arith, Option}
 use Rattle.std.specs.Prelude.{◌&&◌, nat_lt}
-use Rattle.std.specs.Fmt.{signed_decimal}
 use Rattle.std.proofs.lemmas.Bool.{and_parts, eqb-true, ltb-true}
-use Rattle.arc_base.specs.Event.{Event, Write, writes}
-use Rattle.arc_base.specs.declared.outside.Stream.TheVariants as R
-use Rattle.arc_base.specs.Behaviour.{no_objects}
-use Rattle.arc_base.specs.BigStep.{Meter, Res, Got, Over, then_do, charged, ticked, told, with_units, Leave, turns}
+use Rattle.arc_base.specs.Event.{Event}
+use Rattle.arc_base.specs.BigStep.{Meter, Res, Got, then_do, charged, ticked, with_units, Leave, turns}
 use Rattle.nim_types.specs.Types.{Ty, int, Facts, fact_of, base_in}
 use Rattle.nim_core.specs.declared.expr.Node.{Node}
 use Rattle.nim_core.specs.Program as T
-use Rattle.nim_core.specs.Program.{Expr, Exprs, Path, Declared, Stmt, Stmts, Branches}
+use Rattle.nim_core.specs.Program.{Expr, Path, Declared, Stmt, Stmts, Branches}
 use Rattle.nim_core.specs.Blocks.{last_after}
 use Rattle.nim_core.specs.Ints as A
 use Rattle.nim_core.specs.Ints.{truth}
 use Rattle.nim_core.specs.Values.{Number, Holds, number_of, through}
-use Rattle.nim_core.specs.State.{World, State, slot_at, with_slot}
-use Rattle.nim_core.specs.Acts.{no_more, Flow, On, Out, Does, onward, branch, give, worked, said, line_of}
+use Rattle.nim_core.specs.State.{State, slot_at, with_slot}
+use Rattle.nim_core.specs.Acts.{no_more, Flow, On, Out, Does, onward, branch, give, worked}
 use Rattle.nim_core.specs.Acts.{next, turn_of, left_with, at_exit, again, costs, as_before, exit_of, ◌>>◌}
 use Rattle.nim_core.specs.Here.{Calls}
 use Rattle.nim_core.specs.Places.{place_at, put, scoped, ends}
-use Rattle.nim_core.specs.Texts.{below_distinct, plain_text, text_of, base_or}
 use Rattle.nim_core.specs.SelfAssignment.{is_itself}
 use Rattle.nim_core.specs.Meaning as M
 use Rattle.int_core.specs.Program as S
-use Rattle.int_core.specs.Ints as B
 use Rattle.int_core.specs.Meaning as N
 use Rattle.int_core.specs.Meaning.{Values}
-use Rattle.int_bridge.specs.Small.{is_int, is_none, is_small_expr, is_small_cond, is_small_operand, is_small_operands}
-use Rattle.int_bridge.specs.Small.{is_small_call, is_target, is_small_stmt}
-use Rattle.int_bridge.specs.Small.{is_small_branches, is_small, variable_of, expr_of, cond_of, echo_of, call_of, stmt_of, branches_of, stmts_of}
+use Rattle.int_bridge.specs.Small.{is_none, is_small_expr, is_small_cond}
+use Rattle.int_bridge.specs.Small.{is_target, is_small_stmt}
+use Rattle.int_bridge.specs.Small.{is_small_branches, is_small, variable_of, expr_of, cond_of, stmt_of, branches_of, stmts_of}
 use Rattle.int_bridge.specs.Weight.{expr_nodes, cond_nodes, stmt_nodes, nodes}
-use Rattle.int_bridge.proofs.Twins.{Due, entered, Beside, beside_last, beside_in, beside_ticked, beside_twice, beside_bare, beside_both}
-use Rattle.int_bridge.proofs.Twins.{beside_told, beside_units, Twin, twin_after, OnFlow, twin_on}
-use Rattle.int_bridge.proofs.Twins.{then_assoc, then_three, twin_spend, spend_then, TurnTwin, twin_turns}
+use Rattle.int_bridge.proofs.Twins.{Due, entered, Beside, beside_in, beside_ticked, beside_twice, beside_both}
+use Rattle.int_bridge.proofs.Twins.{beside_units, Twin, twin_after, OnFlow, twin_on}
+use Rattle.int_bridge.proofs.Twins.{then_assoc, twin_spend, spend_then, TurnTwin, twin_turns}
 use Rattle.int_bridge.proofs.Frames.{Stands, slot_is, stands_put, stands_same}
 use Rattle.int_bridge.proofs.Evaluations.{top, twin_value, twin_truth, twin_eval, twin_test}
+use Rattle.int_bridge.proofs.CallTwins.{IsDone, Fits, twin_evaluation}
 
 false_is_none : false ≡ true → ⊥
 false_is_none e = absurd (cc)
 
--- a statement is done, where the places hold the values of the variables
-abbrev pub IsDone : ℕ → Unit {0} → Values → World → Type 0
-IsDone places u values w = Stands places values w
-
--- a part of so many nodes may stand here
-abbrev pub Fits : Due → ℕ → Type 0
-Fits c n = (n ≤ c.budget) × (suc (c.budget + n) ≤ c.most)
-
--- ---- texts
-
-module _ (facts : Facts) (plain : is_none (base_in (fact_of facts int)) ≡ true) where
-  based : (known : Ty → Ty) (o : Option Ty) → is_none o ≡ true → known int ≡ int → base_or known int o ≡ int
-  based known None e f = refl
-  based known (Some ty) e f = absurd (cc)
-
-  stays_int : (n : ℕ) → below_distinct n facts int ≡ int
-  stays_int zero = refl
-  stays_int (suc n) = based (below_distinct n facts) (base_in (fact_of facts int)) plain (stays_int n)
-
-  int_text : (ty : Ty) → is_int ty ≡ true → (z : ℤ) → plain_text facts (below_distinct (length facts) facts ty) z ++ [] ≡ signed_decimal z
-  int_text int e z = append-nil _ ∙ ap (λ t. plain_text facts t z) (stays_int (length facts))
-  int_text _ e z = absurd (cc)
-
-  pub small_text : (e : Expr) → is_small_expr e ≡ true → (z : ℤ) → text_of facts e (Number z) ++ [] ≡ signed_decimal z
-  small_text (T.Ordinal node ty value) e z = int_text ty e z
-  small_text (T.Read (T.Variable node ty p global)) e z = int_text ty e z
-  small_text (T.Unary node ty operator operand) e z = int_text ty (and_parts (is_int ty) _ e).0 z
-  small_text (T.Binary node ty operator left right) e z = int_text ty (and_parts (is_int ty) _ e).0 z
-  small_text _ e z = absurd (cc)
-
--- ---- statements without blocks
-
 module _ (places : ℕ) (result : Option Declared) (calls : Calls) (facts : Facts) (plain : is_none (base_in (fact_of facts int)) ≡ true) where
-  twin_echo : (node other : Node) (e : Expr) → is_small_expr e ≡ true → (values : Values) (c : Due) (s : State) (m : Meter Event) →
-      Fits c (suc (expr_nodes (expr_of e))) →
-      Stands places values s.world → Beside (entered c) s.meter m →
-      Twin c (OnFlow (IsDone places)) (M.exec (T.Eval node (T.Echo other (T.AnExpr e T.NoExpr))) (top result calls facts) s)
-      (N.exec (S.EchoInt node.at (expr_of e)) values m)
-  twin_echo node other e is values c s m f h k =
-      subst (λ r. Twin c (OnFlow (IsDone places)) r (N.exec (S.EchoInt node.at (expr_of e)) values m))
-      (then_three (M.eval e (top result calls facts) (worked 1 s)) _ _ _)
-      (twin_value places values (entered (entered c)) c refl (OnFlow (IsDone places)) (M.eval e (top result calls facts) (worked 1 s))
-      (N.eval (expr_of e) values m) _
-      (λ x after. Got values (told (writes R.Out (N.line_of (signed_decimal x))) (ticked after)))
-      (twin_eval places values result calls facts e is (entered (entered c)) (omega (arith, f.1)) (worked 1 s) m h
-      (beside_in (entered c) s.meter m (omega (arith, f.1)) k))
-      (λ z t n i b.
-      subst
-      (λ text.
-      Twin c (OnFlow (IsDone places)) (Got (On tt) (said (writes R.Out (line_of text)) (worked (length (line_of text)) t)))
-      (Got values (told (writes R.Out (N.line_of (signed_decimal z))) (ticked n))))
-      (sym (small_text facts plain e is z)) (
-        i,
-        beside_told c (writes R.Out (N.line_of (signed_decimal z))) (length (line_of (signed_decimal z))) t.meter (ticked n)
-            (sym (length-map (N.line_of (signed_decimal z)) (Write R.Out))) (beside_bare c t.meter n (omega (arith, f.1)) b),
-      )))
-
-  text_paid : (c : Due) (a b : Meter Event) → c.budget ≤ c.most → Beside (entered c) a b → Beside c (charged 1 (charged 1 a)) (ticked b)
-  text_paid c a b most h = record { units = h.units; out = h.out; work = omega (arith, h.work); rest = omega (arith, h.rest); below = most }
-
-  twin_text : (node other at : Node) (ty : Ty) (text : List ℕ) (values : Values) (c : Due) (s : State) (m : Meter Event) → Fits c 1 →
-      Stands places values s.world → Beside (entered c) s.meter m →
-      Twin c (OnFlow (IsDone places)) (M.exec (T.Eval node (T.Echo other (T.AnExpr (T.Text at ty text) T.NoExpr))) (top result calls facts) s)
-      (N.exec (S.EchoText node.at text) values m)
-  twin_text node other at ty text values c s m f h k =
-      subst
-      (λ l.
-      Twin c (OnFlow (IsDone places)) (Got (On tt) (said (writes R.Out (line_of l)) (worked (length (line_of l)) (worked 1 (worked 1 s)))))
-      (Got values (told (writes R.Out (N.line_of text)) (ticked m))))
-      (sym (append-nil text)) (
-        h,
-        beside_told c (writes R.Out (line_of text)) (length (line_of text)) (charged 1 (charged 1 s.meter)) (ticked m)
-            (sym (length-map (line_of text) (Write R.Out))) (text_paid c s.meter m (omega (arith, f.1)) k),
-      )
-
-  twin_operand : (node other : Node) (e : Expr) → is_small_operand e ≡ true → (values : Values) (c : Due) (s : State) (m : Meter Event) →
-      Fits c (stmt_nodes (echo_of node e)) →
-      Stands places values s.world → Beside (entered c) s.meter m →
-      Twin c (OnFlow (IsDone places)) (M.exec (T.Eval node (T.Echo other (T.AnExpr e T.NoExpr))) (top result calls facts) s)
-      (N.exec (echo_of node e) values m)
-  twin_operand node other (T.Text at ty text) is values c s m f h k = twin_text node other at ty text values c s m f h k
-  twin_operand node other (T.Ordinal at ty value) is values c s m f h k = twin_echo node other (T.Ordinal at ty value) is values c s m f h k
-  twin_operand node other (T.Read path) is values c s m f h k = twin_echo node other (T.Read path) is values c s m f h k
-  twin_operand node other (T.Unary at ty operator operand) is values c s m f h k =
-      twin_echo node other (T.Unary at ty operator operand) is values c s m f h k
-  twin_operand node other (T.Binary at ty operator left right) is values c s m f h k =
-      twin_echo node other (T.Binary at ty operator left right) is values c s m f h k
-  twin_operand node other _ is values c s m f h k = absurd (cc)
-
-  twin_quit : (node other : Node) (e : Expr) → is_small_expr e ≡ true → (values : Values) (c : Due) (s : State) (m : Meter Event) →
-      Fits c (suc (expr_nodes (expr_of e))) →
-      Stands places values s.world → Beside (entered c) s.meter m →
-      Twin c (OnFlow (IsDone places)) (M.exec (T.Eval node (T.Quit other e)) (top result calls facts) s) (N.exec (S.Quit node.at (expr_of e)) values m)
-  twin_quit node other e is values c s m f h k =
-      subst (λ r. Twin c (OnFlow (IsDone places)) r (N.exec (S.Quit node.at (expr_of e)) values m))
-      (then_assoc (M.eval e (top result calls facts) (worked 1 s)) _ _)
-      (twin_value places values (entered (entered c)) c refl (OnFlow (IsDone places)) (M.eval e (top result calls facts) (worked 1 s))
-      (N.eval (expr_of e) values m) _
-      (λ x after. Over (B.low_byte x) no_objects (ticked after))
-      (twin_eval places values result calls facts e is (entered (entered c)) (omega (arith, f.1)) (worked 1 s) m h
-      (beside_in (entered c) s.meter m (omega (arith, f.1)) k))
-      (λ z t n i b. (refl, refl, refl, beside_last c t.meter (ticked n) (beside_bare c t.meter n (omega (arith, f.1)) b))))
-
-  twin_operands : (node other : Node) (es : Exprs) → is_small_operands es ≡ true → (values : Values) (c : Due) (s : State) (m : Meter Event) →
-      Fits c (stmt_nodes (call_of node (T.Echo other es))) →
-      Stands places values s.world → Beside (entered c) s.meter m →
-      Twin c (OnFlow (IsDone places)) (M.exec (T.Eval node (T.Echo other es)) (top result calls facts) s) (N.exec (call_of node (T.Echo other es)) values m)
-  twin_operands node other T.NoExpr is values c s m f h k = absurd (cc)
-  twin_operands node other (T.AnExpr first T.NoExpr) is values c s m f h k = twin_operand node other first is values c s m f h k
-  twin_operands node other (T.AnExpr first (T.AnExpr second rest)) is values c s m f h k = absurd (cc)
-
-  pub twin_call : (node : Node) (e : Expr) → is_small_call e ≡ true → (values : Values) (c : Due) (s : State) (m : Meter Event) →
-      Fits c (stmt_nodes (call_of node e)) →
-      Stands places values s.world → Beside (entered c) s.meter m →
-      Twin c (OnFlow (IsDone places)) (M.exec (T.Eval node e) (top result calls facts) s) (N.exec (call_of node e) values m)
-  twin_call node (T.Echo other es) is values c s m f h k = twin_operands node other es is values c s m f h k
-  twin_call node (T.Quit other e) is values c s m f h k = twin_quit node other e is values c s m f h k
-  twin_call node _ is values c s m f h k = absurd (cc)
-
   -- ---- assignments
 
   chosen : (c : Due) (values : Values) (b : Bool) (x y : Does (Unit {0})) (s : State) (q : Res (Meter Event) Values) →
@@ -341,7 +218,7 @@ module _ (places : ℕ) (result : Option Declared) (calls : Calls) (facts : Fact
         Fits c (stmt_nodes (stmt_of stmt)) →
         Stands places values s.world → Beside (entered c) s.meter m →
         Twin c (OnFlow (IsDone places)) (M.exec stmt (top result calls facts) s) (N.exec (stmt_of stmt) values m)
-    twin_stmt (T.Eval node value) is values c s m f h k = twin_call node value is values c s m f h k
+    twin_stmt (T.Eval node value) is values c s m f h k = twin_evaluation places result calls facts plain node value is values c s m f h k
     twin_stmt (T.Assign node path value) is values c s m f h k =
         let parts = and_parts (is_target places path) (is_small_expr value) is in
         twin_assign node path value parts.0 parts.1 values c s m f h k

@@ -123,13 +123,6 @@ then_assoc (Over j l m) g k = refl
 then_assoc (Going m) g k = refl
 then_assoc (Errs m) g k = refl
 
-pub then_three : {Σ A B C D : Type 0} (q : Res Σ A) (f : A → Σ → Res Σ B) (g : B → Σ → Res Σ C) (k : C → Σ → Res Σ D) →
-    then_do q (λ x m. then_do (then_do (f x m) g) k) ≡ then_do (then_do (then_do q f) g) k
-then_three (Got x m) f g k = refl
-then_three (Over j l m) f g k = refl
-then_three (Going m) f g k = refl
-then_three (Errs m) f g k = refl
-
 pub spend_then : {Σ A B : Type 0} (n : ℕ) (s : Σ) (f : ℕ → Res Σ A) (k : A → Σ → Res Σ B) →
     spend n s (λ m. then_do (f m) k) ≡ then_do (spend n s f) k
 spend_then zero s f k = refl

@@ -19,11 +19,12 @@ use Rattle.int_core.specs.Program as S
 use Rattle.int_core.specs.Meaning as N
 use Rattle.int_core.specs.Meaning.{Values}
 use Rattle.int_core.proofs.ForCallers.{meaning_sound}
-use Rattle.int_bridge.specs.Small.{is_none, is_empty, are_ints, is_small, is_small_program, program_of, small_of, stmts_of}
+use Rattle.int_bridge.specs.Small.{is_none, are_ints, is_small, is_numbered, is_small_start, is_small_program, program_of, small_of, stmts_of}
 use Rattle.int_bridge.specs.Weight.{nodes, most_ahead}
 use Rattle.int_bridge.proofs.Twins.{Due, Beside, beside_last, Twin, OnFlow, twin_after}
 use Rattle.int_bridge.proofs.Frames.{stands_first}
-use Rattle.int_bridge.proofs.Statements.{IsDone, twin_all}
+use Rattle.int_bridge.proofs.CallTwins.{IsDone}
+use Rattle.int_bridge.proofs.Statements.{twin_all}
 
 -- both show the same, and leave no objects
 pub record Same (most : ℕ) (a b : Seen Event) : Type 0 where
@@ -64,21 +65,17 @@ seen_same places c (Going s) (Going m) h = record {
 seen_same places c _ _ h = absurd h
 
 module _ (program : Program) (small : is_small_program program ≡ true) where
-  procs_rest : (are_ints program.globals
-      && (nat_eq program.start.first 0
-      && (is_none program.start.result && (is_none (base_in (fact_of program.facts int)) && is_small program.start.places program.start.stmts)))) ≡ true
-  procs_rest = (and_parts (is_empty program.procs) _ small).1
+  started : is_small_start program ≡ true
+  started = (and_parts (is_small_start program) _ small).0
 
-  numbered : (nat_eq program.start.first 0
-      && (is_none program.start.result && (is_none (base_in (fact_of program.facts int)) && is_small program.start.places program.start.stmts))) ≡ true
-  numbered = (and_parts (are_ints program.globals) _ procs_rest).1
+  stated : is_small program.start.places program.start.stmts ≡ true
+  stated = (and_parts (is_small program.start.places program.start.stmts) _ started).0
 
-  resulting : (is_none program.start.result
-      && (is_none (base_in (fact_of program.facts int)) && is_small program.start.places program.start.stmts)) ≡ true
-  resulting = (and_parts (nat_eq program.start.first 0) _ numbered).1
+  numbered : is_numbered program ≡ true
+  numbered = (and_parts (are_ints program.globals) _ (and_parts (is_small program.start.places program.start.stmts) _ started).1).1
 
-  typed : (is_none (base_in (fact_of program.facts int)) && is_small program.start.places program.start.stmts) ≡ true
-  typed = (and_parts (is_none program.start.result) _ resulting).1
+  typed : (is_none program.start.result && is_none (base_in (fact_of program.facts int))) ≡ true
+  typed = (and_parts (nat_eq program.start.first 0) _ numbered).1
 
   first_is : program.start.first ≡ 0
   first_is = eqb-true program.start.first 0 (and_parts (nat_eq program.start.first 0) _ numbered).0
@@ -102,12 +99,11 @@ module _ (program : Program) (small : is_small_program program ≡ true) where
       (M.exec_all program.start.stmts (M.at_top program) (worked (start_sum program.facts program.start) (M.at_first program n)))
       (N.exec_all (stmts_of program.start.stmts) (λ _. pos 0) (begun n)) M.reported
       (twin_all program.start.places program.start.result (M.calls program ACTIVE_CALLS 1) program.facts
-      (and_parts (is_none (base_in (fact_of program.facts int))) _ typed).0
-      program.start.stmts
-      (and_parts (is_none (base_in (fact_of program.facts int))) _ typed).1
+      (and_parts (is_none program.start.result) _ typed).1
+      program.start.stmts stated
       (λ _. pos 0) at_start (worked (start_sum program.facts program.start) (M.at_first program n)) (begun n) (omega (arith), omega (arith))
       (stands_first program.facts program.start.first program.start.places program.start.result first_is
-      (and_parts (is_none program.start.result) _ resulting).0)
+      (and_parts (is_none program.start.result) _ typed).0)
       (begins n))
       (λ flow values s m i b. (i, b)))
 
@@ -116,7 +112,7 @@ module _ (program : Program) (small : is_small_program program ≡ true) where
 some_is : {A : Type 0} {x y : A} → Some x ≡ Some y → x ≡ y
 some_is e = cc (e)
 
-is_it : {A : Type 0} (b : Bool) (x y : A) → (if b then Some x else None) ≡ Some y → (b ≡ true) × (x ≡ y)
+pub is_it : {A : Type 0} (b : Bool) (x y : A) → (if b then Some x else None) ≡ Some y → (b ≡ true) × (x ≡ y)
 is_it true x y e = (refl, some_is e)
 is_it false x y e = absurd (cc)
 

@@ -1,3 +1,6 @@
 pub mod Small
+pub mod Lacks
+pub mod Behind
+pub mod Declares
 pub mod Examples
 pub mod Weight

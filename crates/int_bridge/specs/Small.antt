@@ -1,5 +1,6 @@
 -- Which typed programs are programs of ints, and which program of the small tree each of them is.
 use Rattle.std.specs.Prelude.{ℕ, pos, Bool, true, false, ◌&&◌, if◌then◌else◌, nat_eq, nat_lt, List, [], ◌∷◌, map, Option, Some, None}
+use Rattle.arc_base.specs.declared.place.Place.{Place}
 use Rattle.nim_types.specs.Types.{Ty, int, fact_of, base_in}
 use Rattle.nim_core.specs.declared.expr.Node.{Node}
 use Rattle.nim_core.specs.declared.expr.UnaryOperator.{UnaryOperator}
@@ -9,7 +10,7 @@ use Rattle.nim_core.specs.declared.expr.Operator.TheVariants as O
 use Rattle.nim_core.specs.declared.expr.Comparison.{Comparison}
 use Rattle.nim_core.specs.declared.expr.Comparison.TheVariants as C
 use Rattle.nim_core.specs.Program as T
-use Rattle.nim_core.specs.Program.{Expr, Exprs, Path, Declared, Stmt, Stmts, Branches, Proc, Program, node_of, node_at_path}
+use Rattle.nim_core.specs.Program.{Expr, Exprs, Path, Choices, Declared, Stmt, Stmts, Branches, Program, node_of, node_at_path}
 use Rattle.int_core.specs.declared.program.PlaceDecl.{PlaceDecl}
 use Rattle.int_core.specs.declared.program.Operator.{Operator as SmallOperator}
 use Rattle.int_core.specs.declared.program.Operator.TheVariants as P
@@ -78,10 +79,22 @@ is_small_operands T.NoExpr = false
 is_small_operands (T.AnExpr first T.NoExpr) = is_small_operand first
 is_small_operands (T.AnExpr first (T.AnExpr second rest)) = false
 
-abbrev pub is_small_call : Expr → Bool
-is_small_call (T.Echo node operands) = is_small_operands operands
-is_small_call (T.Quit node status) = is_small_expr status
-is_small_call _ = false
+abbrev pub is_last_choice : Choices → Bool
+is_last_choice T.NoChoice = true
+is_last_choice (T.AChoice condition value rest) = false
+
+abbrev mutual
+  -- a call, or an `if` between such expressions
+  pub is_small_call : Expr → Bool
+  is_small_call (T.Echo node operands) = is_small_operands operands
+  is_small_call (T.Quit node status) = is_small_expr status
+  is_small_call (T.If node ty choices otherwise) = is_none ty && (is_small_choices choices && is_small_call otherwise)
+  is_small_call _ = false
+
+  -- one branch
+  pub is_small_choices : Choices → Bool
+  is_small_choices T.NoChoice = false
+  is_small_choices (T.AChoice condition value rest) = is_small_cond condition && (is_small_call value && is_last_choice rest)
 
 -- a whole place whose number is below that of the places, so that it may be written
 abbrev pub is_target : ℕ → Path → Bool
@@ -116,13 +129,17 @@ abbrev pub are_ints : List Declared → Bool
 are_ints [] = true
 are_ints (place ∷ places) = is_int place.of && are_ints places
 
--- Without procedures, with globals of int; the places of the start code are numbered from 0, and int is no distinct type.
+-- what every checked program is: its start code is numbered from 0 and has no result, and int is no distinct type
+abbrev pub is_numbered : Program → Bool
+is_numbered program = nat_eq program.start.first 0 && (is_none program.start.result && is_none (base_in (fact_of program.facts int)))
+
+-- the start code, with globals of int
+abbrev pub is_small_start : Program → Bool
+is_small_start program = is_small program.start.places program.start.stmts && (are_ints program.globals && is_numbered program)
+
+-- without procedures
 abbrev pub is_small_program : Program → Bool
-is_small_program program =
-    is_empty program.procs
-    && (are_ints program.globals
-    && (nat_eq program.start.first 0
-    && (is_none program.start.result && (is_none (base_in (fact_of program.facts int)) && is_small program.start.places program.start.stmts))))
+is_small_program program = is_small_start program && is_empty program.procs
 
 -- ---- the small program of each; what another program becomes doesn't matter
 
@@ -143,17 +160,23 @@ abbrev pub variable_of : Path → ℕ
 variable_of (T.Variable node ty place global) = place
 variable_of _ = 0
 
+abbrev pub zero_at : Place → S.Expr
+zero_at at = S.Number at (pos 0)
+
+abbrev pub zeros : Place → S.Cond
+zeros at = record { at = at; comparison = D.Equal; left = zero_at at; right = zero_at at }
+
 abbrev pub expr_of : Expr → S.Expr
 expr_of (T.Ordinal node ty value) = S.Number node.at value
 expr_of (T.Read path) = S.Variable (node_at_path path).at (variable_of path)
 expr_of (T.Unary node ty operator operand) = S.Negate node.at (expr_of operand)
 expr_of (T.Binary node ty operator left right) = S.Binary node.at (operator_of operator) (expr_of left) (expr_of right)
-expr_of expr = S.Number (node_of expr).at (pos 0)
+expr_of expr = zero_at (node_of expr).at
 
 abbrev pub cond_of : Expr → S.Cond
 cond_of (T.Compare node ty comparison left right) =
     record { at = node.at; comparison = comparison_of comparison; left = expr_of left; right = expr_of right }
-cond_of expr = record { at = (node_of expr).at; comparison = D.Equal; left = expr_of expr; right = expr_of expr }
+cond_of expr = zeros (node_of expr).at
 
 abbrev pub echo_of : Node → Expr → S.Stmt
 echo_of node (T.Text other ty bytes) = S.EchoText node.at bytes
@@ -163,10 +186,25 @@ abbrev pub echoes_of : Node → Exprs → S.Stmt
 echoes_of node T.NoExpr = S.EchoText node.at []
 echoes_of node (T.AnExpr first rest) = echo_of node first
 
-abbrev pub call_of : Node → Expr → S.Stmt
-call_of node (T.Echo other operands) = echoes_of node operands
-call_of node (T.Quit other status) = S.Quit node.at (expr_of status)
-call_of node expr = S.EchoText node.at []
+-- the block of one statement
+abbrev pub lone : S.Stmt → S.Stmts
+lone stmt = S.Then stmt S.Empty
+
+abbrev mutual
+  pub call_of : Node → Expr → S.Stmt
+  call_of node (T.Echo other operands) = echoes_of node operands
+  call_of node (T.Quit other status) = S.Quit node.at (expr_of status)
+  call_of node (T.If other ty choices otherwise) = choices_of node choices (lone (call_of (node_of otherwise) otherwise))
+  call_of node expr = S.EchoText node.at []
+
+  -- otherwise is the block of `else`
+  pub choices_of : Node → Choices → (otherwise : S.Stmts) → S.Stmt
+  choices_of node T.NoChoice otherwise = S.EchoText node.at []
+  choices_of node (T.AChoice condition value rest) otherwise = S.If node.at (cond_of condition) (lone (call_of (node_of value) value)) otherwise
+
+-- a statement that is none of the small tree
+abbrev pub blank_line : S.Stmt
+blank_line = S.EchoText (record { «module» = 0; line = 0; column = 0 }) []
 
 abbrev mutual
   pub stmt_of : Stmt → S.Stmt
@@ -174,7 +212,7 @@ abbrev mutual
   stmt_of (T.Assign node path value) = S.Assign node.at (variable_of path) (expr_of value)
   stmt_of (T.Branch node branches otherwise) = branches_of node branches (stmts_of otherwise)
   stmt_of (T.While node condition body) = S.While node.at (cond_of condition) (stmts_of body)
-  stmt_of stmt = S.EchoText (record { «module» = 0; line = 0; column = 0 }) []
+  stmt_of stmt = blank_line
 
   pub branches_of : Node → Branches → S.Stmts → S.Stmt
   branches_of node T.NoBranch otherwise = S.EchoText node.at []
@@ -183,7 +221,7 @@ abbrev mutual
   pub stmts_of : Stmts → S.Stmts
   stmts_of T.Empty = S.Empty
   stmts_of (T.Then first rest) = S.Then (stmt_of first) (stmts_of rest)
-  stmts_of (T.Declare node place rest) = stmts_of rest
+  stmts_of (T.Declare node place rest) = S.Then blank_line (stmts_of rest)
   stmts_of (T.DeclareAs node place value rest) = S.Then (S.Declare node.at place.number (expr_of value)) (stmts_of rest)
 
 abbrev pub global_of : Declared → PlaceDecl

@@ -1,5 +1,6 @@
 // What a program means as a typed one, and as one of the small tree.
-ghost use Rattle.std.specs.Prelude.{◌≡◌, ℕ, ◌*◌, ◌+◌, ◌≤◌, List, length, Some, None};
+ghost use Rattle.std.specs.Prelude.{◌≡◌, ℕ, ◌*◌, ◌+◌, ◌≤◌, List, length, Some, None, Ok};
+ghost use Rattle.arc_base.specs.declared.place.Place.{Place};
 ghost use Rattle.arc_base.specs.Behaviour.{Agrees};
 ghost use Rattle.arc_base.specs.Pace.{PacedFrom};
 ghost use Rattle.nim_plan.specs.declared.plan.Plan.{Plan};
@@ -8,6 +9,7 @@ ghost use Rattle.nim_core.specs.Meaning.{meaning};
 ghost use Rattle.int_core.specs.Program.{Program as SmallProgram};
 ghost use Rattle.int_core.specs.Meaning.{meaning as small};
 ghost use Rattle.int_bridge.specs.Small.{small_of};
+ghost use Rattle.int_bridge.specs.Lacks.{lacks, small_answer};
 ghost use Rattle.int_bridge.specs.Weight.{most_ahead};
 ghost use Rattle.int_bridge.specs.Examples as typed;
 ghost use Rattle.int_core.specs.Examples as small_ones;
@@ -47,4 +49,18 @@ pub fn examples()
     ensures valueless { small_of typed.valueless ≡ None }
     ensures shifting { small_of typed.shifting ≡ None }
     ensures above { small_of typed.above ≡ None }
+    ensures deciding { small_of typed.deciding ≡ Some typed.decided }
+    ensures discarding { lacks typed.discarding ≡ Some (typed.on_line 2) }
+    ensures proclaiming { lacks typed.proclaiming ≡ Some (typed.on_line 1) }
+{}
+
+/// A typed program that is one of the small tree lacks nothing, and another lacks something at a
+/// place.
+pub fn lacking()
+    ensures given { (program : Program) (it : SmallProgram) →
+        small_of program ≡ Some it → small_answer program ≡ Ok it }
+    ensures small { (program : Program) (it : SmallProgram) →
+        small_answer program ≡ Ok it → small_of program ≡ Some it }
+    ensures lacks { (program : Program) → small_of program ≡ None →
+        (at : Place) × (lacks program ≡ Some at) }
 {}
