@@ -1,12 +1,9 @@
 -- Values as the code has them.
 use Rattle.std.proofs.Common.{◌≡◌, ℕ, zero, suc, ◌<◌, ◌≤◌, List, [], ◌∷◌, length, map, Vec, Global, refl, sym, ap, ◌∙◌, arith, get_or, set}
 use mathlib.Core.Former.{Count}
-use Rattle.nim_core.specs.declared.expr.Literal.{Literal as RustLiteral, Row_of-Literal, end_of-Literal, more_of-Literal, items-the_row-Literal}
-use Rattle.nim_core.specs.declared.expr.Literal.{items_hidden-the_row-Literal-0}
-use Rattle.nim_core.specs.declared.expr.Literal.TheVariants as L
-use Rattle.nim_core.specs.Program.{PartsOf, ElementsOf}
-use Rattle.nim_core.specs.Values.{Value, Parts, Values, Nil, More, nothing, count, length_of, nth, with_nth, with_part, part, literal_value, literal_values}
-use Rattle.nim_core.specs.View.{literal_of, literal_row, literals_of}
+use Rattle.nim_core.specs.declared.expr.Literal.{Literal as RustLiteral}
+use Rattle.nim_core.specs.Values.{Value, Parts, Values, Nil, More, nothing, count, nth, with_nth, with_part, part, literal_value, literal_values}
+use Rattle.nim_core.specs.View.{literal_of, literals_of}
 use Rattle.core_runner.specs.declared.value.Value.{Value as RustValue, Row_of-Value, end_of-Value, more_of-Value, items-the_row-Value}
 use Rattle.core_runner.specs.declared.value.Value.{items_hidden-the_row-Value-0}
 use Rattle.core_runner.specs.declared.value.Value.TheVariants as V
@@ -73,25 +70,6 @@ part_nothing [] = refl
 part_nothing (i ∷ path) = part_nothing path
 
 -- ---- constants
-
-literals_are : (n : Count) (row : Row_of-Literal n) → literal_row row ≡ literals_of (items-the_row-Literal n row)
-literals_are n end_of-Literal = refl
-literals_are n (more_of-Literal l row) = ap (Rattle.nim_core.specs.Program.ALiteral (literal_of l)) (literals_are _ row)
-
-abbrev literal_parts : RustLiteral → (n : Count) × Row_of-Literal n
-literal_parts (L.Parts' _ row) = (_, row)
-literal_parts (L.Elements' _ row) = (_, row)
-literal_parts _ = (_, end_of-Literal)
-
-pub literal_parts_is : (all : Vec RustLiteral Global) → literal_of (L.Parts all) ≡ PartsOf (literals_of all.items)
-literal_parts_is all =
-    let row = literal_parts (L.Parts all) in
-    ap PartsOf (literals_are row.0 row.1 ∙ ap literals_of (items_hidden-the_row-Literal-0 all))
-
-pub literal_elements_is : (all : Vec RustLiteral Global) → literal_of (L.Elements all) ≡ ElementsOf (literals_of all.items)
-literal_elements_is all =
-    let row = literal_parts (L.Elements all) in
-    ap ElementsOf (literals_are row.0 row.1 ∙ ap literals_of (items_hidden-the_row-Literal-0 all))
 
 pub literal_values_are : (ls : List RustLiteral) (vs : List RustValue) → map value_of vs ≡ map (λ l. literal_value (literal_of l)) ls →
     values_of vs ≡ literal_values (literals_of ls)

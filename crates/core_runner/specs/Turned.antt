@@ -15,7 +15,8 @@ use Rattle.core_runner.specs.declared.mean.Turn.TheVariants as U
 use Rattle.core_runner.specs.Table.{types_of}
 use Rattle.core_runner.specs.Left.{Valued, Now, Comes, Run}
 use Rattle.core_runner.specs.Ends.{Goes, Says, Stops, Waits}
-use Rattle.core_runner.specs.View.{program_of, run_of, now_of, trap_of}
+use Rattle.plain_values.specs.Checked.{trap_of}
+use Rattle.core_runner.specs.View.{program_of, run_of, now_of}
 
 abbrev pub Turned : RustProgram → Run → Turn → RustRest → Type 0
 Turned p old (U.Next now) rest = Goes (program_of p) old (run_of p (now_of (types_of p.types) now) rest)

@@ -12,7 +12,7 @@ use Rattle.nim_core.specs.View.{if_type, expr_of, path_of, exprs_of, inits_of, a
 use Rattle.nim_core.specs.View.{param_of, program_under}
 use Rattle.nim_core.specs.declared.program.Program.{Program as RustProgram}
 use Rattle.core_runner.specs.Table.{types_of, facts_of}
-use Rattle.nim_core.specs.Traps.{Trap, Overflow, DivisionByZero, IndexOutOfBounds, OutOfRange, LengthChanged, CallDepth, trap_text}
+use Rattle.nim_core.specs.Traps.{trap_text}
 use Rattle.nim_core.specs.Constants.{Evaluated, Comes_to, Traps, Varies}
 use Rattle.nim_core.specs.Values.{Value, Number, Parts, Values, Nil, More, number_of, Base, Standing, Made, Location, Slot, Holds, Stands}
 use Rattle.nim_core.specs.State.{Frame, World}
@@ -58,8 +58,7 @@ use Rattle.core_runner.specs.declared.state.Todo.{Todo as RustTodo}
 use Rattle.core_runner.specs.declared.state.Todo.TheVariants as T
 use Rattle.core_runner.specs.declared.state.Opening.{Opening as RustOpening}
 use Rattle.core_runner.specs.declared.state.Rest.{Rest as RustRest}
-use Rattle.core_runner.specs.declared.state.Trap.{Trap as RustTrap}
-use Rattle.core_runner.specs.declared.state.Trap.TheVariants as X
+use Rattle.plain_values.specs.Checked.{trap_of}
 use Rattle.core_runner.specs.declared.state.Step.{Step}
 use Rattle.core_runner.specs.declared.state.Step.TheVariants as G
 use Rattle.core_runner.specs.Left.{Answer, Valued, Aiming, Shape, AsParts, AsSequence, Now, Evaluates, Aims, Collects, Writes, Constructs, Calls, Chooses}
@@ -268,14 +267,6 @@ run_with ts now rest = record {
   units = rest.units;
   world = world_of rest.frames.items;
 }
-
-abbrev pub trap_of : RustTrap → Trap
-trap_of X.Overflow = Overflow
-trap_of X.DivisionByZero = DivisionByZero
-trap_of X.IndexOutOfBounds = IndexOutOfBounds
-trap_of X.OutOfRange = OutOfRange
-trap_of X.LengthChanged = LengthChanged
-trap_of X.CallDepth = CallDepth
 
 abbrev pub with_waiting : Todo → Run → Run
 with_waiting todo run = record run { todo = todo ∷ run.todo }

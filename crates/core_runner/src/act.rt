@@ -1,5 +1,5 @@
 // What waits for an answer and looks at places, changes the world, or traps.
-ghost use Rattle.std.specs.Prelude.{◌≡◌, IfOk, OnOk, Some, None, Option, option_map, pos};
+ghost use Rattle.std.specs.Prelude.{◌≡◌, IfOk, OnOk, Some, None, Option, option_map};
 ghost use Rattle.core_runner.specs.Step.{result_put};
 ghost use Rattle.nim_core.specs.declared.program.Program.{Program as RustProgram};
 ghost use Rattle.nim_core.specs.Values.{Number};
@@ -12,19 +12,19 @@ ghost use Rattle.core_runner.specs.Left.{Comes, Applies, Operates, Converts, Get
 ghost use Rattle.core_runner.specs.Left.{Moves, StepsByOne, Steps, Adds, Swaps, Assigns, Results};
 ghost use Rattle.core_runner.specs.Left.{Returns};
 ghost use Rattle.core_runner.specs.Checked.{Changes};
-ghost use Rattle.core_runner.specs.View.{answer_of, value_of, aim_of, int_of, location_of};
+ghost use Rattle.core_runner.specs.View.{answer_of, value_of, aim_of, location_of};
 ghost use Rattle.core_runner.specs.View.{world_of, run_of, with_waiting, StepOf};
 
 use crate::expr::{gives, goes};
 use crate::follow::{aim_in, value_in};
-use crate::number::{apply, calculate, one_of};
-use crate::place::{fill, find, length_at, load, number_at, store};
-use crate::state::{Aim, Answer, Base, Frame, Location, Now, Rest, Step, Trap, Way};
-use crate::table::{default_value, limit_of};
+use crate::place::{find, length_at, load, number_at, store};
+use crate::state::{Aim, Answer, Base, Frame, Location, Now, Rest, Step, Way};
+use crate::table::default_value;
 use crate::value::{Value, number};
 use arc_base::Memory;
 use nim_core::{Measure, Operator, PlaceDecl, Program, UnaryOperator};
 use nim_types::TypeId;
+use plain_values::{Trap, apply, calculate, limit_of, one_of};
 use std::alloc::Global;
 
 /// An operation on one operand.

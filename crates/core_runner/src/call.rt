@@ -17,14 +17,13 @@ ghost use Rattle.core_runner.specs.View.{program_of, with_waiting, StepOf};
 
 use crate::expr::{first, first_aim, gives};
 use crate::place::{load_place, settle};
-use crate::state::{
-    Caller, Follow, Frame, Listed, Now, Opening, Ready, Rest, Slot, Step, Todo, Trap,
-};
+use crate::state::{Caller, Follow, Frame, Listed, Now, Opening, Ready, Rest, Slot, Step, Todo};
 use crate::table::default_value;
 use crate::value::Value;
 use arc_base::{Items, Memory};
-use nim_core::{Arg, Body, Param, PlaceDecl, Proc, Program};
+use nim_core::{Arg, Body, Param, PlaceDecl, Program};
 use nim_types::TypeTable;
+use plain_values::Trap;
 use std::alloc::Global;
 
 // The slot of a result, where there is one.

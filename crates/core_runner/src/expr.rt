@@ -1,5 +1,5 @@
 // Into expressions.
-ghost use Rattle.std.specs.Prelude.{◌≡◌, ◌+◌, [], IfOk, List, suc, Some};
+ghost use Rattle.std.specs.Prelude.{◌≡◌, ◌+◌, [], IfOk, List, Some};
 ghost use Rattle.std.specs.Prelude.{option_map};
 ghost use Rattle.nim_types.specs.Types.{Ty, Facts};
 ghost use Rattle.nim_types.specs.Table.{type_at};
@@ -9,7 +9,7 @@ ghost use Rattle.nim_core.specs.Values.{nothing};
 ghost use Rattle.nim_core.specs.View.{expr_of, path_of, exprs_of};
 ghost use Rattle.nim_core.specs.View.{inits_of, args_of, choices_of, picks_of, if_type};
 ghost use Rattle.core_runner.specs.Table.{types_of, facts_of};
-ghost use Rattle.core_runner.specs.Left.{Again, Follows, Collects, Constructs, Calls, Writes};
+ghost use Rattle.core_runner.specs.Left.{Again, Collects, Constructs, Calls, Writes};
 ghost use Rattle.core_runner.specs.Left.{Chooses, Picked, StepBy, Comes, Valued, Exits};
 ghost use Rattle.core_runner.specs.Opens as spec;
 ghost use Rattle.core_runner.specs.Opens.{inmost, reads, opens, opens_path, opens_read};

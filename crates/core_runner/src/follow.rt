@@ -23,6 +23,7 @@ use crate::value::{Value, is_true, number};
 use arc_base::Memory;
 use nim_core::{Branch, Choice, Comparison, Expr, Stmt};
 use nim_types::TypeTable;
+use plain_values::compares;
 use std::alloc::Global;
 
 /// The value that was given.
@@ -159,19 +160,10 @@ fn chosen_block_at<'a>(
     )
 }
 
-pub fn compare(comparison: Comparison, x: &Value, y: &Value) -> bool
+fn compare(comparison: Comparison, x: &Value, y: &Value) -> bool
     ensures { result ≡ compared comparison (int_of x.now) (int_of y.now) }
 {
-    let x = number(x);
-    let y = number(y);
-    match comparison {
-        Comparison::Equal => x == y,
-        Comparison::Unequal => x != y,
-        Comparison::Less => x < y,
-        Comparison::AtMost => x <= y,
-        Comparison::Greater => x > y,
-        Comparison::AtLeast => x >= y,
-    }
+    compares(comparison, number(x), number(y))
 }
 
 // A bool as a value.

@@ -8,7 +8,6 @@ mod follow;
 mod label;
 mod listed;
 pub mod mean;
-mod number;
 mod parts;
 mod place;
 mod same;
@@ -18,8 +17,9 @@ mod table;
 mod turn;
 mod value;
 
+pub use plain_values::Trap;
 pub use state::{
     Aim, Answer, Base, Caller, Evaluated, Follow, Frame, Hop, Listed, Location, Loop, Now, OfPath,
-    OfStmt, Opening, Part, Ready, Rest, Shape, Slot, Step, Todo, Trap, Way,
+    OfStmt, Opening, Part, Ready, Rest, Shape, Slot, Step, Todo, Way,
 };
 pub use value::Value;

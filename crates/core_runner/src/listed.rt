@@ -13,11 +13,11 @@ ghost use Rattle.core_runner.specs.View.{written_of};
 use crate::expr::{gives, goes};
 use crate::follow::{aim_in, value_in};
 use crate::state::{Answer, Listed, Now, Opening, Part, Ready};
-use crate::table::push_text;
 use crate::value::{Value, number};
 use arc_base::{Bytes, Memory};
 use nim_core::{Arg, Expr, type_of};
 use nim_types::TypeTable;
+use plain_values::add_text;
 use std::alloc::Global;
 
 // Adds the text of an expression's value.
@@ -27,7 +27,7 @@ fn write(types: &TypeTable, expr: &Expr, v: &Value, text: &mut Bytes) -> Result<
 {
     match expr {
         Expr::Text { bytes, .. } => text.append(bytes.as_slice()),
-        _ => push_text(types, type_of(expr), number(v), text),
+        _ => add_text(types, type_of(expr), number(v), text),
     }
 }
 

@@ -11,20 +11,20 @@ ghost use Rattle.core_runner.specs.Left.{Now as SpecNow, Comes, Writes};
 ghost use Rattle.core_runner.specs.Mean.{Means};
 ghost use Rattle.core_runner.specs.Turned.{Turned, first_run};
 ghost use Rattle.core_runner.specs.View.{stack_of, run_of, program_of, now_of, todo_of, way_of};
-ghost use Rattle.core_runner.specs.View.{answer_of, trap_of, with_waiting, StepOf};
+ghost use Rattle.core_runner.specs.View.{answer_of, with_waiting, StepOf};
+ghost use Rattle.plain_values.specs.Checked.{trap_of};
 ghost use Rattle.core_runner.specs.Table.{types_of};
 
 use crate::call::{call, fill_slots, hand};
 use crate::follow::{follow, value_in};
-use crate::state::{
-    Answer, Caller, Follow, Frame, Listed, Loop, Now, Rest, Slot, Step, Todo, Trap, Way,
-};
+use crate::state::{Answer, Caller, Follow, Frame, Listed, Loop, Now, Rest, Slot, Step, Todo, Way};
 use crate::stmt::{decide, run};
 use crate::value::{Value, low_byte};
 use crate::{act, expr, parts, turn};
 use arc_base::{Bytes, Memory, Sink, Source, Stream, put_all};
 use nim_core::{ACTIVE_CALLS, Expr, Program};
 use nim_plan::Plan;
+use plain_values::Trap;
 use std::alloc::Global;
 
 /// How running a meaning ended.

@@ -1,11 +1,10 @@
 // Where values stand.
-ghost use Rattle.std.specs.Prelude.{◌≡◌, ◌++◌, [], slice_get, slice_set, IfOk, OnOk, List, map};
-ghost use Rattle.std.specs.Prelude.{Option, option_map, drop, if◌then◌else◌, unsigned_abs, Some};
+ghost use Rattle.std.specs.Prelude.{◌≡◌, [], slice_get, slice_set, IfOk, map};
+ghost use Rattle.std.specs.Prelude.{Option, option_map, if◌then◌else◌, unsigned_abs, Some};
 ghost use Rattle.std.specs.Prelude.{None};
 ghost use Rattle.nim_core.specs.Ints.{inside};
 ghost use Rattle.nim_core.specs.Values.{Holds, value_in, number_of, length_of, put_part, deeper};
 ghost use Rattle.nim_core.specs.State.{slot_at, slot_in, whole_at, with_slot, load, store};
-ghost use Rattle.nim_core.specs.Acts.{branch};
 ghost use Rattle.nim_core.specs.Places.{root_of};
 ghost use Rattle.core_runner.specs.Look.{located, slot_for, settled};
 ghost use Rattle.core_runner.specs.Step.{step_down};

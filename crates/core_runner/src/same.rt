@@ -9,17 +9,16 @@ ghost use Rattle.nim_core.specs.Constants.{from_one, from_two, both_of, either_o
 ghost use Rattle.nim_core.specs.Constants.{constant_of, Comes_to};
 ghost use Rattle.nim_core.specs.SelfAssignment as itself;
 ghost use Rattle.nim_core.specs.View.{expr_of, path_of, declared_of};
-ghost use Rattle.core_runner.specs.Checked.{checked_of};
+ghost use Rattle.plain_values.specs.Checked.{checked_of};
 ghost use Rattle.core_runner.specs.Table.{types_of};
 ghost use Rattle.core_runner.specs.View.{evaluated_as};
 
-use crate::follow::compare;
-use crate::number::{apply, calculate};
-use crate::state::{Evaluated, Trap};
+use crate::state::Evaluated;
 use crate::table::converted_to;
 use crate::value::{Value, is_true};
 use nim_core::{Comparison, Expr, Operator, Path, PlaceDecl, UnaryOperator};
 use nim_types::{TypeId, TypeTable};
+use plain_values::{Trap, apply, calculate, compares};
 
 // ---- constants
 
@@ -97,9 +96,7 @@ fn compare_with(comparison: Comparison, x: Evaluated, y: Evaluated) -> Evaluated
 {
     match x {
         Evaluated::ComesTo(x) => match y {
-            Evaluated::ComesTo(y) => {
-                truth_of(compare(comparison, &Value::Number(x), &Value::Number(y)))
-            }
+            Evaluated::ComesTo(y) => truth_of(compares(comparison, x, y)),
             Evaluated::Traps => Evaluated::Traps,
             Evaluated::Varies => Evaluated::Varies,
         },

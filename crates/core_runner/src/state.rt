@@ -6,6 +6,7 @@ use nim_core::{
     PlaceDecl, Stmt, UnaryOperator,
 };
 use nim_types::TypeId;
+use plain_values::Trap;
 
 /// How control leaves a part of a program before its end, and the number of the statement by which
 /// it does.
@@ -376,17 +377,6 @@ pub struct Rest<'a> {
     pub at: Caller<'a>,
     /// How many units are left.
     pub units: u64,
-}
-
-/// What ends a run at once.
-#[derive(Clone, Copy)]
-pub enum Trap {
-    Overflow,
-    DivisionByZero,
-    IndexOutOfBounds,
-    OutOfRange,
-    LengthChanged,
-    CallDepth,
 }
 
 /// What a step came to.

@@ -6,7 +6,7 @@ ghost use Rattle.nim_core.specs.SelfAssignment.{is_result};
 ghost use Rattle.nim_core.specs.Acts.{Returned, branch};
 ghost use Rattle.nim_core.specs.View.{expr_of, stmts_of, branches_of, stmt_before, declares};
 ghost use Rattle.nim_core.specs.View.{declared_of, path_of, arms_of, discarded, returned};
-ghost use Rattle.core_runner.specs.Table.{types_of, facts_of};
+ghost use Rattle.core_runner.specs.Table.{types_of};
 ghost use Rattle.core_runner.specs.Left.{Runs, Returns, Drops, StepBy, Decides, Selects};
 ghost use Rattle.core_runner.specs.Left.{CountFrom};
 ghost use Rattle.core_runner.specs.Opens.{opens_block, opens_branches};

@@ -1,5 +1,5 @@
 // Loops and ends of scopes.
-ghost use Rattle.std.specs.Prelude.{◌≡◌, IfOk, IfSome, IfNone, List, drop, false, int_lt, nat_eq};
+ghost use Rattle.std.specs.Prelude.{◌≡◌, IfOk, IfSome, IfNone, drop, false, int_lt, nat_eq};
 ghost use Rattle.std.specs.Prelude.{pos, ◌+ℤ◌, ℕ};
 ghost use Rattle.nim_core.specs.declared.program.Program.{Program as RustProgram};
 ghost use Rattle.nim_core.specs.Acts.{On, Out, Continued};
@@ -15,10 +15,11 @@ ghost use Rattle.core_runner.specs.View.{loop_of, with_waiting, StepOf};
 use crate::expr::{first, gives, goes};
 use crate::follow::{aim_in, value_in};
 use crate::place::{fill, find, length_at, load_part};
-use crate::state::{Aim, Answer, Loop, Now, Opening, Rest, Step, Todo, Trap, Way};
+use crate::state::{Aim, Answer, Loop, Now, Opening, Rest, Step, Todo, Way};
 use crate::value::{Value, is_true, number};
 use arc_base::Memory;
 use nim_core::{Expr, PlaceDecl, Stmt};
+use plain_values::Trap;
 use std::alloc::Global;
 
 /// The body of a `while`, or its end.

@@ -1,5 +1,5 @@
 // Values.
-ghost use Rattle.std.specs.Prelude.{◌≡◌, IfOk, OnOk, map, List, option_map, drop};
+ghost use Rattle.std.specs.Prelude.{◌≡◌, IfOk, map, option_map};
 ghost use Rattle.nim_core.specs.Values.{literal_value, part, put_part, with_part, nothing, nth};
 ghost use Rattle.nim_core.specs.Values.{with_nth, parts_of, length_of};
 ghost use Rattle.nim_core.specs.Ints.{is_true, low_byte};

@@ -12,8 +12,9 @@ use Rattle.nim_core.specs.Program.{Literal, NoLiteral, ALiteral}
 use Rattle.nim_core.specs.View.{literal_of, literals_of}
 use Rattle.expr_rules.specs.Constants.{given_or}
 use Rattle.expr_rules.specs.Literals.{default_literal}
-use Rattle.expr_constants.specs.ViewConstants.{and_last, known_parts, field_values, literal_or}
-use Rattle.expr_constants.proofs.ConstantTypes.{literals_last}
+use Rattle.plain_values.specs.Entries.{and_last}
+use Rattle.plain_values.proofs.ForCallers.{literals_last}
+use Rattle.expr_constants.specs.ViewConstants.{known_parts, field_values, literal_or}
 
 -- what is given, or isn't
 pub given_is : {R : Type 0} (of : R → Literal) (a other : Literal) (o : Option R) (x : R) → a ≡ literal_or of other o → o ≡ Some x → a ≡ of x

@@ -3,7 +3,8 @@ use Rattle.std.proofs.Common.{◌≡◌, ℕ, suc, ◌+◌, List, [], ◌∷◌,
 use Rattle.nim_core.specs.Program as P
 use Rattle.nim_core.specs.Program.{Expr, Exprs, Path, Inits, Literal, Literals, NoLiteral, ALiteral}
 use Rattle.expr_rules.specs.Constants.{Evaluated, comes_to, traps, varies, on_two}
-use Rattle.expr_constants.specs.ViewConstants.{and_last, and_value, and_given}
+use Rattle.plain_values.specs.Entries.{and_last}
+use Rattle.expr_constants.specs.ViewConstants.{and_value, and_given}
 
 -- ---- how many expressions may be evaluated, with itself
 

@@ -3,10 +3,9 @@ use Rattle.std.specs.Prelude.{ℕ, suc, ◌^◌, ◌-◌, ℤ, pos, negsuc, unsi
 use Rattle.std.specs.Prelude.{length, map, nat_eq, int_le, if◌then◌else◌, Option, Some, None, Ok, Vec}
 use Rattle.std.specs.declared.alloc.Global.{Global}
 use Rattle.nim_types.specs.Types.{Ty, Facts}
-use Rattle.nim_types.specs.Forms.{form_in, forms_in, form_within}
 use Rattle.nim_types.specs.declared.types.TypeDef.{TypeDef}
 use Rattle.nim_types.specs.declared.types.TypeDef.TheVariants as D
-use Rattle.nim_types.specs.Table.{type_at, types_at, types_in, facts_in}
+use Rattle.nim_types.specs.Table.{type_at}
 use Rattle.nim_core.specs.declared.expr.Literal.{Literal as RustLiteral}
 use Rattle.arc_base.specs.declared.place.Place.{Place}
 use Rattle.expr_rules.specs.Answers.{Answer, not_typed}
@@ -16,17 +15,13 @@ use Rattle.expr_constants.specs.declared.evaluated.Evaluated.{Evaluated as RustE
 use Rattle.expr_constants.specs.declared.evaluated.Evaluated.TheVariants as V
 use Rattle.expr_constants.specs.declared.evaluated.Given.{Given}
 use Rattle.expr_rules.specs.Constants.{given_or, Evaluated, comes_to, traps, varies}
-use Rattle.expr_rules.specs.Literals.{default_literal, blank_literal, blank_literals}
+use Rattle.expr_rules.specs.Literals.{default_literal}
+use Rattle.plain_values.specs.Entries.{and_last}
 
 abbrev pub evaluated_of : {A B : Type 0} → (A → B) → RustEvaluated A → Evaluated B
 evaluated_of of (V.Comes a) = comes_to (of a)
 evaluated_of of V.Traps = traps
 evaluated_of of V.Varies = varies
-
--- what an operation on numbers gives
-abbrev pub number_or_trap : Option ℤ → Evaluated Literal
-number_or_trap (Some z) = comes_to (Number z)
-number_or_trap None = traps
 
 -- a number that isn't negative
 abbrev pub natural : ℤ → Option ℕ
@@ -60,11 +55,6 @@ left_of a b = a
 abbrev pub values_of : Vec RustLiteral Global → Literals
 values_of all = literals_of all.items
 
--- with one more at the end
-abbrev pub and_last : Literals → Literal → Literals
-and_last NoLiteral l = ALiteral l NoLiteral
-and_last (ALiteral first rest) l = ALiteral first (and_last rest l)
-
 abbrev pub and_value : Literals → Literal → Evaluated Literals
 and_value all l = comes_to (and_last all l)
 
@@ -76,14 +66,6 @@ all_given all = map given_of all.items
 
 abbrev pub and_given : (field : ℕ) → List (ℕ × Literal) → Literal → Evaluated (List (ℕ × Literal))
 and_given field all l = comes_to (all ++ (field, l) ∷ [])
-
--- ---- what a place starts at, so many declared types looked through
-
-abbrev pub starts_at : ℕ → List TypeDef → ℕ → Literal
-starts_at n ds i = blank_literal (form_in (form_within n (facts_in ds)) (type_at (types_in ds) i))
-
-abbrev pub starts_all : ℕ → List TypeDef → List ℕ → Literals
-starts_all n ds is = blank_literals (forms_in (form_within n (facts_in ds)) (types_at (types_in ds) is))
 
 -- ---- objects
 

@@ -1,114 +1,28 @@
-// What values of types start at.
-ghost use Rattle.std.specs.Prelude.{◌≡◌, ◌<◌, ◌≤◌, List, length, map, IfOk};
+// What values of types start at, and objects with values of some fields.
+ghost use Rattle.std.specs.Prelude.{◌≡◌, ◌<◌, List, length, map, IfOk};
 ghost use Rattle.nim_types.specs.Types.{Ty, Facts};
 ghost use Rattle.nim_types.specs.Table.{type_at, facts_in, AllBelow};
-ghost use Rattle.nim_core.specs.Program.{Literal as Meant, PartsOf, ElementsOf, NoLiteral};
+ghost use Rattle.nim_core.specs.Program.{Literal as Meant, PartsOf};
 ghost use Rattle.nim_core.specs.View.{literal_of, literals_of};
 ghost use Rattle.expr_rules.specs.Constants.{given_or, object_of, on_one};
-ghost use Rattle.expr_rules.specs.Literals.{default_literal, times};
+ghost use Rattle.expr_rules.specs.Literals.{default_literal};
 ghost use Rattle.expr_parts.specs.View.{Under};
-ghost use Rattle.expr_constants.specs.ViewConstants.{starts_at, starts_all};
 ghost use Rattle.expr_constants.specs.ViewConstants.{all_given, evaluated_of, given_of, literal_or};
 ghost use Rattle.expr_constants.specs.ViewConstants.{known_parts, field_values};
 
 use crate::evaluated::{Evaluated, Given, limited};
-use arc_base::{Bytes, Memory};
+use arc_base::Memory;
 use expr_parts::constants::copied;
 use expr_parts::kinds::known;
 use nim_core::Literal;
-use nim_types::{TypeDef, TypeId, TypeTable, declared_types, says};
+use nim_types::{TypeDef, TypeId, TypeTable, declared_types};
+use plain_values::start_of;
 use std::alloc::Global;
 
 fn parts_with(all: Vec<Literal>) -> Literal
     ensures { literal_of result ≡ PartsOf (literals_of all.items) }
 {
     Literal::Parts(all)
-}
-
-fn no_parts(alloc: Global) -> Literal
-    ensures { literal_of result ≡ PartsOf NoLiteral }
-{
-    parts_with(Vec::new(alloc))
-}
-
-fn no_elements(alloc: Global) -> Literal
-    ensures { literal_of result ≡ ElementsOf NoLiteral }
-{
-    Literal::Elements(Vec::new(alloc))
-}
-
-// So many of a value.
-fn repeated(alloc: Global, count: u32, literal: &Literal) -> Result<Literal, Memory>
-    ensures { IfOk result (λ l. literal_of l
-        ≡ PartsOf (times count (literal_of literal.now))) }
-{
-    let mut all = Vec::new(alloc);
-    for _ in 0..count {
-        all.push(copied(alloc, literal)?)?;
-    }
-    Ok(parts_with(all))
-}
-
-// What a value of a type starts at, so many declared types inside one another looked through.
-#[cycle(starts)]
-fn start(alloc: Global, types: &TypeTable, within: u32, ty: TypeId) -> Result<Literal, Memory>
-    requires { ty < length types.now }
-    ensures { IfOk result (λ l. literal_of l ≡ starts_at within types.now ty) }
-{
-    let count = types.count();
-    let def = types.get(ty);
-    match def {
-        TypeDef::Text => Ok(Literal::Text(Bytes::new(alloc))),
-        TypeDef::Seq(_) => Ok(no_elements(alloc)),
-        TypeDef::Array { len, of } => repeated(alloc, *len, &start(alloc, types, within, *of)?),
-        TypeDef::Tuple { parts, .. } => {
-            let all = start_all(alloc, types, within, ty, parts.as_slice())?;
-            Ok(parts_with(all))
-        }
-        TypeDef::Object { parts, .. } => {
-            if within == 0 {
-                return Ok(no_parts(alloc));
-            }
-            if !says(def) {
-                return Ok(no_parts(alloc));
-            }
-            let all = start_all(alloc, types, within - 1, count, parts.as_slice())?;
-            Ok(parts_with(all))
-        }
-        TypeDef::Distinct { base, .. } => {
-            if within == 0 {
-                return Ok(no_parts(alloc));
-            }
-            start(alloc, types, within - 1, *base)
-        }
-        TypeDef::Int => Ok(Literal::Ordinal(0)),
-        TypeDef::Bool => Ok(Literal::Ordinal(0)),
-        TypeDef::Char => Ok(Literal::Ordinal(0)),
-        TypeDef::Param(_) => Ok(Literal::Ordinal(0)),
-        TypeDef::Enum { .. } => Ok(Literal::Ordinal(0)),
-        TypeDef::Ref { .. } => Ok(Literal::Ordinal(0)),
-        TypeDef::Exception { .. } => Ok(Literal::Ordinal(0)),
-    }
-}
-
-#[cycle(starts)]
-fn start_all(
-    alloc: Global,
-    types: &TypeTable,
-    within: u32,
-    bound: u32,
-    ids: &[TypeId],
-) -> Result<Vec<Literal>, Memory>
-    requires bound { bound ≤ length types.now }
-    requires below { AllBelow bound ids.now }
-    ensures { IfOk result (λ all. literals_of all.items ≡ starts_all within types.now ids.now) }
-{
-    let mut all = Vec::new(alloc);
-    for id in ids {
-        let literal = start(alloc, types, within, *id)?;
-        all.push(literal)?;
-    }
-    Ok(all)
 }
 
 /// What a value of a type starts at, where so many declared types have something said of them.
@@ -123,10 +37,8 @@ pub fn default_literal(
     ensures { IfOk result (λ l. (ts : List Ty) (facts : Facts) → Under types.now ts facts
         → literal_of l ≡ default_literal facts (type_at ts ty)) }
 {
-    start(alloc, types, declared, ty)
+    start_of(alloc, types, declared, ty)
 }
-
-// ---- objects
 
 // The value that is given of a field.
 fn given_at(given: &[Given], i: usize) -> Option<&Literal>

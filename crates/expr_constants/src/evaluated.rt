@@ -1,19 +1,21 @@
 // What operations give of constants.
-ghost use Rattle.std.specs.Prelude.{◌≡◌, ◌++◌, ◌∷◌, [], unsigned_abs, map, IfOk, OnOk};
+ghost use Rattle.std.specs.Prelude.{◌≡◌, ◌++◌, map, IfOk, OnOk};
 ghost use Rattle.nim_core.specs.Ints.{truth};
 ghost use Rattle.nim_core.specs.Program.{ElementsOf, Number, PartsOf};
 ghost use Rattle.nim_core.specs.View.{literal_of, literals_of};
 ghost use Rattle.expr_rules.specs.Constants.{comes_to, on_one, on_two, unary_of, binary_of};
+ghost use Rattle.expr_rules.specs.Constants.{if_fine};
 ghost use Rattle.expr_rules.specs.Constants.{compare_of, both_of, either_of, unless_varies};
 ghost use Rattle.expr_rules.specs.Constants.{text_order, join_of, limited, measured, measure_of};
-ghost use Rattle.expr_constants.specs.ViewConstants.{evaluated_of, number_or_trap, has_letters};
-ghost use Rattle.expr_constants.specs.ViewConstants.{letters, number_in, left_of, values_of};
+ghost use Rattle.expr_constants.specs.ViewConstants.{evaluated_of, has_letters, letters};
+ghost use Rattle.expr_constants.specs.ViewConstants.{number_in, left_of, values_of};
 ghost use Rattle.expr_constants.specs.ViewConstants.{and_value, given_of, all_given, and_given};
+ghost use Rattle.plain_values.specs.Checked.{checked_of};
 
-use crate::arithmetic::{apply, calculate, compares};
 use crate::literal_sizes::is_small;
 use arc_base::{Bytes, Memory};
 use nim_core::{Comparison, Literal, Measure, Operator, UnaryOperator};
+use plain_values::{Trap, add_char, apply, calculate, compares};
 use std::alloc::Global;
 
 /// What an expression comes to before any run.
@@ -42,13 +44,13 @@ pub struct Given {
 
 // ---- values
 
-/// A number, None where an operation trapped.
-pub fn number_or_trap(number: Option<i32>) -> Evaluated<Literal>
-    ensures { evaluated_of literal_of result ≡ number_or_trap number }
+/// A number, where no operation trapped.
+pub fn number_or_trap(number: Result<i32, Trap>) -> Evaluated<Literal>
+    ensures { evaluated_of literal_of result ≡ if_fine (checked_of number) }
 {
     match number {
-        Some(value) => Evaluated::Comes(Literal::Ordinal(value)),
-        None => Evaluated::Traps,
+        Ok(value) => Evaluated::Comes(Literal::Ordinal(value)),
+        Err(_) => Evaluated::Traps,
     }
 }
 
@@ -250,16 +252,6 @@ fn add_letters(a: &Literal, text: &mut Bytes) -> Result<(), Memory>
         Literal::Ordinal(z) => add_char(*z, text),
         Literal::Text(bytes) => text.append(bytes.as_slice()),
         Literal::Parts(_) | Literal::Elements(_) => Ok(()),
-    }
-}
-
-/// Adds a char. No char is above 255.
-pub fn add_char(z: i32, text: &mut Bytes) -> Result<(), Memory>
-    ensures { OnOk result (text.new ≡ text.old ++ unsigned_abs z ∷ []) }
-{
-    match u8::try_from(z.unsigned_abs()) {
-        Ok(byte) => text.push(byte),
-        Err(_) => Err(Memory),
     }
 }
 

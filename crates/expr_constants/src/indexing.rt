@@ -13,9 +13,8 @@ ghost use Rattle.expr_rules.specs.Constructions.{index_rule, indexed, nth_type};
 ghost use Rattle.expr_rules.specs.Constructions.{numbered_part, read_part};
 ghost use Rattle.expr_rules.specs.Env.{Env};
 ghost use Rattle.expr_parts.specs.View.{KindsIn, Under, env_of, number_of, typed_of, valued_of};
-ghost use Rattle.expr_constants.specs.ViewConstants.{behind, tuple_parts};
+ghost use Rattle.expr_constants.specs.ViewConstants.{behind, natural, tuple_parts};
 
-use crate::arithmetic::natural;
 use crate::constant_rules::constant_at;
 use arc_base::{Code, Place, Stop};
 use expr_parts::kinds::{entry, is_int};
@@ -28,6 +27,16 @@ use nim_types::{TypeDef, TypeId, TypeTable};
 use std::alloc::Global;
 
 // ---- parts of tuples
+
+// A number that isn't negative.
+fn natural(z: i32) -> Option<u32>
+    ensures { result ≡ natural z }
+{
+    if z < 0 {
+        return None;
+    }
+    Some(z.unsigned_abs())
+}
 
 fn part_type(parts: &[TypeId], i: u32) -> Option<TypeId>
     ensures { result ≡ slice_get parts.now i }

@@ -1,7 +1,6 @@
 //! The values of constant expressions, and what needs them.
 #![tactic(auto)]
 
-pub mod arithmetic;
 pub mod constant_rules;
 pub mod defaults;
 pub mod evaluated;

@@ -2,7 +2,7 @@ use Rattle.std.proofs.Common.{◌∙◌, ap, refl}
 use Rattle.std.specs.Prelude.{option_map}
 use Rattle.nim_core.specs.Acts.{Out, Broke}
 use Rattle.core_runner.specs.Table.{types_of}
-use Rattle.core_runner.specs.Left.{Comes, Valued}
+use Rattle.core_runner.specs.Left.{Comes}
 use Rattle.core_runner.specs.View.{program_of, answer_of, caller_of, stack_of, world_of}
 use Rattle.core_runner.proofs.Arrive.{opens_in}
 use Rattle.core_runner.proofs.Turning as turning

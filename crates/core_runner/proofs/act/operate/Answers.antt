@@ -4,9 +4,9 @@ use Rattle.nim_core.specs.Values.{Number, number_of}
 use Rattle.nim_core.specs.Acts.{Out, Broke}
 use Rattle.nim_core.specs.Ints.{applied, Fine}
 use Rattle.core_runner.specs.Table.{types_of}
-use Rattle.core_runner.specs.Left.{Comes, Valued}
+use Rattle.core_runner.specs.Left.{Comes}
 use Rattle.core_runner.specs.Opens.{gives}
-use Rattle.core_runner.specs.Checked.{checked_of}
+use Rattle.plain_values.specs.Checked.{checked_of}
 use Rattle.core_runner.specs.View.{program_of, answer_of, value_of, caller_of, stack_of, world_of}
 use Rattle.core_runner.proofs.Arrive.{opens_as}
 use Rattle.core_runner.proofs.Moves as moves

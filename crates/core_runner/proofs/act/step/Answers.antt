@@ -6,7 +6,8 @@ use Rattle.nim_core.specs.Acts.{Out, Broke}
 use Rattle.core_runner.specs.Table.{types_of}
 use Rattle.core_runner.specs.Left.{Comes, number_given}
 use Rattle.core_runner.specs.Checked.{Changed, Changes}
-use Rattle.core_runner.specs.View.{program_of, trap_of, answer_of, aim_of, location_of, caller_of, stack_of, world_of}
+use Rattle.plain_values.specs.Checked.{trap_of}
+use Rattle.core_runner.specs.View.{program_of, answer_of, aim_of, location_of, caller_of, stack_of, world_of}
 use Rattle.core_runner.proofs.Arrive.{opens_in}
 use Rattle.core_runner.proofs.Moves as moves
 use Rattle.core_runner.proofs.act.step.Goals as goal

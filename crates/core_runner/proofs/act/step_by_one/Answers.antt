@@ -5,7 +5,8 @@ use Rattle.core_runner.specs.Table.{types_of}
 use Rattle.core_runner.specs.Left.{Comes}
 use Rattle.core_runner.specs.Look.{located}
 use Rattle.core_runner.specs.Checked.{Changed, Changes}
-use Rattle.core_runner.specs.View.{program_of, trap_of, answer_of, location_of, caller_of, stack_of, world_of}
+use Rattle.plain_values.specs.Checked.{trap_of}
+use Rattle.core_runner.specs.View.{program_of, answer_of, location_of, caller_of, stack_of, world_of}
 use Rattle.core_runner.proofs.Arrive.{opens_in}
 use Rattle.core_runner.proofs.Moves as moves
 use Rattle.core_runner.proofs.act.step_by_one.Goals as goal

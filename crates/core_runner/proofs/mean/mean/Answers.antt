@@ -9,7 +9,8 @@ use Rattle.core_runner.specs.Table.{types_of}
 use Rattle.core_runner.specs.Left.{Valued, Runs, Comes}
 use Rattle.core_runner.specs.Mean.{Told}
 use Rattle.core_runner.specs.Turned.{Turned}
-use Rattle.core_runner.specs.View.{program_of, run_of, now_of, trap_of}
+use Rattle.plain_values.specs.Checked.{trap_of}
+use Rattle.core_runner.specs.View.{program_of, run_of, now_of}
 use Rattle.core_runner.proofs.Calm.{goes_falls, says_falls}
 use Rattle.core_runner.proofs.Running.{Holding, holding_first, holding_goes, holding_says, ends, still, traps, no_memory, out_fails, err_fails}
 use Rattle.core_runner.proofs.mean.mean.Goals as goal

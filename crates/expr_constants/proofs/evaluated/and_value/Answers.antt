@@ -1,7 +1,7 @@
 use Rattle.std.proofs.Common.{ap, ◌∙◌}
 use Rattle.nim_core.specs.View.{literals_of}
 use Rattle.expr_rules.specs.Constants.{comes_to}
-use Rattle.expr_constants.proofs.ConstantTypes.{literals_last}
+use Rattle.plain_values.proofs.ForCallers.{literals_last}
 use Rattle.expr_constants.proofs.evaluated.and_value.Goals as goal
 
 pub returns : goal.returns

@@ -1,19 +1,21 @@
-use Rattle.std.proofs.Common.{◌++◌, ap, ap₂, sym, ◌∙◌, to_z, of_z, w32, to_z-of_z}
+use Rattle.std.proofs.Common.{◌<◌, ◌++◌, ap, ap₂, sym, ◌∙◌, arith, Some, to_z, of_z, w32, to_z-of_z}
 use Rattle.std.specs.Prelude.{length}
-use Rattle.nim_types.specs.Table.{type_at}
+use Rattle.nim_types.specs.Table.{type_at, types_in, facts_in}
 use Rattle.nim_core.specs.Program.{Characters}
-use Rattle.nim_core.specs.Texts.{below_distinct, plain_text}
+use Rattle.nim_core.specs.Texts.{below_distinct, plain_text, text_at}
+use Rattle.nim_core.specs.Values.{Number}
 use Rattle.expr_rules.specs.Constants.{limited}
-use Rattle.expr_constants.proofs.ConstantTypes.{count_under}
+use Rattle.expr_parts.proofs.ForCallers.{front_of}
 use Rattle.expr_constants.proofs.shown.shown_number.Goals as goal
 
 pub returns : goal.returns
 returns c = λ ts facts u.
+    let ds = c.args.types.now in
     let z = to_z w32 (of_z w32 c.args.z) in
-    let k = c.declared_types.ensures.count ∙ count_under u in
-    let m = sym (c.entry.ensures.means ts facts u) ∙ c.below-plain.ensures.is ts facts u ∙ ap (λ n. below_distinct n facts (type_at ts c.args.ty)) k in
+    let lt : c.args.ty < length ds = omega (arith, c.if-ty-count.false, c.count.ensures.count) in
     c.limited.ensures
     ∙ ap (λ t. limited (Characters t))
-    (c.in_ok-add_plain.ensures ts facts (c.entry.ensures.says ts facts u)
-    ∙ ap₂ (λ xs ty. xs ++ plain_text facts ty z) c.new-text.ensures m
+    (c.in_ok-add_text.ensures
+    ∙ ap (λ xs. xs ++ text_at (facts_in ds) (Some (type_at (types_in ds) c.args.ty)) (Number z)) c.new-text.ensures
+    ∙ ap₂ (λ fs ty. plain_text fs (below_distinct (length fs) fs ty) z) (sym u.said) (sym (front_of c.args.ty u lt))
     ∙ ap (plain_text facts (below_distinct (length facts) facts (type_at ts c.args.ty))) (to_z-of_z c.ranges.z))

@@ -1,0 +1,4 @@
+mod LiteralRows
+mod TextRows
+mod StartRows
+pub mod ForCallers
