@@ -15,7 +15,7 @@ use Rattle.expr_rules.specs.Answers.{Answer, Valued, settled}
 use Rattle.expr_rules.specs.Env.{Parameter}
 use Rattle.expr_rules.specs.Calls.{Argument, argument_before, argument_by, arguments_by, arguments_for, onto, paths_with}
 use Rattle.expr_parts.specs.View.{argument_of, operand_of, parameter_of, paths_of, paths_in}
-use Rattle.expr_parts.proofs.AnswerSteps.{stops}
+use Rattle.arc_base.proofs.ForCallers.{stops}
 use Rattle.expr_parts.proofs.Choosing.{map_last}
 
 -- arguments before others

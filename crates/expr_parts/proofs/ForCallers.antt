@@ -1,8 +1,12 @@
 -- The lemmas that proofs of other crates may cite.
-pub use Rattle.expr_parts.proofs.AnswerSteps.{answers_as, goes, makes, refuses, stops}
-pub use Rattle.expr_parts.proofs.Arguing.{nothing_left}
+pub use Rattle.arc_base.proofs.ForCallers.{answers_as, forgets, goes, makes, refuses, stops}
+pub use Rattle.expr_parts.proofs.Arguing.{nothing_left, opened}
+pub use Rattle.expr_parts.proofs.Choosing.{one_further, take_all, what_within}
 pub use Rattle.expr_parts.proofs.Fields.{all_fields, all_known, if_ok, none_known}
-pub use Rattle.expr_parts.proofs.Growing.{grown_same}
+pub use Rattle.expr_parts.proofs.Growing.{grown_on, grown_same}
+pub use Rattle.expr_parts.proofs.Indexing.{found_below, text_sound, up_to}
+pub use Rattle.expr_parts.proofs.Knowing.{hides, is_procedure, known_from, known_in, known_none, next_smaller}
+pub use Rattle.expr_parts.proofs.Naming.{no_type, same_procedure}
 pub use Rattle.expr_parts.proofs.Rows.{all_count, elements_held, literal_count, next_item, none_left, parts_held}
 pub use Rattle.nim_core.proofs.ForCallers.{constructed, made, sequenced}
 pub use Rattle.expr_parts.proofs.Settling.{counted, exprs_are, no_fit_is}

@@ -124,7 +124,7 @@ is_procedure (what.Type id) p e = absurd (none-some p e)
 is_procedure what.Input p e = absurd (none-some p e)
 is_procedure what.Pending p e = absurd (none-some p e)
 
-hides : (ts : List Ty) (x : List ℕ) (w : What) (before : Known) → procedure_in w ≡ None → callable (known_next before (entry_by ts x w)) ≡ []
+pub hides : (ts : List Ty) (x : List ℕ) (w : What) (before : Known) → procedure_in w ≡ None → callable (known_next before (entry_by ts x w)) ≡ []
 hides ts x (what.Procedure p) before e = absurd (none-some p (sym e))
 hides ts x (what.Variable place ty writable global) before e = refl
 hides ts x (what.Constant ty l) before e = refl

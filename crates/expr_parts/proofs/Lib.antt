@@ -1,4 +1,4 @@
-mod AnswerSteps
+mod Allowing
 mod Arguing
 mod Choosing
 mod Fields

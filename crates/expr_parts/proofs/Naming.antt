@@ -8,16 +8,17 @@ use Rattle.arc_base.specs.declared.place.Code.TheVariants.{NotTyped, UnknownName
 use Rattle.arc_base.specs.declared.place.Stop.{Stop}
 use Rattle.arc_base.specs.declared.place.Stop.TheVariants as stop
 use Rattle.arc_base.specs.Refusal.{Answers}
-use Rattle.nim_types.specs.Types.{Ty}
+use Rattle.nim_types.specs.Types.{Ty, same_text}
 use Rattle.expr_parts.specs.declared.scope.Procedure.{Procedure as RustProcedure}
-use Rattle.expr_rules.specs.Env.{Known, unknown, known_next, name_in}
+use Rattle.expr_rules.specs.Builtins.{operation_rule}
+use Rattle.expr_rules.specs.Env.{Env, Entry, Known, unknown, a_variable, a_constant, a_type, a_pending_type, procedures, the_input, known_behind, known_next, name_in}
 use Rattle.expr_parts.specs.declared.scope.What.{What}
 use Rattle.expr_parts.specs.declared.scope.What.TheVariants as what
 use Rattle.expr_parts.specs.declared.scope.Decl.{Decl}
-use Rattle.expr_rules.specs.Names.{is_unknown, name_rule, type_rule}
-use Rattle.expr_rules.specs.Answers.{Typed}
-use Rattle.expr_rules.specs.Demands.{former_by, of_nothing}
-use Rattle.expr_parts.proofs.AnswerSteps.{refuses}
+use Rattle.expr_rules.specs.Names.{is_unknown, name_rule, type_rule, unless_type}
+use Rattle.expr_rules.specs.Answers.{node, Operand, Typed}
+use Rattle.expr_rules.specs.Demands.{former_by, of_nothing, is_a_type}
+use Rattle.arc_base.proofs.ForCallers.{refuses}
 use Rattle.expr_parts.specs.View.{entry_by, Stands}
 
 pub name_by : (ts : List Ty) (x : List ℕ) (w : What) → name_in (entry_by ts x w) ≡ x
@@ -77,3 +78,16 @@ procedure_in p _ = p
 
 pub same_procedure : (p q : RustProcedure) → what.Procedure p ≡ what.Procedure q → p ≡ q
 same_procedure p q e = ap (procedure_in p) e
+
+-- ---- types by their names
+
+-- what is no type is an operation
+pub no_type : (env : Env) (n : ℕ) (at : Place) (k : Known) (x : List ℕ) (os : List Operand) → is_a_type k ≡ false
+    → unless_type env n at k x os ≡ operation_rule (node n at) x os
+no_type env n at unknown x os h = refl
+no_type env n at (a_variable place of writable global) x os h = refl
+no_type env n at (a_constant of value) x os h = refl
+no_type env n at (a_type ty) x os h = absurd (both_ways true h refl)
+no_type env n at a_pending_type x os h = refl
+no_type env n at (procedures all) x os h = refl
+no_type env n at the_input x os h = refl

@@ -3,7 +3,7 @@ use Rattle.std.specs.Prelude.{map}
 use Rattle.nim_core.specs.View.{path_of as path_in}
 use Rattle.expr_rules.specs.Calls.{argument_by}
 use Rattle.expr_parts.specs.View.{paths_in, argument_of, as_var, valued_of}
-use Rattle.expr_parts.proofs.AnswerSteps.{answers_as}
+use Rattle.arc_base.proofs.ForCallers.{answers_as}
 use Rattle.expr_parts.proofs.arguments.argument.Goals as goal
 
 pub returns-in_ok-path-in-Var : goal.returns-in_ok-path-in-Var

@@ -5,7 +5,7 @@ use Rattle.nim_core.specs.View.{path_of as path_in}
 use Rattle.expr_rules.specs.Calls.{no_overlap, by_var}
 use Rattle.expr_rules.specs.Paths.{overlaps_any}
 use Rattle.expr_parts.specs.View.{paths_in, argument_of}
-use Rattle.expr_parts.proofs.AnswerSteps.{goes, stops}
+use Rattle.arc_base.proofs.ForCallers.{goes, stops}
 use Rattle.expr_parts.proofs.arguments.passed_as_var.Goals as goal
 
 pub returns-in-Ok : goal.returns-in-Ok

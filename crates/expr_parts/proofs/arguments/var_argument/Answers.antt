@@ -5,7 +5,7 @@ use Rattle.nim_core.specs.View.{path_of as path_in}
 use Rattle.expr_rules.specs.Calls.{no_overlap}
 use Rattle.expr_rules.specs.Paths.{overlaps_any}
 use Rattle.expr_parts.specs.View.{paths_in}
-use Rattle.expr_parts.proofs.AnswerSteps.{refuses}
+use Rattle.arc_base.proofs.ForCallers.{refuses}
 use Rattle.expr_parts.proofs.arguments.var_argument.Goals as goal
 
 pub returns-then-not-writable : goal.returns-then-not-writable

@@ -8,7 +8,7 @@ use Rattle.expr_rules.specs.Answers.{node}
 use Rattle.expr_rules.specs.Calls.{borrowed_call}
 use Rattle.expr_parts.specs.View.{valued_of}
 use Rattle.expr_parts.proofs.Fields.{if_ok}
-use Rattle.expr_parts.proofs.AnswerSteps.{answers_as, makes, refuses}
+use Rattle.arc_base.proofs.ForCallers.{answers_as, makes, refuses}
 use Rattle.expr_parts.proofs.TypeNumbers.{text_under, text_below}
 use Rattle.expr_parts.proofs.borrowed.borrowed_on_one.Goals as goal
 

@@ -5,7 +5,7 @@ use Rattle.nim_core.specs.View.{expr_of}
 use Rattle.expr_rules.specs.Answers.{place_in}
 use Rattle.expr_rules.specs.Choices.{branch_value, if_agrees, agrees}
 use Rattle.expr_parts.specs.View.{branching_of}
-use Rattle.expr_parts.proofs.AnswerSteps.{refuses}
+use Rattle.arc_base.proofs.ForCallers.{refuses}
 use Rattle.expr_parts.proofs.branching.branch_value.Goals as goal
 
 pub returns-then-not-agrees-clause-answers : goal.returns-then-not-agrees-clause-answers

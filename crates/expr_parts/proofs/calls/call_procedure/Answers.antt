@@ -6,7 +6,7 @@ use Rattle.nim_core.specs.View.{args_of, expr_of, if_type}
 use Rattle.expr_rules.specs.Answers.{node}
 use Rattle.expr_rules.specs.Calls.{arguments_by, arguments_for}
 use Rattle.expr_parts.specs.View.{operand_of, parameter_of}
-use Rattle.expr_parts.proofs.AnswerSteps.{goes, stops}
+use Rattle.arc_base.proofs.ForCallers.{goes, stops}
 use Rattle.expr_parts.proofs.calls.call_procedure.Goals as goal
 
 pub returns-in-Ok-clause-answers : goal.returns-in-Ok-clause-answers

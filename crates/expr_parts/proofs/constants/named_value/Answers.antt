@@ -9,7 +9,7 @@ use Rattle.expr_rules.specs.Builtins.{is_built_in}
 use Rattle.expr_rules.specs.Env.{known_as, known_next, unknown}
 use Rattle.expr_rules.specs.Names.{name_rule}
 use Rattle.expr_parts.specs.View.{env_of, entry_of, Stands, FoundWithin}
-use Rattle.expr_parts.proofs.AnswerSteps.{answers_as}
+use Rattle.arc_base.proofs.ForCallers.{answers_as}
 use Rattle.expr_parts.proofs.Naming.{no_value_is}
 use Rattle.expr_parts.proofs.constants.named_value.Goals as goal
 

@@ -8,7 +8,7 @@ use Rattle.nim_core.specs.View.{expr_of}
 use Rattle.expr_rules.specs.Answers.{node}
 use Rattle.expr_rules.specs.Constructions.{convert_by}
 use Rattle.expr_parts.specs.View.{operand_of, valued_of, converts}
-use Rattle.expr_parts.proofs.AnswerSteps.{refuses}
+use Rattle.arc_base.proofs.ForCallers.{refuses}
 use Rattle.expr_parts.proofs.Settling.{no_fit_one}
 use Rattle.expr_parts.proofs.conversions.convert.Goals as goal
 

@@ -6,7 +6,7 @@ use Rattle.nim_types.specs.Table.{type_at}
 use Rattle.nim_core.specs.View.{expr_of}
 use Rattle.expr_rules.specs.Constructions.{conversion_rule}
 use Rattle.expr_parts.specs.View.{operand_of}
-use Rattle.expr_parts.proofs.AnswerSteps.{refuses}
+use Rattle.arc_base.proofs.ForCallers.{refuses}
 use Rattle.expr_parts.proofs.Arguing.{nothing_left}
 use Rattle.expr_parts.proofs.Settling.{several}
 use Rattle.expr_parts.proofs.conversions.convert_last.Goals as goal

@@ -8,7 +8,7 @@ use Rattle.nim_core.specs.View.{expr_of, inits_of}
 use Rattle.expr_rules.specs.Answers.{node}
 use Rattle.expr_rules.specs.Constructions.{empty_object}
 use Rattle.expr_parts.specs.View.{are_fields}
-use Rattle.expr_parts.proofs.AnswerSteps.{refuses}
+use Rattle.arc_base.proofs.ForCallers.{refuses}
 use Rattle.nim_core.proofs.ForCallers.{constructed}
 use Rattle.expr_parts.proofs.Settling.{empty_with, empty_without}
 use Rattle.expr_parts.proofs.conversions.empty_object.Goals as goal

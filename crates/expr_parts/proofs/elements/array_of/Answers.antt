@@ -4,7 +4,7 @@ use Rattle.nim_types.specs.Table.{type_at}
 use Rattle.nim_core.specs.View.{expr_of, exprs_of}
 use Rattle.expr_rules.specs.Constructions.{array_rule}
 use Rattle.expr_parts.specs.View.{valued_of, array_by}
-use Rattle.expr_parts.proofs.AnswerSteps.{answers_as}
+use Rattle.arc_base.proofs.ForCallers.{answers_as}
 use Rattle.expr_parts.proofs.Settling.{array_from}
 use Rattle.expr_parts.proofs.elements.array_of.Goals as goal
 

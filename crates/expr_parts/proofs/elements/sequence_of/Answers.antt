@@ -7,7 +7,7 @@ use Rattle.nim_core.specs.View.{expr_of, exprs_of}
 use Rattle.expr_rules.specs.Answers.{node}
 use Rattle.expr_rules.specs.Constructions.{sequence_rule}
 use Rattle.expr_parts.specs.View.{valued_of}
-use Rattle.expr_parts.proofs.AnswerSteps.{answers_as}
+use Rattle.arc_base.proofs.ForCallers.{answers_as}
 use Rattle.expr_parts.proofs.Settling.{sequence_from}
 use Rattle.expr_parts.proofs.elements.sequence_of.Goals as goal
 

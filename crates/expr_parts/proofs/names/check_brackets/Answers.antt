@@ -1,6 +1,6 @@
 use Rattle.arc_base.specs.declared.place.Code.TheVariants.{NotTyped}
 use Rattle.expr_rules.specs.Builtins.{is_new_sequence}
-use Rattle.expr_parts.proofs.AnswerSteps.{allowed}
+use Rattle.expr_parts.proofs.Allowing.{allowed}
 use Rattle.expr_parts.proofs.names.check_brackets.Goals as goal
 
 pub returns : goal.returns

@@ -4,7 +4,7 @@ use Rattle.arc_base.specs.declared.place.Code.TheVariants.{UnknownName}
 use Rattle.arc_base.specs.Refusal.{refused}
 use Rattle.expr_rules.specs.Names.{callee_rule}
 use Rattle.expr_parts.specs.View.{env_of}
-use Rattle.expr_parts.proofs.AnswerSteps.{refuses}
+use Rattle.arc_base.proofs.ForCallers.{refuses}
 use Rattle.expr_parts.proofs.names.check_callee.Goals as goal
 
 pub returns-then-is_nothing : goal.returns-then-is_nothing

@@ -7,7 +7,7 @@ use Rattle.expr_rules.specs.Builtins.{is_built_in}
 use Rattle.expr_rules.specs.Env.{known_as, known_next, unknown}
 use Rattle.expr_rules.specs.Names.{type_rule}
 use Rattle.expr_parts.specs.View.{env_of, entry_of, Stands, FoundWithin}
-use Rattle.expr_parts.proofs.AnswerSteps.{answers_as}
+use Rattle.arc_base.proofs.ForCallers.{answers_as}
 use Rattle.expr_parts.proofs.Naming.{no_type_is}
 use Rattle.expr_parts.proofs.names.named_type.Goals as goal
 

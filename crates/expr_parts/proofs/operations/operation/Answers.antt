@@ -7,7 +7,7 @@ use Rattle.expr_rules.specs.Answers.{node}
 use Rattle.expr_rules.specs.Operators.{binary_by}
 use Rattle.expr_parts.specs.View.{valued_of, meaning_in}
 use Rattle.expr_parts.proofs.Fields.{if_ok}
-use Rattle.expr_parts.proofs.AnswerSteps.{answers_as, makes}
+use Rattle.arc_base.proofs.ForCallers.{answers_as, makes}
 use Rattle.expr_parts.proofs.TypeNumbers.{bool_under, text_under, bool_below, text_below}
 use Rattle.expr_parts.proofs.operations.operation.Goals as goal
 

@@ -7,7 +7,7 @@ use Rattle.nim_core.specs.View.{expr_of}
 use Rattle.expr_rules.specs.Answers.{node}
 use Rattle.expr_rules.specs.Operators.{unary_of, unary_by, unary_rule}
 use Rattle.expr_parts.specs.View.{valued_of}
-use Rattle.expr_parts.proofs.AnswerSteps.{refuses}
+use Rattle.arc_base.proofs.ForCallers.{refuses}
 use Rattle.expr_parts.proofs.operators.unary.Goals as goal
 
 pub returns-in_ok-new-in-Some-clause-answers : goal.returns-in_ok-new-in-Some-clause-answers

@@ -8,7 +8,7 @@ use Rattle.expr_rules.specs.Answers.{place_in}
 use Rattle.expr_rules.specs.Builtins.{written, write_by}
 use Rattle.expr_rules.specs.Paths.{path_of}
 use Rattle.expr_parts.specs.View.{valued_of}
-use Rattle.expr_parts.proofs.AnswerSteps.{answers_as, makes, refuses}
+use Rattle.arc_base.proofs.ForCallers.{answers_as, makes, refuses}
 use Rattle.expr_parts.proofs.Fields.{if_ok}
 use Rattle.expr_parts.proofs.paths.written.Goals as goal
 

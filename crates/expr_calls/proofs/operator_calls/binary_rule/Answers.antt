@@ -1,0 +1,32 @@
+use Rattle.std.proofs.Common.{subst, sym}
+use Rattle.arc_base.specs.Refusal.{Answers}
+use Rattle.nim_core.specs.View.{expr_of}
+use Rattle.expr_parts.specs.declared.value.Operand.{Operand}
+use Rattle.expr_rules.specs.Operators.{binary_rule}
+use Rattle.expr_parts.specs.View.{env_of, operand_of}
+use Rattle.expr_parts.proofs.ForCallers.{refuses}
+use Rattle.arc_base.specs.declared.place.Code.TheVariants.{NotTyped}
+use Rattle.expr_calls.proofs.Operating.{typeless_before}
+use Rattle.expr_calls.proofs.operator_calls.binary_rule.Goals as goal
+
+pub returns-in-Value-clause-answers : goal.returns-in-Value-clause-answers
+returns-in-Value-clause-answers c = λ ts facts u.
+    let env = env_of ts facts c.args.scope.now in
+    subst (λ (o : Operand). Answers (expr_of ts)
+    (binary_rule env c.args.number c.args.at c.args.op (operand_of ts o) (operand_of ts c.args.right)) c.behind_value.result) (sym c.in-Value.is)
+    (c.behind_value.ensures.answers ts facts u)
+
+pub returns-in-Open-clause-answers : goal.returns-in-Open-clause-answers
+returns-in-Open-clause-answers c = λ ts facts u.
+    let env = env_of ts facts c.args.scope.now in
+    subst (λ (o : Operand). Answers (expr_of ts)
+    (binary_rule env c.args.number c.args.at c.args.op (operand_of ts o) (operand_of ts c.args.right)) c.behind_open.result) (sym c.in-Open.is)
+    (c.behind_open.ensures.answers ts facts u)
+
+pub returns-in_default-clause-answers : goal.returns-in_default-clause-answers
+returns-in_default-clause-answers c = λ ts facts u.
+    let env = env_of ts facts c.args.scope.now in
+    let r = operand_of ts c.args.right in
+    refuses (expr_of ts) (binary_rule env c.args.number c.args.at c.args.op (operand_of ts c.args.left) r) NotTyped c.args.at
+    c.refusal.result c.refusal.ensures
+    (typeless_before ts env c.args.number c.args.at c.args.op c.args.left r c.in_default.not-Value c.in_default.not-Open)
