@@ -1,0 +1,7 @@
+mod Asking
+mod Branched
+mod Demanding
+mod Finishing
+mod Judging
+mod Within
+pub mod ForCallers

@@ -1,0 +1,4 @@
+pub mod ViewTyping
+pub mod ViewChoices
+pub mod ViewEndings
+pub mod ViewDemands
