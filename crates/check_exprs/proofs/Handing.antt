@@ -1,0 +1,40 @@
+-- What the public calls say, by what the cycle of typing says.
+use Rattle.std.proofs.Common.{◌≡◌, ℕ, List, ◌++◌, refl, sym, ap, ◌∙◌}
+use Rattle.std.specs.Prelude.{map, Result, Ok, Err, IfOk}
+use Rattle.arc_base.specs.declared.place.Stop.{Stop}
+use Rattle.arc_base.specs.declared.place.Stop.TheVariants as stop
+use Rattle.arc_base.specs.Refusal.{and_then, Answers}
+use Rattle.nim_types.specs.Table.{IsBelow}
+use Rattle.nim_core.specs.Program.{Label}
+use Rattle.nim_core.specs.View.{label_of}
+use Rattle.expr_rules.specs.Answers.{Answer}
+use Rattle.expr_parts.specs.declared.value.Typed.{Typed as RustTyped}
+use Rattle.expr_parts.specs.View.{number_of}
+use Rattle.expr_steps.specs.declared.choices.Tests.{Tests as RustTests}
+use Rattle.expr_steps.specs.ViewChoices.{Tests, tests_of}
+use Rattle.expr_steps.specs.ViewTyping.{TypedWithin}
+use Rattle.check_exprs.specs.ViewTyped.{AreAll}
+
+pub typed_number : (n : ℕ) (r : Result RustTyped Stop) → IfOk r (TypedWithin n) → IfOk r (λ t. number_of t.expr ≡ t.ty)
+typed_number n (Ok t) h = sym h.0
+typed_number n (Err s) h = tt
+
+pub typed_below : (n : ℕ) (r : Result RustTyped Stop) → IfOk r (TypedWithin n) → IfOk r (λ t. IsBelow n t.ty)
+typed_below n (Ok t) h = h.1
+typed_below n (Err s) h = tt
+
+own_labels : (before : List Label) (all : Answer (List Label))
+    → all ≡ and_then (and_then all (λ ls. Ok (record { own = ls; all = before ++ ls }))) (λ (t : Tests). Ok t.own)
+own_labels before (Ok ls) = refl
+own_labels before (Err s) = refl
+
+pub labels_own : (before : List Label) (all : Answer (List Label)) (r : Result RustTests Stop)
+    → Answers tests_of (and_then all (λ ls. Ok (record { own = ls; all = before ++ ls }))) r → Answers (λ (t : RustTests). map label_of t.own) all r
+labels_own before all (Ok t) h = own_labels before all ∙ ap (λ z. and_then z (λ (t : Tests). Ok t.own)) h
+labels_own before all (Err (stop.Refused code at)) h = own_labels before all ∙ ap (λ z. and_then z (λ (t : Tests). Ok t.own)) h
+labels_own before all (Err stop.Memory) h = tt
+
+pub labels_all : (n : ℕ) (before : List Label) (r : Result RustTests Stop) → IfOk r (AreAll before n)
+    → IfOk r (λ t. t.all ≡ before ++ map label_of t.own)
+labels_all n before (Ok t) h = h
+labels_all n before (Err s) h = tt

@@ -1,0 +1,7 @@
+mod Measuring
+mod Stepping
+mod Folding
+mod Chains
+mod Shapes
+mod Handing
+mod Planned

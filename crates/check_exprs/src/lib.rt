@@ -1,0 +1,5 @@
+//! From trees to typed expressions.
+#![tactic(auto)]
+
+pub mod public;
+mod typing;
