@@ -1,0 +1,7 @@
+mod Answering
+mod Growing
+mod Judging
+mod Stating
+mod Listing
+mod Naming
+mod Matching

@@ -1,0 +1,186 @@
+// Values in statements.
+ghost use Rattle.std.specs.Prelude.{◌≡◌, ◌<◌, ℕ, List, length, IfOk, Ok, Some};
+ghost use Rattle.arc_base.specs.Refusal.{Answers, and_then};
+ghost use Rattle.nim_tree.specs.Terms.{term_of};
+ghost use Rattle.nim_types.specs.Types.{Ty, Facts};
+ghost use Rattle.nim_types.specs.Table.{type_at, meant, IsBelow};
+ghost use Rattle.nim_core.specs.View.{expr_of, if_type};
+ghost use Rattle.expr_rules.specs.Answers.{value_of};
+ghost use Rattle.expr_rules.specs.Demands.{is_selector};
+ghost use Rattle.expr_parts.specs.View.{Under, Grown, KindsIn, env_of, want_of, valued_of};
+ghost use Rattle.expr_parts.specs.View.{number_of};
+ghost use Rattle.expr_parts.specs.ViewReady.{IsReady, WantWithin};
+ghost use Rattle.decl_rules.specs.Values.{as_value, valued_term, accepted_if, selector_rule};
+ghost use Rattle.decl_rules.specs.Values.{result_want, returned, is_result, element_rule};
+ghost use Rattle.decl_parts.specs.View.{numbered_of, no_other_type};
+
+use arc_base::{Code, Stop};
+use check_exprs::public::type_expr;
+use expr_parts::branching::value_of;
+use expr_parts::kinds::{entry, is_ordinal, is_same, is_text};
+use expr_parts::nodes::node_of;
+use expr_parts::parts::element_type;
+use expr_parts::scope::{Kinds, Scope};
+use expr_parts::value::{Typed, Value, Want, refusal};
+use nim_core::Expr;
+use nim_tree::Expr as Tree;
+use nim_types::{TypeDef, TypeId, TypeTable};
+use std::alloc::Global;
+
+/// A typed value, and the first number behind its nodes.
+#[derive(Drop)]
+pub struct Numbered {
+    pub value: Value,
+    pub next: u32,
+}
+
+fn valued(typed: Typed) -> Result<Numbered, Stop>
+    ensures answers { (ts : List Ty) → Answers (numbered_of ts) (and_then
+        (value_of (expr_of ts typed.expr)) (λ v. Ok (as_value v typed.next))) result }
+    ensures number { IfOk result (λ v. number_of typed.expr ≡ Some v.value.ty) }
+{
+    let next = typed.next;
+    match value_of(typed.expr) {
+        Ok(value) => Ok(Numbered { value, next }),
+        Err(stop) => Err(stop),
+    }
+}
+
+/// A value is needed. The first number of its nodes is given.
+pub fn valued_term(
+    alloc: Global,
+    types: &mut TypeTable,
+    scope: &Scope,
+    want: Want,
+    first: u32,
+    tree: &Tree,
+) -> Result<Numbered, Stop>
+    requires ready { IsReady types.old scope.now }
+    requires want { WantWithin (length types.old) want }
+    ensures grown { Grown types.old types.new }
+    ensures answers { (ts : List Ty) (facts : Facts) → Under types.new ts facts
+        → Answers (numbered_of ts) (valued_term (env_of ts facts scope.now) (want_of ts want)
+        first (term_of tree.now)) result }
+    ensures within { IfOk result (λ v. v.value.ty < length types.new) }
+{
+    match type_expr(alloc, types, scope, want, first, tree) {
+        Ok(typed) => valued(typed),
+        Err(stop) => Err(stop),
+    }
+}
+
+/// A value that its place accepts, else no rule fits at it.
+pub fn accepted_if(accepts: bool, value: Value) -> Result<Value, Stop>
+    ensures answers { (ts : List Ty) →
+        Answers (valued_of ts) (accepted_if accepts (valued_of ts value)) result }
+    ensures same { IfOk result (λ v. v ≡ value) }
+{
+    if !accepts {
+        return Err(refusal(Code::NotTyped, node_of(&value.expr).at));
+    }
+    Ok(value)
+}
+
+/// A numbered value that its place accepts.
+pub fn numbered_if(accepts: bool, given: Numbered) -> Result<Numbered, Stop>
+    ensures answers { (ts : List Ty) → Answers (numbered_of ts) (and_then (accepted_if accepts
+        (valued_of ts given.value)) (λ _. Ok (numbered_of ts given))) result }
+    ensures same { IfOk result (λ v. v ≡ given) }
+{
+    if !accepts {
+        return Err(refusal(Code::NotTyped, node_of(&given.value.expr).at));
+    }
+    Ok(given)
+}
+
+/// Whether a definition with a type that is written, or none, takes a value of a type.
+pub fn is_annotated(types: &TypeTable, ty: Option<TypeId>, of: TypeId) -> bool
+    requires ty { IsBelow (length types.now) ty }
+    requires of { of < length types.now }
+    ensures { (ts : List Ty) (facts : Facts) → Under types.now ts facts
+        → no_other_type (if_type ts ty) (type_at ts of) ≡ result }
+{
+    match ty {
+        Some(ty) => is_same(types, ty, of),
+        None => true,
+    }
+}
+
+/// The type that the place of a result gives.
+pub fn result_want(gives: Option<TypeId>) -> Want
+    ensures want { (ts : List Ty) → want_of ts result ≡ result_want (if_type ts gives) }
+    ensures within { (n : ℕ) → IsBelow n gives → WantWithin n result }
+{
+    match gives {
+        Some(ty) => Want::Whole(ty),
+        None => Want::Nothing,
+    }
+}
+
+fn is_selector(def: &TypeDef) -> bool
+    ensures { (ts : List Ty) → is_selector (meant ts def.now) ≡ result }
+{
+    is_ordinal(def) || is_text(def)
+}
+
+/// What a `case` selects by.
+pub fn selector_rule(types: &TypeTable, value: Value) -> Result<Value, Stop>
+    requires { value.ty < length types.now }
+    ensures answers { (ts : List Ty) (facts : Facts) → Under types.now ts facts
+        → Answers (valued_of ts) (selector_rule (valued_of ts value)) result }
+    ensures same { IfOk result (λ v. v ≡ value) }
+{
+    accepted_if(is_selector(entry(types, value.ty)), value)
+}
+
+/// What is returned has the type of the result.
+pub fn returned(types: &TypeTable, gives: Option<TypeId>, expr: Expr) -> Result<Value, Stop>
+    requires gives { IsBelow (length types.now) gives }
+    requires expr { IsBelow (length types.now) (number_of expr) }
+    ensures { (ts : List Ty) (facts : Facts) → Under types.now ts facts
+        → Answers (valued_of ts) (returned (if_type ts gives) (expr_of ts expr)) result }
+{
+    match gives {
+        Some(ty) => returned_as(types, ty, expr),
+        None => Err(refusal(Code::NotTyped, node_of(&expr).at)),
+    }
+}
+
+fn returned_as(types: &TypeTable, ty: TypeId, expr: Expr) -> Result<Value, Stop>
+    requires ty { ty < length types.now }
+    requires expr { IsBelow (length types.now) (number_of expr) }
+    ensures { (ts : List Ty) (facts : Facts) → Under types.now ts facts
+        → Answers (valued_of ts) (returned (Some (type_at ts ty)) (expr_of ts expr)) result }
+{
+    match value_of(expr) {
+        Ok(value) => accepted_if(is_same(types, ty, value.ty), value),
+        Err(stop) => Err(stop),
+    }
+}
+
+/// Whether a body that gives a result may end with a value of the type.
+pub fn is_result(types: &TypeTable, ends: Option<TypeId>, ty: TypeId) -> bool
+    requires ends { IsBelow (length types.now) ends }
+    requires ty { ty < length types.now }
+    ensures { (ts : List Ty) (facts : Facts) → Under types.now ts facts
+        → is_result (if_type ts ends) (type_at ts ty) ≡ result }
+{
+    match ends {
+        Some(end) => is_same(types, end, ty),
+        None => false,
+    }
+}
+
+/// The type of the elements that a `for` goes over.
+pub fn element_rule(types: &TypeTable, kinds: Kinds, value: &Value) -> Result<TypeId, Stop>
+    requires kinds { KindsIn types.now kinds }
+    requires value { value.now.ty < length types.now }
+    ensures answers { (ts : List Ty) (facts : Facts) → Under types.now ts facts
+        → Answers (type_at ts) (element_rule (valued_of ts value.now)) result }
+    ensures within { IfOk result (λ ty. ty < length types.now) }
+{
+    match element_type(kinds.char, entry(types, value.ty)) {
+        Some(ty) => Ok(ty),
+        None => Err(refusal(Code::NotTyped, node_of(&value.expr).at)),
+    }
+}
