@@ -1,6 +1,6 @@
 -- What the rules say of a form, as one call of the cycle behind another.
-use Rattle.std.proofs.Common.{◌≡◌, ℕ, suc, List, [], ◌∷◌, refl, sym, ap, ap₂, ◌∙◌}
-use Rattle.std.specs.Prelude.{Bool, true, false, ◌&&◌, if◌then◌else◌, None, Ok}
+use Rattle.std.proofs.Common.{◌≡◌, ℕ, suc, List, [], ◌∷◌, sym, ap, ap₂, ◌∙◌}
+use Rattle.std.specs.Prelude.{Bool, ◌&&◌, if◌then◌else◌, None, Ok}
 use Rattle.arc_base.specs.declared.place.Place.{Place}
 use Rattle.arc_base.specs.Refusal.{and_then}
 use Rattle.indent_scanner.specs.Words.{normal}
@@ -16,14 +16,14 @@ use Rattle.expr_rules.specs.Answers.{Answer, Typed, value_of, Want, wanted, with
 use Rattle.expr_rules.specs.Choices.{Chosen, Picked, branch_want, undecided}
 use Rattle.expr_rules.specs.Constructions.{Plan, part_names, part_count, tuple_wants, array_want, sequence_want, types_in}
 use Rattle.expr_rules.specs.Demands as asks
-use Rattle.expr_rules.specs.Demands.{Asks, anything, selector, Demand, arguments, demand_behind, operator_demand, call_demand, receiver_demand}
+use Rattle.expr_rules.specs.Demands.{anything, selector, Demand, arguments, demand_behind, operator_demand, call_demand, receiver_demand}
 use Rattle.expr_rules.specs.Names.{callee_rule, count_rule, quoted_rule, bracket_rule, formed_type, is_array, array_type, length_rule}
-use Rattle.expr_rules.specs.Typed.{Value, Values, Part, Several, typed, values, value_by, operands, read_type, read_array, read_types, is_pair}
+use Rattle.expr_rules.specs.Typed.{Value, Part, Several, typed, values, operands, read_type, read_array, read_types, is_pair}
 use Rattle.expr_steps.specs.ViewDemands.{SameDemand}
 use Rattle.expr_steps.specs.ViewEndings.{tuple_end, array_end, sequence_end, object_end, field_end, call_end, new_sequence_end, unary_end, binary_end}
 use Rattle.expr_steps.specs.ViewEndings.{index_end, if_end, case_end, case_else_end}
-use Rattle.check_exprs.specs.ViewTyped.{value_said, operand_said, operands_said, operands_onto, conditions_said, picks_said, types_said}
-use Rattle.check_exprs.proofs.Folding.{operands_first, conditions_first, picks_first, types_first, opened, nested}
+use Rattle.check_exprs.specs.ViewTyped.{value_said, operand_said, operands_said, operands_onto, conditions_said, picks_said}
+use Rattle.check_exprs.proofs.Folding.{operands_first, conditions_first, picks_first, opened, nested}
 
 -- ---- constructions
 

@@ -1,6 +1,6 @@
 -- Lists of parts one after another: what is said of a list behind what is done is what is said of its first part, and then of the rest.
 use Rattle.std.proofs.Common.{◌≡◌, ℕ, List, [], ◌∷◌, ◌++◌, refl, sym, ap, ◌∙◌, append_assoc, append-nil}
-use Rattle.std.specs.Prelude.{map, Result, Ok, Err}
+use Rattle.std.specs.Prelude.{Ok, Err}
 use Rattle.arc_base.specs.declared.place.Place.{Place}
 use Rattle.arc_base.specs.Refusal.{and_then}
 use Rattle.nim_tree.specs.Terms as term
@@ -10,15 +10,15 @@ use Rattle.nim_types.specs.Types.{Ty, Facts}
 use Rattle.nim_core.specs.Program as P
 use Rattle.nim_core.specs.Program.{Expr, Label, NoChoice, AChoice, NoPick, APick, type_of}
 use Rattle.expr_rules.specs.Env.{Env}
-use Rattle.expr_rules.specs.Answers.{Answer, Typed, Valued, Operand, nothing}
+use Rattle.expr_rules.specs.Answers.{Answer, Typed, Valued, Operand}
 use Rattle.expr_rules.specs.Choices.{Chosen, Picked, Branching, branch_want, branching_behind, branch_value, new_label, range_of}
-use Rattle.expr_rules.specs.Demands.{Asks, Demand, asks_behind, demand_behind, want_in, exactly}
-use Rattle.expr_rules.specs.Typed.{Value, Values, Part, Several, typed, values, value_by, operands, conditions, picks, labels, label_from, read_type}
+use Rattle.expr_rules.specs.Demands.{Asks, Demand, asks_behind, demand_behind, exactly}
+use Rattle.expr_rules.specs.Typed.{Value, Part, typed, values, value_by, operands, conditions, picks, labels, label_from, read_type}
 use Rattle.expr_rules.specs.Typed.{read_types}
 use Rattle.expr_steps.specs.ViewChoices.{Tests, next_condition, next_pick, next_test, test_place, choices_onto, picks_onto}
 use Rattle.check_exprs.specs.ViewTyped.{value_said, values_onto, values_said, operand_said, operands_onto, operands_said, types_said}
-use Rattle.check_exprs.specs.ViewTyped.{test_said, condition_said, conditions_onto, conditions_said, pick_said, picks_behind, picks_said}
-use Rattle.check_exprs.specs.ViewTyped.{no_tests, labels_said, one_label_said, range_said, label_said}
+use Rattle.check_exprs.specs.ViewTyped.{condition_said, conditions_onto, conditions_said, pick_said, picks_behind, picks_said}
+use Rattle.check_exprs.specs.ViewTyped.{labels_said, one_label_said, label_said}
 
 -- ---- what is answered, and what follows
 

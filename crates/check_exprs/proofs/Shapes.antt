@@ -2,7 +2,7 @@
 use Rattle.std.proofs.Common.{◌≡◌, ℕ, suc, List, [], ◌∷◌, length, refl, sym, ap, arith, Vec, Box, Global, Option, Some, None}
 use Rattle.std.proofs.lemmas.Bool.{false≢true}
 use Rattle.std.proofs.lemmas.Bool.Decides.{nat_tests}
-use Rattle.std.specs.Prelude.{Bool, true, false, nat_eq}
+use Rattle.std.specs.Prelude.{false, nat_eq}
 use Rattle.arc_base.specs.declared.place.Place.{Place}
 use Rattle.nim_tree.specs.declared.expr.Choice.{Choice}
 use Rattle.nim_tree.specs.declared.expr.Expr.{Expr as Tree}
@@ -12,7 +12,7 @@ use Rattle.nim_tree.specs.Terms.{Term, Parts, no_parts, part, term_of, parts_of,
 use Rattle.nim_tree.proofs.ForCallers.{selected, selected_else}
 use Rattle.nim_types.specs.Types.{Ty}
 use Rattle.expr_rules.specs.Env.{Env}
-use Rattle.expr_rules.specs.Answers.{Answer, Typed, Want, not_typed}
+use Rattle.expr_rules.specs.Answers.{Want, not_typed}
 use Rattle.expr_rules.specs.Constructions.{part_count}
 use Rattle.expr_rules.specs.Names.{is_single}
 use Rattle.expr_rules.specs.Typed.{is_callee, is_range, is_type_term, is_pair, typed, read_type, read_array}

@@ -1,5 +1,5 @@
 -- What each function of the cycle of typing answers. Contracts of that cycle alone speak of it.
-use Rattle.std.specs.Prelude.{◌≡◌, ℕ, suc, ◌<◌, List, [], ◌∷◌, ◌++◌, length, map, Option, Some, None, Result, Ok}
+use Rattle.std.specs.Prelude.{◌≡◌, ℕ, ◌<◌, List, [], ◌++◌, map, Option, Some, None, Result, Ok}
 use Rattle.arc_base.specs.declared.place.Place.{Place}
 use Rattle.arc_base.specs.declared.place.Stop.{Stop}
 use Rattle.arc_base.specs.Refusal.{and_then}
@@ -9,7 +9,7 @@ use Rattle.nim_tree.specs.Terms as term
 use Rattle.nim_tree.specs.Terms.{Term, Parts, no_parts, part, Choices, term_of, parts_of}
 use Rattle.nim_types.specs.declared.types.TypeDef.{TypeDef}
 use Rattle.nim_types.specs.Types as type
-use Rattle.nim_types.specs.Types.{Ty, Facts}
+use Rattle.nim_types.specs.Types.{Ty}
 use Rattle.nim_types.specs.Table.{type_at, AllBelow}
 use Rattle.nim_core.specs.declared.expr.Label.{Label as RustLabel}
 use Rattle.nim_core.specs.Program.{Label}
@@ -29,7 +29,7 @@ use Rattle.expr_steps.specs.declared.choices.Conditions.{Conditions as RustCondi
 use Rattle.expr_steps.specs.declared.choices.Picked.{Picked as RustPicked}
 use Rattle.expr_steps.specs.declared.choices.Tests.{Tests as RustTests}
 use Rattle.expr_rules.specs.Env.{Env}
-use Rattle.expr_rules.specs.Answers.{Answer, Typed, Valued, not_typed, nothing, Operand, a_type}
+use Rattle.expr_rules.specs.Answers.{Answer, Valued, not_typed, nothing, Operand, a_type}
 use Rattle.expr_rules.specs.Choices.{Chosen, Picked, range_of, branch_want}
 use Rattle.expr_rules.specs.Demands.{Asks, anything, exactly, want_in, Demand, ordinary}
 use Rattle.expr_rules.specs.Typed.{Value, Values, Part, Several, typed, values, value_by, operand_by, part_by, operands, conditions, picks, labels}

@@ -1,7 +1,7 @@
 // From trees to typed expressions.
 //
 // Each function of the cycle stands for one function of the rules, and a list of parts is gone through by a loop.
-ghost use Rattle.std.specs.Prelude.{◌<◌, length};
+ghost use Rattle.std.specs.Prelude.{length};
 ghost use Rattle.nim_tree.specs.Terms.{term_of};
 ghost use Rattle.expr_parts.specs.ViewReady.{IsReady, WantWithin};
 ghost use Rattle.check_exprs.specs.ViewTyped.{TypedSo};

@@ -13,7 +13,7 @@ use Rattle.nim_core.specs.declared.expr.Operator.TheVariants as O
 use Rattle.nim_core.specs.declared.expr.Comparison.{Comparison}
 use Rattle.nim_core.specs.declared.expr.Comparison.TheVariants as C
 use Rattle.nim_core.specs.Program as T
-use Rattle.nim_core.specs.Program.{Expr, Path, Declared}
+use Rattle.nim_core.specs.Program.{Expr, Declared}
 use Rattle.nim_core.specs.Traps as V
 use Rattle.nim_core.specs.Ints as A
 use Rattle.nim_core.specs.Ints.{truth}
@@ -45,7 +45,8 @@ abbrev pub IsTruth : ℕ → Values → Value → Bool → World → Type 0
 IsTruth places values v b w = (v ≡ Number (truth b)) × Stands places values w
 
 module _ (places : ℕ) (values : Values) where
-  pub twin_value : {C D : Type 0} (c d : Due) → c.most ≡ d.most → (Y : C → D → World → Type 0) (r : Res State (Flow Value)) (q : Res (Meter Event) ℤ)
+  pub twin_value : {C D : Type 0} (c d : Due) → c.most ≡ d.most
+      → (Y : C → D → World → Type 0) (r : Res State (Flow Value)) (q : Res (Meter Event) ℤ)
       (f : Flow Value → State → Res State C) (g : ℤ → Meter Event → Res (Meter Event) D) → Twin c (OnFlow (IsValue places values)) r q →
       ((z : ℤ) (s : State) (m : Meter Event) → Stands places values s.world → Beside c s.meter m → Twin d Y (f (On (Number z)) s) (g z m)) →
       Twin d Y (then_do r f) (then_do q g)
@@ -53,7 +54,8 @@ module _ (places : ℕ) (values : Values) where
       twin_on c d same (IsValue places values) Y r q f g h
       (λ x y s m i b. subst (λ v. Twin d Y (f (On v) s) (g y m)) (sym i.0) (k y s m i.1 b))
 
-  pub twin_truth : {C D : Type 0} (c d : Due) → c.most ≡ d.most → (Y : C → D → World → Type 0) (r : Res State (Flow Value)) (q : Res (Meter Event) Bool)
+  pub twin_truth : {C D : Type 0} (c d : Due) → c.most ≡ d.most
+      → (Y : C → D → World → Type 0) (r : Res State (Flow Value)) (q : Res (Meter Event) Bool)
       (f : Flow Value → State → Res State C) (g : Bool → Meter Event → Res (Meter Event) D) → Twin c (OnFlow (IsTruth places values)) r q →
       ((z : Bool) (s : State) (m : Meter Event) → Stands places values s.world → Beside c s.meter m → Twin d Y (f (On (Number (truth z))) s) (g z m)) →
       Twin d Y (then_do r f) (then_do q g)
@@ -78,7 +80,8 @@ same_unless (pos zero) a b h = tt
 same_unless (pos (suc n)) a b h = h
 same_unless (negsuc n) a b h = h
 
-same_applied : (operator : Operator) → is_arithmetic operator ≡ true → (x y : ℤ) → IsSame (A.applied operator x y) (B.applied (operator_of operator) x y)
+same_applied : (operator : Operator) → is_arithmetic operator ≡ true → (x y : ℤ)
+    → IsSame (A.applied operator x y) (B.applied (operator_of operator) x y)
 same_applied O.Add e x y = same_fit _ _
 same_applied O.Subtract e x y = same_fit _ _
 same_applied O.Multiply e x y = same_fit _ _
@@ -90,7 +93,8 @@ same_negated : (operator : UnaryOperator) → is_negation operator ≡ true → 
 same_negated U.Negate e x = same_fit _ _
 same_negated _ e x = absurd (cc)
 
-same_compared : (comparison : Comparison) → is_ordering comparison ≡ true → (x y : ℤ) → A.compared comparison x y ≡ B.compared (comparison_of comparison) x y
+same_compared : (comparison : Comparison) → is_ordering comparison ≡ true → (x y : ℤ)
+    → A.compared comparison x y ≡ B.compared (comparison_of comparison) x y
 same_compared C.Equal e x y = refl
 same_compared C.Less e x y = refl
 same_compared C.AtMost e x y = refl

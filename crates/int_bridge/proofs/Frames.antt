@@ -1,5 +1,6 @@
 -- The values of variables, and the slots of the start code that hold them.
-use Rattle.std.proofs.Common.{◌≡◌, refl, sym, ap, ◌∙◌, subst, ℕ, zero, suc, ◌-◌, ◌<◌, ℤ, pos, Bool, true, false, List, [], ◌∷◌, ◌++◌, arith}
+use Rattle.std.proofs.Common.{◌≡◌, refl, sym, ap, ◌∙◌, subst, ℕ, zero, suc, ◌-◌, ◌<◌, ℤ, pos, Bool, true, false, List, []}
+use Rattle.std.proofs.Common.{◌∷◌, ◌++◌, arith}
 use Rattle.std.proofs.Common.{Option, Some, None, length}
 use Rattle.std.specs.Prelude.{if◌then◌else◌, nat_eq, slice_get, slice_set, replicate}
 use Rattle.std.proofs.lemmas.Bool.{eqb-true, eqb-false}
@@ -71,7 +72,8 @@ same_value values p q o true e f = ap values (eqb-true o p e ∙ f)
 same_value values p q o false e f = refl
 
 -- a variable that gets its own value
-pub stands_same : (places : ℕ) (values : Values) (w : World) → Stands places values w → (p q : ℕ) → p ≡ q → Stands places (put values p (values q)) w
+pub stands_same : (places : ℕ) (values : Values) (w : World) → Stands places values w → (p q : ℕ) → p ≡ q
+    → Stands places (put values p (values q)) w
 stands_same places values w h p q e = record {
   slots = h.slots;
   is = h.is;

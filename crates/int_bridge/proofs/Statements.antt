@@ -41,7 +41,8 @@ module _ (places : ℕ) (result : Option Declared) (calls : Calls) (facts : Fact
   -- ---- assignments
 
   chosen : (c : Due) (values : Values) (b : Bool) (x y : Does (Unit {0})) (s : State) (q : Res (Meter Event) Values) →
-      (b ≡ true → Twin c (OnFlow (IsDone places)) (x s) q) → Twin c (OnFlow (IsDone places)) (y s) q → Twin c (OnFlow (IsDone places)) (branch b x y s) q
+      (b ≡ true → Twin c (OnFlow (IsDone places)) (x s) q) → Twin c (OnFlow (IsDone places)) (y s) q
+      → Twin c (OnFlow (IsDone places)) (branch b x y s) q
   chosen c values true x y s q f g = f refl
   chosen c values false x y s q f g = g
 
@@ -69,7 +70,8 @@ module _ (places : ℕ) (result : Option Declared) (calls : Calls) (facts : Fact
       (stands_put places values s.world h p z (ltb-true p places lt), beside_twice 4 c s.meter m (omega arith) most k)
 
   -- of a place whose location is its own, whatever it is called
-  assigned : (p : ℕ) → nat_lt p places ≡ true → (e : Expr) → is_small_expr e ≡ true → (values : Values) (c : Due) (s : State) (m : Meter Event) →
+  assigned : (p : ℕ) → nat_lt p places ≡ true → (e : Expr) → is_small_expr e ≡ true
+      → (values : Values) (c : Due) (s : State) (m : Meter Event) →
       Fits c (suc (expr_nodes (expr_of e))) →
       Stands places values s.world → Beside (entered c) s.meter m →
       Twin c (OnFlow (IsDone places))
@@ -113,7 +115,8 @@ module _ (places : ℕ) (result : Option Declared) (calls : Calls) (facts : Fact
   abbrev inner : Due → Due
   inner c = record { credit = c.credit; budget = c.budget - 1; most = c.most }
 
-  filled_paid : (c : Due) (a b : Meter Event) → 1 ≤ c.budget → c.budget ≤ c.most → Beside (entered c) a b → Beside (inner c) (charged 4 a) (ticked b)
+  filled_paid : (c : Due) (a b : Meter Event) → 1 ≤ c.budget → c.budget ≤ c.most → Beside (entered c) a b
+      → Beside (inner c) (charged 4 a) (ticked b)
   filled_paid c a b one most h =
       record { units = h.units; out = h.out; work = omega (arith, h.work); rest = omega (arith, h.rest, one); below = omega (arith, most) }
 
@@ -122,7 +125,8 @@ module _ (places : ℕ) (result : Option Declared) (calls : Calls) (facts : Fact
       record { units = h.units; out = h.out; work = omega (arith, h.work); rest = omega (arith, h.rest, one); below = most }
 
   -- the place is met at the end of its scope
-  twin_scoped : (place : Declared) (last : ℕ) (rest : Stmts) (values : Values) (c : Due) (s : State) (m : Meter Event) → 1 ≤ c.budget → c.budget ≤ c.most →
+  twin_scoped : (place : Declared) (last : ℕ) (rest : Stmts) (values : Values) (c : Due) (s : State) (m : Meter Event) → 1 ≤ c.budget
+      → c.budget ≤ c.most →
       Twin (inner c) (OnFlow (IsDone places)) (M.exec_all rest (top result calls facts) s) (N.exec_all (stmts_of rest) values m) →
       Twin c (OnFlow (IsDone places)) (scoped (top result calls facts) place last (M.exec_all rest (top result calls facts)) s)
       (N.exec_all (stmts_of rest) values m)
@@ -130,7 +134,8 @@ module _ (places : ℕ) (result : Option Declared) (calls : Calls) (facts : Fact
       twin_after (inner c) c refl (OnFlow (IsDone places)) (OnFlow (IsDone places)) (M.exec_all rest (top result calls facts) s)
       (N.exec_all (stmts_of rest) values m) _ h out
     where
-      out : (flow : Flow (Unit {0})) (after : Values) (t : State) (n : Meter Event) → OnFlow (IsDone places) flow after t.world → Beside (inner c) t.meter n →
+      out : (flow : Flow (Unit {0})) (after : Values) (t : State) (n : Meter Event) → OnFlow (IsDone places) flow after t.world
+          → Beside (inner c) t.meter n →
           Twin c (OnFlow (IsDone places)) ((ends (top result calls facts) place (exit_of last flow) >> as_before flow) t) (Got after n)
       out (On u) after t n i b = (i, out_paid c t.meter n one most b)
       out (Out way) after t n i b = absurd i

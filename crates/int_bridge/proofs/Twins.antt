@@ -60,7 +60,8 @@ beside_both n c a b one le h =
     record { units = h.units; out = h.out; work = omega (arith, h.work, one); rest = omega (arith, h.rest, le); below = h.below }
 
 -- what is written has its bytes as work
-pub beside_told : (c : Due) (es : List Event) (n : ℕ) (a b : Meter Event) → n ≡ length es → Beside c a b → Beside c (told es (charged n a)) (told es b)
+pub beside_told : (c : Due) (es : List Event) (n : ℕ) (a b : Meter Event) → n ≡ length es → Beside c a b
+    → Beside c (told es (charged n a)) (told es b)
 beside_told c es n a b e h = record {
   units = h.units;
   out = ap (λ l. l ++ es) h.out;
@@ -105,7 +106,8 @@ abbrev pub OnFlow : {A B : Type 0} → (A → B → World → Type 0) → Flow A
 OnFlow X (On x) y w = X x y w
 OnFlow X (Out way) y w = ⊥
 
-pub twin_on : {A B C D : Type 0} (c d : Due) → c.most ≡ d.most → (X : A → B → World → Type 0) (Y : C → D → World → Type 0) (r : Res State (Flow A))
+pub twin_on : {A B C D : Type 0} (c d : Due) → c.most ≡ d.most
+    → (X : A → B → World → Type 0) (Y : C → D → World → Type 0) (r : Res State (Flow A))
     (q : Res (Meter Event) B)
     (f : Flow A → State → Res State C) (g : B → Meter Event → Res (Meter Event) D) → Twin c (OnFlow X) r q →
     ((x : A) (y : B) (s : State) (m : Meter Event) → X x y s.world → Beside c s.meter m → Twin d Y (f (On x) s) (g y m)) →

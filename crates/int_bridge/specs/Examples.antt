@@ -26,7 +26,8 @@ opposite = program [] 0 (
 abbrev pub counting : Program
 counting = program [] 1 (
     var_as (place 0 int) (number 0)
-    ∷ does (loops (comparing Less (value_of 0) (number 3)) (does (echo (value_of 0)) ∷ does (assign (global 0) (binary Add (value_of 0) (number 1))) ∷ []))
+    ∷ does (loops (comparing Less (value_of 0) (number 3))
+    (does (echo (value_of 0)) ∷ does (assign (global 0) (binary Add (value_of 0) (number 1))) ∷ []))
     ∷ does (Eval node (Quit node (value_of 0))) ∷ [])
 
 -- var x = 5

@@ -306,8 +306,8 @@ fn declaration_of(
     place: &TypedPlace,
     value: &Option<Typed>,
 ) -> Result<Stmt, Memory>
-    ensures { (ts : List Ty) → IfOk result (λ s. tree.stmt_of s
-        ≡ declares node (typed.declared_of ts place.now) (option_map (typed.expr_of ts) value.now)) }
+    ensures { (ts : List Ty) → IfOk result (λ s. tree.stmt_of s ≡ declares node
+        (typed.declared_of ts place.now) (option_map (typed.expr_of ts) value.now)) }
 {
     match value {
         None => Ok(blank_line(alloc)),

@@ -1,5 +1,5 @@
 // Calls.
-ghost use Rattle.std.specs.Prelude.{◌≡◌, ◌<◌, length, false};
+ghost use Rattle.std.specs.Prelude.{◌≡◌, false};
 ghost use Rattle.arc_base.specs.declared.place.Code.TheVariants.{NotTyped};
 ghost use Rattle.arc_base.specs.declared.place.Stop.TheVariants as Stop;
 ghost use Rattle.arc_base.specs.declared.place.Place.{Place};

@@ -1,5 +1,5 @@
 // Constructions, parts of values, and operators.
-ghost use Rattle.std.specs.Prelude.{◌<◌, length};
+ghost use Rattle.std.specs.Prelude.{length};
 ghost use Rattle.arc_base.specs.declared.place.Place.{Place};
 ghost use Rattle.nim_tree.specs.Terms as term;
 ghost use Rattle.nim_tree.specs.Terms.{term_of, parts_of, part, no_parts};

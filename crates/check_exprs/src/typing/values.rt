@@ -1,5 +1,5 @@
 // Values in order.
-ghost use Rattle.std.specs.Prelude.{◌<◌, length};
+ghost use Rattle.std.specs.Prelude.{length};
 ghost use Rattle.nim_tree.specs.Terms.{term_of, parts_of};
 ghost use Rattle.expr_parts.specs.ViewReady.{IsReady};
 ghost use Rattle.expr_steps.specs.ViewTyping.{AsksWithin};

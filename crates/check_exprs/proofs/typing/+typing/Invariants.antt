@@ -1,8 +1,7 @@
-use Rattle.std.proofs.Common.{◌≡◌, ◌<◌, ◌+◌, ◌*◌, suc, List, map, drop, length}
+use Rattle.std.proofs.Common.{◌+◌, ◌*◌, suc, map, drop, length}
 use Rattle.nim_tree.specs.Terms.{term_of, parts_of, choices_of, nodes, nodes_in, nodes_of}
-use Rattle.nim_types.specs.Types.{Ty, Facts}
 use Rattle.nim_types.specs.Table.{type_at, AllBelow}
-use Rattle.expr_rules.specs.Typed.{values, operands, conditions, picks, labels, read_types}
+use Rattle.expr_rules.specs.Typed.{values, read_types}
 use Rattle.expr_parts.specs.View.{env_of, valued_of, operand_of, OperandsWithin}
 use Rattle.expr_parts.specs.ViewReady.{ValuesWithin}
 use Rattle.expr_steps.specs.ViewTyping.{asks_of, AsksWithin}
