@@ -1,3 +1,2 @@
 -- What crates above cite of the proofs of this crate.
-pub use Rattle.indent_scanner.proofs.Characters.{meaning_short}
 pub use Rattle.indent_scanner.proofs.OneReading.{once, apart, refused_once}

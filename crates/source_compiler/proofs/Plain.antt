@@ -1,12 +1,16 @@
 -- What is checked can be compiled, and is no larger than its statements.
-use Rattle.std.proofs.Common.{◌≡◌, ℕ, zero, suc, ◌<◌, ◌≤◌, List, [], ◌∷◌, ◌++◌, length, Ok, Some, None, Option, refl, sym, ap, subst, arith, length-append}
+use Rattle.std.proofs.Common.{◌≡◌, ℕ, zero, suc, ◌<◌, ◌≤◌, List, [], ◌∷◌, ◌++◌, length, get_or, Ok, Some, None, Option, refl, sym, ap, subst, arith, length-append}
 use Rattle.std.specs.Prelude.{bytes_eq}
 use Rattle.std.proofs.lemmas.List.{length-map}
 use Rattle.std.proofs.lemmas.List.Quantifiers.{position-Some}
 use Rattle.arc_base.specs.declared.place.Place.{Place}
 use Rattle.indent_scanner.specs.declared.token.Tok.TheVariants as T
 use Rattle.indent_scanner.specs.Words.{normal}
-use Rattle.indent_scanner.proofs.ForCallers.{meaning_short}
+use Rattle.indent_scanner.specs.declared.shape.Quote.TheVariants as Q
+use Rattle.indent_scanner.specs.declared.shape.Shape.{Shape}
+use Rattle.indent_scanner.specs.declared.shape.Shape.TheVariants.{Inside}
+use Rattle.indent_scanner.specs.Shape.{step}
+use Rattle.indent_scanner.specs.ByForm.{onto, value_of, read_on, values, meaning}
 use Rattle.int_core.specs.Program.{Expr, Number, Variable, Negate, Binary, Cond, Stmt, Declare, Assign, EchoInt, Quit, If, While, Stmts, Then, Program}
 use Rattle.source_compiler.specs.Code.{IsPlainExpr, IsPlainCond, IsPlainStmt, ArePlain, expr_weight, cond_weight, stmt_weight, stmts_weight}
 use Rattle.arc_base.specs.Refusal.{and_then}
@@ -16,6 +20,25 @@ use Rattle.source_compiler.specs.Names.{Scope, Given, gives, names_of, find, fou
 use Rattle.source_compiler.specs.Names.{check, FitsExpr, FitsCond, FitsStmt, FitsStmts}
 use Rattle.source_compiler.proofs.Steps.{and_then_ok, ok_same}
 use Rattle.source_compiler.proofs.Depths.{sum_levels, test_levels, line_levels, lines_levels}
+
+-- ---- a text is no longer than the bytes of its token
+
+onto_short : (o : Option ℕ) (values : List ℕ) (n : ℕ) → length values ≤ n → length (onto o values) ≤ suc n
+onto_short None values n le = omega arith
+onto_short (Some v) values n le = omega arith
+
+read_short : (o : Option Shape) (bytes : List ℕ) → ((s : Shape) → length (values s bytes) ≤ length bytes) → length (read_on o (λ s. values s bytes))
+    ≤ suc (length bytes)
+read_short None bytes h = omega arith
+read_short (Some s) bytes h = onto_short (value_of s) (values s bytes) (length bytes) (h s)
+
+values_short : (bytes : List ℕ) (s : Shape) → length (values s bytes) ≤ length bytes
+values_short [] s = omega arith
+values_short (b ∷ bytes) s = read_short (step s b (get_or bytes 0 0)) bytes (values_short bytes)
+
+text_short : (bytes : List ℕ) → length (meaning T.Text bytes) ≤ length bytes
+text_short [] = omega arith
+text_short (b ∷ bytes) = let e = values_short bytes (Inside Q.Text None) in omega (arith, e)
 
 -- ---- names
 
@@ -127,7 +150,7 @@ mutual
       (omega (arith, ap (λ x. length x.scope) e), omega (arith, ap (λ x. stmt_weight x.tree) e))
   line_light scope (echo_text at text) g h =
       let e = given_same _ _ g h in
-      (omega (arith, ap (λ x. length x.scope) e), omega (arith, meaning_short T.Text text, ap (λ x. stmt_weight x.tree) e))
+      (omega (arith, ap (λ x. length x.scope) e), omega (arith, text_short text, ap (λ x. stmt_weight x.tree) e))
   line_light scope (quit at status) g h =
       let b = and_then_ok (check_sum scope status) (λ checked. gives scope (Quit at checked)) g h in
       let e = given_same _ _ g b.2 in
