@@ -1,5 +1,5 @@
 -- Tables that grow under a state.
-use Rattle.std.proofs.Common.{◌≡◌, ℕ, ◌<◌, ◌≤◌, List, [], ◌∷◌, length, Some, None, sym, ◌∙◌, subst, arith}
+use Rattle.std.proofs.Common.{◌≡◌, ℕ, ◌<◌, ◌≤◌, List, [], ◌∷◌, ◌++◌, length, Some, None, sym, ◌∙◌, subst, arith}
 use Rattle.std.specs.Prelude.{Option, Result, Ok, Err, IfOk}
 use Rattle.arc_base.specs.declared.place.Stop.{Stop}
 use Rattle.nim_types.specs.declared.types.TypeDef.{TypeDef}
@@ -36,8 +36,13 @@ pub decls_more : (m n : ℕ) (ds : List Decl) → m ≤ n → DeclsWithin m ds �
 decls_more m n [] le h = tt
 decls_more m n (d ∷ ds) le h = (what_more m n d.what le h.0, decls_more m n ds le h.1)
 
-pub ready_more : (a b : List TypeDef) (scope : Scope) → Grown a b → IsReady a scope → IsReady b scope
-ready_more a b scope g r = record {
+-- those of two lists
+pub decls_both : (n : ℕ) (ds es : List Decl) → DeclsWithin n ds → DeclsWithin n es → DeclsWithin n (ds ++ es)
+decls_both n [] es h w = w
+decls_both n (d ∷ ds) es h w = (h.0, decls_both n ds es h.1 w)
+
+pub ready_more : {a b : List TypeDef} {scope : Scope} → Grown a b → IsReady a scope → IsReady b scope
+ready_more {a = a} {b = b} {scope = scope} g r = record {
   formed = g.formed r.formed;
   kinds = g.kinds scope.kinds r.kinds;
   decls = decls_more (length a) (length b) scope.decls g.length r.decls;

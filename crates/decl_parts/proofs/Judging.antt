@@ -129,7 +129,7 @@ further_typed j = further_grown j.grown
 
 pub ready_grown : (old new : RustState) → Grown old.types new.types → new.scope ≡ old.scope → new.outside ≡ old.outside → Ready old → Ready new
 ready_grown old new g s o h = record {
-  all = subst (IsReady new.types) (sym s) (ready_more old.types new.types old.scope g h.all);
+  all = subst (IsReady new.types) (sym s) (ready_more g h.all);
   outside = subst (λ n. n ≤ length new.scope.decls) (sym o) (subst (λ (z : Scope). old.outside ≤ length z.decls) (sym s) h.outside);
 }
 

@@ -5,3 +5,4 @@ mod Stating
 mod Listing
 mod Naming
 mod Matching
+pub mod ForCallers

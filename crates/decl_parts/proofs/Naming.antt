@@ -1,9 +1,11 @@
 -- The names of a scope, and those that a definition gives.
 use Rattle.std.proofs.Common.{take, get_or, drop-cons, add-one, append_assoc, ◌+◌, ◌<◌}
-use Rattle.std.proofs.Common.{◌≡◌, ℕ, zero, suc, ◌≤◌, List, [], ◌∷◌, ◌++◌, length, map}
+use Rattle.std.proofs.Common.{◌≡◌, ℕ, zero, suc, ◌≤◌, List, [], ◌∷◌, ◌++◌, length, map, subst}
 use Rattle.std.proofs.Common.{drop, Bool, true, false, ◌||◌, refl, sym, ap, ap₂, ◌∙◌, arith}
 use Rattle.std.specs.Prelude.{Result, Ok, Err, OnOk}
 use Rattle.arc_base.specs.declared.place.Stop.{Stop}
+use Rattle.arc_base.specs.declared.place.Stop.TheVariants as stop
+use Rattle.arc_base.specs.Refusal.{Answers}
 use Rattle.nim_tree.specs.declared.name.Declared.{Declared}
 use Rattle.nim_types.specs.Types.{Ty, same_text}
 use Rattle.expr_rules.specs.Answers.{Answer}
@@ -17,8 +19,10 @@ use Rattle.expr_parts.specs.View.{entry_by, entry_of}
 use Rattle.expr_parts.specs.ViewDecls.{declares}
 use Rattle.decl_rules.specs.State.{State, own_entries, is_declared}
 use Rattle.decl_rules.specs.Definitions.{names_behind}
-use Rattle.decl_parts.specs.View.{own_names}
+use Rattle.decl_parts.specs.declared.state.State.{State as RustState}
+use Rattle.decl_parts.specs.View.{own_names, Beside, Ready, Stands, Stating}
 use Rattle.decl_parts.proofs.Growing.{scope_by}
+use Rattle.decl_parts.proofs.Stating.{further_same, further_as, stands_still}
 
 named_by : (ts : List Ty) (x : List ℕ) (w : What) → name_in (entry_by ts x w) ≡ x
 named_by ts x (what.Variable place ty writable global) = refl
@@ -96,3 +100,29 @@ pub scope_left : (old mid new : Scope) (count : ℕ) (more : List Decl) → coun
     → new ≡ old
 scope_left old mid new count more n e k h d l m =
     scope_by old new (d ∙ ap₂ take n e ∙ take_front old.decls more) (l ∙ k) (m ∙ h)
+
+-- ---- a state whose scope stays
+
+pub names_same : (old : RustState) (scope : Scope) (r : Result (Unit {0}) Stop) → OnOk r (scope ≡ old.scope)
+    → OnOk r (record old { scope = scope } ≡ old)
+names_same old scope (Ok x) e = ap (λ (z : Scope). record old { scope = z }) e
+names_same old scope (Err s) e = tt
+
+names_stand : (old new : RustState) (r : Result (Unit {0}) Stop) → Ready old → OnOk r (new ≡ old) → OnOk r (Stands old new)
+names_stand old new (Ok x) h e = subst (Stands old) (sym e) (stands_still old h)
+names_stand old new (Err s) h e = tt
+
+names_answer : (said : Answer (Unit {0})) (r : Result (Unit {0}) Stop) → Answers (λ (_ : Unit {0}). tt) said r → Answers (λ (x : Unit {0}). x) said r
+names_answer said (Ok x) h = h
+names_answer said (Err (stop.Refused code at)) h = h
+names_answer said (Err stop.Memory) h = tt
+
+-- what the rules say of names, from state to state
+pub names_so : (old : RustState) (scope : Scope) (r : Result (Unit {0}) Stop) (said : List Ty → Beside → Answer (Unit {0})) → Ready old
+    → ((ts : List Ty) (b : Beside) → Answers (λ (_ : Unit {0}). tt) (said ts b) r) → OnOk r (scope ≡ old.scope)
+    → Stating old (record old { scope = scope }) (λ ts b x. x) said r
+names_so old scope r said h a s = record {
+  further = further_as refl (further_same (record old { scope = scope }));
+  stands = names_stand old (record old { scope = scope }) r h (names_same old scope r s);
+  answers = λ ts b u. names_answer (said ts b) r (a ts b);
+}

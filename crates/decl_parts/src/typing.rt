@@ -1,5 +1,5 @@
 // Expressions of statements, under what is known there.
-ghost use Rattle.std.specs.Prelude.{◌<◌, suc, List, length};
+ghost use Rattle.std.specs.Prelude.{◌<◌, suc, length};
 ghost use Rattle.nim_tree.specs.Terms as term;
 ghost use Rattle.nim_tree.specs.Terms.{term_of, parts_of, part};
 ghost use Rattle.nim_types.specs.Table.{type_at, IsBelow};

@@ -1,0 +1,8 @@
+mod Items
+mod Drafts
+mod ProcedureRule
+mod Noting
+mod Scopes
+mod Beginning
+mod Proclaiming
+mod Finishing

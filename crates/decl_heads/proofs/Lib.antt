@@ -1,0 +1,5 @@
+mod Opening
+mod Grouping
+mod Earlier
+mod Borrowers
+mod Heading

@@ -1,0 +1,15 @@
+mod Positions
+mod Distances
+mod Meaning
+mod Scoping
+mod Enclosing
+mod Declaring
+mod Staging
+mod Sizes
+mod Starts
+mod Ending
+mod Growing
+mod Readying
+mod Outcomes
+mod Leading
+mod Membering

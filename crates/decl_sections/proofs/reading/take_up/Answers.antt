@@ -1,0 +1,10 @@
+use Rattle.std.proofs.Common.{subst}
+use Rattle.decl_sections.specs.ViewSections.{KnowsAll}
+use Rattle.decl_sections.proofs.Outcomes.{on_one}
+use Rattle.decl_sections.proofs.reading.take_up.Goals as goal
+
+pub returns-clause-knows : goal.returns-clause-knows
+returns-clause-knows c =
+    on_one c.know_all.result c.know_all.ensures.knows (λ knows.
+    subst (KnowsAll c.args.types.now c.know_all.new.types c.args.scope.now c.know_all.new.scope c.args.frame.now.names c.args.reading.now.known.items
+    c.know_all.new.known.items) c.as_slice.ensures.value knows)

@@ -1,0 +1,65 @@
+use Rattle.std.proofs.Common.{[], refl, sym, append-nil}
+use Rattle.std.specs.Prelude.{map}
+use Rattle.nim_tree.specs.Types.{declaration_of}
+use Rattle.nim_types.specs.Table.{facts_in, types_in}
+use Rattle.expr_parts.specs.View.{Under, env_of}
+use Rattle.decl_rules.specs.State.{State}
+use Rattle.decl_sections.proofs.Readying.{ready_begun}
+use Rattle.decl_sections.proofs.Starts.{begun_frame, begun_stage}
+use Rattle.decl_sections.proofs.walk.ordered.Goals as goal
+
+pub walk-requires : goal.walk-requires
+walk-requires c =
+    ready_begun c.args.types.now c.args.scope.now c.begin.new.scope c.args.outside (map declaration_of c.args.defs.now) c.in_ok-frame.frame
+    c.in_ok-frame.reading c.in_ok-frame.ensures.begins c.requires.ready
+
+pub returns-in-Ok-clause-answers : goal.returns-in-Ok-clause-answers
+returns-in-Ok-clause-answers c = λ ts st u e o.
+    let ds = c.args.types.now in
+    let old = c.args.scope.now in
+    let all = map declaration_of c.args.defs.now in
+    let frame = c.in_ok-frame.frame in
+    let reading = c.in_ok-frame.reading in
+    let b = c.in_ok-frame.ensures.begins in
+    let v = c.walk.ensures.kept.under ts (facts_in c.walk.new.types) u in
+    let f = begun_frame ts st ds old c.begin.new.scope c.args.outside c.args.home c.args.last all frame reading (facts_in ds) b c.requires.outside
+    c.requires.ascends c.requires.far v e o in
+    c.in-Ok.ensures.answers ts st old.decls u f b.read (begun_stage ts st ds old c.begin.new.scope c.args.outside all frame reading b e o)
+
+pub returns-in-Ok-clause-begins : goal.returns-in-Ok-clause-begins
+returns-in-Ok-clause-begins c =
+    let ds = c.args.types.now in
+    let es = c.walk.new.types in
+    let old = c.args.scope.now in
+    let all = map declaration_of c.args.defs.now in
+    let frame = c.in_ok-frame.frame in
+    let reading = c.in_ok-frame.reading in
+    let b = c.in_ok-frame.ensures.begins in
+    let ts = types_in es in
+    let u : Under es ts (facts_in es) = record { table = c.count-count.ensures.table; more = []; begins = sym (append-nil ts); said = refl } in
+    let st : State = record {
+      env = env_of ts (facts_in ds) old;
+      outside = c.args.outside;
+      node = 0;
+      place = 0;
+      procs = [];
+      globals = [];
+      text = [];
+    } in
+    let v = c.walk.ensures.kept.under ts (facts_in es) u in
+    let f = begun_frame ts st ds old c.begin.new.scope c.args.outside c.args.home c.args.last all frame reading (facts_in ds) b c.requires.outside
+    c.requires.ascends c.requires.far v refl refl in
+    c.in-Ok.ensures.begins ts st old.decls u f b.read (begun_stage ts st ds old c.begin.new.scope c.args.outside all frame reading b refl refl)
+
+pub returns-clause-answers : goal.returns-clause-answers
+returns-clause-answers c = λ ts st u e o.
+    let ds = c.args.types.now in
+    let old = c.args.scope.now in
+    let all = map declaration_of c.args.defs.now in
+    let frame = c.in_ok-frame.frame in
+    let reading = c.in_ok-frame.reading in
+    let b = c.in_ok-frame.ensures.begins in
+    let v = c.walk.ensures.kept.under ts (facts_in c.walk.new.types) u in
+    let f = begun_frame ts st ds old c.begin.new.scope c.args.outside c.args.home c.args.last all frame reading (facts_in ds) b c.requires.outside
+    c.requires.ascends c.requires.far v e o in
+    c.in-Err.ensures.answers ts st old.decls u f b.read (begun_stage ts st ds old c.begin.new.scope c.args.outside all frame reading b e o)

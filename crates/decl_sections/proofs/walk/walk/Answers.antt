@@ -1,0 +1,86 @@
+use Rattle.std.proofs.Common.{◌≡◌, [], sym, subst, ◌∙◌, ◌++◌}
+use Rattle.std.specs.Prelude.{Ok, Err, map}
+use Rattle.arc_base.specs.Refusal.{Answers}
+use Rattle.std.proofs.lemmas.List.{length-map}
+use Rattle.nim_tree.specs.Types.{declaration_of}
+use Rattle.nim_types.specs.Table.{facts_in}
+use Rattle.expr_parts.specs.View.{env_of}
+use Rattle.decl_rules.specs.Meanings.{keys_of, known_of}
+use Rattle.decl_rules.specs.Sections.{none_read, containment_rule, declarations_rule, sizes_rule}
+use Rattle.decl_types.specs.ViewKnown.{KnownAs, meaning_by}
+use Rattle.decl_types.specs.ViewReading.{all_defined}
+use Rattle.decl_parts.proofs.ForCallers.{over_old, ready_more}
+use Rattle.decl_types.proofs.ForCallers.{kept_grown, kept_on}
+use Rattle.decl_sections.specs.declared.starting.TheConstants.{MOST_DEFINITIONS}
+use Rattle.decl_sections.specs.ViewSections.{Reads, own_in, decls_by}
+use Rattle.decl_sections.specs.ViewWalk.{StageOf, Whole}
+use Rattle.decl_sections.proofs.Meaning.{known_as}
+use Rattle.decl_sections.proofs.Ending.{leads_answers, contained_behind, whole_is, section_contained, section_sized, section_untouched}
+use Rattle.decl_sections.proofs.Outcomes.{on_any}
+use Rattle.decl_sections.proofs.walk.walk.Goals as goal
+
+pub returns-in-Err-clause-answers : goal.returns-in-Err-clause-answers
+returns-in-Err-clause-answers c = λ ts st old u f empty g.
+    let all = map declaration_of c.args.defs.now in
+    leads_answers (Unit {0}) (Unit {0}) (StageOf ts st all old c.args.frame.now c.read_all.new.types c.read_all.new.scope c.read_all.new.reading)
+    (λ _. env_of ts (facts_in c.read_all.new.types) c.read_all.new.scope) (declarations_rule st all none_read all) (contained_behind st all) c.in-Err.stop
+    (c.in-Err.ensures.leads ts st old u f empty g)
+
+pub returns-in-Err-check_contained-clause-answers : goal.returns-in-Err-check_contained-clause-answers
+returns-in-Err-check_contained-clause-answers c = λ ts st old u f empty g.
+    let all = map declaration_of c.args.defs.now in
+    let read = c.in-Ok.ensures.leads ts st old u f empty g in
+    let count = c.in-Ok.ensures.count empty ∙ sym (length-map c.args.defs.now declaration_of) in
+    let whole = whole_is ts st all old c.args.frame.now c.read_all.new.types c.read_all.new.scope c.read_all.new.reading read.0 f read.2 count in
+    section_contained {T = Unit {0}} ts st all old c.args.frame.now c.read_all.new.types c.read_all.new.scope c.read_all.new.reading read.0
+    (λ _. env_of ts (facts_in c.read_all.new.types) c.read_all.new.scope) c.in-Err-check_contained.stop read.1 read.2
+    (subst (λ ds. Answers {A = Unit {0}} {T = Unit {0}} (λ _. tt) (containment_rule (all_defined ts (keys_of all) ds) (all_defined ts (keys_of all) ds))
+    (Err c.in-Err-check_contained.stop)) c.as_slice.ensures.value
+    (c.in-Err-check_contained.ensures ts c.args.frame.now.types MOST_DEFINITIONS (keys_of all)
+    (subst (Whole ts c.args.frame.now.types MOST_DEFINITIONS (keys_of all)) (sym c.as_slice.ensures.value) whole)))
+
+pub returns-clause-kept : goal.returns-clause-kept
+returns-clause-kept c =
+    kept_on c.args.types.now c.read_all.new.types c.check_sizes.new.types c.read_all.ensures.kept
+    (kept_grown c.read_all.new.types c.check_sizes.new.types c.check_sizes.ensures.grown)
+
+pub returns-clause-ready : goal.returns-clause-ready
+returns-clause-ready c = on_any c.check_sizes.result (ready_more c.check_sizes.ensures.grown c.in-Ok.ensures.ready)
+
+pub returns-clause-answers : goal.returns-clause-answers
+returns-clause-answers c = λ ts st old u f empty g.
+    let all = map declaration_of c.args.defs.now in
+    let frame = c.args.frame.now in
+    let mid = c.read_all.new.types in
+    let es = c.check_sizes.new.types in
+    let scope = c.read_all.new.scope in
+    let reading = c.read_all.new.reading in
+    let v = over_old mid es ts c.check_sizes.ensures.grown u in
+    let read = c.in-Ok.ensures.leads ts st old v f empty g in
+    let k = known_of (keys_of all) read.0.defined in
+    let count = c.in-Ok.ensures.count empty ∙ sym (length-map c.args.defs.now declaration_of) in
+    let whole = whole_is ts st all old frame mid scope reading read.0 f read.2 count in
+    let contained = subst (λ ds. containment_rule (all_defined ts (keys_of all) ds) (all_defined ts (keys_of all) ds) ≡ Ok tt) c.as_slice.ensures.value
+    (c.in-Ok-check_contained.ensures ts frame.types MOST_DEFINITIONS (keys_of all)
+    (subst (Whole ts frame.types MOST_DEFINITIONS (keys_of all)) (sym c.as_slice.ensures.value) whole)) in
+    let sizes = subst (λ ds. Answers {A = Unit {0}} {T = Unit {0}} (λ _. tt) (sizes_rule (facts_in es) k (all_defined ts (keys_of all) ds))
+    c.check_sizes.result) c.as_slice-3.ensures.value
+    (c.check_sizes.ensures.answers frame.types MOST_DEFINITIONS ts (facts_in es) (keys_of all) k u
+    (subst (Reads frame.types MOST_DEFINITIONS (keys_of all)) (sym c.as_slice-3.ensures.value) read.2.reads)
+    (subst (λ ks. KnownAs ts (keys_of all) ks (meaning_by k)) (sym c.as_slice-2.ensures.value)
+    (known_as ts (keys_of all) k reading.known.items read.2.scoped.knows))
+    (section_untouched ts st all old frame mid scope reading read.0 f read.2)) in
+    section_sized ts st all old frame mid es scope reading read.0 c.check_sizes.result read.1 f read.2
+    (c.check_sizes.ensures.grown.under ts (facts_in es) u).said contained
+    sizes
+
+pub returns-clause-begins : goal.returns-clause-begins
+returns-clause-begins c = λ ts st old u f empty g.
+    let all = map declaration_of c.args.defs.now in
+    let v = over_old c.read_all.new.types c.check_sizes.new.types ts c.check_sizes.ensures.grown u in
+    let read = c.in-Ok.ensures.leads ts st old v f empty g in
+    let here = read.2.scoped in
+    on_any c.check_sizes.result (decls_by (own_in st) [] c.read_all.new.reading.known.items all ++ here.seen, here.decls)
+
+pub check_sizes-requires : goal.check_sizes-requires
+check_sizes-requires c = c.in-Ok.ensures.ready.formed

@@ -1,0 +1,13 @@
+-- Definitions that contain one, by marks. No public contract speaks of it.
+use Rattle.std.specs.Prelude.{ℕ, zero, suc, Bool, true, false, List, map, slice_set}
+use Rattle.decl_types.specs.declared.known.Definition.{Definition}
+use Rattle.decl_types.specs.ViewMarks.{definition_mark}
+
+-- one step further, where these contain it
+abbrev pub step_of : List Definition → ℕ → List Bool → List Bool
+step_of read number marks = map (definition_mark (slice_set marks number true)) read
+
+-- those that contain it in so many steps
+abbrev pub contained : ℕ → List Definition → ℕ → List Bool
+contained zero read number = map (λ _. false) read
+contained (suc n) read number = step_of read number (contained n read number)

@@ -1,0 +1,386 @@
+// The definitions of a section, one after another.
+ghost use Rattle.std.specs.Prelude.{◌≡◌, ◌<◌, ◌++◌, ◌∷◌, [], ℕ, List, suc, pos, drop, map, length, Ok};
+ghost use Rattle.std.specs.Prelude.{if◌then◌else◌, true, IfOk, IfErr, OnOk};
+ghost use Rattle.std.specs.HashSet.{contains};
+ghost use Rattle.arc_base.specs.declared.place.Stop.TheVariants as Stop;
+ghost use Rattle.arc_base.specs.Refusal.{Answers, and_then};
+ghost use Rattle.indent_scanner.specs.Words.{normal};
+ghost use Rattle.nim_tree.specs.Types.{Declaration, declaration_of, body_of};
+ghost use Rattle.nim_types.specs.Types as type;
+ghost use Rattle.nim_types.specs.Types.{Ty, Key, Facts, same_text};
+ghost use Rattle.nim_types.specs.Table.{type_at, meant, facts_in};
+ghost use Rattle.expr_parts.specs.declared.scope.Decl.{Decl};
+ghost use Rattle.expr_parts.specs.View.{Under, Grown, env_of, entry_of, DeclsWithin};
+ghost use Rattle.expr_parts.specs.ViewReady.{IsReady};
+ghost use Rattle.decl_rules.specs.State.{State};
+ghost use Rattle.decl_rules.specs.Meanings.{key_of};
+ghost use Rattle.decl_rules.specs.Written.{later};
+ghost use Rattle.decl_rules.specs.Sections.{Section, new_in_section, if_single, seen_members};
+ghost use Rattle.decl_rules.specs.Sections.{declaration_rule, declarations_rule, none_read};
+ghost use Rattle.decl_written.specs.ViewWritten.{HasNames};
+ghost use Rattle.decl_types.specs.ViewNodes.{names_env_of};
+ghost use Rattle.decl_types.specs.ViewBodies.{IsDeclared, member_entries, said_by};
+ghost use Rattle.decl_types.specs.ViewKnown.{Kept, key_by, IsSound};
+ghost use Rattle.decl_sections.specs.declared.starting.TheConstants.{MOST_DEFINITIONS};
+ghost use Rattle.decl_sections.specs.ViewSections.{members_in, said_in, type_by, Leads, KnowsAll};
+ghost use Rattle.decl_sections.specs.ViewWalk.{Framed, StageOf, member_decl};
+
+use crate::knowing::know_all;
+use crate::starting::{Frame, MOST_DEFINITIONS, Reading};
+use arc_base::{Bytes, Items, Memory, Place, Stop};
+use decl_parts::state::after;
+use decl_types::bodies::{Declared, Meaning, body, check_single, new_in_section, new_members};
+use decl_types::known::{Definition, is_sound};
+use decl_types::nodes::Names;
+use expr_parts::scope::{Decl, Scope, What};
+use nim_core::Literal;
+use nim_tree::{TypeBody, TypeDef as Tree};
+use nim_types::{TypeDef, TypeId, TypeTable};
+use std::alloc::Global;
+use std::collections::HashSet;
+
+// ---- what a definition says
+
+// The name of a definition is new, and it has no type parameters.
+fn check_head(alloc: Global, scope: &Scope, declared: &mut Declared, def: &Tree) -> Result<(), Stop>
+    ensures answers { (names : List (List ℕ)) (st : State) → HasNames declared.old.seen names
+        → IsDeclared st declared.old scope.now → Answers (λ _. tt) (and_then (new_in_section st
+        names def.now.name.at (normal def.now.name.text)) (λ _. if_single
+        def.now.parameters.items def.now.name.at)) result }
+    ensures seen { OnOk result ((names : List (List ℕ)) → HasNames declared.old.seen names
+        → HasNames declared.new.seen (normal def.now.name.text ∷ names)) }
+    ensures outside { declared.new.outside ≡ declared.old.outside }
+    ensures start { declared.new.start ≡ declared.old.start }
+{
+    match new_in_section(
+        alloc,
+        scope,
+        declared,
+        def.name.at,
+        def.name.text.as_slice(),
+    ) {
+        Ok(_name) => {}
+        Err(stop) => return Err(stop),
+    }
+    check_single(def.parameters.as_slice(), def.name.at)
+}
+
+// The members of an enum, which are new.
+fn members_of(
+    alloc: Global,
+    scope: &Scope,
+    declared: &mut Declared,
+    body: &TypeBody,
+) -> Result<Items<Bytes>, Stop>
+    ensures answers { (names : List (List ℕ)) (key : Key) (st : State)
+        → HasNames declared.old.seen names → IsDeclared st declared.old scope.now
+        → Answers (member_entries (type.enum key) 0) (members_in st names key (body_of body.now))
+        result }
+    ensures seen { IfOk result (λ all. (names : List (List ℕ)) → HasNames declared.old.seen names
+        → HasNames declared.new.seen (all ++ names)) }
+    ensures outside { declared.new.outside ≡ declared.old.outside }
+    ensures start { declared.new.start ≡ declared.old.start }
+{
+    match body {
+        TypeBody::Enum { members, .. } => {
+            new_members(alloc, scope, declared, members.as_slice())
+        }
+        TypeBody::Object { .. } | TypeBody::Distinct { .. } | TypeBody::Alias(_) => {
+            Ok(Items::new(alloc))
+        }
+    }
+}
+
+// What a definition says.
+fn read_definition(
+    alloc: Global,
+    types: &mut TypeTable,
+    scope: &Scope,
+    names: &Names,
+    def: &Tree,
+) -> Result<Definition, Stop>
+    requires { IsReady types.old scope.now }
+    ensures grown { Grown types.old types.new }
+    ensures answers { (ts : List Ty) (facts before : Facts) (keys : List Key)
+        → Under types.new ts facts → Answers (said_in ts keys) (said_by (later (env_of ts facts
+        scope.now)) (names_env_of ts before keys names.now scope.now) (body_of def.now.body))
+        result }
+    ensures key { IfOk result (λ d. key_by d ≡ key_of (declaration_of def.now)) }
+{
+    let name = Bytes::from_slice(alloc, def.name.text.as_slice())?;
+    let mut nodes = Vec::new(alloc);
+    match body(alloc, types, scope, names, &mut nodes, &def.body) {
+        Ok(meaning) => Ok(Definition {
+            name,
+            at: def.name.at,
+            meaning,
+            nodes,
+        }),
+        Err(stop) => Err(stop),
+    }
+}
+
+// ---- members of enums
+
+fn ordinal(number: u32) -> Result<i32, Memory>
+    ensures { IfOk result (λ z. z ≡ pos number) }
+{
+    match i32::try_from(number) {
+        Ok(z) => Ok(z),
+        Err(_) => Err(Memory),
+    }
+}
+
+// Declares a member, unless a type of the section has its name.
+fn declare_member(
+    alloc: Global,
+    scope: &mut Scope,
+    all: &HashSet<Bytes>,
+    ty: TypeId,
+    number: u32,
+    name: &[u8],
+) -> Result<(), Stop>
+    ensures decls { OnOk result (scope.new.decls ≡ scope.old.decls
+        ++ (if contains same_text all.now name.now then [] else member_decl ty number name.now
+        ∷ [])) }
+    ensures kinds { scope.new.kinds ≡ scope.old.kinds }
+    ensures home { scope.new.home ≡ scope.old.home }
+    ensures memory { IfErr result (λ stop. stop ≡ Stop.Memory) }
+{
+    let name = Bytes::from_slice(alloc, name)?;
+    if all.contains(&name) {
+        return Ok(());
+    }
+    let value = Literal::Ordinal(ordinal(number)?);
+    scope.declare(Decl {
+        name,
+        what: What::Constant { ty, value },
+    })?;
+    Ok(())
+}
+
+// Declares the members of an enum.
+fn declare_members(
+    alloc: Global,
+    scope: &mut Scope,
+    all: &HashSet<Bytes>,
+    ty: TypeId,
+    members: &[Bytes],
+) -> Result<(), Stop>
+    ensures decls { OnOk result ((seen : List Decl) × (scope.new.decls ≡ scope.old.decls ++ seen)
+        × ((n : ℕ) → ty < n → DeclsWithin n seen)
+        × ((ts : List Ty) (types : List (List ℕ)) → HasNames all.now types
+        → map (entry_of ts) seen ≡ seen_members types
+        (member_entries (type_at ts ty) 0 members.now))) }
+    ensures kinds { scope.new.kinds ≡ scope.old.kinds }
+    ensures home { scope.new.home ≡ scope.old.home }
+    ensures memory { IfErr result (λ stop. stop ≡ Stop.Memory) }
+{
+    let mut number = 0_u32;
+    for member in members {
+        declare_member(alloc, scope, all, ty, number, member.as_slice())?;
+        number = after(number)?;
+    }
+    Ok(())
+}
+
+// Whether an entry of the table is that of a definition of an object or an enum.
+fn is_entry_of(entry: &TypeDef, definition: &Definition) -> bool
+    ensures { result ≡ true → (ts : List Ty) → meant ts entry.now
+        ≡ type_by definition.now definition.now.meaning }
+{
+    match (entry, &definition.meaning) {
+        (TypeDef::Object { name, at, args, .. }, Meaning::Object { .. }) => {
+            args.as_slice().is_empty() && is_named(name.as_slice(), *at, definition)
+        }
+        (TypeDef::Enum { name, at, .. }, Meaning::Enum(_)) => {
+            is_named(name.as_slice(), *at, definition)
+        }
+        _ => false,
+    }
+}
+
+fn is_named(name: &[u8], at: Place, definition: &Definition) -> bool
+    ensures { result ≡ true → record { name = name.now; at = at } ≡ key_by definition.now }
+{
+    name == definition.name.as_slice() && at == definition.at
+}
+
+/// The type of the definition of an object or an enum, which is known.
+pub fn declared_type(
+    types: &TypeTable,
+    known: &[Option<TypeId>],
+    number: usize,
+    definition: &Definition,
+) -> Result<TypeId, Stop>
+    ensures within { IfOk result (λ id. id < length types.now) }
+    ensures means { IfOk result (λ id. (ts : List Ty) (facts : Facts) → Under types.now ts facts
+        → type_at ts id ≡ type_by definition.now definition.now.meaning) }
+    ensures memory { IfErr result (λ stop. stop ≡ Stop.Memory) }
+{
+    let Some(Some(id)) = known.get(number) else {
+        return Err(Stop::Memory);
+    };
+    if *id >= types.count() {
+        return Err(Stop::Memory);
+    }
+    if !is_entry_of(types.get(*id), definition) {
+        return Err(Stop::Memory);
+    }
+    Ok(*id)
+}
+
+// The type of an enum.
+fn enum_type(
+    types: &TypeTable,
+    known: &[Option<TypeId>],
+    number: usize,
+    definition: &Definition,
+) -> Result<TypeId, Stop>
+    ensures within { IfOk result (λ id. id < length types.now) }
+    ensures means { IfOk result (λ id. (ts : List Ty) (facts : Facts) → Under types.now ts facts
+        → type_at ts id ≡ type.enum (key_by definition.now)) }
+    ensures memory { IfErr result (λ stop. stop ≡ Stop.Memory) }
+{
+    match &definition.meaning {
+        Meaning::Enum(_) => declared_type(types, known, number, definition),
+        _ => Err(Stop::Memory),
+    }
+}
+
+// Declares the members of the enum that has been read last, whose type is known.
+fn take_members(
+    alloc: Global,
+    types: &TypeTable,
+    scope: &mut Scope,
+    frame: &Frame,
+    reading: &Reading,
+    members: &[Bytes],
+) -> Result<(), Stop>
+    ensures decls { OnOk result ((seen : List Decl) × (scope.new.decls ≡ scope.old.decls ++ seen)
+        × DeclsWithin (length types.now) seen
+        × ((ts : List Ty) (facts : Facts) (section : List (List ℕ)) (before : List Definition)
+        (d : Definition) → Under types.now ts facts → HasNames frame.now.all section
+        → reading.now.read.items ≡ before ++ d ∷ []
+        → map (entry_of ts) seen ≡ seen_members section
+        (member_entries (type.enum (key_by d)) 0 members.now))) }
+    ensures kinds { scope.new.kinds ≡ scope.old.kinds }
+    ensures home { scope.new.home ≡ scope.old.home }
+    ensures memory { IfErr result (λ stop. stop ≡ Stop.Memory) }
+{
+    if members.is_empty() {
+        return Ok(());
+    }
+    let Some(definition) = reading.read.last() else {
+        return Err(Stop::Memory);
+    };
+    let number = reading.read.len() - 1;
+    let ty = enum_type(types, reading.known.as_slice(), number, definition)?;
+    declare_members(alloc, scope, &frame.all, ty, members)
+}
+
+// ---- definitions
+
+// Takes up the next definition, and what becomes known with it.
+fn take_up(
+    alloc: Global,
+    types: &mut TypeTable,
+    scope: &mut Scope,
+    frame: &Frame,
+    reading: &mut Reading,
+    definition: Definition,
+) -> Result<(), Stop>
+    ensures kept { Kept types.old types.new }
+    ensures ready { IsReady types.old scope.old → OnOk result (IsReady types.new scope.new) }
+    ensures read { OnOk result (reading.new.read.items
+        ≡ reading.old.read.items ++ definition ∷ []) }
+    ensures sound { OnOk result (IsSound frame.now.types MOST_DEFINITIONS definition) }
+    ensures knows { OnOk result (KnowsAll types.old types.new scope.old scope.new frame.now.names
+        reading.old.known.items reading.new.known.items reading.new.read.items) }
+    ensures declared { reading.new.declared ≡ reading.old.declared }
+    ensures memory { IfErr result (λ stop. stop ≡ Stop.Memory) }
+{
+    if !is_sound(&definition, frame.types, MOST_DEFINITIONS) {
+        return Err(Stop::Memory);
+    }
+    reading.read.push(definition)?;
+    know_all(
+        alloc,
+        types,
+        scope,
+        &frame.names,
+        &mut reading.known,
+        reading.read.as_slice(),
+    )
+}
+
+// Reads one definition.
+fn read(
+    alloc: Global,
+    types: &mut TypeTable,
+    scope: &mut Scope,
+    frame: &Frame,
+    reading: &mut Reading,
+    def: &Tree,
+) -> Result<(), Stop>
+    requires { IsReady types.old scope.old }
+    ensures kept { Kept types.old types.new }
+    ensures ready { OnOk result (IsReady types.new scope.new) }
+    ensures count { OnOk result (length reading.new.read.items
+        ≡ suc (length reading.old.read.items)) }
+    ensures leads { (ts : List Ty) (st : State) (all : List Declaration) (old : List Decl)
+        (s : Section) (rest : List Declaration) → Under types.new ts (facts_in types.new)
+        → Framed ts st all old frame.now
+        → drop (length reading.old.read.items) all ≡ declaration_of def.now ∷ rest
+        → StageOf ts st all old frame.now types.old scope.old reading.old s
+        → Leads (StageOf ts st all old frame.now types.new scope.new reading.new)
+        (declaration_rule st all s (declaration_of def.now)) result }
+{
+    match check_head(alloc, scope, &mut reading.declared, def) {
+        Ok(()) => {}
+        Err(stop) => return Err(stop),
+    }
+    let members = match members_of(alloc, scope, &mut reading.declared, &def.body) {
+        Ok(members) => members,
+        Err(stop) => return Err(stop),
+    };
+    let definition = match read_definition(alloc, types, scope, &frame.names, def) {
+        Ok(definition) => definition,
+        Err(stop) => return Err(stop),
+    };
+    take_up(alloc, types, scope, frame, reading, definition)?;
+    take_members(alloc, types, scope, frame, reading, members.as_slice())
+}
+
+/// Reads all definitions.
+pub fn read_all(
+    alloc: Global,
+    types: &mut TypeTable,
+    scope: &mut Scope,
+    frame: &Frame,
+    reading: &mut Reading,
+    defs: &[Tree],
+) -> Result<(), Stop>
+    requires { IsReady types.old scope.old }
+    ensures kept { Kept types.old types.new }
+    ensures ready { OnOk result (IsReady types.new scope.new) }
+    ensures count { reading.old.read.items ≡ [] → OnOk result (length reading.new.read.items
+        ≡ length defs.now) }
+    ensures leads { (ts : List Ty) (st : State) (old : List Decl)
+        → Under types.new ts (facts_in types.new)
+        → Framed ts st (map declaration_of defs.now) old frame.now
+        → reading.old.read.items ≡ []
+        → StageOf ts st (map declaration_of defs.now) old frame.now types.old scope.old
+        reading.old none_read
+        → Leads (StageOf ts st (map declaration_of defs.now) old frame.now types.new scope.new
+        reading.new) (declarations_rule st (map declaration_of defs.now) none_read
+        (map declaration_of defs.now)) result }
+{
+    for def in defs {
+        match read(alloc, types, scope, frame, reading, def) {
+            Ok(()) => {}
+            Err(stop) => return Err(stop),
+        }
+    }
+    Ok(())
+}

@@ -1,0 +1,7 @@
+mod Scopes
+mod Defining
+mod Waiting
+mod Looping
+mod Fixing
+mod Covering
+mod Arming

@@ -1,0 +1,4 @@
+pub mod ViewStated
+pub mod ViewDefinitions
+pub mod ViewLoops
+pub mod ViewCases

@@ -1,0 +1,8 @@
+//! Statements, definitions and constants, from their trees to what is typed.
+#![tactic(auto)]
+
+pub mod assignments;
+pub mod blocks;
+pub mod constants;
+pub mod definitions;
+pub mod statements;

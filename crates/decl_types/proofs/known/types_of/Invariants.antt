@@ -1,0 +1,18 @@
+use Rattle.std.proofs.Common.{◌≡◌, ℕ, List, length, take}
+use Rattle.std.specs.Prelude.{map}
+use Rattle.nim_types.specs.Types.{Ty, Key, Facts}
+use Rattle.nim_types.specs.Table.{type_at, AllBelow}
+use Rattle.expr_parts.specs.View.{Under, Grown}
+use Rattle.decl_rules.specs.Meanings.{renamed}
+use Rattle.decl_types.specs.ViewNodes.{node_types}
+use Rattle.decl_types.specs.ViewKnown.{KnownAs, Untouched, NodesIn}
+use Rattle.decl_types.proofs.known.types_of.Given as goal
+
+abbrev pub invariant-loop-node : goal.invariant-loop-node
+invariant-loop-node l = record {
+  grown : Grown l.fn.types l.types;
+  within : AllBelow (length l.types) l.ids.items;
+  means : (n m : ℕ) → NodesIn n m l.nodes → (ts : List Ty) (facts : Facts) → Under l.types ts facts
+      → (keys : List Key) (by : Key → Ty) → KnownAs ts keys l.known by → Untouched ts n by
+      → map (type_at ts) l.ids.items ≡ map (renamed by) (node_types ts keys (take l.node-index l.nodes));
+}

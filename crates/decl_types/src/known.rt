@@ -1,0 +1,412 @@
+// Types of a section that become known.
+ghost use Rattle.std.specs.Prelude.{◌≡◌, ◌<◌, ℕ, List, Some, map, length, slice_get, IfOk, IfErr};
+ghost use Rattle.std.specs.Prelude.{OnOk, OnErr, true};
+ghost use Rattle.arc_base.specs.declared.place.Stop.TheVariants as Stop;
+ghost use Rattle.nim_types.specs.Types.{Ty, Key, Facts};
+ghost use Rattle.nim_types.specs.Table.{type_at, meant, AllBelow, IsWithin, MayAdd, Grows};
+ghost use Rattle.expr_parts.specs.View.{Under, Grown, IsBuilt};
+ghost use Rattle.decl_rules.specs.Meanings.{renamed};
+ghost use Rattle.decl_types.specs.ViewNodes.{node_type, node_types};
+ghost use Rattle.decl_types.specs.ViewKnown.{KnownAs, Untouched, NodeIn, NodesIn, IsMade};
+ghost use Rattle.decl_types.specs.ViewKnown.{OneEach, IsSound, AddsMeant, Becomes, Kept};
+ghost use Rattle.decl_types.specs.ViewKnown.{Declares, object_def, enum_def, distinct_def};
+
+use crate::bodies::Meaning;
+use crate::nodes::Node;
+use arc_base::{Bytes, Items, Memory, Place, Stop};
+use expr_parts::grow::add;
+use nim_types::{FieldName, TypeDef, TypeId, TypeTable, table_growth};
+use std::alloc::Global;
+
+/// A definition that has been read.
+#[derive(Drop)]
+pub struct Definition {
+    /// The name as declared.
+    pub name: Bytes,
+    pub at: Place,
+    pub meaning: Meaning,
+    pub nodes: Vec<Node>,
+}
+
+// Whether a node names types and definitions that are below these numbers.
+fn is_node_in(node: &Node, types: u32, definitions: u32) -> bool
+    ensures { result ≡ true → NodeIn types definitions node.now }
+{
+    match node {
+        Node::Known(id) => *id < types,
+        Node::Named(number) => *number < definitions,
+        Node::Sequence(_) | Node::Array { .. } | Node::Tuple { .. } => true,
+    }
+}
+
+// Whether all nodes name types and definitions that are below these numbers.
+fn are_nodes_in(nodes: &[Node], types: u32, definitions: u32) -> bool
+    ensures { result ≡ true → NodesIn types definitions nodes.now }
+{
+    for node in nodes {
+        if !is_node_in(node, types, definitions) {
+            return false;
+        }
+    }
+    true
+}
+
+// Whether an object has as many types as names of fields.
+fn has_one_each(meaning: &Meaning) -> bool
+    ensures { result ≡ true → OneEach meaning.now }
+{
+    match meaning {
+        Meaning::Object { fields, types } => fields.as_slice().len() == types.as_slice().len(),
+        Meaning::Enum(_) | Meaning::Distinct(_) | Meaning::Alias(_) => true,
+    }
+}
+
+/// Whether a definition names types and definitions that are below these numbers, and has a type
+/// for each field. Those that are read do.
+pub fn is_sound(definition: &Definition, types: u32, definitions: u32) -> bool
+    ensures { result ≡ true → IsSound types definitions definition.now }
+{
+    if !has_one_each(&definition.meaning) {
+        return false;
+    }
+    are_nodes_in(definition.nodes.as_slice(), types, definitions)
+}
+
+// The type that stands at a number.
+fn number_at(ids: &[TypeId], node: u32) -> Result<TypeId, Memory>
+    ensures { IfOk result (λ id. slice_get ids.now node ≡ Some id) }
+{
+    match ids.get(node as usize) {
+        Some(id) => Ok(*id),
+        None => Err(Memory),
+    }
+}
+
+// The types that stand at numbers.
+fn numbers_at(alloc: Global, ids: &[TypeId], nodes: &[u32]) -> Result<Items<TypeId>, Memory>
+    ensures within { IfOk result (λ all. (n : ℕ) → AllBelow n ids.now → AllBelow n all) }
+    ensures each { IfOk result (λ all. (ts : List Ty) → map (type_at ts) all
+        ≡ map (type_at (map (type_at ts) ids.now)) nodes.now) }
+    ensures length { IfOk result (λ all. length all ≡ length nodes.now) }
+{
+    let mut all = Items::new(alloc);
+    for node in nodes {
+        all.push(number_at(ids, *node)?)?;
+    }
+    Ok(all)
+}
+
+fn copies_of(alloc: Global, texts: &[Bytes]) -> Result<Items<Bytes>, Memory>
+    ensures { IfOk result (λ copies. copies ≡ texts.now) }
+{
+    let mut copies = Items::new(alloc);
+    for text in texts {
+        copies.push(Bytes::from_slice(alloc, text.as_slice())?)?;
+    }
+    Ok(copies)
+}
+
+fn field_copies(alloc: Global, fields: &[FieldName]) -> Result<Items<FieldName>, Memory>
+    ensures { IfOk result (λ copies. copies ≡ fields.now) }
+{
+    let mut copies = Items::new(alloc);
+    for field in fields {
+        let name = Bytes::from_slice(alloc, field.name.as_slice())?;
+        copies.push(FieldName {
+            name,
+            shown: field.shown,
+        })?;
+    }
+    Ok(copies)
+}
+
+// The type of a definition that is known.
+fn known_at(known: &[Option<TypeId>], number: u32) -> Result<TypeId, Stop>
+    ensures known { IfOk result (λ id. slice_get known.now number ≡ Some (Some id)) }
+    ensures memory { IfErr result (λ stop. stop ≡ Stop.Memory) }
+{
+    match known.get(number as usize) {
+        Some(Some(id)) => Ok(*id),
+        _ => Err(Stop::Memory),
+    }
+}
+
+// The entry of a node that is made of others.
+fn built(alloc: Global, node: &Node, ids: &[TypeId]) -> Result<TypeDef, Memory>
+    ensures made { IfOk result (λ _. IsMade node.now) }
+    ensures built { IfOk result (λ def. IsBuilt def) }
+    ensures within { IfOk result (λ def. (n : ℕ) → AllBelow n ids.now → IsWithin n def) }
+    ensures means { IfOk result (λ def. (ts : List Ty) (keys : List Key) → meant ts def
+        ≡ node_type ts keys (map (type_at ts) ids.now) node.now) }
+{
+    match node {
+        Node::Sequence(of) => Ok(TypeDef::Seq(number_at(ids, *of)?)),
+        Node::Array { len, of, .. } => Ok(TypeDef::Array {
+            len: *len,
+            of: number_at(ids, *of)?,
+        }),
+        Node::Tuple { names, parts, .. } => Ok(TypeDef::Tuple {
+            names: copies_of(alloc, names.as_slice())?,
+            parts: numbers_at(alloc, ids, parts.as_slice())?,
+        }),
+        Node::Known(_) | Node::Named(_) => Err(Memory),
+    }
+}
+
+// A number that is of the table.
+fn within(types: &TypeTable, id: TypeId) -> Result<TypeId, Stop>
+    ensures same { IfOk result (λ same. same ≡ id) }
+    ensures within { IfOk result (λ same. same < length types.now) }
+    ensures memory { IfErr result (λ stop. stop ≡ Stop.Memory) }
+{
+    if id >= types.count() {
+        return Err(Stop::Memory);
+    }
+    Ok(id)
+}
+
+// The type of a node, by those of the nodes before it.
+fn type_of(
+    alloc: Global,
+    types: &mut TypeTable,
+    known: &[Option<TypeId>],
+    node: &Node,
+    ids: &[TypeId],
+) -> Result<TypeId, Stop>
+    requires { AllBelow (length types.old) ids.now }
+    ensures grown { Grown types.old types.new }
+    ensures within { IfOk result (λ id. id < length types.new) }
+    ensures means { IfOk result (λ id. (n m : ℕ) → NodeIn n m node.now
+        → (ts : List Ty) (facts : Facts) → Under types.new ts facts
+        → (keys : List Key) (by : Key → Ty) (done : List Ty) → KnownAs ts keys known.now by
+        → Untouched ts n by → map (type_at ts) ids.now ≡ map (renamed by) done
+        → type_at ts id ≡ renamed by (node_type ts keys done node.now)) }
+    ensures memory { IfErr result (λ stop. stop ≡ Stop.Memory) }
+{
+    match node {
+        Node::Known(id) => within(types, *id),
+        Node::Named(number) => within(types, known_at(known, *number)?),
+        Node::Sequence(_) | Node::Array { .. } | Node::Tuple { .. } => {
+            add(types, built(alloc, node, ids)?)
+        }
+    }
+}
+
+/// The types of nodes, where all types of the section among them are known.
+pub fn types_of(
+    alloc: Global,
+    types: &mut TypeTable,
+    known: &[Option<TypeId>],
+    nodes: &[Node],
+) -> Result<Vec<TypeId>, Stop>
+    ensures grown { Grown types.old types.new }
+    ensures within { IfOk result (λ ids. AllBelow (length types.new) ids.items) }
+    ensures means { IfOk result (λ ids. (n m : ℕ) → NodesIn n m nodes.now
+        → (ts : List Ty) (facts : Facts) → Under types.new ts facts
+        → (keys : List Key) (by : Key → Ty) → KnownAs ts keys known.now by → Untouched ts n by
+        → map (type_at ts) ids.items ≡ map (renamed by) (node_types ts keys nodes.now)) }
+    ensures memory { IfErr result (λ stop. stop ≡ Stop.Memory) }
+{
+    let mut ids = Vec::new(alloc);
+    for node in nodes {
+        match type_of(alloc, types, known, node, ids.as_slice()) {
+            Ok(id) => ids.push(id)?,
+            Err(stop) => return Err(stop),
+        }
+    }
+    Ok(ids)
+}
+
+// The number of a declared type, which is new. (That of another one is never asked for: two
+// declarations stand at two places.)
+fn add_new(types: &mut TypeTable, def: TypeDef) -> Result<TypeId, Stop>
+    requires { MayAdd types.old def }
+    ensures declares { IfOk result (λ id. Declares types.old types.new def id) }
+    ensures grows { OnOk result (Grows types.old types.new) }
+    ensures same { OnErr result (types.new ≡ types.old) }
+    ensures memory { IfErr result (λ stop. stop ≡ Stop.Memory) }
+{
+    let count = types.count();
+    let id = types.add(def)?;
+    if id != count {
+        return Err(Stop::Memory);
+    }
+    Ok(id)
+}
+
+// An object with the types of its fields.
+fn add_object(
+    alloc: Global,
+    types: &mut TypeTable,
+    definition: &Definition,
+    fields: &[FieldName],
+    parts: Items<TypeId>,
+) -> Result<TypeId, Stop>
+    requires within { AllBelow (length types.old) parts }
+    requires one_each { length parts ≡ length fields.now }
+    ensures declares { IfOk result (λ id. Declares types.old types.new
+        (object_def definition.now fields.now parts) id) }
+    ensures grows { OnOk result (Grows types.old types.new) }
+    ensures same { OnErr result (types.new ≡ types.old) }
+    ensures memory { IfErr result (λ stop. stop ≡ Stop.Memory) }
+{
+    table_growth();
+    let def = TypeDef::Object {
+        name: Bytes::from_slice(alloc, definition.name.as_slice())?,
+        at: definition.at,
+        args: Items::new(alloc),
+        fields: field_copies(alloc, fields)?,
+        resource: false,
+        parts: Items::new(alloc),
+    };
+    match add_new(types, def) {
+        Ok(id) => {
+            types.complete(id, parts);
+            Ok(id)
+        }
+        Err(stop) => Err(stop),
+    }
+}
+
+fn add_enum(
+    alloc: Global,
+    types: &mut TypeTable,
+    definition: &Definition,
+    members: &[Bytes],
+) -> Result<TypeId, Stop>
+    ensures declares { IfOk result (λ id. Declares types.old types.new
+        (enum_def definition.now members.now) id) }
+    ensures grows { OnOk result (Grows types.old types.new) }
+    ensures same { OnErr result (types.new ≡ types.old) }
+    ensures memory { IfErr result (λ stop. stop ≡ Stop.Memory) }
+{
+    let def = TypeDef::Enum {
+        name: Bytes::from_slice(alloc, definition.name.as_slice())?,
+        at: definition.at,
+        members: copies_of(alloc, members)?,
+    };
+    add_new(types, def)
+}
+
+fn add_distinct(
+    alloc: Global,
+    types: &mut TypeTable,
+    definition: &Definition,
+    base: TypeId,
+) -> Result<TypeId, Stop>
+    requires { base < length types.old }
+    ensures declares { IfOk result (λ id. Declares types.old types.new
+        (distinct_def definition.now base) id) }
+    ensures grows { OnOk result (Grows types.old types.new) }
+    ensures same { OnErr result (types.new ≡ types.old) }
+    ensures memory { IfErr result (λ stop. stop ≡ Stop.Memory) }
+{
+    let def = TypeDef::Distinct {
+        name: Bytes::from_slice(alloc, definition.name.as_slice())?,
+        at: definition.at,
+        base,
+    };
+    add_new(types, def)
+}
+
+// A distinct type over the type of a node.
+fn add_base(
+    alloc: Global,
+    types: &mut TypeTable,
+    definition: &Definition,
+    ids: &[TypeId],
+    base: u32,
+) -> Result<TypeId, Stop>
+    requires { AllBelow (length types.old) ids.now }
+    ensures declares { IfOk result (λ id. (base_id : ℕ) × (slice_get ids.now base ≡ Some base_id)
+        × Declares types.old types.new (distinct_def definition.now base_id) id) }
+    ensures grows { OnOk result (Grows types.old types.new) }
+    ensures same { OnErr result (types.new ≡ types.old) }
+    ensures memory { IfErr result (λ stop. stop ≡ Stop.Memory) }
+{
+    let base = number_at(ids, base)?;
+    add_distinct(alloc, types, definition, base)
+}
+
+// An object, and the types of the nodes of its fields.
+fn add_fields(
+    alloc: Global,
+    types: &mut TypeTable,
+    definition: &Definition,
+    ids: &[TypeId],
+    fields: &[FieldName],
+    nodes: &[u32],
+) -> Result<TypeId, Stop>
+    requires { AllBelow (length types.old) ids.now }
+    ensures declares { IfOk result (λ id. (parts : List ℕ)
+        × ((ts : List Ty) → map (type_at ts) parts
+        ≡ map (type_at (map (type_at ts) ids.now)) nodes.now)
+        × (length parts ≡ length fields.now) × AllBelow (length types.old) parts
+        × Declares types.old types.new (object_def definition.now fields.now parts) id) }
+    ensures grows { OnOk result (Grows types.old types.new) }
+    ensures same { OnErr result (types.new ≡ types.old) }
+    ensures memory { IfErr result (λ stop. stop ≡ Stop.Memory) }
+{
+    let parts = numbers_at(alloc, ids, nodes)?;
+    if parts.as_slice().len() != fields.len() {
+        return Err(Stop::Memory);
+    }
+    add_object(alloc, types, definition, fields, parts)
+}
+
+// The type of a definition, by the types of its nodes.
+fn add_meant(
+    alloc: Global,
+    types: &mut TypeTable,
+    definition: &Definition,
+    ids: &[TypeId],
+) -> Result<TypeId, Stop>
+    requires { AllBelow (length types.old) ids.now }
+    ensures adds { IfOk result (λ id. AddsMeant types.old types.new ids.now definition.now
+        definition.now.meaning id) }
+    ensures grows { OnOk result (Grows types.old types.new) }
+    ensures same { OnErr result (types.new ≡ types.old) }
+    ensures memory { IfErr result (λ stop. stop ≡ Stop.Memory) }
+{
+    table_growth();
+    match &definition.meaning {
+        Meaning::Object {
+            fields,
+            types: nodes,
+        } => add_fields(
+            alloc,
+            types,
+            definition,
+            ids,
+            fields.as_slice(),
+            nodes.as_slice(),
+        ),
+        Meaning::Enum(members) => add_enum(alloc, types, definition, members.as_slice()),
+        Meaning::Distinct(base) => add_base(alloc, types, definition, ids, *base),
+        Meaning::Alias(of) => Ok(number_at(ids, *of)?),
+    }
+}
+
+/// The type of a definition in which all types of the section are known. It is added to the table
+/// with what is said of it, but for that of an alias.
+pub fn add_known(
+    alloc: Global,
+    types: &mut TypeTable,
+    known: &[Option<TypeId>],
+    definition: &Definition,
+) -> Result<TypeId, Stop>
+    ensures kept { Kept types.old types.new }
+    ensures becomes { IfOk result (λ id. Becomes types.old types.new known.now definition.now id) }
+    ensures memory { IfErr result (λ stop. stop ≡ Stop.Memory) }
+{
+    table_growth();
+    let ids = types_of(alloc, types, known, definition.nodes.as_slice())?;
+    let _before = types.count();
+    match add_meant(alloc, types, definition, ids.as_slice()) {
+        Ok(id) => {
+            let _behind = types.count();
+            Ok(id)
+        }
+        Err(stop) => Err(stop),
+    }
+}

@@ -1,0 +1,3 @@
+mod NameSets
+mod AtOnce
+pub mod ForCallers

@@ -1,0 +1,25 @@
+use Rattle.std.proofs.Common.{ap}
+use Rattle.std.specs.Prelude.{ℤ}
+use Rattle.arc_base.specs.Refusal.{and_then}
+use Rattle.nim_tree.specs.Terms.{term_of}
+use Rattle.expr_rules.specs.Answers.{nothing}
+use Rattle.expr_rules.specs.Names.{length_rule}
+use Rattle.expr_parts.specs.View.{env_of, valued_of}
+use Rattle.expr_parts.proofs.ForCallers.{answers_as, stops}
+use Rattle.decl_rules.specs.Values.{Value, valued_term, length_value}
+use Rattle.decl_parts.specs.View.{numbered_of}
+use Rattle.decl_written.proofs.lengths.length_value.Goals as goal
+
+pub returns-in-Ok-clause-answers : goal.returns-in-Ok-clause-answers
+returns-in-Ok-clause-answers c = λ ts facts u.
+    let env = env_of ts facts c.args.scope.now in
+    let tree = term_of c.args.tree.now in
+    answers_as (λ (z : ℤ). z) (length_value env tree) (length_rule facts (valued_of ts c.in-Ok.given.value)) c.length_rule.result
+    (ap (λ said. and_then said (λ v. length_rule facts v.given)) (c.in-Ok.ensures.answers ts facts u))
+    (c.length_rule.ensures ts facts u)
+
+pub returns-in-Err-clause-answers : goal.returns-in-Err-clause-answers
+returns-in-Err-clause-answers c = λ ts facts u.
+    let env = env_of ts facts c.args.scope.now in
+    stops (λ (z : ℤ). z) (numbered_of ts) (valued_term env nothing 0 (term_of c.args.tree.now)) (λ (v : Value). length_rule facts v.given) c.in-Err.stop
+    (c.in-Err.ensures.answers ts facts u)
