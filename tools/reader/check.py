@@ -401,7 +401,7 @@ class Checker(ExpressionChecker):
             raise Refusal('E23', min(found))
 
     def whole_text(self) -> None:
-        """E15 and E26; then `readLine(stdin)`."""
+        """E15 and E26."""
         found = []
         for procedure in self.procedures:
             has_body = procedure.body is not None and procedure.globals_before_body == procedure.globals_before
@@ -412,8 +412,6 @@ class Checker(ExpressionChecker):
         if found:
             position, code = min(found)
             raise Refusal(code, position)
-        if self.reads_of_input:
-            raise Refusal('E23', min(self.reads_of_input))
 
 
 def _kind_of(body: tree.Node) -> str:

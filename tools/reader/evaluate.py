@@ -5,12 +5,12 @@ An int, char or member of an enum is an int, a bool a bool, a text the bytes, an
 from __future__ import annotations
 
 import operator
-from typing import Any, Union
+from typing import Any, Tuple, Union
 
 import tree
 from meanings import (BUILT_IN_DOLLAR, BuiltInCall, Constant, Conversion, DollarCall, EmptyConstruction, Meaning,
                       Operation, Procedure)
-from type_table import BOOL, TypeTable
+from type_table import BOOL, LARGEST_SIZE, WORD_SIZE, HANDLE_SIZE, Form, TypeTable
 
 INT_BITS = 32
 SMALLEST_INT = -2 ** (INT_BITS - 1)
@@ -203,3 +203,40 @@ class Evaluator:
         if form.kind == 'distinct':
             return self.default(self.types.base(type_number))
         return 0
+
+
+class ConstantEvaluator(Evaluator):
+    """Of constants, none of which is larger than a type may be, nor any operand on the way to it."""
+
+    def evaluate(self, expression: tree.Expression) -> Any:
+        value = super().evaluate(expression)
+        if self.size(value, expression.type) > LARGEST_SIZE:
+            raise Trap('too large')
+        return value
+
+    def size(self, value: Any, type_number: int) -> int:
+        """In bytes, by itself: a text has its own, and a sequence those of its elements."""
+        is_list, size = self.counted(value, type_number)
+        return size if is_list else size or WORD_SIZE
+
+    def part_size(self, value: Any, type_number: int) -> int:
+        """As a part of another value."""
+        is_list, size = self.counted(value, type_number)
+        return HANDLE_SIZE + size if is_list else size or WORD_SIZE
+
+    def counted(self, value: Any, type_number: int) -> Tuple[bool, int]:
+        """Whether it is a text or a sequence, and the size of what it is made of."""
+        form = self.types.forms[type_number]
+        while form.kind == 'distinct':
+            type_number = self.types.base(type_number)
+            form = self.types.forms[type_number]
+        if isinstance(value, bytes):
+            return True, len(value)
+        if not isinstance(value, list):
+            return False, WORD_SIZE
+        return form.kind == 'seq', sum(self.part_size(part, part_type) for part, part_type in zip(value, self.part_types(form, value)))
+
+    def part_types(self, form: Form, value: list) -> list:
+        if form.element is not None:
+            return [form.element] * len(value)
+        return list(form.parts) if form.kind == 'tuple' else [part for _, part in self.types.fields(self.types.numbers[form])]

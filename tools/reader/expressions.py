@@ -4,7 +4,7 @@ from __future__ import annotations
 from typing import Any, Callable, Dict, List, NamedTuple, NoReturn, Optional, Sequence, Set, Tuple, Union
 
 import tree
-from evaluate import Evaluator, Trap
+from evaluate import ConstantEvaluator, Trap
 from meanings import (BUILT_IN_DOLLAR, NEW_SEQ, READ_LINE, SET_LEN, BuiltInCall, Constant, Conversion, Declaration,
                       DollarCall, EmptyConstruction, Operation, Overloads, PendingType, Procedure, ProcedureCall,
                       StandardInput, TypeName, Variable)
@@ -72,8 +72,6 @@ class ExpressionChecker:
         """In a length inside a section."""
         self.global_arguments: List[Tuple[Position, Variable, Procedure]] = []
         """Globals that are `var` arguments, and of which procedure."""
-        self.reads_of_input: List[Position] = []
-        """Calls of `readLine(stdin)`, which are refused behind all others."""
         self.rules: Dict[type, Callable[..., Optional[int]]] = {
             tree.Construction: self.construction, tree.Dot: self.dot, tree.Index: self.index, tree.Call: self.call,
             tree.Unary: self.unary, tree.Binary: self.binary, tree.Name: self.name,
@@ -333,6 +331,8 @@ class ExpressionChecker:
             if name == dot.name:
                 dot.field_number = number
                 return part_type
+        if dot.name == 'default':
+            refuse('E8', dot.left)
         return self.call_of(dot, dot.name, [dot.left], True)
 
     def is_read_as_type(self, left: tree.Expression) -> bool:
@@ -587,7 +587,6 @@ class ExpressionChecker:
             return INT
         types, first_open = self.arguments(arguments[1:])
         if not types:
-            self.reads_of_input.append(place_of(call))
             return STRING
         if types != [STRING]:
             refuse('E8', first_open or call)
@@ -698,7 +697,7 @@ class ExpressionChecker:
         if not self.is_constant(expression):
             refuse('E8', expression)
         try:
-            return Evaluator(self.types).evaluate(expression)
+            return ConstantEvaluator(self.types).evaluate(expression)
         except Trap:
             refuse('E8', expression)
 

@@ -1,7 +1,7 @@
-"""Compares this reader's answers with all rows of crates/rows/data/typing and crates/rows/data/plain, and with the
-examples of docs/TYPING.md.
+"""Compares this reader's answers with all rows of crates/rows/data/typing, crates/rows/data/plain and
+crates/rows/data/texts, and with the examples of docs/TYPING.md.
 
-    python3 tools/reader/run_rows.py [--only typing|plain|examples]
+    python3 tools/reader/run_rows.py [--only typing|plain|texts|examples]
 
 Says what differs, and the number of rows; ends with status 1 where something does.
 """
@@ -90,7 +90,7 @@ def examples() -> List[Row]:
     return rows
 
 
-DIFFERENCES = {'typing': typing_difference, 'plain': plain_difference, 'examples': typing_difference}
+DIFFERENCES = {'typing': typing_difference, 'plain': plain_difference, 'texts': plain_difference, 'examples': typing_difference}
 
 
 def differing_rows(folder: str) -> int:

@@ -5,6 +5,10 @@ from typing import Dict, FrozenSet, List, NamedTuple, Optional, Set, Tuple
 
 LARGEST_SIZE = 1_048_576
 LARGEST_LENGTH = 65_536
+WORD_SIZE = 4
+"""Of an int, and of what has no parts."""
+HANDLE_SIZE = 8
+"""Of a string or sequence, without what it is made of."""
 ORDINALS_AND_STRING = frozenset(['int', 'bool', 'char', 'enum', 'string'])
 """The kinds of types that have a built-in `$`, comparisons and labels."""
 
@@ -151,11 +155,11 @@ class TypeTable:
         return type_number
 
     def size(self, type_number: int) -> int:
-        """In bytes; 4 for a type that isn't known yet."""
+        """In bytes; that of a word for a type that isn't known yet."""
         if type_number not in self._sizes:
             size = self._known_size(type_number)
             if size is None:
-                return 4
+                return WORD_SIZE
             self._sizes[type_number] = size
         return self._sizes[type_number]
 
@@ -166,16 +170,16 @@ class TypeTable:
     def _known_size(self, type_number: int) -> Optional[int]:
         form = self.forms[type_number]
         if form.kind in ('int', 'bool', 'char', 'enum'):
-            return 4
+            return WORD_SIZE
         if form.kind in ('string', 'seq'):
-            return 8
+            return HANDLE_SIZE
         if form.kind == 'array':
             return form.length * self.size(form.element)
         if form.kind == 'tuple':
-            return sum(self.size(part) for part in form.parts) or 4
+            return sum(self.size(part) for part in form.parts) or WORD_SIZE
         if form.kind == 'object':
             fields = self.fields(type_number)
-            return None if fields is None else sum(self.size(field_type) for _, field_type in fields) or 4
+            return None if fields is None else sum(self.size(field_type) for _, field_type in fields) or WORD_SIZE
         if form.kind == 'distinct':
             base = self.base(type_number)
             return None if base is None else self.size(base)

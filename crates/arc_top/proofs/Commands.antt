@@ -1,33 +1,46 @@
 -- From the stages of a command to what is said of its answer.
-use Rattle.std.proofs.Common.{◌≡◌, ℕ, List, [], ◌∷◌, ◌++◌, inl, inr, refl, sym, ap, subst, ◌∙◌, append_assoc}
+use Rattle.std.proofs.Common.{◌≡◌, ℕ, List, [], ◌∷◌, ◌++◌, Some, None, Ok, inl, inr, refl, sym, ap, subst, ◌∙◌, append_assoc}
 use Rattle.arc_base.specs.FileCalls.{load, store}
 use Rattle.arc_base.specs.Outside.{KeepsOthers, Stores}
 use Rattle.arc_base.specs.declared.outside.Loaded.TheVariants as loaded
 use Rattle.arc_base.specs.declared.outside.Stream.TheVariants.{Out, Err}
+use Rattle.arc_base.specs.declared.place.Place.{Place}
+use Rattle.arc_base.specs.declared.place.Code.{Code}
+use Rattle.arc_base.specs.declared.place.Code.TheVariants.{LeftOut}
 use Rattle.elf32.specs.Elf.{File}
-use Rattle.int_core.specs.Meaning.{meaning}
+use Rattle.nim_core.specs.Program.{Program}
+use Rattle.nim_core.specs.LeftOut.{first_left_out}
+use Rattle.nim_core.specs.Meaning.{meaning}
+use Rattle.int_bridge.specs.Lacks.{answer_of as unless_some}
+use Rattle.core_runner.specs.declared.mean.MeanEnd.{MeanEnd}
+use Rattle.core_runner.specs.declared.mean.MeanEnd.TheVariants as mean_end
+use Rattle.core_runner.specs.Mean.{Means}
 use Rattle.rv32_isa.specs.Image.{Image}
 use Rattle.rv32_isa.specs.State.{State, first_state}
 use Rattle.rv32_runner.specs.declared.runner.RunEnd.{RunEnd}
 use Rattle.rv32_runner.specs.declared.runner.RunEnd.TheVariants as end
 use Rattle.rv32_runner.specs.Streams.{Streams}
 use Rattle.rv32_runner.specs.Runs.{Ran}
+use Rattle.source_compiler.specs.declared.compiler.NotCompiled.{NotCompiled}
+use Rattle.source_compiler.specs.declared.compiler.NotCompiled.TheVariants as why
 use Rattle.source_compiler.specs.Objects.{live_objects}
-use Rattle.source_compiler.specs.Source.{alone}
-use Rattle.source_compiler.specs.Compile.{Compiled, IsProgram, source_most}
+use Rattle.source_compiler.specs.Source.{alone, Reads}
+use Rattle.source_compiler.specs.Limits.{Limits, plain_limits, int_limits}
+use Rattle.source_compiler.specs.Compile.{Compiled, IsProgram, IsNoProgram, by_limits, source_most, empty_plan, OnRefused}
 use Rattle.arc_top.specs.declared.answer.Answer.{Answer}
 use Rattle.arc_top.specs.declared.answer.Answer.TheVariants.{Done, Ended, Usage, NoFile, TooLong, Refused, BadElf, MachineFault, StepsSpent, ReadFault}
 use Rattle.arc_top.specs.declared.answer.Answer.TheVariants.{WriteFault, StoreFault, Memory}
 use Rattle.arc_top.specs.Answer.{OnQuiet}
 use Rattle.arc_top.specs.Loads.{FilesState, Gives, Wants}
 use Rattle.arc_top.specs.Runs.{HasRun, Does, answer_of}
-use Rattle.arc_top.specs.Stages.{RunsOrWants}
-use Rattle.arc_top.specs.Top.{IsFileOf, HandsOver, Builds, world, RunsProgram, Runs}
+use Rattle.arc_top.specs.Stages.{StopsReading, IsRefusal, RunsOrWants, IsMeant}
+use Rattle.arc_top.specs.Top.{IsFileOf, HandsOver, Builds, world, RunsProgram, Runs, told, meant, MeansProgram, RunsMeaning}
 use Rattle.arc_top.proofs.Meaning.{Shows, Sees, exited, spent, no_fault, read_failed, out_failed, err_failed}
 
 -- ---- stores
 
-pub built : (main out source bytes : List ℕ) (heap : ℕ) (old mid new : FilesState) → Gives old mid main source_most source → IsProgram main source
+pub built : (main out source bytes : List ℕ) (heap : ℕ) (old mid new : FilesState) → Gives old mid main source_most source
+    → IsProgram int_limits main source
     → IsFileOf (alone main source) heap bytes → new.calls ≡ mid.calls ++ store out bytes ∷ [] → KeepsOthers mid.held new.held out
     → new.load_faults ≡ mid.load_faults → Stores new.held out bytes → new.store_faults ≡ mid.store_faults → Builds main out heap Done old new
 built main out source bytes heap old mid new gives program file calls others loads stores faults =
@@ -50,6 +63,17 @@ built main out source bytes heap old mid new gives program file calls others loa
 -- behind a load that gave bytes
 pub wants_behind : (name bytes : List ℕ) (most : ℕ) (old new : FilesState) → Gives old new name most bytes → Wants old new name
 wants_behind name bytes most old new gives = record { kept = gives.asked.kept; calls = inr (loaded.Whole, (bytes, gives.asked.calls)) }
+
+-- ---- sources that aren't taken
+
+-- what was said of a refusal says that this command doesn't take the source
+pub turned_away : (limits : Limits) (main source : List ℕ) (P : Code → Place → Type 0)
+    → ((code : Code) (at : Place) → P code at → IsNoProgram limits main source code at) → (e : NotCompiled) (answer : Answer) (old new : FilesState)
+    → Gives old new main source_most source → IsRefusal e answer → OnRefused e P → StopsReading limits main answer old new
+turned_away limits main source P so why.TooLong answer old new gives is said = absurd is
+turned_away limits main source P so (why.Refused code at) answer old new gives is said =
+    subst (λ a. StopsReading limits main a old new) (sym is) (inr (source, gives, so code at said))
+turned_away limits main source P so why.Memory answer old new gives is said = inl (is, wants_behind main source source_most old new gives)
 
 -- ---- runs
 
@@ -88,6 +112,51 @@ module _ (sees : Sees) (shows : Shows) (main source : List ℕ) (heap steps : �
   run_told answer (inl wanting) =
       subst (λ a. Runs main heap steps a (world old before) (world new after)) (sym wanting.0) (wants_behind main source source_most old new gives, wanting.1)
   run_told answer (inr ran) = subst (λ a. Runs main heap steps a (world old before) (world new after)) (sym ran.answers) (run_ended ran.end ran.last ran.ran)
+
+-- ---- meanings
+
+-- a form has no meaning yet
+pub left_down : (main source : List ℕ) (old new : FilesState) (program : Program) (at : Place) → Gives old new main source_most source
+    → Reads (alone main source) program → first_left_out program ≡ Some at → IsNoProgram plain_limits main source LeftOut at
+left_down main source old new program at gives reads e =
+    record { within = gives.within; refused = by_limits program reads (ap (λ o. unless_some {A = Unit {0}} o tt) e) }
+
+pub none_left_out : (program : Program) → first_left_out program ≡ None → plain_limits program ≡ Ok tt
+none_left_out program e = ap (λ o. unless_some {A = Unit {0}} o tt) e
+
+module _ (main source : List ℕ) (heap steps : ℕ) (program : Program) (old new : FilesState) (before after : Streams)
+    (gives : Gives old new main source_most source) (reads : Reads (alone main source) program) (built : plain_limits program ≡ Ok tt)
+    (same : after.input ≡ before.input) where
+  abbrev Ends : MeanEnd → Type 0
+  Ends e = (input : List ℕ) → Means (meaning program empty_plan heap input steps) e (told before.out after.out) (told before.err after.err)
+
+  means_so : (e : MeanEnd) → Ends e → MeansProgram main heap steps (meant steps e) (world old before) (world new after)
+  means_so e means = record {
+    source = source;
+    gives = gives;
+    program = program;
+    reads = reads;
+    built = built;
+    end = e;
+    means = means;
+    answers = refl;
+    input = same;
+  }
+
+  meaning_ended : (e : MeanEnd) → Ends e → RunsMeaning main heap steps (meant steps e) (world old before) (world new after)
+  meaning_ended (mean_end.Ended status) means = means_so (mean_end.Ended status) means
+  meaning_ended mean_end.Going means = means_so mean_end.Going means
+  meaning_ended mean_end.Wrong means = absurd (means [])
+  meaning_ended mean_end.ReadFault means = absurd (means [])
+  meaning_ended (mean_end.WriteFault stream) means = means_so (mean_end.WriteFault stream) means
+  meaning_ended mean_end.Memory means = inr (means_so mean_end.Memory means)
+
+pub mean_told : (main source : List ℕ) (heap steps : ℕ) (program : Program) (old new : FilesState) (before after : Streams)
+    → Gives old new main source_most source → Reads (alone main source) program → plain_limits program ≡ Ok tt
+    → (answer : Answer) → IsMeant program heap steps answer before after → RunsMeaning main heap steps answer (world old before) (world new after)
+mean_told main source heap steps program old new before after gives reads built answer is =
+    subst (λ a. RunsMeaning main heap steps a (world old before) (world new after)) (sym is.answers)
+    (meaning_ended main source heap steps program old new before after gives reads built is.input is.end is.means)
 
 -- ---- lines
 

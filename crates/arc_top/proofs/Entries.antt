@@ -1,9 +1,14 @@
 -- What an answer says of the entry that the command read.
-use Rattle.std.proofs.Common.{◌≡◌, ℕ, ◌<◌, List, length, Option, Some, None, ◌⊎◌, inl, inr, refl, sym, subst, arith}
+use Rattle.std.proofs.Common.{◌≡◌, ℕ, ◌<◌, List, [], length, Option, Some, None, ◌⊎◌, inl, inr, refl, sym, subst, arith}
 use Rattle.arc_base.specs.Outside.{Held, Rose, Writes}
 use Rattle.arc_base.specs.declared.outside.Stream.TheVariants.{Out, Err}
-use Rattle.command_words.specs.Command.{Command, check, build, run, exec, file_of}
-use Rattle.source_compiler.specs.Compile.{IsProgram, source_most}
+use Rattle.command_words.specs.Command.{Command, check, build, run, mean, exec, file_of}
+use Rattle.core_runner.specs.declared.mean.MeanEnd.{MeanEnd}
+use Rattle.core_runner.specs.declared.mean.MeanEnd.TheVariants as mean_end
+use Rattle.core_runner.specs.Mean.{Means}
+use Rattle.nim_core.specs.Meaning.{meaning}
+use Rattle.source_compiler.specs.Limits.{int_limits}
+use Rattle.source_compiler.specs.Compile.{IsProgram, source_most, empty_plan}
 use Rattle.rv32_isa.specs.State.{State, first_state}
 use Rattle.rv32_runner.specs.declared.runner.RunEnd.{RunEnd}
 use Rattle.rv32_runner.specs.declared.runner.RunEnd.TheVariants as end
@@ -16,8 +21,9 @@ use Rattle.arc_top.specs.declared.answer.Answer.TheVariants.{WriteFault, StoreFa
 use Rattle.arc_top.specs.Loads.{FilesState, OnEntry, Gives}
 use Rattle.arc_top.specs.Report.{report_of}
 use Rattle.arc_top.specs.Runs.{HasRun, answer_of}
-use Rattle.arc_top.specs.Top.{Stops, World, RunsProgram, Runs, RunsFile, Executes, Answered, Carries, before_line, modules_of, file_most}
-use Rattle.arc_top.specs.Due.{NothingFails, TellsEntry, WasAnswered, Compiles, IsCarriedOut, most_of, IsDue, lacks, long, refused, compiled, bad, executed}
+use Rattle.arc_top.specs.Top.{Stops, World, RunsProgram, Runs, told as of_sink, meant, MeansProgram, RunsFile, Executes, Answered, Carries, before_line, modules_of}
+use Rattle.arc_top.specs.Top.{limits_of, file_most}
+use Rattle.arc_top.specs.Due.{NothingFails, TellsEntry, WasAnswered, ReadsSource, IsCarriedOut, most_of, IsDue, lacks, long, refused, accepted, bad, executed}
 use Rattle.arc_top.specs.Due.{wanting}
 
 -- ---- counts
@@ -67,6 +73,23 @@ named : CausesLaw → (steps : ℕ) (image : _) (answer : Answer) (old new : Str
 named causes steps image answer old new ran =
     subst (λ a. Named a old new) (sym ran.answers) (named_by steps ran.end old new (causes steps old (first_state image) ran.end ran.last new ran.ran))
 
+-- running a meaning
+named_by_meaning : (steps : ℕ) (e : MeanEnd) (seen : _) (old new : Streams) → Means seen e (of_sink old.out new.out) (of_sink old.err new.err)
+    → Named (meant steps e) old new
+named_by_meaning steps (mean_end.Ended status) seen old new means = tt
+named_by_meaning steps mean_end.Going seen old new means = tt
+named_by_meaning steps mean_end.Wrong seen old new means = tt
+named_by_meaning steps mean_end.ReadFault seen old new means = absurd means
+named_by_meaning steps (mean_end.WriteFault Out) seen old new means = means.0
+named_by_meaning steps (mean_end.WriteFault Err) seen old new means = means.0
+named_by_meaning steps mean_end.Memory seen old new means = tt
+
+named_mean : (main : List ℕ) (heap steps : ℕ) (answer : Answer) (old new : World) → MeansProgram main heap steps answer old new
+    → Named answer old.streams new.streams
+named_mean main heap steps answer old new m =
+    subst (λ a. Named a old.streams new.streams) (sym m.answers)
+    (named_by_meaning steps m.end (meaning m.program empty_plan heap [] steps) old.streams new.streams (m.means []))
+
 -- ---- entries
 
 on_entry : (held : Option Held) (name : List ℕ) (entry : Option (List ℕ)) (P : Option (List ℕ) → Type 0) → TellsEntry held name entry
@@ -78,9 +101,9 @@ module _ (entry : Option (List ℕ)) (old new : FilesState) where
   given : (name : List ℕ) (most : ℕ) (bytes : List ℕ) → TellsEntry old.held name entry → Gives old new name most bytes → entry ≡ Some bytes
   given name most bytes told gives = on_entry old.held name entry (λ e. e ≡ Some bytes) told gives.told
 
-  due_stop : (command : Command) → Compiles command → most_of command ≡ source_most → TellsEntry old.held (file_of command) entry
+  due_stop : (command : Command) → ReadsSource command → most_of command ≡ source_most → TellsEntry old.held (file_of command) entry
       → (Rose old.load_faults new.load_faults → ⊥)
-      → (answer : Answer) → Stops (file_of command) answer old new → IsDue command entry answer
+      → (answer : Answer) → Stops (limits_of command) (file_of command) answer old new → IsDue command entry answer
   due_stop command compiles most told fine Done stops = absurd stops
   due_stop command compiles most told fine (Ended status) stops = absurd stops
   due_stop command compiles most told fine Usage stops = absurd stops
@@ -100,15 +123,23 @@ module _ (entry : Option (List ℕ)) (old new : FilesState) where
   due_stop command compiles most told fine StoreFault stops = absurd stops
   due_stop command compiles most told fine Memory stops = absurd stops
 
-is_program : (main : List ℕ) (heap steps : ℕ) (answer : Answer) (old new : World) (ran : RunsProgram main heap steps answer old new) → IsProgram main ran.source
-is_program main heap steps answer old new ran = (ran.gives.within, (ran.compiled.program, ran.compiled.reads))
+is_program : (main : List ℕ) (heap steps : ℕ) (answer : Answer) (old new : World) (ran : RunsProgram main heap steps answer old new)
+    → IsProgram int_limits main ran.source
+is_program main heap steps answer old new ran =
+    record { within = ran.gives.within; program = ran.compiled.program; reads = ran.compiled.reads; taken = ran.compiled.built }
 
 module _ (causes : CausesLaw) (entry : Option (List ℕ)) (old new : World) (fine : NothingFails old new) where
   due_program : (main : List ℕ) (heap steps : ℕ) (answer : Answer) → TellsEntry old.files.held main entry → IsCarriedOut (run main heap steps) answer
       → RunsProgram main heap steps answer old new → IsDue (run main heap steps) entry answer
   due_program main heap steps answer told done ran =
-      compiled ran.source answer tt (given entry old.files new.files main source_most ran.source told ran.gives)
+      accepted ran.source answer tt (given entry old.files new.files main source_most ran.source told ran.gives)
       (is_program main heap steps answer old new ran) done
+
+  due_meaning : (main : List ℕ) (heap steps : ℕ) (answer : Answer) → TellsEntry old.files.held main entry → IsCarriedOut (mean main heap steps) answer
+      → MeansProgram main heap steps answer old new → IsDue (mean main heap steps) entry answer
+  due_meaning main heap steps answer told done m =
+      accepted m.source answer tt (given entry old.files new.files main source_most m.source told m.gives)
+      (record { within = m.gives.within; program = m.program; reads = m.reads; taken = m.built }) done
 
   due_file : (name : List ℕ) (steps : ℕ) (answer : Answer) → TellsEntry old.files.held name entry → IsCarriedOut (exec name steps) answer
       → RunsFile name steps answer old new → IsDue (exec name steps) entry answer
@@ -125,7 +156,7 @@ module _ (causes : CausesLaw) (entry : Option (List ℕ)) (old new : World) (fin
 
   pub due : (command : Command) (answer : Answer) → TellsEntry old.files.held (file_of command) entry → Answered command answer old new
       → IsDue command entry answer
-  due (check main) Done told is = compiled is.0.0 Done tt (given entry old.files new.files main source_most is.0.0 told is.0.1) is.0.2 tt
+  due (check main) Done told is = accepted is.0.0 Done tt (given entry old.files new.files main source_most is.0.0 told is.0.1) is.0.2 tt
   due (check main) (Ended status) told is = due_stop entry old.files new.files (check main) tt refl told fine.loads (Ended status) is.0
   due (check main) Usage told is = due_stop entry old.files new.files (check main) tt refl told fine.loads Usage is.0
   due (check main) (NoFile name) told is = due_stop entry old.files new.files (check main) tt refl told fine.loads (NoFile name) is.0
@@ -140,7 +171,7 @@ module _ (causes : CausesLaw) (entry : Option (List ℕ)) (old new : World) (fin
   due (check main) (WriteFault Err) told is = due_stop entry old.files new.files (check main) tt refl told fine.loads (WriteFault Err) is.0
   due (check main) StoreFault told is = due_stop entry old.files new.files (check main) tt refl told fine.loads StoreFault is.0
   due (check main) Memory told is = wanting
-  due (build main out heap) Done told is = compiled is.0.0.source Done tt
+  due (build main out heap) Done told is = accepted is.0.0.source Done tt
       (on_entry old.files.held main entry (λ e. e ≡ Some is.0.0.source) told is.0.0.told) is.0.0.program tt
   due (build main out heap) (Ended status) told is = due_stop entry old.files new.files (build main out heap) tt refl told fine.loads (Ended status) is.0
   due (build main out heap) Usage told is = due_stop entry old.files new.files (build main out heap) tt refl told fine.loads Usage is.0
@@ -173,6 +204,22 @@ module _ (causes : CausesLaw) (entry : Option (List ℕ)) (old new : World) (fin
       (fine.streams.err (named causes steps is.file.image (WriteFault Err) old.streams new.streams is.ran))
   due (run main heap steps) StoreFault told is = due_stop entry old.files new.files (run main heap steps) tt refl told fine.loads StoreFault is.0
   due (run main heap steps) Memory told is = wanting
+  due (mean main heap steps) Done told is = due_stop entry old.files new.files (mean main heap steps) tt refl told fine.loads Done is.0
+  due (mean main heap steps) (Ended status) told is = due_meaning main heap steps (Ended status) told tt is
+  due (mean main heap steps) Usage told is = due_stop entry old.files new.files (mean main heap steps) tt refl told fine.loads Usage is.0
+  due (mean main heap steps) (NoFile name) told is = due_stop entry old.files new.files (mean main heap steps) tt refl told fine.loads (NoFile name) is.0
+  due (mean main heap steps) (TooLong name) told is = due_stop entry old.files new.files (mean main heap steps) tt refl told fine.loads (TooLong name) is.0
+  due (mean main heap steps) (Refused code at) told is =
+      due_stop entry old.files new.files (mean main heap steps) tt refl told fine.loads (Refused code at) is.0
+  due (mean main heap steps) (BadElf fault) told is = due_stop entry old.files new.files (mean main heap steps) tt refl told fine.loads (BadElf fault) is.0
+  due (mean main heap steps) (MachineFault kind pc word) told is =
+      due_stop entry old.files new.files (mean main heap steps) tt refl told fine.loads (MachineFault kind pc word) is.0
+  due (mean main heap steps) (StepsSpent n) told is = due_meaning main heap steps (StepsSpent n) told tt is
+  due (mean main heap steps) ReadFault told is = due_stop entry old.files new.files (mean main heap steps) tt refl told fine.loads ReadFault is.0
+  due (mean main heap steps) (WriteFault Out) told is = absurd (fine.streams.out (named_mean main heap steps (WriteFault Out) old new is))
+  due (mean main heap steps) (WriteFault Err) told is = absurd (fine.streams.err (named_mean main heap steps (WriteFault Err) old new is))
+  due (mean main heap steps) StoreFault told is = due_stop entry old.files new.files (mean main heap steps) tt refl told fine.loads StoreFault is.0
+  due (mean main heap steps) Memory told is = wanting
   due (exec name steps) Done told is = absurd is
   due (exec name steps) (Ended status) told is = due_file name steps (Ended status) told tt is
   due (exec name steps) Usage told is = absurd is
@@ -191,7 +238,8 @@ module _ (causes : CausesLaw) (entry : Option (List ℕ)) (old new : World) (fin
   due (exec name steps) StoreFault told is = absurd is
   due (exec name steps) Memory told is = wanting
 
-pub answer_due : CausesLaw → (command : Command) (entry : Option (List ℕ)) (answer : Answer) → WasAnswered command entry answer → IsDue command entry answer
+pub answer_due : CausesLaw → (command : Command) (entry : Option (List ℕ)) (answer : Answer) → WasAnswered command entry answer
+    → IsDue command entry answer
 answer_due causes command entry answer was =
     due causes entry was.old (before_line was.new was.carries.err)
     (before_fine command answer was.old was.new was.carries was.fine) command answer was.told was.carries.answered

@@ -6,10 +6,9 @@ use Rattle.arc_base.specs.declared.place.Code.{Code}
 use Rattle.elf32.specs.declared.file.ElfFault.{ElfFault}
 use Rattle.elf32.specs.Elf.{File, Elf}
 use Rattle.elf32.specs.Faults.{HasFault}
-use Rattle.int_core.specs.Program.{Program}
-use Rattle.command_words.specs.Command.{Command, check, build, run, exec, file_of}
-use Rattle.source_compiler.specs.Source.{Module, Reads, Refuses, alone}
-use Rattle.source_compiler.specs.Compile.{IsProgram, source_most}
+use Rattle.command_words.specs.Command.{Command, check, build, run, mean, exec, file_of}
+use Rattle.source_compiler.specs.Limits.{Limits}
+use Rattle.source_compiler.specs.Compile.{IsProgram, IsNoProgram, source_most}
 use Rattle.rv32_isa.specs.declared.image.HookAt.{HookAt}
 use Rattle.rv32_isa.specs.Image.{Image}
 use Rattle.rv32_isa.specs.State.{State, first_state}
@@ -23,25 +22,27 @@ use Rattle.arc_top.specs.declared.answer.Answer.{Answer}
 use Rattle.arc_top.specs.declared.answer.Answer.TheVariants.{Done, Ended, Usage, NoFile, TooLong, Refused, BadElf, MachineFault, StepsSpent, ReadFault}
 use Rattle.arc_top.specs.declared.answer.Answer.TheVariants.{WriteFault, StoreFault, Memory}
 use Rattle.arc_top.specs.Runs.{HasRun, answer_of}
-use Rattle.arc_top.specs.Top.{file_most}
-use Rattle.arc_top.specs.Due.{NoStreamFails, Compiles, Executes, most_of, IsCarriedOut, IsDue, lacks, long, refused, compiled, bad, executed, wanting}
+use Rattle.arc_top.specs.Top.{limits_of, file_most}
+use Rattle.arc_top.specs.Due.{NoStreamFails, ReadsSource, Executes, most_of, IsCarriedOut, IsDue, lacks, long, refused, accepted, bad, executed, wanting}
 use Rattle.arc_top.specs.Due.{IsComplete, answer_at, IsAnswerAt}
 use Rattle.arc_top.proofs.Meaning.{some_rest}
 use Rattle.arc_top.proofs.Entries.{CausesLaw}
 
 -- ---- commands
 
-never_both : (command : Command) → Compiles command → Executes command → ⊥
-never_both (check main) compiles executes = absurd executes
-never_both (build main out heap) compiles executes = absurd executes
-never_both (run main heap steps) compiles executes = absurd executes
-never_both (exec name steps) compiles executes = absurd compiles
+never_both : (command : Command) → ReadsSource command → Executes command → ⊥
+never_both (check main) reads executes = absurd executes
+never_both (build main out heap) reads executes = absurd executes
+never_both (run main heap steps) reads executes = absurd executes
+never_both (mean main heap steps) reads executes = absurd executes
+never_both (exec name steps) reads executes = absurd reads
 
-most_is : (command : Command) → Compiles command → most_of command ≡ source_most
-most_is (check main) compiles = refl
-most_is (build main out heap) compiles = refl
-most_is (run main heap steps) compiles = refl
-most_is (exec name steps) compiles = absurd compiles
+most_is : (command : Command) → ReadsSource command → most_of command ≡ source_most
+most_is (check main) reads = refl
+most_is (build main out heap) reads = refl
+most_is (run main heap steps) reads = refl
+most_is (mean main heap steps) reads = refl
+most_is (exec name steps) reads = absurd reads
 
 carried : (command : Command) (answer : Answer) → IsCarriedOut command answer → IsComplete command answer
 carried command Done done = done
@@ -67,17 +68,18 @@ no_entry xs e = cc
 -- ---- programs and files
 
 abbrev EitherLaw : Type 0
-EitherLaw = (modules : List Module) (program : Program) (c : Code) (at : Place) → Reads modules program → Refuses modules c at → ⊥
+EitherLaw = (limits : Limits) (name source : List ℕ) (c : Code) (at : Place) → IsProgram limits name source → IsNoProgram limits name source c at → ⊥
 
-pub program_due : EitherLaw → (command : Command) (source : List ℕ) (answer : Answer) → Compiles command → IsProgram (file_of command) source
+pub program_due : EitherLaw → (command : Command) (source : List ℕ) (answer : Answer) → ReadsSource command
+    → IsProgram (limits_of command) (file_of command) source
     → IsDue command (Some source) answer → IsComplete command answer
 program_due either command source _ c is (lacks e) = absurd (no_entry source e)
 program_due either command source _ c is (long bytes e far) =
-    absurd (omega (arith, is.0, subst (λ n. n < length bytes) (most_is command c) far, ap length (one_entry source bytes e)))
+    absurd (omega (arith, is.within, subst (λ n. n < length bytes) (most_is command c) far, ap length (one_entry source bytes e)))
 program_due either command source _ c is (refused other code at d e refusal) =
-    absurd (either (alone (file_of command) source) is.1.0 code at is.1.1
-    (subst (λ bytes. Refuses (alone (file_of command) bytes) code at) (sym (one_entry source other e)) refusal.1))
-program_due either command source _ c is (compiled other answer d e p done) = carried command answer done
+    absurd (either (limits_of command) (file_of command) source code at is
+    (subst (λ bytes. IsNoProgram (limits_of command) (file_of command) bytes code at) (sym (one_entry source other e)) refusal))
+program_due either command source _ c is (accepted other answer d e p done) = carried command answer done
 program_due either command source _ c is (bad bytes fault d e within has) = absurd (never_both command c d)
 program_due either command source _ c is (executed bytes file answer d e within elf done) = absurd (never_both command c d)
 program_due either command source _ c is wanting = tt
@@ -91,7 +93,7 @@ pub file_due : ApartLaw → (name bytes : List ℕ) (file : File) (steps : ℕ) 
 file_due apart name bytes file steps _ within elf (lacks e) = absurd (no_entry bytes e)
 file_due apart name bytes file steps _ within elf (long other e far) = absurd (omega (arith, within, far, ap length (one_entry bytes other e)))
 file_due apart name bytes file steps _ within elf (refused other code at d e refusal) = absurd d
-file_due apart name bytes file steps _ within elf (compiled other answer d e p done) = absurd d
+file_due apart name bytes file steps _ within elf (accepted other answer d e p done) = absurd d
 file_due apart name bytes file steps _ within elf (bad other fault d e short has) =
     absurd (apart bytes file fault elf (subst (λ b. HasFault b fault) (sym (one_entry bytes other e)) has))
 file_due apart name bytes file steps _ within elf (executed other f answer d e short elf2 done) = carried (exec name steps) answer done
@@ -101,8 +103,8 @@ file_due apart name bytes file steps _ within elf wanting = tt
 
 abbrev ToldLaw : Type 0
 ToldLaw =
-    (hooks : List HookAt) (n : ℕ) (old : Streams) (s : State) (answer : RunEnd) (t : State) (new : Streams) → Ran n old s answer t new → IsOfMachine answer
-    → (rest : List ℕ) → MayGive new.input.left new.input.ended rest → Told hooks n old s answer t new rest
+    (hooks : List HookAt) (n : ℕ) (old : Streams) (s : State) (answer : RunEnd) (t : State) (new : Streams)
+    → Ran n old s answer t new → IsOfMachine answer → (rest : List ℕ) → MayGive new.input.left new.input.ended rest → Told hooks n old s answer t new rest
 
 -- the answer, and what was shown, where the machine stands as was told
 stood : (steps : ℕ) (e : RunEnd) (t : State) (rest : List ℕ) (shown : List _) (x : Standing) → Tells e t rest shown x

@@ -10,11 +10,11 @@ use Rattle.elf32.specs.Elf.{File, Elf}
 use Rattle.elf32.specs.Faults.{HasFault}
 use Rattle.rv32_isa.specs.Machine.{Standing, Runs, HasExited, HasFaulted, shown_by}
 use Rattle.rv32_runner.specs.Streams.{Streams, Got, bytes_on}
-use Rattle.command_words.specs.Command.{Command, check, build, run, exec, file_of}
+use Rattle.command_words.specs.Command.{Command, check, build, run, mean, exec, file_of}
 use Rattle.source_compiler.specs.Compile.{IsProgram, IsNoProgram, source_most}
 use Rattle.arc_top.specs.declared.answer.Answer.{Answer}
 use Rattle.arc_top.specs.declared.answer.Answer.TheVariants.{Done, Ended, NoFile, TooLong, Refused, BadElf, MachineFault, StepsSpent, Memory}
-use Rattle.arc_top.specs.Top.{World, Carries, file_most}
+use Rattle.arc_top.specs.Top.{World, Carries, limits_of, file_most}
 
 -- ---- what the outside tells
 
@@ -45,16 +45,19 @@ pub record WasAnswered (command : Command) (entry : Option (List ℕ)) (answer :
 
 -- ---- by what was read
 
-abbrev pub Compiles : Command → Type 0
-Compiles (check main) = ⊤
-Compiles (build main out heap) = ⊤
-Compiles (run main heap steps) = ⊤
-Compiles (exec name steps) = ⊥
+-- it reads a source
+abbrev pub ReadsSource : Command → Type 0
+ReadsSource (check main) = ⊤
+ReadsSource (build main out heap) = ⊤
+ReadsSource (run main heap steps) = ⊤
+ReadsSource (mean main heap steps) = ⊤
+ReadsSource (exec name steps) = ⊥
 
 abbrev pub Executes : Command → Type 0
 Executes (check main) = ⊥
 Executes (build main out heap) = ⊥
 Executes (run main heap steps) = ⊥
+Executes (mean main heap steps) = ⊥
 Executes (exec name steps) = ⊤
 
 -- the most bytes that it reads
@@ -62,6 +65,7 @@ abbrev pub most_of : Command → ℕ
 most_of (check main) = source_most
 most_of (build main out heap) = source_most
 most_of (run main heap steps) = source_most
+most_of (mean main heap steps) = source_most
 most_of (exec name steps) = file_most
 
 -- the command came to its end
@@ -70,6 +74,8 @@ IsCarriedOut (check main) Done = ⊤
 IsCarriedOut (build main out heap) Done = ⊤
 IsCarriedOut (run main heap steps) (Ended status) = ⊤
 IsCarriedOut (run main heap steps) (StepsSpent n) = ⊤
+IsCarriedOut (mean main heap steps) (Ended status) = ⊤
+IsCarriedOut (mean main heap steps) (StepsSpent n) = ⊤
 IsCarriedOut (exec name steps) (Ended status) = ⊤
 IsCarriedOut (exec name steps) (StepsSpent n) = ⊤
 IsCarriedOut (exec name steps) (MachineFault kind pc word) = ⊤
@@ -80,14 +86,14 @@ IsCarriedOut _ _ = ⊥
 pub data IsDue (command : Command) (entry : Option (List ℕ)) : Answer → Type 0 where
   lacks : entry ≡ None → IsDue command entry (NoFile (file_of command))
   long : (bytes : List ℕ) → entry ≡ Some bytes → most_of command < length bytes → IsDue command entry (TooLong (file_of command))
-  refused : (source : List ℕ) (code : Code) (at : Place) → Compiles command → entry ≡ Some source → IsNoProgram (file_of command) source code at →
-      IsDue command entry (Refused code at)
-  compiled : (source : List ℕ) (answer : Answer) → Compiles command → entry ≡ Some source → IsProgram (file_of command) source → IsCarriedOut command answer →
-      IsDue command entry answer
+  refused : (source : List ℕ) (code : Code) (at : Place) → ReadsSource command → entry ≡ Some source →
+      IsNoProgram (limits_of command) (file_of command) source code at → IsDue command entry (Refused code at)
+  accepted : (source : List ℕ) (answer : Answer) → ReadsSource command → entry ≡ Some source →
+      IsProgram (limits_of command) (file_of command) source → IsCarriedOut command answer → IsDue command entry answer
   bad : (bytes : List ℕ) (fault : ElfFault) → Executes command → entry ≡ Some bytes → length bytes ≤ file_most → HasFault bytes fault →
       IsDue command entry (BadElf fault)
-  executed : (bytes : List ℕ) (file : File) (answer : Answer) → Executes command → entry ≡ Some bytes → length bytes ≤ file_most → Elf bytes file →
-      IsCarriedOut command answer → IsDue command entry answer
+  executed : (bytes : List ℕ) (file : File) (answer : Answer) → Executes command → entry ≡ Some bytes → length bytes ≤ file_most →
+      Elf bytes file → IsCarriedOut command answer → IsDue command entry answer
   wanting : IsDue command entry Memory
 
 -- the command came to its end, or memory was wanting

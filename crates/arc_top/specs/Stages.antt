@@ -2,13 +2,19 @@
 use Rattle.std.specs.Prelude.{◌≡◌, ◌⊎◌, ℕ, List}
 use Rattle.source_compiler.specs.declared.compiler.NotCompiled.{NotCompiled}
 use Rattle.source_compiler.specs.declared.compiler.NotCompiled.TheVariants as why
+use Rattle.source_compiler.specs.Limits.{Limits}
+use Rattle.source_compiler.specs.Compile.{empty_plan}
+use Rattle.nim_core.specs.Program.{Program}
+use Rattle.nim_core.specs.Meaning.{meaning}
+use Rattle.core_runner.specs.declared.mean.MeanEnd.{MeanEnd}
+use Rattle.core_runner.specs.Mean.{Means}
 use Rattle.rv32_isa.specs.Image.{Image}
 use Rattle.rv32_runner.specs.Streams.{Streams}
 use Rattle.arc_top.specs.declared.answer.Answer.{Answer}
 use Rattle.arc_top.specs.declared.answer.Answer.TheVariants.{NoFile, TooLong, Refused, ReadFault, Memory}
 use Rattle.arc_top.specs.Loads.{FilesState, Lacks, IsLong, LoadFails, Wants}
 use Rattle.arc_top.specs.Runs.{HasRun}
-use Rattle.arc_top.specs.Top.{Stops}
+use Rattle.arc_top.specs.Top.{Stops, told, meant}
 
 -- a file can't be loaded
 abbrev pub StopsLoad : (name : List ℕ) (most : ℕ) → Answer → (old new : FilesState) → Type 0
@@ -18,15 +24,22 @@ StopsLoad name most ReadFault old new = LoadFails old new
 StopsLoad name most Memory old new = Wants old new name
 StopsLoad name most _ old new = ⊥
 
--- a main module can't be loaded or compiled
-abbrev pub StopsCompiling : (main : List ℕ) → Answer → (old new : FilesState) → Type 0
-StopsCompiling main answer old new = ((answer ≡ Memory) × Wants old new main) ⊎ Stops main answer old new
+-- a main module can't be loaded, or isn't taken
+abbrev pub StopsReading : Limits → (main : List ℕ) → Answer → (old new : FilesState) → Type 0
+StopsReading limits main answer old new = ((answer ≡ Memory) × Wants old new main) ⊎ Stops limits main answer old new
 
 -- the answer for a source that was not compiled
 abbrev pub IsRefusal : NotCompiled → Answer → Type 0
 IsRefusal why.TooLong answer = ⊥
 IsRefusal (why.Refused code at) answer = answer ≡ Refused code at
 IsRefusal why.Memory answer = answer ≡ Memory
+
+-- the meaning of a program ran, on these streams
+pub record IsMeant (program : Program) (heap steps : ℕ) (answer : Answer) (old new : Streams) : Type 0 where
+  pub end : MeanEnd
+  pub means : (input : List ℕ) → Means (meaning program empty_plan heap input steps) end (told old.out new.out) (told old.err new.err)
+  pub answers : answer ≡ meant steps end
+  pub input : new.input ≡ old.input
 
 -- there was no memory for a machine, or it ran
 abbrev pub RunsOrWants : (steps : ℕ) → Image → Answer → (old new : Streams) → Type 0

@@ -2,19 +2,25 @@
 --
 --     MAIN ──load──> source ──compile──> file ──write──> bytes ──store──> OUT
 --                       └── Reads: a program ─┐   └─ Elf ─┘
---                                  meaning  ──┴── Agrees ── the machine on the file's image
-use Rattle.std.specs.Prelude.{◌≡◌, ℕ, List, [], ◌∷◌, ◌++◌, ⊤, ◌⊎◌, Some}
+--                                  meaning  ──┼── Agrees ── the machine on the file's image
+--                                             └── Means ─── `mean`
+use Rattle.std.specs.Prelude.{◌≡◌, ℕ, List, [], ◌∷◌, ◌++◌, ⊤, ◌⊎◌, Some, Ok}
 use Rattle.arc_base.specs.FileCalls.{load, store}
 use Rattle.arc_base.specs.Outside.{Rose, KeepsOthers, Stores, Writes}
 use Rattle.arc_base.specs.declared.outside.Loaded.TheVariants as loaded
 use Rattle.elf32.specs.declared.file.ElfFault.{ElfFault}
 use Rattle.elf32.specs.Elf.{File, Elf}
 use Rattle.elf32.specs.Faults.{HasFault}
-use Rattle.int_core.specs.Meaning.{meaning}
+use Rattle.nim_core.specs.Program.{Program}
+use Rattle.nim_core.specs.Meaning.{meaning}
 use Rattle.rv32_runner.specs.Streams.{Streams, Tally}
-use Rattle.command_words.specs.Command.{Command, check, build, run, exec}
-use Rattle.source_compiler.specs.Source.{Module, alone}
-use Rattle.source_compiler.specs.Compile.{Compiled, IsProgram, IsNoProgram, source_most}
+use Rattle.core_runner.specs.declared.mean.MeanEnd.{MeanEnd}
+use Rattle.core_runner.specs.declared.mean.MeanEnd.TheVariants as end
+use Rattle.core_runner.specs.Mean.{Means, Told}
+use Rattle.command_words.specs.Command.{Command, check, build, run, mean, exec}
+use Rattle.source_compiler.specs.Source.{Module, alone, Reads}
+use Rattle.source_compiler.specs.Limits.{Limits, no_limits, plain_limits, int_limits}
+use Rattle.source_compiler.specs.Compile.{Compiled, IsProgram, IsNoProgram, source_most, empty_plan}
 use Rattle.arc_top.specs.declared.answer.Answer.{Answer}
 use Rattle.arc_top.specs.declared.answer.Answer.TheVariants.{Done, Ended, NoFile, TooLong, Refused, BadElf, MachineFault, StepsSpent, ReadFault, WriteFault}
 use Rattle.arc_top.specs.declared.answer.Answer.TheVariants.{StoreFault, Memory}
@@ -35,22 +41,22 @@ pub record IsFileOf (modules : List Module) (heap : ℕ) (bytes : List ℕ) : Ty
 abbrev pub file_most : ℕ
 file_most = 4194304
 
--- ---- what stops a command that compiles
+-- ---- what stops a command that reads a source
 
--- the main module can't be loaded, or is no program
-abbrev pub Stops : (main : List ℕ) → Answer → (old new : FilesState) → Type 0
-Stops main (NoFile name) old new = (name ≡ main) × Lacks old new main
-Stops main (TooLong name) old new = (name ≡ main) × IsLong old new main source_most
-Stops main (Refused code at) old new = (source : List ℕ) × Gives old new main source_most source × IsNoProgram main source code at
-Stops main ReadFault old new = LoadFails old new
-Stops main _ old new = ⊥
+-- the main module can't be loaded, or is no program that the command takes
+abbrev pub Stops : Limits → (main : List ℕ) → Answer → (old new : FilesState) → Type 0
+Stops limits main (NoFile name) old new = (name ≡ main) × Lacks old new main
+Stops limits main (TooLong name) old new = (name ≡ main) × IsLong old new main source_most
+Stops limits main (Refused code at) old new = (source : List ℕ) × Gives old new main source_most source × IsNoProgram limits main source code at
+Stops limits main ReadFault old new = LoadFails old new
+Stops limits main _ old new = ⊥
 
 -- ---- `check MAIN`
 
 abbrev pub Checks : (main : List ℕ) → Answer → (old new : FilesState) → Type 0
-Checks main Done old new = (source : List ℕ) × Gives old new main source_most source × IsProgram main source
+Checks main Done old new = (source : List ℕ) × Gives old new main source_most source × IsProgram no_limits main source
 Checks main Memory old new = Wants old new main
-Checks main answer old new = Stops main answer old new
+Checks main answer old new = Stops no_limits main answer old new
 
 -- ---- `build MAIN OUT`
 
@@ -61,7 +67,7 @@ pub record HandsOver (main out : List ℕ) (heap : ℕ) (old new : FilesState) :
   pub bytes : List ℕ
   pub calls : new.calls ≡ old.calls ++ load main loaded.Whole source ∷ store out bytes ∷ []
   pub told : OnEntry old.held main (λ entry. entry ≡ Some source)
-  pub program : IsProgram main source
+  pub program : IsProgram int_limits main source
   pub file : IsFileOf (alone main source) heap bytes
   pub others : KeepsOthers old.held new.held out
   pub loads : new.load_faults ≡ old.load_faults
@@ -75,7 +81,7 @@ Builds main out heap Done old new = (over : HandsOver main out heap old new) × 
 Builds main out heap StoreFault old new = HandsOver main out heap old new × Rose old.store_faults new.store_faults
 -- (before the store, or in it)
 Builds main out heap Memory old new = Wants old new main ⊎ (HandsOver main out heap old new × (new.store_faults ≡ old.store_faults))
-Builds main out heap answer old new = Stops main answer old new
+Builds main out heap answer old new = Stops int_limits main answer old new
 
 -- ---- what the outside tells
 
@@ -108,7 +114,46 @@ Runs main heap steps (StepsSpent n) old new = RunsProgram main heap steps (Steps
 Runs main heap steps (WriteFault stream) old new = RunsProgram main heap steps (WriteFault stream) old new
 Runs main heap steps ReadFault old new = OfFiles LoadFails old new ⊎ RunsProgram main heap steps ReadFault old new
 Runs main heap steps Memory old new = OfFiles (λ before after. Wants before after main) old new
-Runs main heap steps answer old new = OfFiles (Stops main answer) old new
+Runs main heap steps answer old new = OfFiles (Stops int_limits main answer) old new
+
+-- ---- `mean MAIN`
+
+-- a sink before and after the command
+abbrev pub told : (old new : Tally) → Told
+told old new = record { before = old.written; now = new.written; faults_before = old.faults; faults_now = new.faults }
+
+-- the answer where running the meaning came to this, with so many units
+abbrev pub meant : (steps : ℕ) → MeanEnd → Answer
+meant steps (end.Ended status) = Ended status
+meant steps end.Going = StepsSpent steps
+meant steps end.Wrong = Memory
+meant steps end.ReadFault = ReadFault
+meant steps (end.WriteFault stream) = WriteFault stream
+meant steps end.Memory = Memory
+
+-- A load of MAIN gave a source, which is a typed program whose meaning is built. What the sinks got is what that writes with so
+-- many units, on whatever input: none was taken.
+pub record MeansProgram (main : List ℕ) (heap steps : ℕ) (answer : Answer) (old new : World) : Type 0 where
+  pub source : List ℕ
+  pub gives : Gives old.files new.files main source_most source
+  pub program : Program
+  pub reads : Reads (alone main source) program
+  pub built : plain_limits program ≡ Ok tt
+  pub end : MeanEnd
+  pub means : (input : List ℕ) → Means (meaning program empty_plan heap input steps) end
+      (told old.streams.out new.streams.out) (told old.streams.err new.streams.err)
+  pub answers : answer ≡ meant steps end
+  pub input : new.streams.input ≡ old.streams.input
+
+-- (no input is read yet, and no meaning is wrong)
+abbrev pub RunsMeaning : (main : List ℕ) (heap steps : ℕ) → Answer → (old new : World) → Type 0
+RunsMeaning main heap steps (Ended status) old new = MeansProgram main heap steps (Ended status) old new
+RunsMeaning main heap steps (StepsSpent n) old new = MeansProgram main heap steps (StepsSpent n) old new
+RunsMeaning main heap steps (WriteFault stream) old new = MeansProgram main heap steps (WriteFault stream) old new
+-- (before the run, or in it)
+RunsMeaning main heap steps Memory old new =
+    OfFiles (λ before after. Wants before after main) old new ⊎ MeansProgram main heap steps Memory old new
+RunsMeaning main heap steps answer old new = OfFiles (Stops plain_limits main answer) old new
 
 -- ---- `exec ELF`
 
@@ -138,18 +183,28 @@ Executes name steps _ old new = ⊥
 
 -- ---- commands
 
--- the names of the modules that the command compiles, by their numbers
+-- the names of the modules that the command reads, by their numbers
 abbrev pub modules_of : Command → List (List ℕ)
 modules_of (check main) = main ∷ []
 modules_of (build main out heap) = main ∷ []
 modules_of (run main heap steps) = main ∷ []
+modules_of (mean main heap steps) = main ∷ []
 modules_of (exec name steps) = []
+
+-- which typed programs the command takes
+abbrev pub limits_of : Command → Limits
+limits_of (check main) = no_limits
+limits_of (build main out heap) = int_limits
+limits_of (run main heap steps) = int_limits
+limits_of (mean main heap steps) = plain_limits
+limits_of (exec name steps) = no_limits
 
 -- what an answer to a command says of the outside before the command, and after it but for the line of the answer
 abbrev pub Answered : Command → Answer → (old new : World) → Type 0
 Answered (check main) answer old new = OfFiles (Checks main answer) old new
 Answered (build main out heap) answer old new = OfFiles (Builds main out heap answer) old new
 Answered (run main heap steps) answer old new = Runs main heap steps answer old new
+Answered (mean main heap steps) answer old new = RunsMeaning main heap steps answer old new
 Answered (exec name steps) answer old new = Executes name steps answer old new
 
 -- the outside, with standard error as it was before the line
@@ -172,4 +227,5 @@ abbrev pub WithoutStreams : Command → Type 0 → Type 0
 WithoutStreams (check main) P = P
 WithoutStreams (build main out heap) P = P
 WithoutStreams (run main heap steps) P = ⊤
+WithoutStreams (mean main heap steps) P = ⊤
 WithoutStreams (exec name steps) P = ⊤

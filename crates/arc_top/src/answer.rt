@@ -52,14 +52,15 @@ pub enum Answer {
     NoFile(FileName),
     /// The file of that name is longer than a source may be, or a file that is executed.
     TooLong(FileName),
-    /// The source is refused, with a code and a place in the main module.
+    /// The source is refused, or the command can't do with it yet what it says, with a code and a place in the main
+    /// module.
     Refused { code: Code, at: Place },
     /// The file isn't one that `build` writes: the first part that differs.
     BadElf(ElfFault),
     /// The machine of the file can't go on. `pc` is the address of the instruction, and `word` its word,
     /// or 0 where it could not be fetched.
     MachineFault { kind: FaultKind, pc: u32, word: u32 },
-    /// So many instructions ran, as many as were asked for, and the program hasn't ended.
+    /// So many instructions ran, or units were spent, as many as were asked for, and the program hasn't ended.
     StepsSpent(u32),
     /// A file or the input could not be read.
     ReadFault,

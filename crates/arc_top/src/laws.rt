@@ -8,21 +8,22 @@ ghost use Rattle.rv32_runner.specs.Streams.{Streams};
 ghost use Rattle.source_compiler.specs.Compile.{IsProgram};
 ghost use Rattle.arc_top.specs.declared.answer.Answer.{Answer};
 ghost use Rattle.arc_top.specs.Runs.{HasRun};
-ghost use Rattle.arc_top.specs.Top.{file_most};
-ghost use Rattle.arc_top.specs.Due.{NoStreamFails, WasAnswered, Compiles, IsDue, IsComplete, IsAnswerAt};
+ghost use Rattle.arc_top.specs.Top.{file_most, limits_of};
+ghost use Rattle.arc_top.specs.Due.{NoStreamFails, WasAnswered, ReadsSource, IsDue, IsComplete, IsAnswerAt};
 
 use elf32::one_file;
 use rv32_runner::runs;
 use source_compiler::one_answer;
 
 /// Where the outside tells what it holds and nothing fails, what was read says which answer is due: a
-/// program or a file that can be executed is carried out, unless memory is wanting. A machine's answer
+/// program that the command takes, or a file that can be executed, is carried out, unless memory is
+/// wanting. A machine's answer
 /// is by where it stands after all its instructions, and the sinks got what it has written.
 pub fn complete()
     ensures due { (command : Command) (entry : Option (List ℕ)) (answer : Answer) →
         WasAnswered command entry answer → IsDue command entry answer }
-    ensures programs { (command : Command) (source : List ℕ) (answer : Answer) → Compiles command →
-        IsProgram (file_of command) source → WasAnswered command (Some source) answer → IsComplete command answer }
+    ensures programs { (command : Command) (source : List ℕ) (answer : Answer) → ReadsSource command →
+        IsProgram (limits_of command) (file_of command) source → WasAnswered command (Some source) answer → IsComplete command answer }
     ensures files { (name bytes : List ℕ) (file : File) (steps : ℕ) (answer : Answer) → length bytes ≤ file_most →
         Elf bytes file → WasAnswered (exec name steps) (Some bytes) answer → IsComplete (exec name steps) answer }
     ensures stands { (steps : ℕ) (image : Image) (answer : Answer) (old new : Streams) (input : List ℕ) →

@@ -1,33 +1,37 @@
 // The top call.
-ghost use Rattle.std.specs.Prelude.{◌≡◌, ◌≤◌, [], ◌∷◌, List, ℕ, IfOk, IfErr, map, string_bytes};
+ghost use Rattle.std.specs.Prelude.{◌≡◌, ◌≤◌, [], ◌∷◌, List, ℕ, Ok, IfOk, IfErr, map, string_bytes};
 ghost use Rattle.arc_base.specs.Outside.{Writes};
 ghost use Rattle.elf32.specs.Elf.{file_of};
 ghost use Rattle.rv32_isa.specs.Image.{image_of};
 ghost use Rattle.rv32_runner.specs.Streams.{feed, tally, streams};
 ghost use Rattle.command_words.specs.Command.{Command as TheCommand, command_of, IsCommand, IsNoCommand, IsInRange};
-ghost use Rattle.source_compiler.specs.Source.{alone};
+ghost use Rattle.check_decls.specs.Modules.{program_in};
+ghost use Rattle.source_compiler.specs.Source.{alone, Reads};
+ghost use Rattle.source_compiler.specs.Limits.{no_limits, plain_limits, int_limits};
 ghost use Rattle.source_compiler.specs.Compile.{Compiled, IsProgram, source_most, OnTooLong};
 ghost use Rattle.arc_top.specs.Answer.{OnQuiet, OnUsage, OnCommand};
 ghost use Rattle.arc_top.specs.Loads.{Kept, Gives, files_state};
 ghost use Rattle.arc_top.specs.Report.{report_of};
-ghost use Rattle.arc_top.specs.Stages.{StopsLoad, StopsCompiling, IsRefusal, RunsOrWants};
-ghost use Rattle.arc_top.specs.Top.{IsFileOf, Checks, Builds, Runs, Executes, Answered, Carries, modules_of, WithoutStreams, world, file_most};
+ghost use Rattle.arc_top.specs.Stages.{StopsLoad, StopsReading, IsRefusal, RunsOrWants, IsMeant};
+ghost use Rattle.arc_top.specs.Top.{IsFileOf, Checks, Builds, Runs, RunsMeaning, Executes, Answered, Carries, modules_of, WithoutStreams};
+ghost use Rattle.arc_top.specs.Top.{world, file_most, meant};
 
 use crate::answer::{Answer, FileName};
 use crate::report::put_report;
-use arc_base::{Bytes, FileFault, Files, Loaded, Sink, Source};
+use arc_base::{Bytes, Code, FileFault, Files, Loaded, Sink, Source};
 use command_words::{Command, one_command, read_words};
+use core_runner::mean::{MeanEnd, mean};
 use elf32::{ElfFile, ElfStop, read, write};
+use nim_core::Program;
+use nim_plan::Plan;
+use plain_core::left_out;
 use rv32_isa::{Image, machines};
 use rv32_runner::{RunEnd, load, runs};
-use source_compiler::{NotCompiled, SOURCE_MOST, compile};
+use source_compiler::{NotCompiled, SOURCE_MOST, compile, typed};
 use std::alloc::Global;
 
 /// The longest file that is executed, in bytes.
 const FILE_MOST: u32 = 4_194_304;
-
-/// The heap of a program that is only checked, in bytes.
-const HEAP: u32 = 16_777_216;
 
 // ---- stages
 
@@ -62,6 +66,27 @@ fn refuse(why: NotCompiled) -> Answer
     }
 }
 
+// Loads the main module and types it.
+fn read_main<F: Files>(alloc: Global, main: &str, files: &mut F) -> Result<Program, Answer>
+    ensures typed { IfOk result (λ program. (source : List ℕ)
+        × Gives
+        (files_state (F.held files.old) (F.load_faults files.old) (F.store_faults files.old) (F.calls files.old))
+        (files_state (F.held files.new) (F.load_faults files.new) (F.store_faults files.new) (F.calls files.new)) main.now source_most source
+        × Reads (alone main.now source) (program_in program)) }
+    ensures stops_check { IfErr result (λ answer. StopsReading no_limits main.now answer
+        (files_state (F.held files.old) (F.load_faults files.old) (F.store_faults files.old) (F.calls files.old))
+        (files_state (F.held files.new) (F.load_faults files.new) (F.store_faults files.new) (F.calls files.new))) }
+    ensures stops_mean { IfErr result (λ answer. StopsReading plain_limits main.now answer
+        (files_state (F.held files.old) (F.load_faults files.old) (F.store_faults files.old) (F.calls files.old))
+        (files_state (F.held files.new) (F.load_faults files.new) (F.store_faults files.new) (F.calls files.new))) }
+{
+    let source = load_file(alloc, main, SOURCE_MOST as u32, files)?;
+    match typed(alloc, source.as_slice()) {
+        Ok(program) => Ok(program),
+        Err(why) => Err(refuse(why)),
+    }
+}
+
 // Loads the main module and compiles it.
 fn compile_main<F: Files>(
     alloc: Global,
@@ -75,8 +100,8 @@ fn compile_main<F: Files>(
         × Gives
         (files_state (F.held files.old) (F.load_faults files.old) (F.store_faults files.old) (F.calls files.old))
         (files_state (F.held files.new) (F.load_faults files.new) (F.store_faults files.new) (F.calls files.new)) main.now source_most source
-        × IsProgram main.now source × Compiled (alone main.now source) heap (file_of file)) }
-    ensures stops { IfErr result (λ answer. StopsCompiling main.now answer
+        × IsProgram int_limits main.now source × Compiled (alone main.now source) heap (file_of file)) }
+    ensures stops { IfErr result (λ answer. StopsReading int_limits main.now answer
         (files_state (F.held files.old) (F.load_faults files.old) (F.store_faults files.old) (F.calls files.old))
         (files_state (F.held files.new) (F.load_faults files.new) (F.store_faults files.new) (F.calls files.new))) }
 {
@@ -100,8 +125,8 @@ fn file_bytes<F: Files>(
         × Gives
         (files_state (F.held files.old) (F.load_faults files.old) (F.store_faults files.old) (F.calls files.old))
         (files_state (F.held files.new) (F.load_faults files.new) (F.store_faults files.new) (F.calls files.new)) main.now source_most source
-        × IsProgram main.now source × IsFileOf (alone main.now source) heap bytes) }
-    ensures stops { IfErr result (λ answer. StopsCompiling main.now answer
+        × IsProgram int_limits main.now source × IsFileOf (alone main.now source) heap bytes) }
+    ensures stops { IfErr result (λ answer. StopsReading int_limits main.now answer
         (files_state (F.held files.old) (F.load_faults files.old) (F.store_faults files.old) (F.calls files.old))
         (files_state (F.held files.new) (F.load_faults files.new) (F.store_faults files.new) (F.calls files.new))) }
 {
@@ -137,6 +162,41 @@ fn run_image<I: Source, O: Sink, E: Sink>(
     }
 }
 
+// The answer where running a meaning of so many units came to this. No meaning is wrong.
+fn meant(end: MeanEnd, steps: u32) -> Answer
+    ensures { result ≡ meant steps end }
+{
+    match end {
+        MeanEnd::Ended(status) => Answer::Ended(status),
+        MeanEnd::Going => Answer::StepsSpent(steps),
+        MeanEnd::ReadFault => Answer::ReadFault,
+        MeanEnd::WriteFault(stream) => Answer::WriteFault(stream),
+        MeanEnd::Wrong | MeanEnd::Memory => Answer::Memory,
+    }
+}
+
+// Runs the meaning of a program, and answers as it ends.
+fn run_program<I: Source, O: Sink, E: Sink>(
+    alloc: Global,
+    program: &Program,
+    heap: u32,
+    steps: u32,
+    input: &mut I,
+    out: &mut O,
+    err: &mut E,
+) -> Answer
+    ensures ran { IsMeant (program_in program.now) heap steps result
+        (streams (feed (I.left input.old) (I.ended input.old) (I.faults input.old) (I.gave input.old))
+        (tally (O.written out.old) (O.faults out.old)) (tally (E.written err.old) (E.faults err.old)))
+        (streams (feed (I.left input.new) (I.ended input.new) (I.faults input.new) (I.gave input.new))
+        (tally (O.written out.new) (O.faults out.new)) (tally (E.written err.new) (E.faults err.new))) }
+{
+    let plan = Plan::new(alloc);
+    let units = steps as u64;
+    let end = mean(alloc, program, &plan, heap, units, input, out, err);
+    meant(end, steps)
+}
+
 // ---- commands
 
 // Says whether a main module is a program.
@@ -145,7 +205,7 @@ fn check<F: Files>(alloc: Global, main: &str, files: &mut F) -> Answer
         (files_state (F.held files.old) (F.load_faults files.old) (F.store_faults files.old) (F.calls files.old))
         (files_state (F.held files.new) (F.load_faults files.new) (F.store_faults files.new) (F.calls files.new)) }
 {
-    match compile_main(alloc, main, HEAP, files) {
+    match read_main(alloc, main, files) {
         Ok(_) => Answer::Done,
         Err(answer) => answer,
     }
@@ -198,6 +258,38 @@ fn run<F: Files, I: Source, O: Sink, E: Sink>(
             run_image(alloc, &file.image, steps, input, out, err)
         }
         Err(answer) => answer,
+    }
+}
+
+// Runs the meaning of a main module.
+fn mean_main<F: Files, I: Source, O: Sink, E: Sink>(
+    alloc: Global,
+    main: &str,
+    heap: u32,
+    steps: u32,
+    files: &mut F,
+    input: &mut I,
+    out: &mut O,
+    err: &mut E,
+) -> Answer
+    ensures means { RunsMeaning main.now heap steps result
+        (world (files_state (F.held files.old) (F.load_faults files.old) (F.store_faults files.old) (F.calls files.old))
+        (streams (feed (I.left input.old) (I.ended input.old) (I.faults input.old) (I.gave input.old))
+        (tally (O.written out.old) (O.faults out.old)) (tally (E.written err.old) (E.faults err.old))))
+        (world (files_state (F.held files.new) (F.load_faults files.new) (F.store_faults files.new) (F.calls files.new))
+        (streams (feed (I.left input.new) (I.ended input.new) (I.faults input.new) (I.gave input.new))
+        (tally (O.written out.new) (O.faults out.new)) (tally (E.written err.new) (E.faults err.new)))) }
+{
+    let program = match read_main(alloc, main, files) {
+        Ok(program) => program,
+        Err(answer) => return answer,
+    };
+    match left_out(&program) {
+        Some(at) => Answer::Refused {
+            code: Code::LeftOut,
+            at,
+        },
+        None => run_program(alloc, &program, heap, steps, input, out, err),
     }
 }
 
@@ -260,6 +352,9 @@ fn carry_out<F: Files, I: Source, O: Sink, E: Sink>(
         Command::Run { main, heap, steps } => run(
             alloc, main, *heap, *steps, files, input, out, err,
         ),
+        Command::Mean { main, heap, steps } => mean_main(
+            alloc, main, *heap, *steps, files, input, out, err,
+        ),
         Command::Exec { file, steps } => exec(alloc, file, *steps, files, input, out, err),
     }
 }
@@ -271,9 +366,10 @@ fn say<E: Sink>(err: &mut E, command: &Command<'_>, answer: &Answer)
     ensures quiet { OnQuiet answer.now (err.new ≡ err.old) }
 {
     match command {
-        Command::Check { main } | Command::Build { main, .. } | Command::Run { main, .. } => {
-            put_report(err, &[main], answer)
-        }
+        Command::Check { main }
+        | Command::Build { main, .. }
+        | Command::Run { main, .. }
+        | Command::Mean { main, .. } => put_report(err, &[main], answer),
         Command::Exec { .. } => put_report(err, &[], answer),
     }
 }
@@ -282,13 +378,14 @@ fn say<E: Sink>(err: &mut E, command: &Command<'_>, answer: &Answer)
 ///
 /// `check MAIN` says whether the source in the file MAIN is a program; `build MAIN OUT` compiles it and
 /// stores the ELF file under the name OUT; `run MAIN` compiles it and runs the machine on it, on `input`,
-/// `out` and `err`; `exec ELF` does that with a file that `build` stored. `--heap=N` gives the bytes of
-/// heap of what `build` and `run` compile, `--steps=N` the most instructions that `run` and `exec` carry
-/// out.
+/// `out` and `err`; `exec ELF` does that with a file that `build` stored; `mean MAIN` runs what the source
+/// means. `--heap=N` gives the bytes of heap of a program, `--steps=N` the most instructions that `run`
+/// and `exec` carry out, and the most units of `mean`.
 ///
 /// `words` are those after the program's name. An answer but `Done`, `Ended` and `WriteFault` is said on
 /// `err` in one line, or in a front of it where `err` fails; the answer stays. Only `build` changes
-/// `files`, and there only the entry OUT; only `run` and `exec` use `input` and `out`.
+/// `files`, and there only the entry OUT; only `run`, `mean` and `exec` use `out`, and only `run` and
+/// `exec` use `input`.
 pub fn nimarc<F: Files, I: Source, O: Sink, E: Sink>(
     alloc: Global,
     words: &[String],

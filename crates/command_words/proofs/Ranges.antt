@@ -1,6 +1,6 @@
 -- The numbers of a command are in their ranges.
 use Rattle.std.proofs.Common.{ℕ, ◌≤◌, List, Option, Some, None, IfSome, unwrap_or, arith}
-use Rattle.command_words.specs.Command.{Command, IsCommand, is_check, is_build, is_run, is_exec, Arguments, AreArguments, none, behind}
+use Rattle.command_words.specs.Command.{Command, IsCommand, is_check, is_build, is_run, is_mean, is_exec, Arguments, AreArguments, none, behind}
 use Rattle.command_words.specs.Command.{place, joined, apart, Sets, sets_heap, sets_steps, IsInRange}
 use Rattle.command_words.specs.declared.arguments.TheConstants.{HEAP_LEAST, HEAP_MOST, STEPS_LEAST, STEPS_MOST}
 use Rattle.command_words.specs.declared.command.TheConstants.{STEPS_DEFAULT}
@@ -36,6 +36,11 @@ pub in_range : (words : List (List ℕ)) (command : Command) → IsCommand words
 in_range words command (is_check e h) = tt
 in_range words command (is_build heap e h) = heap_within heap (within _ _ h).heap
 in_range words command (is_run heap steps e h) =
+    let i = within _ _ h in
+    let a = heap_within heap i.heap in
+    let b = steps_within steps i.steps in
+    (a.0, a.1, b.0, b.1)
+in_range words command (is_mean heap steps e h) =
     let i = within _ _ h in
     let a = heap_within heap i.heap in
     let b = steps_within steps i.steps in

@@ -3,7 +3,8 @@
 --     COMMAND [--OPTION=VALUE | --OPTION VALUE | PLACE].. [-- PLACE..]
 --
 -- A further command is a case of Command and of IsCommand, a further option a field of Arguments and a case of Sets.
-use Rattle.std.specs.Prelude.{◌≡◌, ℕ, ◌<◌, ◌≤◌, List, [], ◌∷◌, ◌++◌, length, Bool, true, false, ◌==◌, codes, Option, Some, None, unwrap_or}
+use Rattle.std.specs.Prelude.{◌≡◌, ℕ, ◌<◌, ◌≤◌, List, [], ◌∷◌, ◌++◌, length, Bool, true, false, ◌==◌, codes}
+use Rattle.std.specs.Prelude.{Option, Some, None, unwrap_or}
 use Rattle.std.specs.Str.{all_ascii_digits}
 use Rattle.std.specs.Str.Parse.{digits_value}
 use Rattle.command_words.specs.declared.number.TheConstants.{MOST_DIGITS}
@@ -12,7 +13,7 @@ use Rattle.command_words.specs.declared.command.TheConstants.{STEPS_DEFAULT}
 use Rattle.command_words.specs.declared.command.Command.{Command as RustCommand}
 use Rattle.command_words.specs.declared.command.Command.TheVariants as rust
 
--- what is to be done; `heap` is in bytes, `steps` in instructions of the machine
+-- what is to be done; `heap` is in bytes, `steps` in instructions of the machine or units of a meaning
 pub data Command : Type 0 where
   -- the module of the file `main` is to be read
   check : (main : List ℕ) → Command
@@ -20,6 +21,8 @@ pub data Command : Type 0 where
   build : (main out : List ℕ) (heap : ℕ) → Command
   -- it is to be compiled, and to run
   run : (main : List ℕ) (heap steps : ℕ) → Command
+  -- its meaning is to run
+  mean : (main : List ℕ) (heap steps : ℕ) → Command
   -- the ELF file is to run
   exec : (file : List ℕ) (steps : ℕ) → Command
 
@@ -87,6 +90,9 @@ pub data IsCommand (words : List (List ℕ)) : Command → Type 0 where
   is_run : {arguments : List (List ℕ)} {main : List ℕ} (heap steps : Option ℕ) → words ≡ codes "run" ∷ arguments →
       AreArguments arguments (record { places = main ∷ []; heap = heap; steps = steps }) →
       IsCommand words (run main (unwrap_or heap HEAP_MOST) (unwrap_or steps STEPS_DEFAULT))
+  is_mean : {arguments : List (List ℕ)} {main : List ℕ} (heap steps : Option ℕ) → words ≡ codes "mean" ∷ arguments →
+      AreArguments arguments (record { places = main ∷ []; heap = heap; steps = steps }) →
+      IsCommand words (mean main (unwrap_or heap HEAP_MOST) (unwrap_or steps STEPS_DEFAULT))
   is_exec : {arguments : List (List ℕ)} {file : List ℕ} (steps : Option ℕ) → words ≡ codes "exec" ∷ arguments →
       AreArguments arguments (record { places = file ∷ []; heap = None; steps = steps }) →
       IsCommand words (exec file (unwrap_or steps STEPS_DEFAULT))
@@ -100,6 +106,7 @@ abbrev pub IsInRange : Command → Type 0
 IsInRange (check main) = Unit {0}
 IsInRange (build main out heap) = (HEAP_LEAST ≤ heap) × (heap ≤ HEAP_MOST)
 IsInRange (run main heap steps) = (HEAP_LEAST ≤ heap) × (heap ≤ HEAP_MOST) × (STEPS_LEAST ≤ steps) × (steps ≤ STEPS_MOST)
+IsInRange (mean main heap steps) = (HEAP_LEAST ≤ heap) × (heap ≤ HEAP_MOST) × (STEPS_LEAST ≤ steps) × (steps ≤ STEPS_MOST)
 IsInRange (exec file steps) = (STEPS_LEAST ≤ steps) × (steps ≤ STEPS_MOST)
 
 -- the file that is read
@@ -107,6 +114,7 @@ abbrev pub file_of : Command → List ℕ
 file_of (check main) = main
 file_of (build main out heap) = main
 file_of (run main heap steps) = main
+file_of (mean main heap steps) = main
 file_of (exec file steps) = file
 
 -- ---- the commands of the code
@@ -115,4 +123,5 @@ abbrev pub command_of : RustCommand → Command
 command_of (rust.Check main) = check main.now
 command_of (rust.Build main out heap) = build main.now out.now heap
 command_of (rust.Run main heap steps) = run main.now heap steps
+command_of (rust.Mean main heap steps) = mean main.now heap steps
 command_of (rust.Exec file steps) = exec file.now steps

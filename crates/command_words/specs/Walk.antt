@@ -3,7 +3,7 @@ use Rattle.std.specs.Prelude.{ℕ, List, [], ◌∷◌, length, Bool, ◌==◌, 
 use Rattle.std.specs.Prelude.{codes, Option, Some, None, unwrap_or, option_and_then, bytes_eq}
 use Rattle.std.specs.Str.{all_ascii_digits}
 use Rattle.std.specs.Str.Parse.{digits_value}
-use Rattle.command_words.specs.Command.{Command, check, build, run, exec, Arguments, no_arguments, is_option}
+use Rattle.command_words.specs.Command.{Command, check, build, run, mean, exec, Arguments, no_arguments, is_option}
 use Rattle.command_words.specs.declared.number.TheConstants.{MOST_DIGITS}
 use Rattle.command_words.specs.declared.arguments.TheConstants.{HEAP_LEAST, HEAP_MOST, STEPS_LEAST, STEPS_MOST}
 use Rattle.command_words.specs.declared.command.TheConstants.{STEPS_DEFAULT}
@@ -173,6 +173,13 @@ as_run_at _ _ _ = None
 abbrev pub as_run : Arguments → Option Command
 as_run given = as_run_at given.places given.heap given.steps
 
+abbrev pub as_mean_at : List (List ℕ) → Option ℕ → Option ℕ → Option Command
+as_mean_at (main ∷ []) heap steps = Some (mean main (unwrap_or heap HEAP_MOST) (unwrap_or steps STEPS_DEFAULT))
+as_mean_at _ _ _ = None
+
+abbrev pub as_mean : Arguments → Option Command
+as_mean given = as_mean_at given.places given.heap given.steps
+
 abbrev pub as_exec_at : List (List ℕ) → Option ℕ → Option ℕ → Option Command
 as_exec_at (file ∷ []) None steps = Some (exec file (unwrap_or steps STEPS_DEFAULT))
 as_exec_at _ _ _ = None
@@ -183,7 +190,8 @@ as_exec given = as_exec_at given.places given.heap given.steps
 abbrev pub chosen : List ℕ → Arguments → Option Command
 chosen name given =
     cond (bytes_eq name (codes "check")) (as_check given) (cond (bytes_eq name (codes "build")) (as_build given)
-    (cond (bytes_eq name (codes "run")) (as_run given) (cond (bytes_eq name (codes "exec")) (as_exec given) None)))
+    (cond (bytes_eq name (codes "run")) (as_run given) (cond (bytes_eq name (codes "mean")) (as_mean given)
+    (cond (bytes_eq name (codes "exec")) (as_exec given) None))))
 
 abbrev pub command_at : List (List ℕ) → Option Command
 command_at [] = None

@@ -1,14 +1,14 @@
 // Commands, and the words that they are spelled with.
 ghost use Rattle.std.specs.Prelude.{◌≡◌, IfSome, IfNone, map, option_map, string_bytes};
 ghost use Rattle.command_words.specs.Command.{file_of, command_of, IsCommand, IsNoCommand, IsInRange};
-ghost use Rattle.command_words.specs.Walk.{arguments_of, as_check, as_build, as_run, as_exec, chosen, command_at};
+ghost use Rattle.command_words.specs.Walk.{arguments_of, as_check, as_build, as_run, as_mean, as_exec, chosen, command_at};
 
 use crate::arguments::{Arguments, HEAP_MOST, Places, read_arguments};
 
 /// The number of steps where none is given.
 pub const STEPS_DEFAULT: u32 = 1_000_000_000;
 
-/// What is to be done. Sizes are in bytes, and steps are instructions of the machine.
+/// What is to be done. Sizes are in bytes. Steps are instructions of the machine, or units of a meaning.
 #[derive(Clone, Copy, Debug)]
 pub enum Command<'a> {
     /// The module of the file `main` is to be read, and refused where it is no program.
@@ -24,6 +24,13 @@ pub enum Command<'a> {
     /// The module of the file `main` is to be compiled for a heap of this size (4,096 to 16,777,216), and to run for at
     /// most so many steps (1 to 4,294,967,295).
     Run {
+        main: &'a str,
+        heap: u32,
+        steps: u32,
+    },
+    /// The meaning of the module of the file `main` is to run with a heap of this size (4,096 to 16,777,216), for at most
+    /// so many units (1 to 4,294,967,295).
+    Mean {
         main: &'a str,
         heap: u32,
         steps: u32,
@@ -44,6 +51,7 @@ impl<'a> Command<'a> {
             Command::Check { main } => main,
             Command::Build { main, .. } => main,
             Command::Run { main, .. } => main,
+            Command::Mean { main, .. } => main,
             Command::Exec { file, .. } => file,
         }
     }
@@ -88,6 +96,20 @@ impl<'a> Arguments<'a> {
         }
     }
 
+    // `mean MAIN`
+    fn as_mean(self) -> Option<Command<'a>>
+        ensures { option_map command_of result ≡ as_mean (arguments_of self.entry) }
+    {
+        match self.places {
+            Places::One(main) => Some(Command::Mean {
+                main,
+                heap: self.heap.unwrap_or(HEAP_MOST),
+                steps: self.steps.unwrap_or(STEPS_DEFAULT),
+            }),
+            _ => None,
+        }
+    }
+
     // `exec ELF`
     fn as_exec(self) -> Option<Command<'a>>
         ensures { option_map command_of result ≡ as_exec (arguments_of self.entry) }
@@ -111,6 +133,8 @@ impl<'a> Arguments<'a> {
             self.as_build()
         } else if name == "run" {
             self.as_run()
+        } else if name == "mean" {
+            self.as_mean()
         } else if name == "exec" {
             self.as_exec()
         } else {

@@ -2,7 +2,7 @@
 ghost use Rattle.std.specs.Prelude.{◌<◌, ◌^◌, length};
 
 use crate::calls::check_call;
-use crate::commands::command_of;
+use crate::commands::{checked_of, command_of};
 use crate::declarations::{Declaration, show_declaration};
 use crate::given::is_of_files;
 use crate::instructions::show_decoded;
@@ -180,6 +180,12 @@ fn show_answer(alloc: Global, row: &Row, out: &mut Printed) -> Result<Found, Mem
     shown(done.show(alloc, row, out))
 }
 
+// What `check` answers to the source of a row.
+fn show_check(alloc: Global, row: &Row, out: &mut Printed) -> Result<Found, Memory> {
+    let done = checked_of(alloc, row)?;
+    shown(done.show(alloc, row, out))
+}
+
 // Whether a part is given to a command or the machine.
 fn is_of_command(name: &str) -> bool {
     matches!(
@@ -222,6 +228,9 @@ fn show_found(alloc: Global, row: &Row, name: &str, out: &mut Printed) -> Result
     }
     if name == "answer" {
         return show_answer(alloc, row, out);
+    }
+    if name == "check" {
+        return show_check(alloc, row, out);
     }
     match name.strip_prefix("bytes ") {
         Some(range) => show_bytes(alloc, row, range, out),

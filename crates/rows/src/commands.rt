@@ -13,6 +13,9 @@ use std::alloc::Global;
 /// The words of a command, where a row gives none.
 const BUILD: &[u8] = b"build\nt.nim\no\n";
 
+/// The words that check the source.
+const CHECK: &[u8] = b"check\nt.nim\n";
+
 /// The words that build a file with the least heap, which takes less time to run.
 const BUILD_LEAST: &[u8] = b"build\nt.nim\no\n--heap=4096\n";
 
@@ -98,6 +101,11 @@ pub fn carried_out(
 pub fn command_of(alloc: Global, row: &Row) -> Result<Done, Memory> {
     let words = row.part("words").unwrap_or(BUILD);
     carried_out(alloc, row, words, files_of(alloc, row)?)
+}
+
+/// Checks the source of a row.
+pub fn checked_of(alloc: Global, row: &Row) -> Result<Done, Memory> {
+    carried_out(alloc, row, CHECK, files_of(alloc, row)?)
 }
 
 /// The file that is built from a source, with the least heap; an empty one where it isn't built.

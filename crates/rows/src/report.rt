@@ -9,6 +9,8 @@ pub struct Report<'a> {
     pub file: &'a str,
     pub lines: Printed,
     pub differs: bool,
+    /// Whether programs of the file are run by their meaning.
+    pub is_meant: bool,
 }
 
 // Adds what is said of a row: where it stands, what is wrong, and why.

@@ -1,4 +1,4 @@
-// Rows of programs: what a source does by `run`, and what its file does by `exec`.
+// Rows of programs: what a source does by `run`, and what its file does by `exec`; or what it means.
 use crate::commands::{Done, built_file, carried_out};
 use crate::given::{MAIN, TARGET, files_of};
 use crate::printed::Printed;
@@ -9,6 +9,9 @@ use std::alloc::Global;
 
 /// The most instructions of a run, where a row says nothing of it.
 const STEPS: u32 = 1_000_000;
+
+/// The most units of a meaning, where a row says nothing of it.
+const UNITS: u32 = 5_000_000;
 
 /// Whether a part says what a program does.
 pub fn is_of_run(part: &str) -> bool {
@@ -28,14 +31,14 @@ pub fn has_run(row: &Row) -> bool {
     false
 }
 
-// The most instructions that a row asks for.
-fn steps_of(row: &Row) -> u32 {
+// The most instructions or units that a row asks for, or so many where it says nothing of it.
+fn steps_of(row: &Row, otherwise: u32) -> u32 {
     let Some(digits) = row.part("steps") else {
-        return STEPS;
+        return otherwise;
     };
     match std::str::from_utf8(digits.trim_ascii()) {
-        Ok(digits) => digits.parse::<u32>().unwrap_or(STEPS),
-        Err(_) => STEPS,
+        Ok(digits) => digits.parse::<u32>().unwrap_or(otherwise),
+        Err(_) => otherwise,
     }
 }
 
@@ -70,7 +73,7 @@ fn check_done(
 }
 
 fn check_by_run(alloc: Global, row: &Row, report: &mut Report) -> Result<(), Memory> {
-    let steps = steps_of(row);
+    let steps = steps_of(row, STEPS);
     let words = format!(in alloc; "run\n{MAIN}\n--heap=4096\n--steps={steps}\n")?;
     let files = files_of(alloc, row)?;
     let done = carried_out(alloc, row, words.as_str().as_bytes(), files)?;
@@ -86,11 +89,19 @@ fn files_with_built(alloc: Global, row: &Row) -> Result<MemFiles, Memory> {
 }
 
 fn check_by_exec(alloc: Global, row: &Row, report: &mut Report) -> Result<(), Memory> {
-    let steps = steps_of(row);
+    let steps = steps_of(row, STEPS);
     let words = format!(in alloc; "exec\n{TARGET}\n--steps={steps}\n")?;
     let files = files_with_built(alloc, row)?;
     let done = carried_out(alloc, row, words.as_str().as_bytes(), files)?;
     check_done(alloc, row, "exec", &done, report)
+}
+
+fn check_by_mean(alloc: Global, row: &Row, report: &mut Report) -> Result<(), Memory> {
+    let units = steps_of(row, UNITS);
+    let words = format!(in alloc; "mean\n{MAIN}\n--heap=4096\n--steps={units}\n")?;
+    let files = files_of(alloc, row)?;
+    let done = carried_out(alloc, row, words.as_str().as_bytes(), files)?;
+    check_done(alloc, row, "mean", &done, report)
 }
 
 /// Compares what a program does with what a row says. It writes nothing and ends with status 0
@@ -98,6 +109,9 @@ fn check_by_exec(alloc: Global, row: &Row, report: &mut Report) -> Result<(), Me
 pub fn check_program(alloc: Global, row: &Row, report: &mut Report) -> Result<(), Memory> {
     if row.part("words").is_some() {
         return report.say(row.line, "words of a program", "");
+    }
+    if report.is_meant {
+        return check_by_mean(alloc, row, report);
     }
     check_by_run(alloc, row, report)?;
     check_by_exec(alloc, row, report)

@@ -19,6 +19,7 @@ use Rattle.rv32_isa.proofs.ForCallers.{length-code}
 use Rattle.rv32_logic.specs.Placed.{Stands}
 use Rattle.rv32_logic.proofs.ForCallers.{stands_front, stands_back, stands_all}
 use Rattle.source_compiler.specs.Objects.{live_objects}
+use Rattle.source_compiler.specs.Limits.{stmts_places}
 use Rattle.source_compiler.specs.Code.{code_bytes, variable_at, trap_at, trap_code, data_of, texts, start_code, end_code, stmts_code, program_code, ArePlain}
 use Rattle.source_compiler.proofs.Contents.{length-data_of}
 use Rattle.source_compiler.proofs.InRange.{program_in_range}
@@ -29,15 +30,15 @@ use Rattle.source_compiler.proofs.Flow.{stmts_follow}
 
 -- the image of a program that can be compiled
 pub record IsImageOf (program : Program) (image : Image) : Type 0 where
-  pub code : image.code ≡ code_bytes (program_code (length program.globals) program.start)
+  pub code : image.code ≡ code_bytes (program_code (stmts_places program.start) program.start)
   pub padding : List ℕ
-  pub data_is : image.statics ≡ data_of (length program.globals) (texts program.start ++ padding) (λ _. pos 0)
+  pub data_is : image.statics ≡ data_of (stmts_places program.start) (texts program.start ++ padding) (λ _. pos 0)
   pub hooks : image.hooks ≡ []
   pub code_small : length image.code ≤ 524288
   pub data_small : length image.statics ≤ 1048576
   pub heap : image.heap ≤ 16777216
   pub stack : image.stack ≡ 65536
-  pub plain : ArePlain (length program.globals) program.start
+  pub plain : ArePlain (stmts_places program.start) program.start
 
 -- ---- the code
 
@@ -51,7 +52,7 @@ traps_stand code rest h DivisionByZero =
 
 module _ (program : Program) (image : Image) (is : IsImageOf program image) where
   abbrev count : ℕ
-  count = length program.globals
+  count = stmts_places program.start
 
   abbrev body : List Instr
   body = stmts_code program.start (variable_at count) ++ end_code

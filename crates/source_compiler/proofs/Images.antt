@@ -3,7 +3,8 @@ use Rattle.std.proofs.Common.{◌≡◌, ℕ, ◌+◌, ◌*◌, ◌%◌, ◌≤�
 use Rattle.int_core.specs.Program.{Stmts, Program}
 use Rattle.rv32_isa.specs.Image.{Image}
 use Rattle.rv32_isa.proofs.ForCallers.{length-code}
-use Rattle.source_compiler.specs.Code.{code_bytes, variable_at, data_of, texts, stmts_code, start_code, end_code, program_code, ArePlain, stmts_weight}
+use Rattle.source_compiler.specs.Code.{code_bytes, variable_at, data_of, texts, stmts_code, start_code, end_code, program_code, ArePlain}
+use Rattle.source_compiler.specs.Limits.{stmts_weight, stmts_places}
 use Rattle.source_compiler.specs.Emission.{CanEmitStmts}
 use Rattle.source_compiler.proofs.Agreement.{IsImageOf}
 use Rattle.source_compiler.proofs.Contents.{length-data_of}
@@ -86,12 +87,12 @@ made_sizes count stmts code statics few small made =
       statics_most = omega (arith, made.few, texts_length stmts);
     }
 
-pub made_image : (program : Program) (image : Image) → length program.globals ≤ 4096 → stmts_weight program.start ≤ 4096
-    → ArePlain (length program.globals) program.start
-    → IsMade (length program.globals) program.start image.code image.statics → image.hooks ≡ [] → image.heap ≤ 16777216 → image.stack ≡ 65536
+pub made_image : (program : Program) (image : Image) → stmts_places program.start ≤ 4096 → stmts_weight program.start ≤ 4096
+    → ArePlain (stmts_places program.start) program.start
+    → IsMade (stmts_places program.start) program.start image.code image.statics → image.hooks ≡ [] → image.heap ≤ 16777216 → image.stack ≡ 65536
     → IsImageOf program image
 made_image program image few small plain made hooks heap stack =
-    let sizes = made_sizes (length program.globals) program.start image.code image.statics few small made in
+    let sizes = made_sizes (stmts_places program.start) program.start image.code image.statics few small made in
     record {
       code = made.code_is;
       padding = made.padding;

@@ -1,13 +1,5 @@
-mod LineRows
-mod Forms
-mod Passing
-mod Steps
-mod Depths
-mod Plain
-mod Formed
-mod ByNames
-mod ByForms
 mod Reading
+mod Taking
 mod Ready
 mod Arithmetic
 mod Contents
@@ -24,4 +16,6 @@ mod Sizes
 mod Images
 mod Deciding
 mod Stages
+mod Small
 mod PlainFiles
+pub mod ForCallers

@@ -9,7 +9,8 @@ use Rattle.rv32_isa.specs.declared.instr.Instr.{Instr}
 use Rattle.rv32_isa.specs.declared.instr.Instr.TheVariants.{Sw}
 use Rattle.source_compiler.specs.Code.{variable_at, trap_line, variable_words, data_of, load_code, load_slot, save_slot, exit_code, operator_code, negate_code}
 use Rattle.source_compiler.specs.Code.{number_code, expr_code, skip_where, cond_code, ahead, back, stmt_texts, texts, assign_code, stmt_code, stmts_code}
-use Rattle.source_compiler.specs.Code.{start_code, end_code, program_code, expr_weight, cond_weight, stmt_weight, stmts_weight}
+use Rattle.source_compiler.specs.Code.{start_code, end_code, program_code}
+use Rattle.source_compiler.specs.Limits.{expr_weight, cond_weight, stmt_weight, stmts_weight}
 
 -- ---- expressions and conditions
 

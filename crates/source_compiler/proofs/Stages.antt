@@ -1,51 +1,55 @@
 -- What the stages of the compiler give one another.
-use Rattle.std.proofs.Common.{◌≡◌, ◌≤◌, ℕ, List, length, Vec, Global, Result, Ok, Err, arith}
+use Rattle.std.proofs.Common.{◌≡◌, ℕ, List, Result, Ok, Err, ap}
+use Rattle.std.specs.Prelude.{IfOk, IfErr}
 use Rattle.arc_base.specs.Stops.{OnRefusal}
 use Rattle.arc_base.specs.declared.place.Stop.{Stop}
 use Rattle.arc_base.specs.declared.place.Stop.TheVariants.{Refused, Memory}
-use Rattle.arc_base.specs.Refusal.{Refusal, Answers, IsRefusal}
+use Rattle.arc_base.specs.Refusal.{and_then, Answers}
 use Rattle.indent_scanner.specs.declared.token.Token.{Token}
-use Rattle.indent_scanner.specs.Tokens.{token_bytes}
+use Rattle.indent_scanner.specs.Tokens.{Tokens}
+use Rattle.indent_scanner.specs.Tokens.{IsRefused as IsRefusedByBytes}
 use Rattle.nim_tree.specs.Statements.{Statements}
-use Rattle.nim_tree.specs.Weights as full
-use Rattle.parse_stmts.specs.Parsed.{HasFew}
-use Rattle.int_core.specs.Program.{Program, program_of}
-use Rattle.source_compiler.specs.Code.{ArePlain, stmts_weight}
-use Rattle.source_compiler.specs.declared.form.lines.Line.{Line as RustLine}
-use Rattle.source_compiler.specs.Lines.{Lines, weights, lines_of}
-use Rattle.source_compiler.specs.Form.{form_of}
-use Rattle.source_compiler.specs.Names.{check, FitsStmts}
-use Rattle.source_compiler.specs.Compile.{source_most}
-use Rattle.source_compiler.proofs.Formed.{formed_light, formed_shallow}
-use Rattle.source_compiler.proofs.Plain.{program_plain, program_light}
+use Rattle.nim_core.specs.declared.program.Program.{Program as RustProgram}
+use Rattle.nim_core.specs.Program.{Program}
+use Rattle.parse_stmts.specs.Parsed.{IsRefused}
+use Rattle.decl_rules.specs.Elaborated.{elaborated}
+use Rattle.decl_rules.specs.Laws.{ProgramsComputed, ReasonsComputed}
+use Rattle.int_core.specs.Program as S
+use Rattle.check_decls.specs.Modules.{program_in}
+use Rattle.source_compiler.specs.Source.{main_module, IsTree, lone, ReadsAlone, RefusesAlone, by_bytes, by_tokens, by_rules, alone, Reads}
+use Rattle.source_compiler.specs.Limits.{int_answer, int_limits}
+use Rattle.source_compiler.specs.Compile.{AreTurnedDown, by_limits}
 
--- a stop says what is refused, by a form or by a name
-pub forms_refused : (said : Result Lines Refusal) (stop : Stop) → Answers (λ (lines : Vec RustLine Global). lines_of lines.items) said (Err stop)
-    → OnRefusal stop (IsRefusal said)
-forms_refused said (Refused code at) told = told
-forms_refused said Memory told = tt
+-- ---- what each step says of its refusal
 
-pub names_refused : (said : Result Program Refusal) (stop : Stop) → Answers program_of said (Err stop) → OnRefusal stop (IsRefusal said)
-names_refused said (Refused code at) told = told
-names_refused said Memory told = tt
+pub refused_bytes : (source : List ℕ) (stop : Stop) → OnRefusal stop (IsRefusedByBytes source 0) → OnRefusal stop (RefusesAlone source)
+refused_bytes source (Refused c at) h = by_bytes h
+refused_bytes source Memory h = tt
 
--- statements weigh no more than their source has bytes
-pub lines_light : (source : List ℕ) (tokens : List Token) (tree : Statements) (lines : Lines) → length source ≤ source_most → token_bytes tokens ≤ length source
-    → full.weights tree ≤ token_bytes tokens → form_of tree ≡ Ok lines
-    → weights lines ≤ source_most
-lines_light source tokens tree lines within bytes size formed = omega (arith, within, bytes, size, formed_light tree lines formed)
+pub refused_tokens : (source : List ℕ) (tokens : List Token) (stop : Stop) → Tokens source tokens → OnRefusal stop (IsRefused (main_module source) tokens)
+    → OnRefusal stop (RefusesAlone source)
+refused_tokens source tokens (Refused c at) scanned h = by_tokens tokens scanned h
+refused_tokens source tokens Memory scanned h = tt
 
--- what the code generator wants of a program
-pub record CanLower (program : Program) : Type 0 where
-  pub plain : ArePlain (length program.globals) program.start
-  pub small : stmts_weight program.start ≤ source_most
-  pub globals : length program.globals ≤ source_most
+-- ---- what typing says
 
-pub can_lower : (tree : Statements) (lines : Lines) (program : Program) → weights lines ≤ source_most → HasFew tree → form_of tree ≡ Ok lines
-    → check lines ≡ Ok program → FitsStmts program.start → length program.globals ≤ weights lines
-    → CanLower program
-can_lower tree lines program light few formed checked ints count = record {
-  plain = program_plain lines program checked ints (omega (arith, formed_shallow tree lines formed, few.terms));
-  small = omega (arith, program_light lines program checked, light);
-  globals = omega (arith, count, light);
-}
+module _ (source : List ℕ) (tokens : List Token) (tree : Statements) (is : IsTree source tokens tree) where
+  pub typing_reads : ProgramsComputed → (result : Result RustProgram Stop) → Answers program_in (elaborated (lone tree)) result
+      → IfOk result (λ program. ReadsAlone source (program_in program))
+  typing_reads computed (Ok program) said =
+      record { tokens = tokens; tree = tree; is_tree = is; typed = (computed (lone tree) (program_in program)).1 said }
+  typing_reads computed (Err stop) said = tt
+
+  pub typing_refuses : ReasonsComputed → (result : Result RustProgram Stop) → Answers program_in (elaborated (lone tree)) result
+      → IfErr result (λ stop. OnRefusal stop (RefusesAlone source))
+  typing_refuses computed (Ok program) said = tt
+  typing_refuses computed (Err (Refused code at)) said = by_rules tokens tree is ((computed (lone tree) code at).1 said)
+  typing_refuses computed (Err Memory) said = tt
+
+-- ---- what can't be compiled
+
+pub int_down : (program : Program) (source : List ℕ) → ((name : List ℕ) → Reads (alone name source) program) → (stop : Stop)
+    → Answers S.program_of (int_answer program) (Err stop)
+    → OnRefusal stop (λ code at. (name : List ℕ) → AreTurnedDown int_limits (alone name source) code at)
+int_down program source reads (Refused code at) said = λ name. by_limits program (reads name) (ap (λ r. and_then r (λ small. Ok tt)) said)
+int_down program source reads Memory said = tt

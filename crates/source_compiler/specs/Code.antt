@@ -264,29 +264,3 @@ abbrev mutual
   pub ArePlain : ℕ → Stmts → Type 0
   ArePlain count Empty = Unit {0}
   ArePlain count (Then first rest) = IsPlainStmt count first × ArePlain count rest
-
--- ---- how large a program is
-
-abbrev pub expr_weight : Expr → ℕ
-expr_weight (Number at value) = 1
-expr_weight (Variable at number) = 1
-expr_weight (Negate at operand) = suc (expr_weight operand)
-expr_weight (Binary at operator left right) = suc (expr_weight left + expr_weight right)
-
-abbrev pub cond_weight : Cond → ℕ
-cond_weight condition = suc (expr_weight condition.left + expr_weight condition.right)
-
-abbrev mutual
-  -- a statement weighs one more than the nodes of its expressions, the bytes of its text, and its blocks
-  pub stmt_weight : Stmt → ℕ
-  stmt_weight (Declare at variable value) = suc (expr_weight value)
-  stmt_weight (Assign at variable value) = suc (expr_weight value)
-  stmt_weight (EchoInt at value) = suc (expr_weight value)
-  stmt_weight (EchoText at text) = suc (length text)
-  stmt_weight (Quit at status) = suc (expr_weight status)
-  stmt_weight (If at condition then_branch else_branch) = suc (cond_weight condition + (stmts_weight then_branch + stmts_weight else_branch))
-  stmt_weight (While at condition body) = suc (cond_weight condition + stmts_weight body)
-
-  pub stmts_weight : Stmts → ℕ
-  stmts_weight Empty = 0
-  stmts_weight (Then first rest) = stmt_weight first + stmts_weight rest

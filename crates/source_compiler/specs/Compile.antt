@@ -5,31 +5,35 @@
 --       └─────compile────> file ──machine──> behaviour that agrees
 use Rattle.std.specs.Prelude.{◌≡◌, ◌≤◌, ℕ, List, [], length, ⊤, Result, Ok, Err}
 use Rattle.arc_base.specs.Behaviour.{Agrees}
+use Rattle.arc_base.specs.Refusal.{IsRefusal}
 use Rattle.arc_base.specs.declared.place.Place.{Place}
 use Rattle.arc_base.specs.declared.place.Code.{Code}
 use Rattle.arc_base.specs.declared.place.Stop.{Stop}
 use Rattle.arc_base.specs.declared.place.Stop.TheVariants as stop
 use Rattle.nim_plan.specs.declared.plan.Plan.{Plan}
-use Rattle.int_core.specs.Program.{Program}
-use Rattle.int_core.specs.Meaning.{meaning}
+use Rattle.nim_core.specs.Program.{Program}
+use Rattle.nim_core.specs.Meaning.{meaning}
 use Rattle.rv32_isa.specs.Machine.{machine}
 use Rattle.elf32.specs.Elf.{File, IsFile}
 use Rattle.source_compiler.specs.declared.compiler.NotCompiled.{NotCompiled}
 use Rattle.source_compiler.specs.declared.compiler.NotCompiled.TheVariants.{TooLong, Refused, Memory}
+use Rattle.source_compiler.specs.declared.source.TheConstants.{SOURCE_MOST}
 use Rattle.source_compiler.specs.Source.{Module, alone, Reads, Refuses}
+use Rattle.source_compiler.specs.Limits.{Limits, int_limits}
 use Rattle.source_compiler.specs.Objects.{live_objects}
 
 -- the plan of a program without sites
 abbrev pub empty_plan : Plan
 empty_plan = record { sites = []; sinks = []; skips = [] }
 
--- THE HEADLINE. The modules are one program. For every input and every number of steps the machine on the file's image
+-- THE HEADLINE. The modules are one typed program. For every input and every number of steps the machine on the file's image
 -- agrees with the meaning of the program under the file's plan and this heap, in bytes. The file is one that can be written,
 -- its plan is empty, and there are no hooks.
 pub record Compiled (modules : List Module) (heap : ℕ) (file : File) : Type 0 where
   pub program : Program
   pub reads : Reads modules program
   pub reads_only : (other : Program) → Reads modules other → other ≡ program
+  pub built : int_limits program ≡ Ok tt
   pub allowed : IsFile file
   pub agrees : (input : List ℕ) → Agrees (machine live_objects file.image input) (meaning program file.plan heap input)
   pub plan : file.plan ≡ empty_plan
@@ -39,15 +43,25 @@ pub record Compiled (modules : List Module) (heap : ℕ) (file : File) : Type 0 
 
 -- the longest source
 abbrev pub source_most : ℕ
-source_most = 4096
+source_most = SOURCE_MOST
 
--- the bytes are those of a main module that is within the limit and is a program
-abbrev pub IsProgram : (name source : List ℕ) → Type 0
-IsProgram name source = (length source ≤ source_most) × ((program : Program) × Reads (alone name source) program)
+-- The bytes are those of a main module that is within the limit and is a typed program, and a command with these limits
+-- can do what it says with it.
+pub record IsProgram (limits : Limits) (name source : List ℕ) : Type 0 where
+  pub within : length source ≤ source_most
+  pub program : Program
+  pub reads : Reads (alone name source) program
+  pub taken : limits program ≡ Ok tt
 
--- they are those of one that is within the limit and is refused
-abbrev pub IsNoProgram : (name source : List ℕ) → Code → Place → Type 0
-IsNoProgram name source code at = (length source ≤ source_most) × Refuses (alone name source) code at
+-- modules are refused: they are no typed program, else the command can't do with it what it says
+pub data AreTurnedDown (limits : Limits) (modules : List Module) (code : Code) (at : Place) : Type 0 where
+  by_reading : Refuses modules code at → AreTurnedDown limits modules code at
+  by_limits : (program : Program) → Reads modules program → IsRefusal (limits program) code at → AreTurnedDown limits modules code at
+
+-- the bytes are those of a main module that is within the limit and is refused
+pub record IsNoProgram (limits : Limits) (name source : List ℕ) (code : Code) (at : Place) : Type 0 where
+  pub within : length source ≤ source_most
+  pub refused : AreTurnedDown limits (alone name source) code at
 
 -- ---- answers
 

@@ -1,7 +1,5 @@
-pub mod Lines
-pub mod Form
-pub mod Names
 pub mod Source
+pub mod Limits
 pub mod Objects
 pub mod Code
 pub mod Emission

@@ -1,21 +1,21 @@
--- Which program modules are: the bytes of each are tokens, the tokens are a tree, the tree has only statements that are
--- built, and the names in them are those of variables.
-use Rattle.std.specs.Prelude.{◌≡◌, ℕ, List, [], ◌∷◌, Ok}
+-- Which typed program modules are: the bytes of each are tokens, the tokens are a tree, and the trees are typed.
+--
+--     source ──Tokens──> tokens ──IsModule──> tree ──IsProgram──> typed program
+--       └───────────────────────────── Reads ──────────────────────────┘
+use Rattle.std.specs.Prelude.{◌≡◌, ℕ, List, [], ◌∷◌}
 use Rattle.arc_base.specs.declared.place.Place.{Place}
 use Rattle.arc_base.specs.declared.place.Code.{Code}
 use Rattle.indent_scanner.specs.declared.token.Token.{Token}
 use Rattle.indent_scanner.specs.Tokens.{Tokens}
 use Rattle.indent_scanner.specs.Tokens.{IsRefused as IsRefusedByBytes}
 use Rattle.nim_tree.specs.Statements.{Statements}
+use Rattle.nim_core.specs.Program.{Program}
 use Rattle.parse_exprs.specs.Look.{Origin}
 use Rattle.parse_stmts.specs.Grammar.{IsModule}
 use Rattle.parse_stmts.specs.Parsed.{HasFew}
 use Rattle.parse_stmts.specs.Parsed.{IsRefused as IsRefusedByTokens}
-use Rattle.int_core.specs.Program.{Program}
-use Rattle.arc_base.specs.Refusal.{IsRefusal}
-use Rattle.source_compiler.specs.Lines.{Lines}
-use Rattle.source_compiler.specs.Form.{form_of}
-use Rattle.source_compiler.specs.Names.{check}
+use Rattle.decl_rules.specs.Elaborated.{Module as Tree}
+use Rattle.decl_rules.specs.ProgramRules.{IsProgram as AreTyped, IsNoProgram as AreNotTyped}
 
 -- ---- one module
 
@@ -29,25 +29,25 @@ pub record IsTree (source : List ℕ) (tokens : List Token) (tree : Statements) 
   pub parsed : IsModule (main_module source) tokens tree
   pub few : HasFew tree
 
--- the main module is a program by itself
+-- the tree of the main module, which is the only one
+abbrev pub lone : Statements → List Tree
+lone tree = record { number = 0; body = tree } ∷ []
+
+-- the main module is a typed program by itself
 pub record ReadsAlone (source : List ℕ) (program : Program) : Type 0 where
   pub tokens : List Token
   pub tree : Statements
-  pub lines : Lines
   pub is_tree : IsTree source tokens tree
-  pub formed : form_of tree ≡ Ok lines
-  pub checked : check lines ≡ Ok program
+  pub typed : AreTyped (lone tree) program
 
--- The main module is refused: by its bytes (E1 to E3), else by its tokens (E4, E5, E23), else by a form that is not built
--- (E23), else by its names (E6, E7).
+-- The main module is refused: by its bytes (E1 to E3), else by its tokens (E4, E5, E23), else by the typing rules (E6 to E15,
+-- E23, E26).
 pub data RefusesAlone (source : List ℕ) : Code → Place → Type 0 where
   by_bytes : {code : Code} {at : Place} → IsRefusedByBytes source 0 code at → RefusesAlone source code at
   by_tokens : {code : Code} {at : Place} (tokens : List Token) → Tokens source tokens → IsRefusedByTokens (main_module source) tokens code at
       → RefusesAlone source code at
-  by_form : {code : Code} {at : Place} (tokens : List Token) (tree : Statements) → IsTree source tokens tree → IsRefusal (form_of tree) code at
+  by_rules : {code : Code} {at : Place} (tokens : List Token) (tree : Statements) → IsTree source tokens tree → AreNotTyped (lone tree) code at
       → RefusesAlone source code at
-  by_names : {code : Code} {at : Place} (tokens : List Token) (tree : Statements) (lines : Lines) → IsTree source tokens tree → form_of tree ≡ Ok lines
-      → IsRefusal (check lines) code at → RefusesAlone source code at
 
 -- ---- modules
 
@@ -56,12 +56,12 @@ pub record Module : Type 0 where
   pub name : List ℕ
   pub source : List ℕ
 
--- The modules of a program stand in a list by their numbers, the main module first. Since no import is built, it is the only
+-- The modules of a program stand in a list by their numbers, the main module first. Since no import is typed, it is the only
 -- one.
 abbrev pub alone : (name source : List ℕ) → List Module
 alone name source = record { name = name; source = source } ∷ []
 
--- the modules are the program
+-- the modules are the typed program
 pub record Reads (modules : List Module) (program : Program) : Type 0 where
   pub main : Module
   pub only : modules ≡ main ∷ []

@@ -15,7 +15,7 @@ ghost use Rattle.source_compiler.specs.Objects.{live_objects};
 ghost use Rattle.source_compiler.specs.Code.{code_bytes, variable_words, data_of, load_slot, write_code, exit_code};
 ghost use Rattle.source_compiler.specs.Code.{expr_code, cond_code, ahead, back, number_code, stmt_texts, texts};
 ghost use Rattle.source_compiler.specs.Code.{assign_code, stmt_code, stmts_code, start_code, end_code, ArePlain};
-ghost use Rattle.source_compiler.specs.Code.{stmts_weight};
+ghost use Rattle.source_compiler.specs.Limits.{stmts_weight, stmts_places};
 ghost use Rattle.source_compiler.specs.Emission.{CanEmitExpr, CanEmitCond, CanEmitStmt, CanEmitStmts};
 
 mod exprs;
@@ -29,6 +29,7 @@ use self::pieces::{
     ARGUMENT_0, LEFT, RIGHT, SLOTS, STANDARD_OUTPUT, ZERO, emit, emit_exit, emit_jump, emit_load,
     emit_write, load_slot, set,
 };
+use crate::within::places;
 use crate::words::push_word;
 use arc_base::{Bytes, Items, Memory};
 use int_core::{Cond, Expr, Program, Stmt};
@@ -267,9 +268,10 @@ fn pad(bytes: &mut Bytes) -> Result<(), Memory>
 
 /// The image of a program, which does on every input what the program does.
 pub fn lower(alloc: Global, program: &Program, heap: u32, stack: u32) -> Result<Image, Memory>
-    requires plain { ArePlain (length program.now.globals) (program_of program.now).start }
+    requires plain { ArePlain (stmts_places (program_of program.now).start)
+        (program_of program.now).start }
     requires small { stmts_weight (program_of program.now).start ≤ 4096 }
-    requires globals { length program.now.globals ≤ 4096 }
+    requires places { stmts_places (program_of program.now).start ≤ 4096 }
     requires heap { heap ≤ 16777216 }
     requires stack { stack ≡ 65536 }
     ensures agrees { IfOk result
@@ -280,7 +282,7 @@ pub fn lower(alloc: Global, program: &Program, heap: u32, stack: u32) -> Result<
 {
     let mut code = Bytes::new(alloc);
     let mut statics = Bytes::new(alloc);
-    put_front(&mut statics, program.globals.as_slice().len())?;
+    put_front(&mut statics, places(program))?;
     let start = emit_block(alloc, &mut statics, program.start.as_slice())?;
     emit_start(&mut code)?;
     code.append(start.as_slice())?;

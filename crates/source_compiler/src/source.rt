@@ -1,20 +1,81 @@
-// The law of programs.
-ghost use Rattle.std.specs.Prelude.{◌≡◌, ◌⊎◌, [], ◌∷◌, List};
+// From the bytes of a source to its typed program.
+ghost use Rattle.std.specs.Prelude.{◌≡◌, ◌⊎◌, ◌≤◌, ◌<◌, [], ◌∷◌, ℕ, List, length, IfOk, IfErr};
+ghost use Rattle.arc_base.specs.Stops.{OnRefusal};
 ghost use Rattle.arc_base.specs.declared.place.Code.{Code};
 ghost use Rattle.arc_base.specs.declared.place.Place.{Place};
-ghost use Rattle.int_core.specs.Program.{Program};
-ghost use Rattle.source_compiler.specs.Source.{Module, Reads, Refuses};
+ghost use Rattle.nim_core.specs.Program.{Program as TypedProgram};
+ghost use Rattle.check_decls.specs.Modules.{program_in};
+ghost use Rattle.source_compiler.specs.Source.{Module, alone, ReadsAlone, RefusesAlone, Reads, Refuses};
+ghost use Rattle.source_compiler.specs.Limits.{Limits};
+ghost use Rattle.source_compiler.specs.Compile.{IsProgram, IsNoProgram, source_most, OnTooLong, OnRefused, IsOkOrMemory};
 
-use indent_scanner::one_reading;
+use crate::compiler::NotCompiled;
+use arc_base::Stop;
+use check_decls::elaborate;
+use decl_rules::{one_program, programs_computed};
+use indent_scanner::{one_reading, scan};
+use nim_core::Program;
+use parse_stmts::parse;
+use std::alloc::Global;
 
-/// A main module is a program or is refused. Modules are one program at most, or are refused with one code at one place,
-/// and never both.
+/// The longest source, in bytes.
+pub const SOURCE_MOST: usize = 1_048_576;
+
+/// The number of the main module.
+const MAIN: u32 = 0;
+
+// The typed program of a source that isn't too long.
+fn read(alloc: Global, source: &[u8]) -> Result<Program, Stop>
+    requires { length source.now ≤ source_most }
+    ensures reads { IfOk result (λ program. ReadsAlone source.now (program_in program)) }
+    ensures refused { IfErr result (λ stop. OnRefusal stop (RefusesAlone source.now)) }
+{
+    let tokens = scan(alloc, source, MAIN)?;
+    let tree = parse(alloc, source, tokens.as_slice(), MAIN)?;
+    programs_computed();
+    elaborate(alloc, &[tree], &[MAIN])
+}
+
+/// The typed program of a main module, whatever its name.
+///
+/// Refused is a source that is none, and too long one of more than 1,048,576 bytes.
+pub fn typed(alloc: Global, source: &[u8]) -> Result<Program, NotCompiled>
+    ensures reads { IfOk result (λ program.
+        (name : List ℕ) → Reads (alone name source.now) (program_in program)) }
+    ensures too_long { IfErr result (λ e. OnTooLong e (source_most < length source.now)) }
+    ensures refused { IfErr result (λ e. OnRefused e (λ code at.
+        (limits : Limits) (name : List ℕ) → IsNoProgram limits name source.now code at)) }
+    ensures within { IfOk result (λ _. length source.now ≤ source_most) }
+    ensures complete { (limits : Limits) (name : List ℕ) →
+        IsProgram limits name source.now → IsOkOrMemory result }
+{
+    if source.len() > SOURCE_MOST {
+        return Err(NotCompiled::TooLong);
+    }
+    one_answer();
+    Ok(read(alloc, source)?)
+}
+
+/// A main module is a typed program or is refused. Modules are one program at most, or are refused with one code at one
+/// place, and never both. Where they are a program, a command takes it or refuses it, and never both.
 pub fn one_answer()
-    ensures some { (main : Module) → ((program : Program) × Reads (main ∷ []) program)
+    ensures some { (main : Module) → ((program : TypedProgram) × Reads (main ∷ []) program)
         ⊎ ((code : Code) × (at : Place) × Refuses (main ∷ []) code at) }
-    ensures program { (modules : List Module) (p q : Program) → Reads modules p → Reads modules q → p ≡ q }
-    ensures refusal { (modules : List Module) (c d : Code) (p q : Place) → Refuses modules c p → Refuses modules d q → (c ≡ d) × (p ≡ q) }
-    ensures either { (modules : List Module) (program : Program) (c : Code) (at : Place) → Reads modules program → Refuses modules c at → ⊥ }
+    ensures program { (modules : List Module) (p q : TypedProgram) →
+        Reads modules p → Reads modules q → p ≡ q }
+    ensures refusal { (modules : List Module) (c d : Code) (p q : Place) →
+        Refuses modules c p → Refuses modules d q → (c ≡ d) × (p ≡ q) }
+    ensures either { (modules : List Module) (program : TypedProgram) (c : Code) (at : Place) →
+        Reads modules program → Refuses modules c at → ⊥ }
+    ensures taken { (limits : Limits) (name source : List ℕ) → length source ≤ source_most →
+        IsProgram limits name source
+        ⊎ ((code : Code) × (at : Place) × IsNoProgram limits name source code at) }
+    ensures not_both { (limits : Limits) (name source : List ℕ) (c : Code) (at : Place) →
+        IsProgram limits name source → IsNoProgram limits name source c at → ⊥ }
+    ensures one { (limits : Limits) (name source : List ℕ) (c d : Code) (p q : Place) →
+        IsNoProgram limits name source c p → IsNoProgram limits name source d q →
+        (c ≡ d) × (p ≡ q) }
 {
     one_reading();
+    one_program();
 }

@@ -1,7 +1,8 @@
 use Rattle.std.proofs.Common.{◌≡◌, ◌+◌, ◌++◌, length, refl, sym, ap, subst, ◌∙◌, arith, append_assoc, length-append}
 use Rattle.std.proofs.lemmas.Result.{on_ok_weaker}
 use Rattle.int_core.specs.Program.{stmt_of, stmts_of}
-use Rattle.source_compiler.specs.Code.{code_bytes, texts, stmt_texts, stmt_code, stmts_code, stmt_weight}
+use Rattle.source_compiler.specs.Code.{code_bytes, texts, stmt_texts, stmt_code, stmts_code}
+use Rattle.source_compiler.specs.Limits.{stmt_weight}
 use Rattle.source_compiler.specs.Emission.{CanEmitStmt}
 use Rattle.source_compiler.proofs.Emits.{declared_fits, assigned_fits, written_fits, status_fits, choice_is, first_fits, second_fits, loop_is, body_fits}
 use Rattle.source_compiler.proofs.Emits.{block_size, choice_small, loop_small}

@@ -1,6 +1,7 @@
 use Rattle.std.proofs.Common.{◌≡◌, ◌≤◌, ◌+◌, ◌*◌, ◌++◌, drop, length}
 use Rattle.int_core.specs.Program.{stmt_of, stmts_of}
-use Rattle.source_compiler.specs.Code.{code_bytes, texts, stmts_code, stmt_weight, stmts_weight}
+use Rattle.source_compiler.specs.Code.{code_bytes, texts, stmts_code}
+use Rattle.source_compiler.specs.Limits.{stmt_weight, stmts_weight}
 use Rattle.source_compiler.specs.Emission.{CanEmitStmts}
 use Rattle.source_compiler.proofs.code.+emit_stmts.Given as goal
 

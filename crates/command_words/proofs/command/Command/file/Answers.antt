@@ -13,3 +13,6 @@ returns-in-Run c = sym (ap (λ k. file_of (command_of k)) c.in-Run.is)
 
 pub returns-in-Exec : goal.returns-in-Exec
 returns-in-Exec c = sym (ap (λ k. file_of (command_of k)) c.in-Exec.is)
+
+pub returns-in-Mean : goal.returns-in-Mean
+returns-in-Mean c = sym (ap (λ k. file_of (command_of k)) c.in-Mean.is)

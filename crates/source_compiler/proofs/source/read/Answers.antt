@@ -1,0 +1,35 @@
+use Rattle.std.proofs.Common.{refl, sym, subst}
+use Rattle.std.proofs.lemmas.Result.{err_from_is_err_and}
+use Rattle.indent_scanner.specs.Tokens.{Tokens}
+use Rattle.nim_tree.specs.Statements.{tree_of}
+use Rattle.source_compiler.specs.Source.{IsTree}
+use Rattle.source_compiler.proofs.Stages.{refused_bytes, refused_tokens, typing_reads, typing_refuses}
+use Rattle.source_compiler.proofs.source.read.Goals as goal
+
+pub returns-in_err-tokens-clause-refused : goal.returns-in_err-tokens-clause-refused
+returns-in_err-tokens-clause-refused c =
+    let p = err_from_is_err_and c.from_residual.result c.from_residual.ensures.1 in
+    rw (p.1, p.2) (refused_bytes c.args.source.now _ c.in_err-tokens.ensures.refused)
+
+pub returns-in_err-tree-clause-refused : goal.returns-in_err-tree-clause-refused
+returns-in_err-tree-clause-refused c =
+    let source = c.args.source.now in
+    let scanned = subst (Tokens source) (sym c.as_slice.ensures) c.in_ok-tokens.ensures.tokens in
+    let p = err_from_is_err_and c.from_residual-in_err-tree.result c.from_residual-in_err-tree.ensures.1 in
+    rw (p.1, p.2) (refused_tokens source c.as_slice.result.now _ scanned c.in_err-tree.ensures.refused)
+
+pub returns-clause-reads : goal.returns-clause-reads
+returns-clause-reads c =
+    let source = c.args.source.now in
+    let tree = tree_of c.in_ok-tree.tree in
+    let scanned = subst (Tokens source) (sym c.as_slice.ensures) c.in_ok-tokens.ensures.tokens in
+    let is : IsTree source c.as_slice.result.now tree = record { scanned = scanned; parsed = c.in_ok-tree.ensures.reads; few = c.in_ok-tree.ensures.few } in
+    typing_reads source c.as_slice.result.now tree is c.programs_computed.ensures.programs c.elaborate.result c.elaborate.ensures
+
+pub returns-clause-refused : goal.returns-clause-refused
+returns-clause-refused c =
+    let source = c.args.source.now in
+    let tree = tree_of c.in_ok-tree.tree in
+    let scanned = subst (Tokens source) (sym c.as_slice.ensures) c.in_ok-tokens.ensures.tokens in
+    let is : IsTree source c.as_slice.result.now tree = record { scanned = scanned; parsed = c.in_ok-tree.ensures.reads; few = c.in_ok-tree.ensures.few } in
+    typing_refuses source c.as_slice.result.now tree is c.programs_computed.ensures.refusals c.elaborate.result c.elaborate.ensures
