@@ -71,8 +71,8 @@ fn typed(alloc: Global, modules: &[Module], order: &[u32]) -> Result<Program, St
 /// # Errors
 ///
 /// The first refusal: of a form without a rule (E23); then, in order of text, of what declarations
-/// and types say (E6 to E11, E13, E14, E22); then, in order of text, of what has to be known of
-/// the whole text (E15, E26).
+/// and types say (E6 to E11, E13); then, in order of text, of what has to be known of the whole
+/// text (E15, E26).
 pub fn elaborate(alloc: Global, modules: &[Module], order: &[u32]) -> Result<Program, Stop>
     ensures { Answers program_in (elaborated (in_order modules.now order.now)) result }
 {

@@ -99,17 +99,3 @@ by_answer typed (Err refusal) small e h = absurd (let clash : ◌≡◌ {A = Res
 
 pub taken_is : (typed : Typed) (small : Program) → int_answer typed ≡ Ok small → IsTaken typed small
 taken_is typed small e = by_answer typed (small_answer typed) small refl e
-
--- ---- what the compiler answers
-
-within_so : (small : Program) → is_within small ≡ true → unless_large small ≡ Ok small
-within_so small e = ap (λ b. if b then Ok small else refused TooLarge beginning) e
-
-large_so : (small : Program) → is_within small ≡ false → unless_large small ≡ refused TooLarge beginning
-large_so small e = ap (λ b. if b then Ok small else refused TooLarge beginning) e
-
-pub takes : (typed : Typed) (small : Program) → small_answer typed ≡ Ok small → is_within small ≡ true → int_answer typed ≡ Ok small
-takes typed small e within = ap (λ r. and_then r unless_large) e ∙ within_so small within
-
-pub takes_none : (typed : Typed) (small : Program) → small_answer typed ≡ Ok small → is_within small ≡ false → int_answer typed ≡ refused TooLarge beginning
-takes_none typed small e large = ap (λ r. and_then r unless_large) e ∙ large_so small large
