@@ -76,7 +76,9 @@ pub fn accepted_if(accepts: bool, value: Value) -> Result<Value, Stop>
     ensures same { IfOk result (λ v. v ≡ value) }
 {
     if !accepts {
-        return Err(refusal(Code::NotTyped, node_of(&value.expr).at));
+        let at = node_of(&value.expr).at;
+        drop(value);
+        return Err(refusal(Code::NotTyped, at));
     }
     Ok(value)
 }
@@ -88,7 +90,9 @@ pub fn numbered_if(accepts: bool, given: Numbered) -> Result<Numbered, Stop>
     ensures same { IfOk result (λ v. v ≡ given) }
 {
     if !accepts {
-        return Err(refusal(Code::NotTyped, node_of(&given.value.expr).at));
+        let at = node_of(&given.value.expr).at;
+        drop(given);
+        return Err(refusal(Code::NotTyped, at));
     }
     Ok(given)
 }
@@ -142,7 +146,11 @@ pub fn returned(types: &TypeTable, gives: Option<TypeId>, expr: Expr) -> Result<
 {
     match gives {
         Some(ty) => returned_as(types, ty, expr),
-        None => Err(refusal(Code::NotTyped, node_of(&expr).at)),
+        None => {
+            let at = node_of(&expr).at;
+            drop(expr);
+            Err(refusal(Code::NotTyped, at))
+        }
     }
 }
 

@@ -159,9 +159,18 @@ fn assignment(
         (path_of (expr_of ts target.expr)) v.expr) source.next))) result }
 {
     if !is_source(&state.types, op, target.ty, source.value.ty) {
-        return Err(refusal(Code::NotTyped, node_of(&source.value.expr).at));
+        let at = node_of(&source.value.expr).at;
+        drop(target);
+        drop(source);
+        return Err(refusal(Code::NotTyped, at));
     }
-    let path = path_of(alloc, target.expr)?;
+    let path = match path_of(alloc, target.expr) {
+        Ok(path) => path,
+        Err(stop) => {
+            drop(source);
+            return Err(stop);
+        }
+    };
     state.node = source.next;
     Ok(written(node, op, path, source.value.expr))
 }
@@ -183,7 +192,10 @@ fn assign_from(
 {
     match value_at(alloc, state, source_want(op, target.ty), first, value) {
         Ok(source) => assignment(alloc, state, node, op, target, source),
-        Err(stop) => Err(stop),
+        Err(stop) => {
+            drop(target);
+            Err(stop)
+        }
     }
 }
 
@@ -205,7 +217,10 @@ fn assign_checked(
 {
     match check_target(alloc, &state.scope, tree, &target.expr) {
         Ok(()) => assign_from(alloc, state, node, op, target, first, value),
-        Err(stop) => Err(stop),
+        Err(stop) => {
+            drop(target);
+            Err(stop)
+        }
     }
 }
 

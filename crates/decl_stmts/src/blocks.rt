@@ -219,7 +219,10 @@ fn branch_with(
             condition: given.value.expr,
             body,
         }),
-        Err(stop) => Err(stop),
+        Err(stop) => {
+            drop(given);
+            Err(stop)
+        }
     }
 }
 
@@ -318,7 +321,10 @@ fn repetition_with(
     state.node = given.next;
     match block(alloc, state, around, body) {
         Ok(stmts) => Ok(repetition_of(node, given.value.expr, stmts)),
-        Err(stop) => Err(stop),
+        Err(stop) => {
+            drop(given);
+            Err(stop)
+        }
     }
 }
 

@@ -151,15 +151,21 @@ fn with_value(
         at,
     };
     let ty = given.value.ty;
-    let place = begin_variable(alloc, state, around.outermost, name, ty, given.next)?;
-    let decl = variable(
-        alloc,
-        around.outermost,
-        binding,
-        name.text.as_slice(),
-        place.number,
-        ty,
-    )?;
+    let place = match begin_variable(alloc, state, around.outermost, name, ty, given.next) {
+        Ok(place) => place,
+        Err(stop) => {
+            drop(given);
+            return Err(stop);
+        }
+    };
+    let word = name.text.as_slice();
+    let decl = match variable(alloc, around.outermost, binding, word, place.number, ty) {
+        Ok(decl) => decl,
+        Err(stop) => {
+            drop(given);
+            return Err(stop);
+        }
+    };
     let stmt = Stmt::Declare {
         node,
         place,

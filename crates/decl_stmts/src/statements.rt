@@ -37,7 +37,10 @@ fn plain(state: &mut State, stmt: Stmt) -> Result<Stmt, Stop>
             state.node = next;
             Ok(stmt)
         }
-        Err(stop) => Err(stop),
+        Err(stop) => {
+            drop(stmt);
+            Err(stop)
+        }
     }
 }
 
@@ -252,7 +255,9 @@ fn evaluated_as(accepts: bool, node: Node, value: Expr) -> Result<Stmt, Stop>
         (expr_of ts value)) (λ s. Ok (does s ∷ []))) result }
 {
     if !accepts {
-        return Err(refusal(Code::NotTyped, node_of(&value).at));
+        let at = node_of(&value).at;
+        drop(value);
+        return Err(refusal(Code::NotTyped, at));
     }
     Ok(Stmt::Give { node, value })
 }

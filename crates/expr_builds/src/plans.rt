@@ -241,6 +241,7 @@ fn inits(alloc: Global, chosen: &[Found], values: Vec<Value>) -> Result<Vec<Init
     let mut rest = chosen;
     for value in values {
         let Some((found, others)) = rest.split_first() else {
+            drop(value);
             return Err(Stop::Memory);
         };
         rest = others;

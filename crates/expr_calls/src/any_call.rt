@@ -107,7 +107,10 @@ fn method_rule(
     ensures within { IfOk result (λ e. IsBelow (length types.now) (number_of e)) }
 {
     match default_of_value(name, &operand) {
-        Some(place) => Err(refusal(Code::NotTyped, place)),
+        Some(place) => {
+            drop(operand);
+            Err(refusal(Code::NotTyped, place))
+        }
         None => call_alone(alloc, types, scope, number, at, name, operand),
     }
 }
@@ -131,7 +134,10 @@ fn dot_call(
 {
     match check_callee(scope, at, name) {
         Ok(_) => method_rule(alloc, types, scope, number, at, name, operand),
-        Err(stop) => Err(stop),
+        Err(stop) => {
+            drop(operand);
+            Err(stop)
+        }
     }
 }
 
@@ -193,7 +199,13 @@ pub fn field_rule(
         (operand_of ts operand)) result }
     ensures within { IfOk result (λ e. IsBelow (length types.now) (number_of e)) }
 {
-    let found = field_found(types, scope, name, &operand)?;
+    let found = match field_found(types, scope, name, &operand) {
+        Ok(found) => found,
+        Err(stop) => {
+            drop(operand);
+            return Err(stop);
+        }
+    };
     match found {
         Some(field) => read_found(alloc, number, at, operand, field),
         None => dot_call(alloc, types, scope, number, at, name, operand),

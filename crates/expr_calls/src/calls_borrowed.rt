@@ -43,6 +43,7 @@ fn borrowed_one(
     ensures within { IfOk result (λ e. IsBelow (length types.now) (number_of e)) }
 {
     let Some((param, _rest)) = params.split_first() else {
+        drop(operand);
         return Err(Stop::Memory);
     };
     match settle(alloc, types, param.ty, operand) {
@@ -75,11 +76,16 @@ fn borrowed_behind(
     ensures within { IfOk result (λ e. IsBelow (length types.now) (number_of e)) }
 {
     let Some((param, _rest)) = params.split_first() else {
+        drop(left);
+        drop(operand);
         return Err(Stop::Memory);
     };
     match settle(alloc, types, param.ty, operand) {
         Some(right) => borrowed_on_two(alloc, types, kinds, number, at, comparison, left, right),
-        None => Err(Stop::Memory),
+        None => {
+            drop(left);
+            Err(Stop::Memory)
+        }
     }
 }
 
@@ -107,13 +113,18 @@ fn borrowed_two(
     ensures within { IfOk result (λ e. IsBelow (length types.now) (number_of e)) }
 {
     let Some((param, others)) = params.split_first() else {
+        drop(left);
+        drop(right);
         return Err(Stop::Memory);
     };
     match settle(alloc, types, param.ty, left) {
         Some(value) => borrowed_behind(
             alloc, types, kinds, number, at, comparison, value, others, right,
         ),
-        None => Err(Stop::Memory),
+        None => {
+            drop(right);
+            Err(Stop::Memory)
+        }
     }
 }
 

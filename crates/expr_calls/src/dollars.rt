@@ -167,7 +167,11 @@ fn can_show(types: &TypeTable, scope: &Scope, ty: TypeId) -> bool
 fn shown_if(holds: bool, expr: Expr) -> Option<Expr>
     ensures { result ≡ only_if holds expr }
 {
-    if holds { Some(expr) } else { None }
+    if !holds {
+        drop(expr);
+        return None;
+    }
+    Some(expr)
 }
 
 // What `echo` shows of an operand.

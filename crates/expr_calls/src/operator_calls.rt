@@ -61,6 +61,8 @@ fn borrowed_by(
     ensures within { IfOk result (λ e. IsBelow (length types.now) (number_of e)) }
 {
     if !is_comparison(op) {
+        drop(left);
+        drop(right);
         return Err(refusal(Code::NotTyped, at));
     }
     let operands = both_in(alloc, Operand::Value(left), Operand::Value(right))?;
@@ -137,7 +139,10 @@ fn value_and_open(
     };
     match settle(alloc, types, ty, operand) {
         Some(right) => binary_values(alloc, types, scope, number, at, op, left, right),
-        None => Err(refusal(Code::NotTyped, place)),
+        None => {
+            drop(left);
+            Err(refusal(Code::NotTyped, place))
+        }
     }
 }
 
@@ -167,7 +172,10 @@ fn open_and_value(
     };
     match settle(alloc, types, ty, operand) {
         Some(left) => binary_values(alloc, types, scope, number, at, op, left, right),
-        None => Err(refusal(Code::NotTyped, place)),
+        None => {
+            drop(right);
+            Err(refusal(Code::NotTyped, place))
+        }
     }
 }
 
@@ -195,7 +203,10 @@ fn behind_value(
             at: place,
             number: opened,
         } => value_and_open(alloc, types, scope, number, at, op, left, place, opened),
-        _ => Err(refusal(Code::NotTyped, at)),
+        _ => {
+            drop(left);
+            Err(refusal(Code::NotTyped, at))
+        }
     }
 }
 
@@ -250,6 +261,9 @@ pub fn binary_rule(
             at: place,
             number: opened,
         } => behind_open(alloc, types, scope, number, at, op, place, opened, right),
-        _ => Err(refusal(Code::NotTyped, at)),
+        _ => {
+            drop(right);
+            Err(refusal(Code::NotTyped, at))
+        }
     }
 }

@@ -54,7 +54,9 @@ pub fn constant_rule(alloc: Global, types: &TypeTable, value: Value) -> Result<L
     ensures { (ts : List Ty) (facts : Facts) → Under types.now ts facts
         → Answers literal_of (constant_rule facts (valued_of ts value)) result }
 {
-    constant_at(alloc, types, node_of(&value.expr).at, &value.expr)
+    let literal = constant_at(alloc, types, node_of(&value.expr).at, &value.expr);
+    drop(value);
+    literal
 }
 
 // ---- labels
@@ -102,9 +104,12 @@ pub fn label_value(
 {
     let at = node_of(&value.expr).at;
     if !is_same(types, ty, value.ty) {
+        drop(value);
         return Err(refusal(Code::NotTyped, at));
     }
-    constant_label(alloc, types, at, &value.expr)
+    let label = constant_label(alloc, types, at, &value.expr);
+    drop(value);
+    label
 }
 
 /// The values from that of one label to that of another, which isn't below it.
@@ -169,9 +174,12 @@ pub fn length_rule(alloc: Global, types: &TypeTable, value: Value) -> Result<i32
 {
     let at = node_of(&value.expr).at;
     if !is_int(entry(types, value.ty)) {
+        drop(value);
         return Err(refusal(Code::NotTyped, at));
     }
-    constant_length(alloc, types, at, &value.expr)
+    let length = constant_length(alloc, types, at, &value.expr);
+    drop(value);
+    length
 }
 
 /// A length of an array: from 1 to the most elements.

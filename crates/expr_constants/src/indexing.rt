@@ -58,7 +58,10 @@ fn part_at(
 {
     match part_type(parts, i) {
         Some(ty) => read_field(alloc, number, at, value.expr, i, ty),
-        None => Err(refusal(Code::NotTyped, at)),
+        None => {
+            drop(value);
+            Err(refusal(Code::NotTyped, at))
+        }
     }
 }
 
@@ -76,7 +79,10 @@ fn part_by(
 {
     match natural(i) {
         Some(i) => part_at(alloc, number, at, value, parts, i),
-        None => Err(refusal(Code::NotTyped, at)),
+        None => {
+            drop(value);
+            Err(refusal(Code::NotTyped, at))
+        }
     }
 }
 
@@ -96,6 +102,7 @@ fn numbered_part(
     match literal {
         Literal::Ordinal(i) => part_by(alloc, number, at, value, parts, *i),
         Literal::Text(_) | Literal::Parts(_) | Literal::Elements(_) => {
+            drop(value);
             Err(refusal(Code::NotTyped, at))
         }
     }
@@ -118,7 +125,10 @@ fn constant_part(
 {
     match constant_at(alloc, types, at, index) {
         Ok(literal) => numbered_part(alloc, number, at, value, parts, &literal),
-        Err(stop) => Err(stop),
+        Err(stop) => {
+            drop(value);
+            Err(stop)
+        }
     }
 }
 
@@ -152,7 +162,11 @@ fn read(
 {
     let def = entry(types, value.ty);
     match tuple_parts(def) {
-        Some(parts) => constant_part(alloc, types, number, at, value, parts, &index.expr),
+        Some(parts) => {
+            let part = constant_part(alloc, types, number, at, value, parts, &index.expr);
+            drop(index);
+            part
+        }
         None => element_of(alloc, number, at, value, index, element_type(chars, def)),
     }
 }
@@ -190,6 +204,8 @@ pub fn index_rule(
     ensures within { IfOk result (λ t. IsBelow (length types.now) t.ty) }
 {
     if !is_int(entry(types, index.ty)) {
+        drop(value);
+        drop(index);
         return Err(refusal(Code::NotTyped, at));
     }
     let next = behind(entry(types, value.ty), behind_value, behind_index);

@@ -60,7 +60,10 @@ fn on_value(
 {
     match makes_of_value(kinds, operation, entry(types, value.ty), value.ty) {
         Some(makes) => make(alloc, number, at, makes, value),
-        None => Err(refusal(Code::NotTyped, at)),
+        None => {
+            drop(value);
+            Err(refusal(Code::NotTyped, at))
+        }
     }
 }
 

@@ -35,7 +35,10 @@ fn settle_in(alloc: Global, types: &TypeTable, taken: Taken, operand: Operand) -
         ≡ settled_in (taken_types ts taken) (operand_of ts operand) }
 {
     match taken {
-        Taken::Nothing => None,
+        Taken::Nothing => {
+            drop(operand);
+            None
+        }
         Taken::One(ty) => settle(alloc, types, ty, operand),
         Taken::Either(first, second) => settle_or(alloc, types, first, second, operand),
     }
@@ -76,7 +79,10 @@ fn write_with(
 {
     match written(alloc, left) {
         Ok(path) => join_node(alloc, number, at, kind, path, right),
-        Err(stop) => Err(stop),
+        Err(stop) => {
+            drop(right);
+            Err(stop)
+        }
     }
 }
 
@@ -106,7 +112,10 @@ fn on_place_and_value(
     let taken = taken_by(kinds, kind, entry(types, left.ty));
     match settle_in(alloc, types, taken, right) {
         Some(with) => write_with(alloc, number, at, kind, left, with.expr),
-        None => Err(refusal(Code::NotTyped, place)),
+        None => {
+            drop(left);
+            Err(refusal(Code::NotTyped, place))
+        }
     }
 }
 
@@ -122,7 +131,10 @@ fn swap_with(alloc: Global, number: u32, at: Place, left: Path, right: Value) ->
             left,
             right,
         }),
-        Err(stop) => Err(stop),
+        Err(stop) => {
+            drop(left);
+            Err(stop)
+        }
     }
 }
 
@@ -142,11 +154,16 @@ fn swap(
     ensures within { (n : ℕ) → IfOk result (λ e. IsBelow n (number_of e)) }
 {
     if !are_same {
+        drop(left);
+        drop(right);
         return Err(refusal(Code::NotTyped, at));
     }
     match written(alloc, left) {
         Ok(path) => swap_with(alloc, number, at, path, right),
-        Err(stop) => Err(stop),
+        Err(stop) => {
+            drop(right);
+            Err(stop)
+        }
     }
 }
 
@@ -175,9 +192,18 @@ fn on_places(
             let are_same = is_same(types, left.ty, other.ty);
             swap(alloc, are_same, number, at, left, other)
         }
-        Operand::Open { .. } => Err(refusal(Code::NotTyped, place)),
-        Operand::Type(_) => Err(refusal(Code::NotTyped, place)),
-        Operand::Input => Err(refusal(Code::NotTyped, place)),
+        Operand::Open { .. } => {
+            drop(left);
+            Err(refusal(Code::NotTyped, place))
+        }
+        Operand::Type(_) => {
+            drop(left);
+            Err(refusal(Code::NotTyped, place))
+        }
+        Operand::Input => {
+            drop(left);
+            Err(refusal(Code::NotTyped, place))
+        }
     }
 }
 
@@ -209,7 +235,11 @@ fn on_value_and(
             on_place_and_value(alloc, types, kinds, number, at, place, kind, left, right)
         }
         Second::Place => on_places(alloc, types, number, at, place, left, right),
-        Second::Nothing => Err(refusal(Code::NotTyped, place)),
+        Second::Nothing => {
+            drop(left);
+            drop(right);
+            Err(refusal(Code::NotTyped, place))
+        }
     }
 }
 
@@ -230,6 +260,7 @@ fn line_into(
     ensures number { IfOk result (λ e. number_of e ≡ Some kinds.bool) }
 {
     if !is_line {
+        drop(value);
         return Err(refusal(Code::NotTyped, at));
     }
     make(
@@ -262,6 +293,7 @@ fn on_input_and(
     ensures within { IfOk result (λ e. IsBelow (length types.now) (number_of e)) }
 {
     if !is_reading(operation) {
+        drop(right);
         return Err(refusal(Code::NotTyped, place));
     }
     match right {
@@ -304,7 +336,13 @@ pub fn on_two(
             )
         }
         Operand::Input => on_input_and(alloc, types, kinds, number, at, place, operation, right),
-        Operand::Open { .. } => Err(refusal(Code::NotTyped, place)),
-        Operand::Type(_) => Err(refusal(Code::NotTyped, place)),
+        Operand::Open { .. } => {
+            drop(right);
+            Err(refusal(Code::NotTyped, place))
+        }
+        Operand::Type(_) => {
+            drop(right);
+            Err(refusal(Code::NotTyped, place))
+        }
     }
 }

@@ -39,13 +39,20 @@ fn so_many(
         (expr_of ts elements))) result }
     ensures within { IfOk result (λ e. IsBelow (length types.new) (number_of e)) }
 {
-    let ty = add(types, TypeDef::Seq(of))?;
-    let length = Box::new(alloc, elements)?;
-    Ok(Expr::NewSequence {
-        node: Node { number, at },
-        ty,
-        length,
-    })
+    match add(types, TypeDef::Seq(of)) {
+        Ok(ty) => {
+            let length = Box::new(alloc, elements)?;
+            Ok(Expr::NewSequence {
+                node: Node { number, at },
+                ty,
+                length,
+            })
+        }
+        Err(stop) => {
+            drop(elements);
+            Err(stop)
+        }
+    }
 }
 
 // Of one operand, which is the number of elements.

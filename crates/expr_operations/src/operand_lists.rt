@@ -42,6 +42,8 @@ fn two_or_more(others: &[Operand], first: Operand, last: Operand) -> Given
 {
     let count = others.len();
     if count > 0 {
+        drop(first);
+        drop(last);
         return Given::More;
     }
     Given::Two(first, last)
@@ -63,6 +65,7 @@ fn unless_others(others: &[Operand], last: Operand) -> Option<Operand>
 {
     let count = others.len();
     if count > 0 {
+        drop(last);
         return None;
     }
     Some(last)
@@ -83,8 +86,15 @@ pub fn both_in(alloc: Global, left: Operand, right: Operand) -> Result<Vec<Opera
     ensures both { IfOk result (λ os. os.items ≡ left ∷ right ∷ []) }
     ensures memory { IfErr result (λ stop. stop ≡ Stop.Memory) }
 {
-    let mut operands = Vec::new(alloc);
-    operands.push(left)?;
-    operands.push(right)?;
-    Ok(operands)
+    match alone(alloc, left) {
+        Ok(first) => {
+            let mut operands = first;
+            operands.push(right)?;
+            Ok(operands)
+        }
+        Err(stop) => {
+            drop(right);
+            Err(stop)
+        }
+    }
 }

@@ -116,6 +116,7 @@ pub fn arguments(
     let mut rest = params;
     for operand in operands {
         let Some((param, others)) = rest.split_first() else {
+            drop(operand);
             return Err(Stop::Memory);
         };
         rest = others;

@@ -74,7 +74,10 @@ pub fn borrowed_on_one(
 {
     match comparison {
         None => shown(alloc, number, at, kinds.text, value.expr),
-        Some(_) => Err(refusal(Code::NotTyped, at)),
+        Some(_) => {
+            drop(value);
+            Err(refusal(Code::NotTyped, at))
+        }
     }
 }
 
@@ -99,6 +102,10 @@ pub fn borrowed_on_two(
         Some(comparison) => compared(
             alloc, number, at, kinds.bool, comparison, left.expr, right.expr,
         ),
-        None => Err(refusal(Code::NotTyped, at)),
+        None => {
+            drop(left);
+            drop(right);
+            Err(refusal(Code::NotTyped, at))
+        }
     }
 }

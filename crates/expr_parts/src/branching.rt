@@ -120,7 +120,9 @@ pub fn branch_value(types: &TypeTable, branching: Branching, expr: Expr) -> Resu
     ensures same { IfOk result (λ e. e ≡ expr) }
 {
     if !agrees(types, branching, type_number(&expr)) {
-        return Err(refusal(Code::NotTyped, node_of(&expr).at));
+        let at = node_of(&expr).at;
+        drop(expr);
+        return Err(refusal(Code::NotTyped, at));
     }
     Ok(expr)
 }
@@ -136,6 +138,10 @@ pub fn value_of(expr: Expr) -> Result<Value, Stop>
             ty,
             writable: false,
         }),
-        None => Err(refusal(Code::NotTyped, node_of(&expr).at)),
+        None => {
+            let at = node_of(&expr).at;
+            drop(expr);
+            Err(refusal(Code::NotTyped, at))
+        }
     }
 }

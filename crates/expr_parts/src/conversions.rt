@@ -214,6 +214,7 @@ fn convert_last(
 {
     let count = others.len();
     if count > 0 {
+        drop(operand);
         return Err(refusal(Code::NotTyped, place));
     }
     convert(alloc, types, ints, number, at, ty, operand)

@@ -9,6 +9,7 @@ ghost use Rattle.nim_core.specs.View.{if_type};
 ghost use Rattle.expr_rules.specs.Answers.{node};
 ghost use Rattle.expr_parts.specs.View.{number_of};
 
+use crate::nodes_of_two::boxes;
 use arc_base::{Place, Stop};
 use nim_core::{Arg, Choice, Expr, Init, Node, Pick};
 use nim_types::TypeId;
@@ -128,8 +129,7 @@ pub fn selected_else(
     ensures number { IfOk result (λ e. number_of e ≡ ty) }
     ensures memory { IfErr result (λ stop. stop ≡ Stop.Memory) }
 {
-    let selector = Box::new(alloc, selector)?;
-    let otherwise = Box::new(alloc, otherwise)?;
+    let (selector, otherwise) = boxes(alloc, selector, otherwise)?;
     Ok(Expr::Case {
         node: Node { number, at },
         ty,

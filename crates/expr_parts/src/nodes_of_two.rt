@@ -28,8 +28,7 @@ pub fn computed(
     ensures number { IfOk result (λ e. number_of e ≡ Some ty) }
     ensures memory { IfErr result (λ stop. stop ≡ Stop.Memory) }
 {
-    let left = Box::new(alloc, left)?;
-    let right = Box::new(alloc, right)?;
+    let (left, right) = boxes(alloc, left, right)?;
     Ok(Expr::Binary {
         node: Node { number, at },
         ty,
@@ -55,8 +54,7 @@ pub fn compared(
     ensures number { IfOk result (λ e. number_of e ≡ Some ty) }
     ensures memory { IfErr result (λ stop. stop ≡ Stop.Memory) }
 {
-    let left = Box::new(alloc, left)?;
-    let right = Box::new(alloc, right)?;
+    let (left, right) = boxes(alloc, left, right)?;
     Ok(Expr::Compare {
         node: Node { number, at },
         ty,
@@ -80,8 +78,7 @@ pub fn both(
     ensures number { IfOk result (λ e. number_of e ≡ Some ty) }
     ensures memory { IfErr result (λ stop. stop ≡ Stop.Memory) }
 {
-    let left = Box::new(alloc, left)?;
-    let right = Box::new(alloc, right)?;
+    let (left, right) = boxes(alloc, left, right)?;
     Ok(Expr::Both {
         node: Node { number, at },
         ty,
@@ -104,8 +101,7 @@ pub fn either(
     ensures number { IfOk result (λ e. number_of e ≡ Some ty) }
     ensures memory { IfErr result (λ stop. stop ≡ Stop.Memory) }
 {
-    let left = Box::new(alloc, left)?;
-    let right = Box::new(alloc, right)?;
+    let (left, right) = boxes(alloc, left, right)?;
     Ok(Expr::Either {
         node: Node { number, at },
         ty,
@@ -128,12 +124,28 @@ pub fn joined(
     ensures number { IfOk result (λ e. number_of e ≡ Some ty) }
     ensures memory { IfErr result (λ stop. stop ≡ Stop.Memory) }
 {
-    let left = Box::new(alloc, left)?;
-    let right = Box::new(alloc, right)?;
+    let (left, right) = boxes(alloc, left, right)?;
     Ok(Expr::Join {
         node: Node { number, at },
         ty,
         left,
         right,
     })
+}
+
+/// Two expressions in boxes.
+pub fn boxes(alloc: Global, left: Expr, right: Expr) -> Result<(Box<Expr>, Box<Expr>), Stop>
+    ensures boxes { IfOk result (λ both. (both.0.value ≡ left) × (both.1.value ≡ right)) }
+    ensures memory { IfErr result (λ stop. stop ≡ Stop.Memory) }
+{
+    match Box::new(alloc, left) {
+        Ok(left) => {
+            let right = Box::new(alloc, right)?;
+            Ok((left, right))
+        }
+        Err(_) => {
+            drop(right);
+            Err(Stop::Memory)
+        }
+    }
 }

@@ -49,6 +49,10 @@ pub fn operation(
         Meaning::Compares(comparison) => compared(
             alloc, number, at, kinds.bool, comparison, left.expr, right.expr,
         ),
-        Meaning::Nothing => Err(Stop::Memory),
+        Meaning::Nothing => {
+            drop(left);
+            drop(right);
+            Err(Stop::Memory)
+        }
     }
 }

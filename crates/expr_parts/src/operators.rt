@@ -49,7 +49,10 @@ pub fn unary(
             operator,
             operand: Box::new(alloc, value.expr)?,
         }),
-        None => Err(refusal(Code::NotTyped, at)),
+        None => {
+            drop(value);
+            Err(refusal(Code::NotTyped, at))
+        }
     }
 }
 

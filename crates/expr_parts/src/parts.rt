@@ -84,9 +84,16 @@ pub fn read_element(
     ensures number { IfOk result (λ e. number_of e ≡ Some ty) }
     ensures memory { IfErr result (λ stop. stop ≡ Stop.Memory) }
 {
-    let base = path_of(alloc, value)?;
-    let path = element_path(alloc, number, at, base, index, ty)?;
-    Ok(Expr::Read { path })
+    match path_of(alloc, value) {
+        Ok(base) => {
+            let path = element_path(alloc, number, at, base, index, ty)?;
+            Ok(Expr::Read { path })
+        }
+        Err(stop) => {
+            drop(index);
+            Err(stop)
+        }
+    }
 }
 
 /// The element of a value at an index, of a type where it has elements.
@@ -104,7 +111,11 @@ pub fn element_of(
 {
     match ty {
         Some(ty) => read_element(alloc, number, at, value.expr, index.expr, ty),
-        None => Err(refusal(Code::NotTyped, at)),
+        None => {
+            drop(value);
+            drop(index);
+            Err(refusal(Code::NotTyped, at))
+        }
     }
 }
 
@@ -121,8 +132,8 @@ fn element_path(
     ensures number { IfOk result (λ p. number_at p ≡ Some ty) }
     ensures memory { IfErr result (λ stop. stop ≡ Stop.Memory) }
 {
-    let base = Box::new(alloc, base)?;
     let index = Box::new(alloc, index)?;
+    let base = Box::new(alloc, base)?;
     Ok(Path::Element {
         node: Node { number, at },
         ty,

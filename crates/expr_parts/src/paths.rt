@@ -32,7 +32,9 @@ pub fn written(alloc: Global, value: Value) -> Result<Path, Stop>
 {
     let writable = value.writable;
     if !writable {
-        return Err(refusal(Code::NotAssignable, node_of(&value.expr).at));
+        let at = node_of(&value.expr).at;
+        drop(value);
+        return Err(refusal(Code::NotAssignable, at));
     }
     path_of(alloc, value.expr)
 }

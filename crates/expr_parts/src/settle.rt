@@ -32,7 +32,11 @@ pub fn settles(types: &TypeTable, ty: TypeId, operand: &Operand) -> bool
 pub fn only_if(holds: bool, value: Value) -> Option<Value>
     ensures { result ≡ only_if holds value }
 {
-    if holds { Some(value) } else { None }
+    if !holds {
+        drop(value);
+        return None;
+    }
+    Some(value)
 }
 
 // `@[]` of a type of sequences.

@@ -80,7 +80,9 @@ pub fn accepted_by(accepts: bool, value: Value) -> Result<Value, Stop>
     ensures same { IfOk result (λ v. v ≡ value) }
 {
     if !accepts {
-        return Err(refusal(Code::NotTyped, node_of(&value.expr).at));
+        let at = node_of(&value.expr).at;
+        drop(value);
+        return Err(refusal(Code::NotTyped, at));
     }
     Ok(value)
 }

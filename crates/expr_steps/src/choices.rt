@@ -108,7 +108,10 @@ pub fn with_condition(
     let next = typed.next;
     match branch_value(types, before.values, typed.expr) {
         Ok(value) => one_condition(before, test.value.expr, value, next),
-        Err(stop) => Err(stop),
+        Err(stop) => {
+            drop(test);
+            Err(stop)
+        }
     }
 }
 

@@ -339,7 +339,10 @@ pub fn case_from(
             given.picks,
             given.next,
         ),
-        Err(stop) => Err(stop),
+        Err(stop) => {
+            drop(selector);
+            Err(stop)
+        }
     }
 }
 
@@ -391,6 +394,9 @@ pub fn case_else_from(
             otherwise,
             next,
         ),
-        Err(stop) => Err(stop),
+        Err(stop) => {
+            drop(selector);
+            Err(stop)
+        }
     }
 }

@@ -77,8 +77,13 @@ pub fn single(number: u32, expr: Expr) -> Result<Typed, Stop>
         result }
     ensures within { (n : ℕ) → IsBelow n (number_of expr) → IfOk result (λ t. TypedWithin n t) }
 {
-    let next = behind(number)?;
-    Ok(gives(expr, next))
+    match behind(number) {
+        Ok(next) => Ok(gives(expr, next)),
+        Err(_) => {
+            drop(expr);
+            Err(Stop::Memory)
+        }
+    }
 }
 
 /// What a rule answers, with the first number behind its nodes.
@@ -169,7 +174,13 @@ pub fn value_from(
         (term_of tree.now) (Ok (typed_of ts typed))) result }
     ensures within { IfOk result (λ g. GivenWithin (length types.now) g) }
 {
-    let writable = can_be_written(alloc, scope, tree, &typed.expr)?;
+    let writable = match can_be_written(alloc, scope, tree, &typed.expr) {
+        Ok(writable) => writable,
+        Err(_) => {
+            drop(typed);
+            return Err(Stop::Memory);
+        }
+    };
     let next = typed.next;
     given_from(accepted(types, asks, left, writable, typed.expr), next)
 }

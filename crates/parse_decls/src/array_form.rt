@@ -43,12 +43,14 @@ fn try_length(
         Ok(parsed) => {
             let next = parsed.next as usize;
             if !input.comma_at(next, Layout::Brackets) {
+                drop(parsed);
                 return Ok(Reading {
                     value: None,
                     next: at,
                 });
             }
             if parsed.tree.levels() > left {
+                drop(parsed);
                 return Err(too_deep(input, whole));
             }
             Ok(Reading {
@@ -86,7 +88,9 @@ pub(crate) fn read_length(
     }
     let length = read_within(alloc, input, at, Layout::Brackets, whole, left)?;
     if !input.comma_at(length.next, Layout::Brackets) {
-        return Err(stuck(input, length.next));
+        let next = length.next;
+        drop(length);
+        return Err(stuck(input, next));
     }
     Ok(Reading {
         value: Some(length.value),

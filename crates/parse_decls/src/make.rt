@@ -29,12 +29,17 @@ pub(crate) fn make_array(
     ensures ok { IfOk result (λ tree. written_of tree ≡ array at (term_of length) (written_of element)) }
     ensures err { IfErr result (λ stop. stop ≡ Memory) }
 {
-    let element = Box::new(alloc, element)?;
-    Ok(TypeTree::Array {
-        at,
-        length,
-        element,
-    })
+    match Box::new(alloc, element) {
+        Ok(element) => Ok(TypeTree::Array {
+            at,
+            length,
+            element,
+        }),
+        Err(_) => {
+            drop(length);
+            Err(Stop::Memory)
+        }
+    }
 }
 
 /// A reference to a type.

@@ -197,7 +197,10 @@ fn read_element(
 {
     let element = read_type(alloc, input, at, Layout::Brackets, whole, left)?;
     if !input.closes_at(Bracket::Square, element.next) {
-        return Err(stuck(input, element.next));
+        let next = element.next;
+        drop(count);
+        drop(element);
+        return Err(stuck(input, next));
     }
     Ok(Reading {
         value: make_array(alloc, input.place_at(token), count, element.value)?,

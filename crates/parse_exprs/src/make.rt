@@ -193,8 +193,8 @@ pub(crate) fn make_named(
     ensures ok { IfOk result (λ e. term_of e ≡ named at spelling.now (term_of value)) }
     ensures err { IfErr result (λ e. e ≡ Memory) }
 {
-    let text = Bytes::from_slice(alloc, spelling)?;
     let value = Box::new(alloc, value)?;
+    let text = Bytes::from_slice(alloc, spelling)?;
     Ok(Expr::Named { at, text, value })
 }
 
@@ -204,8 +204,8 @@ pub(crate) fn make_field(alloc: Global, base: Expr, spelling: &[u8]) -> Result<E
     ensures err { IfErr result (λ e. e ≡ Memory) }
 {
     let at = base.place();
-    let text = Bytes::from_slice(alloc, spelling)?;
     let base = Box::new(alloc, base)?;
+    let text = Bytes::from_slice(alloc, spelling)?;
     Ok(Expr::Field { at, base, text })
 }
 
@@ -263,7 +263,10 @@ fn name_of(tree: Expr) -> Option<Name>
 {
     match tree {
         Expr::Name { at, text } => Some(Name { at, text }),
-        _ => None,
+        other => {
+            drop(other);
+            None
+        }
     }
 }
 
@@ -320,6 +323,23 @@ pub(crate) fn make_unary(
     Ok(Expr::Unary { at, op, operand })
 }
 
+// Two expressions in boxes.
+fn boxes(alloc: Global, left: Expr, right: Expr) -> Result<(Box<Expr>, Box<Expr>), Stuck>
+    ensures ok { IfOk result (λ both. (both.0.value ≡ left) × (both.1.value ≡ right)) }
+    ensures err { IfErr result (λ e. e ≡ Memory) }
+{
+    match Box::new(alloc, left) {
+        Ok(left) => {
+            let right = Box::new(alloc, right)?;
+            Ok((left, right))
+        }
+        Err(_) => {
+            drop(right);
+            Err(Stuck::Memory)
+        }
+    }
+}
+
 // An operator between its operands.
 pub(crate) fn make_binary(
     alloc: Global,
@@ -331,8 +351,7 @@ pub(crate) fn make_binary(
     ensures err { IfErr result (λ e. e ≡ Memory) }
 {
     let at = left.place();
-    let left = Box::new(alloc, left)?;
-    let right = Box::new(alloc, right)?;
+    let (left, right) = boxes(alloc, left, right)?;
     Ok(Expr::Binary {
         at,
         op,
@@ -389,8 +408,7 @@ pub(crate) fn make_case_else(
     ensures ok { IfOk result (λ e. term_of e ≡ case_else at (term_of selector) (choices_of branches.items) (term_of otherwise)) }
     ensures err { IfErr result (λ e. e ≡ Memory) }
 {
-    let selector = Box::new(alloc, selector)?;
-    let otherwise = Box::new(alloc, otherwise)?;
+    let (selector, otherwise) = boxes(alloc, selector, otherwise)?;
     Ok(Expr::Case {
         at,
         selector,
@@ -405,7 +423,6 @@ pub(crate) fn make_range(alloc: Global, low: Expr, high: Expr) -> Result<Expr, S
     ensures err { IfErr result (λ e. e ≡ Memory) }
 {
     let at = low.place();
-    let low = Box::new(alloc, low)?;
-    let high = Box::new(alloc, high)?;
+    let (low, high) = boxes(alloc, low, high)?;
     Ok(Expr::Range { at, low, high })
 }

@@ -45,12 +45,14 @@ fn if_alone(
 {
     let next = parsed.next as usize;
     if !line_over(input, next, spaces) {
+        drop(parsed);
         return Ok(Reading {
             value: None,
             next: at,
         });
     }
     if !fits(&parsed.tree) {
+        drop(parsed);
         return Err(too_deep(input, at));
     }
     Ok(Reading {

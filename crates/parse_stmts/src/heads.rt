@@ -72,9 +72,16 @@ fn make_range(alloc: Global, low: Expr, high: Expr) -> Result<Expr, Stop>
     ensures err { IfErr result (λ stop. stop ≡ Memory) }
 {
     let at = low.place();
-    let low = Box::new(alloc, low)?;
-    let high = Box::new(alloc, high)?;
-    Ok(Expr::Range { at, low, high })
+    match Box::new(alloc, low) {
+        Ok(low) => {
+            let high = Box::new(alloc, high)?;
+            Ok(Expr::Range { at, low, high })
+        }
+        Err(_) => {
+            drop(high);
+            Err(Stop::Memory)
+        }
+    }
 }
 
 // ---- `for`

@@ -95,6 +95,7 @@ pub(crate) fn read_plain(
     if input.operand_on(callee.next, Layout::Lines(spaces)) {
         read_command(alloc, input, callee, spaces)
     } else {
+        drop(callee);
         read_expression(alloc, input, at, spaces)
     }
 }

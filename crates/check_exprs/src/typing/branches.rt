@@ -90,14 +90,14 @@ fn condition(
     ensures { ConditionSo types.old types.new scope.now before choice.now result }
 {
     let test = test_at(alloc, types, scope, before.next, choice.at, &choice.tests)?;
-    let value = typed(
-        alloc,
-        types,
-        scope,
-        next_want(before.values),
-        test.next,
-        &choice.value,
-    )?;
+    let want = next_want(before.values);
+    let value = match typed(alloc, types, scope, want, test.next, &choice.value) {
+        Ok(value) => value,
+        Err(stop) => {
+            drop(test);
+            return Err(stop);
+        }
+    };
     with_condition(types, before, test, value)
 }
 
@@ -168,7 +168,13 @@ fn case_alone(
     let first = behind(number)?;
     let value = value_at(alloc, types, scope, Asks::Selector, &[], first, selector)?;
     let none = no_picks(alloc, want, value.next);
-    let given = picks(alloc, types, scope, value.value.ty, none, choices)?;
+    let given = match picks(alloc, types, scope, value.value.ty, none, choices) {
+        Ok(given) => given,
+        Err(stop) => {
+            drop(value);
+            return Err(stop);
+        }
+    };
     case_from(alloc, types, number, at, value, given)
 }
 
@@ -193,15 +199,21 @@ fn case_with_else(
     let first = behind(number)?;
     let value = value_at(alloc, types, scope, Asks::Selector, &[], first, selector)?;
     let none = no_picks(alloc, want, value.next);
-    let given = picks(alloc, types, scope, value.value.ty, none, choices)?;
-    let last = typed(
-        alloc,
-        types,
-        scope,
-        next_want(given.values),
-        given.next,
-        otherwise,
-    )?;
+    let given = match picks(alloc, types, scope, value.value.ty, none, choices) {
+        Ok(given) => given,
+        Err(stop) => {
+            drop(value);
+            return Err(stop);
+        }
+    };
+    let want = next_want(given.values);
+    let last = match typed(alloc, types, scope, want, given.next, otherwise) {
+        Ok(last) => last,
+        Err(stop) => {
+            drop(value);
+            return Err(stop);
+        }
+    };
     case_else_from(alloc, types, number, at, value, given, last)
 }
 

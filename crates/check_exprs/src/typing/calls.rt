@@ -181,7 +181,13 @@ fn method_call(
     let demand = method_demand(alloc, scope, word, base, alone)?;
     let first = behind(number)?;
     let receiver = operand_at(alloc, types, scope, demand, first, base)?;
-    check_callee(scope, at, word)?;
+    match check_callee(scope, at, word) {
+        Ok(()) => {}
+        Err(stop) => {
+            drop(receiver);
+            return Err(stop);
+        }
+    }
     let before = alone_in(alloc, receiver.operand)?;
     let given = operands(
         alloc,

@@ -187,7 +187,13 @@ fn element(
 {
     let first = behind(number)?;
     let value = value_at(alloc, types, scope, Asks::Anything, &[], first, base)?;
-    let index = value_at(alloc, types, scope, Asks::Anything, &[], value.next, index)?;
+    let index = match value_at(alloc, types, scope, Asks::Anything, &[], value.next, index) {
+        Ok(index) => index,
+        Err(stop) => {
+            drop(value);
+            return Err(stop);
+        }
+    };
     index_from(alloc, types, scope, number, at, value, index)
 }
 
@@ -228,6 +234,12 @@ pub(crate) fn binary(
     let demand = operator_demand(op);
     let first = behind(number)?;
     let left = operand_at(alloc, types, scope, demand, first, left)?;
-    let right = operand_at(alloc, types, scope, demand, left.next, right)?;
+    let right = match operand_at(alloc, types, scope, demand, left.next, right) {
+        Ok(right) => right,
+        Err(stop) => {
+            drop(left);
+            return Err(stop);
+        }
+    };
     binary_from(alloc, types, scope, number, at, op, left, right)
 }

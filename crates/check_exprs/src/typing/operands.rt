@@ -55,10 +55,17 @@ fn value_operand(
     ensures { OrdinarySo types.old types.new scope.now demand number (term_of tree.now) result }
 {
     let given = value_at(alloc, types, scope, Asks::Anything, &[], number, tree)?;
-    let is_shown = is_shown_by_call(alloc, types, scope, demand, &given.value)?;
+    let is_shown = match is_shown_by_call(alloc, types, scope, demand, &given.value) {
+        Ok(is_shown) => is_shown,
+        Err(stop) => {
+            drop(given);
+            return Err(stop);
+        }
+    };
     if !is_shown {
         return Ok(plain(given));
     }
+    drop(given);
     let first = behind(number)?;
     let again = value_at(alloc, types, scope, Asks::Anything, &[], first, tree)?;
     shown(alloc, types, scope, number, again)

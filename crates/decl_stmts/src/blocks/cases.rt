@@ -210,7 +210,10 @@ fn selection_with(
     state.node = next;
     match all_arms(alloc, state, around, value.ty, branches) {
         Ok(arms) => selection_else(alloc, state, around, node, value, arms, otherwise),
-        Err(stop) => Err(stop),
+        Err(stop) => {
+            drop(value);
+            Err(stop)
+        }
     }
 }
 
@@ -236,7 +239,10 @@ fn selection_else(
 {
     match block(alloc, state, around, otherwise) {
         Ok(stmts) => covered(state, node, value, arms, lacks_else(otherwise), stmts),
-        Err(stop) => Err(stop),
+        Err(stop) => {
+            drop(value);
+            Err(stop)
+        }
     }
 }
 
@@ -266,7 +272,10 @@ fn covered(
 {
     match check_covered(&state.types, node.at, value.ty, &arms.labels, lacks_else) {
         Ok(()) => Ok(selection_of(node, value.expr, arms.all, stmts)),
-        Err(stop) => Err(stop),
+        Err(stop) => {
+            drop(value);
+            Err(stop)
+        }
     }
 }
 

@@ -129,7 +129,10 @@ fn each_with(
 {
     match element_rule(&state.types, state.scope.kinds, &given.value) {
         Ok(ty) => each_typed(alloc, state, around, node, name, given, ty, body),
-        Err(stop) => Err(stop),
+        Err(stop) => {
+            drop(given);
+            Err(stop)
+        }
     }
 }
 
@@ -222,7 +225,10 @@ fn int_with(
     let ints = state.scope.kinds.int;
     match value_as_at(alloc, state, ints, from.next, last) {
         Ok(to) => ints_with(alloc, state, around, node, name, from, to, inclusive, body),
-        Err(stop) => Err(stop),
+        Err(stop) => {
+            drop(from);
+            Err(stop)
+        }
     }
 }
 
@@ -255,6 +261,9 @@ fn ints_with(
     };
     match loop_body(alloc, state, around, name, ints, body) {
         Ok(stmts) => Ok(count_of(node, variable, bounds, stmts)),
-        Err(stop) => Err(stop),
+        Err(stop) => {
+            drop(bounds);
+            Err(stop)
+        }
     }
 }

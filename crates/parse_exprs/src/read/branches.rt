@@ -109,7 +109,9 @@ fn read_own_line(
     if input.closed_at(value.next, own) {
         Ok(value)
     } else {
-        Err(Stuck::Syntax(value.next))
+        let next = value.next;
+        drop(value);
+        Err(Stuck::Syntax(next))
     }
 }
 
@@ -196,6 +198,7 @@ fn read_branches(
 {
     let at = input.past_colon(selector.next, layout);
     let Some(token) = input.first_of_at(at, layout) else {
+        drop(selector);
         return Err(Stuck::Syntax(at));
     };
     let inner = branch_layout(layout, token.indent);
@@ -268,6 +271,7 @@ fn read_label(
     }
     let next = low.next + 1;
     if !input.stays(next, layout) {
+        drop(low);
         return Err(Stuck::Syntax(next));
     }
     let high = read_expr(alloc, input, next, layout, left)?;

@@ -82,6 +82,7 @@ fn read_more(
 {
     let Reading { tree, next, depth } = a;
     if depth >= left {
+        drop(tree);
         return Err(Stuck::Deep);
     }
     let b = read_level(alloc, input, next + 1, layout, tighter, left - 1)?;
@@ -145,7 +146,9 @@ fn read_unsigned(
     if input.no_command_on(a.next, layout) {
         Ok(a)
     } else {
-        Err(Stuck::Syntax(a.next))
+        let next = a.next;
+        drop(a);
+        Err(Stuck::Syntax(next))
     }
 }
 
@@ -212,6 +215,7 @@ fn read_suffix(
     ensures { Goes (λ t ts k. run_suffixes k (origin_of input.now) layout command left t ts) input.now left (term_of a.tree) a.next result }
 {
     if a.depth >= left {
+        drop(a);
         return Err(Stuck::Deep);
     }
     match input.bracket_at(a.next) {

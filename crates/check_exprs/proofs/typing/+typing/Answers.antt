@@ -33,7 +33,7 @@ use Rattle.expr_steps.specs.ViewEndings.{index_end, if_end, case_else_end}
 use Rattle.expr_steps.specs.ViewTyping.{asks_of, AsksWithin, inners, TypedWithin, given_of, GivenWithin, part_of, PartWithin, values_of, AllWithin}
 use Rattle.expr_steps.specs.ViewTyping.{operands_of, AllOperandsWithin, shown_part}
 use Rattle.expr_steps.proofs.ForCallers.{said_so, stops_there, goes_on, ready_on, want_more, asks_more, values_more, values_and, operand_more, operands_more}
-use Rattle.expr_steps.proofs.ForCallers.{operands_and, branches_more, ids_and, all_below_more}
+use Rattle.expr_steps.proofs.ForCallers.{forgotten, operands_and, branches_more, ids_and, all_below_more}
 use Rattle.check_exprs.specs.ViewTyped.{value_said, values_said, operand_said, operands_said, types_said, test_said, condition_said, conditions_said}
 use Rattle.check_exprs.specs.ViewTyped.{pick_said, picks_said, labels_said, no_tests, label_said, one_label_said, case_by, AreAll, AnyLabel, ids_of, IdWithin}
 use Rattle.check_exprs.specs.ViewTyped.{IdsWithin}
@@ -615,11 +615,11 @@ forms::element-value_at-requires-2 t c = (omega (arith, c.decreases), (ready_on 
 
 pub forms::element-index_from-requires : goal.forms::element-index_from-requires
 forms::element-index_from-requires t c =
-    let g = c.in_ok-index.ensures.grown in
+    let g = c.in-Ok.ensures.grown in
     record {
       ready = ready_on g (ready_on c.in_ok-value.ensures.grown c.requires.ready);
       value = (let l = g.length in let v = c.in_ok-value.ensures.fits in omega (arith, l, v));
-      index = c.in_ok-index.ensures.fits;
+      index = c.in-Ok.ensures.fits;
     }
 
 pub forms::element-returns-in_err-value : goal.forms::element-returns-in_err-value
@@ -635,18 +635,17 @@ forms::element-returns-in_err-value t c = λ want.
     (λ ts facts u. element_chain (env_of ts facts s) (want_of ts want) n at (term_of c.args.base.now) (term_of c.args.index.now)
     c.in_ok-first.first c.in_ok-first.ensures.next) c.in_err-value.ensures)
 
-pub forms::element-returns-in_err-index : goal.forms::element-returns-in_err-index
-forms::element-returns-in_err-index t c = λ want.
+pub forms::element-returns-in-Err : goal.forms::element-returns-in-Err
+forms::element-returns-in-Err t c = λ want.
     let s = c.args.scope.now in
     let at = c.args.at in
     let n = c.args.number in
-    exits c.in_err-index.field-0.0 c.from_residual-in_err-index.result c.from_residual-in_err-index.ensures.1
-    (go_as (λ ts facts. typed (env_of ts facts s) (want_of ts want) n (term.index at (term_of c.args.base.now) (part (term_of c.args.index.now) no_parts)))
+    go_as (λ ts facts. typed (env_of ts facts s) (want_of ts want) n (term.index at (term_of c.args.base.now) (part (term_of c.args.index.now) no_parts)))
     (λ (ts : List Ty) (facts : Facts) (v : Value). element_go (env_of ts facts s) n at (term_of c.args.index.now) v)
     (λ ts facts u. element_chain (env_of ts facts s) (want_of ts want) n at (term_of c.args.base.now) (term_of c.args.index.now)
     c.in_ok-first.first c.in_ok-first.ensures.next) c.in_ok-value.ensures
     (stops_there typed_of (λ (ts : List Ty) (facts : Facts) (w : Value). index_end (env_of ts facts s) n at (given_of ts c.in_ok-value.value) w)
-    TypedWithin c.in_err-index.ensures))
+    TypedWithin c.in-Err.ensures)
 
 pub forms::element-returns : goal.forms::element-returns
 forms::element-returns t c = λ want.
@@ -657,7 +656,7 @@ forms::element-returns t c = λ want.
     (λ (ts : List Ty) (facts : Facts) (v : Value). element_go (env_of ts facts s) n at (term_of c.args.index.now) v)
     (λ ts facts u. element_chain (env_of ts facts s) (want_of ts want) n at (term_of c.args.base.now) (term_of c.args.index.now)
     c.in_ok-first.first c.in_ok-first.ensures.next) c.in_ok-value.ensures
-    (goes_on (λ (ts : List Ty) (facts : Facts) (w : Value). index_end (env_of ts facts s) n at (given_of ts c.in_ok-value.value) w) c.in_ok-index.ensures
+    (goes_on (λ (ts : List Ty) (facts : Facts) (w : Value). index_end (env_of ts facts s) n at (given_of ts c.in_ok-value.value) w) c.in-Ok.ensures
     c.index_from.ensures)
 
 pub forms::unary-returns-in_err-first : goal.forms::unary-returns-in_err-first
@@ -712,11 +711,11 @@ forms::binary-operand_at-requires-2 t c = (omega (arith, c.decreases), ready_on 
 
 pub forms::binary-binary_from-requires : goal.forms::binary-binary_from-requires
 forms::binary-binary_from-requires t c =
-    let g = c.in_ok-right.ensures.grown in
+    let g = c.in-Ok.ensures.grown in
     record {
       ready = ready_on g (ready_on c.in_ok-left.ensures.grown c.requires.ready);
       left = operand_more g.length c.in_ok-left.left.operand c.in_ok-left.ensures.fits;
-      right = c.in_ok-right.ensures.fits;
+      right = c.in-Ok.ensures.fits;
     }
 
 pub forms::binary-returns-in_err-left : goal.forms::binary-returns-in_err-left
@@ -732,19 +731,18 @@ forms::binary-returns-in_err-left t c = λ want.
     (λ ts facts u. binary_chain (env_of ts facts s) (want_of ts want) n at c.args.op (term_of c.args.left.now) (term_of c.args.right.now)
     (demand_of c.operator_demand-demand.result) c.in_ok-first.first c.operator_demand-demand.ensures c.in_ok-first.ensures.next) c.in_err-left.ensures)
 
-pub forms::binary-returns-in_err-right : goal.forms::binary-returns-in_err-right
-forms::binary-returns-in_err-right t c = λ want.
+pub forms::binary-returns-in-Err : goal.forms::binary-returns-in-Err
+forms::binary-returns-in-Err t c = λ want.
     let s = c.args.scope.now in
     let at = c.args.at in
     let n = c.args.number in
-    exits c.in_err-right.field-0.0 c.from_residual-in_err-right.result c.from_residual-in_err-right.ensures.1
-    (go_as (λ ts facts. typed (env_of ts facts s) (want_of ts want) n (term.binary at c.args.op (term_of c.args.left.now) (term_of c.args.right.now)))
+    go_as (λ ts facts. typed (env_of ts facts s) (want_of ts want) n (term.binary at c.args.op (term_of c.args.left.now) (term_of c.args.right.now)))
     (λ (ts : List Ty) (facts : Facts) (o : Part). binary_go (env_of ts facts s) (demand_of c.operator_demand-demand.result) n at c.args.op
     (term_of c.args.right.now) o)
     (λ ts facts u. binary_chain (env_of ts facts s) (want_of ts want) n at c.args.op (term_of c.args.left.now) (term_of c.args.right.now)
     (demand_of c.operator_demand-demand.result) c.in_ok-first.first c.operator_demand-demand.ensures c.in_ok-first.ensures.next) c.in_ok-left.ensures
     (stops_there typed_of (λ (ts : List Ty) (facts : Facts) (r : Part). binary_end (env_of ts facts s) n at c.args.op (part_of ts c.in_ok-left.left) r)
-    TypedWithin c.in_err-right.ensures))
+    TypedWithin c.in-Err.ensures)
 
 pub forms::binary-returns : goal.forms::binary-returns
 forms::binary-returns t c = λ want.
@@ -757,7 +755,7 @@ forms::binary-returns t c = λ want.
     (λ ts facts u. binary_chain (env_of ts facts s) (want_of ts want) n at c.args.op (term_of c.args.left.now) (term_of c.args.right.now)
     (demand_of c.operator_demand-demand.result) c.in_ok-first.first c.operator_demand-demand.ensures c.in_ok-first.ensures.next) c.in_ok-left.ensures
     (goes_on (λ (ts : List Ty) (facts : Facts) (r : Part). binary_end (env_of ts facts s) n at c.args.op (part_of ts c.in_ok-left.left) r)
-    c.in_ok-right.ensures c.binary_from.ensures)
+    c.in-Ok.ensures c.binary_from.ensures)
 
 -- ---- values
 
@@ -963,15 +961,14 @@ operands::value_operand-returns-in_err-given t c =
     (stops_there part_of (λ (ts : List Ty) (facts : Facts) (v : Value). shown_by (env_of ts facts s) c.args.number
     (is_shown_by_call (env_of ts facts s) d v.given) v (λ k. value_said (env_of ts facts s) anything k a)) PartWithin c.in_err-given.ensures)
 
-pub operands::value_operand-returns-in_err-is_shown : goal.operands::value_operand-returns-in_err-is_shown
-operands::value_operand-returns-in_err-is_shown t c =
+pub operands::value_operand-returns-in-Err : goal.operands::value_operand-returns-in-Err
+operands::value_operand-returns-in-Err t c =
     let s = c.args.scope.now in
     let a = term_of c.args.tree.now in
     let d = demand_of c.args.demand in
-    exits_without part_of (λ ts facts. part_by (env_of ts facts s) d ordinary c.args.number (λ k. value_said (env_of ts facts s) anything k a)
-    (read_type (env_of ts facts s) a)) PartWithin c.in_err-is_shown.field-0.0 c.from_residual-in_err-is_shown.result
-    c.from_residual-in_err-is_shown.ensures.1
-    c.in_ok-given.ensures.grown c.in_err-is_shown.ensures.memory
+    forgotten c.args.types.now c.value_at.new.types part_of
+    (λ ts facts. part_by (env_of ts facts s) d ordinary c.args.number (λ k. value_said (env_of ts facts s) anything k a) (read_type (env_of ts facts s) a))
+    PartWithin c.in-Err.stop c.in_ok-given.ensures.grown c.in-Err.ensures.memory
 
 pub operands::value_operand-returns-then-not-is_shown : goal.operands::value_operand-returns-then-not-is_shown
 operands::value_operand-returns-then-not-is_shown t c =
@@ -989,7 +986,7 @@ operands::value_operand-returns-then-not-is_shown t c =
     PartWithin
     c.plain.result
     (λ ts facts u. ap (λ (b : Bool). shown_by (env_of ts facts s) n b (given_of ts v) (again ts facts))
-    (c.in_ok-is_shown.ensures.is ts facts u ∙ c.if-not-is_shown.true) ∙ ap Ok (sym (c.plain.ensures.part ts)))
+    (c.in-Ok.ensures.is ts facts u ∙ c.if-not-is_shown.true) ∙ ap Ok (sym (c.plain.ensures.part ts)))
     (c.plain.ensures.within (length c.value_at.new.types) c.in_ok-given.ensures.fits))
 
 pub operands::value_operand-returns-in_err-first : goal.operands::value_operand-returns-in_err-first
@@ -1018,7 +1015,7 @@ operands::value_operand-returns-in_err-again t c =
     PartWithin
     (λ (ts : List Ty) (facts : Facts) (v : Value). shown_part (env_of ts facts s) n v)
     (λ ts facts u. ap (λ (b : Bool). shown_by (env_of ts facts s) n b (given_of ts v) (again ts facts))
-    (c.in_ok-is_shown.ensures.is ts facts u ∙ c.if-not-is_shown.false)
+    (c.in-Ok.ensures.is ts facts u ∙ c.if-not-is_shown.false)
     ∙ ap (λ k. and_then (again ts facts k) (shown_part (env_of ts facts s) n)) (sym c.in_ok-first.ensures.next)) c.in_err-again.ensures))
 
 pub operands::value_operand-returns : goal.operands::value_operand-returns
@@ -1036,7 +1033,7 @@ operands::value_operand-returns t c =
     (λ ts facts. shown_by (env_of ts facts s) n (is_shown_by_call (env_of ts facts s) d (valued_of ts v.value)) (given_of ts v) (again ts facts))
     (λ (ts : List Ty) (facts : Facts) (v : Value). shown_part (env_of ts facts s) n v)
     (λ ts facts u. ap (λ (b : Bool). shown_by (env_of ts facts s) n b (given_of ts v) (again ts facts))
-    (c.in_ok-is_shown.ensures.is ts facts u ∙ c.if-not-is_shown.false)
+    (c.in-Ok.ensures.is ts facts u ∙ c.if-not-is_shown.false)
     ∙ ap (λ k. and_then (again ts facts k) (shown_part (env_of ts facts s) n)) (sym c.in_ok-first.ensures.next)) c.in_ok-again.ensures
     (stays c.value_at-2.new.types part_of (λ ts facts. shown_part (env_of ts facts s) n (given_of ts c.in_ok-again.again)) PartWithin c.shown.result
     c.shown.ensures.answers c.shown.ensures.within))
@@ -1449,24 +1446,23 @@ calls::method_call-returns-in_err-receiver t c = λ place want.
     (c.in_ok-check_count.ensures (part a ps) single) (c.in_ok-demand.ensures.demand ts facts ps single) c.in_ok-first.ensures.next)
     c.in_err-receiver.ensures)
 
-pub calls::method_call-returns-in_err-check_callee : goal.calls::method_call-returns-in_err-check_callee
-calls::method_call-returns-in_err-check_callee t c = λ place want.
+pub calls::method_call-returns-in-Err : goal.calls::method_call-returns-in-Err
+calls::method_call-returns-in-Err t c = λ place want.
     let s = c.args.scope.now in
     let at = c.args.at in
     let n = c.args.number in
     let ps = parts_of c.args.parts.now in
     let a = term_of c.args.base.now in
     let single = c.is_alone-alone.ensures a in
-    exits c.in_err-check_callee.field-0.0 c.from_residual-in_err-check_callee.result c.from_residual-in_err-check_callee.ensures.1
-    (go_as (λ ts facts. typed (env_of ts facts s) (want_of ts want) n (term.call at (term.field place a c.args.text.now) ps))
+    go_as (λ ts facts. typed (env_of ts facts s) (want_of ts want) n (term.call at (term.field place a c.args.text.now) ps))
     (λ (ts : List Ty) (facts : Facts) (o : Part). method_behind (env_of ts facts s) n at c.as_slice-word.result.now (demand_of c.in_ok-demand.demand) ps o)
     (λ ts facts u. receiver_chain (env_of ts facts s) (want_of ts want) n at place a c.args.text.now c.as_slice-word.result.now ps
     (demand_of c.in_ok-demand.demand) c.in_ok-first.first (c.as_slice-word.ensures ∙ c.in_ok-name.ensures)
     (c.in_ok-check_count.ensures (part a ps) single) (c.in_ok-demand.ensures.demand ts facts ps single) c.in_ok-first.ensures.next) c.in_ok-receiver.ensures
     (stops_there typed_of (λ (ts : List Ty) (facts : Facts) (_ : Unit {0}). method_then (env_of ts facts s) n at c.as_slice-word.result.now
     (demand_of c.in_ok-demand.demand) ps (part_of ts c.in_ok-receiver.receiver)) TypedWithin
-    (checked c.operand_at.new.types (λ ts facts. callee_rule (env_of ts facts s) at c.as_slice-word.result.now) (Err c.in_err-check_callee.field-0.0)
-    c.in_err-check_callee.ensures tt)))
+    (checked c.operand_at.new.types (λ ts facts. callee_rule (env_of ts facts s) at c.as_slice-word.result.now) (Err c.in-Err.stop)
+    c.in-Err.ensures tt))
 
 pub calls::method_call-returns-in_err-before : goal.calls::method_call-returns-in_err-before
 calls::method_call-returns-in_err-before t c = λ place want.
@@ -1515,7 +1511,7 @@ calls::method_call-returns-in_err-given t c = λ place want.
     (λ (ts : List Ty) (facts : Facts) (os : Several). call_end (env_of ts facts s) n at c.as_slice-word.result.now os)
     (λ ts facts u. ap
     (λ z. and_then z (λ (_ : Unit {0}). method_then (env_of ts facts s) n at c.as_slice-word.result.now (demand_of c.in_ok-demand.demand) ps
-    (part_of ts c.in_ok-receiver.receiver))) (c.in_ok-check_callee.ensures ts facts)
+    (part_of ts c.in_ok-receiver.receiver))) (c.in-Ok.ensures ts facts)
     ∙ behind_chain (env_of ts facts s) n at c.as_slice-word.result.now (demand_of c.in_ok-demand.demand) (demand_of c.behind-2.result) ps
     (part_of ts c.in_ok-receiver.receiver) (map (operand_of ts) c.in_ok-before.before.items)
     c.behind-2.ensures (ap (map (operand_of ts)) c.in_ok-before.ensures.all)) c.in_err-given.ensures))
@@ -1538,7 +1534,7 @@ calls::method_call-returns t c = λ place want.
     (λ (ts : List Ty) (facts : Facts) (os : Several). call_end (env_of ts facts s) n at c.as_slice-word.result.now os)
     (λ ts facts u. ap
     (λ z. and_then z (λ (_ : Unit {0}). method_then (env_of ts facts s) n at c.as_slice-word.result.now (demand_of c.in_ok-demand.demand) ps
-    (part_of ts c.in_ok-receiver.receiver))) (c.in_ok-check_callee.ensures ts facts)
+    (part_of ts c.in_ok-receiver.receiver))) (c.in-Ok.ensures ts facts)
     ∙ behind_chain (env_of ts facts s) n at c.as_slice-word.result.now (demand_of c.in_ok-demand.demand) (demand_of c.behind-2.result) ps
     (part_of ts c.in_ok-receiver.receiver) (map (operand_of ts) c.in_ok-before.before.items)
     c.behind-2.ensures (ap (map (operand_of ts)) c.in_ok-before.ensures.all)) c.in_ok-given.ensures c.call_from.ensures)
@@ -1940,7 +1936,7 @@ branches::condition-typed-requires t c = (
   omega (arith, c.decreases),
   (
     ready_on c.in_ok-test.ensures.grown c.requires.ready,
-    c.next_want.ensures.within (length c.test_at.new.types)
+    c.next_want-want.ensures.within (length c.test_at.new.types)
         (branches_more c.in_ok-test.ensures.grown.length c.args.before.values c.requires.before),
   ),
 )
@@ -1948,9 +1944,9 @@ branches::condition-typed-requires t c = (
 pub branches::condition-with_condition-requires : goal.branches::condition-with_condition-requires
 branches::condition-with_condition-requires t c =
     record {
-      before = branches_more c.in_ok-value.ensures.grown.length c.args.before.values
+      before = branches_more c.in-Ok.ensures.grown.length c.args.before.values
           (branches_more c.in_ok-test.ensures.grown.length c.args.before.values c.requires.before);
-      typed = c.in_ok-value.ensures.fits;
+      typed = c.in-Ok.ensures.fits;
     }
 
 pub branches::condition-returns-in_err-test : goal.branches::condition-returns-in_err-test
@@ -1969,15 +1965,14 @@ branches::condition-returns-in_err-test t c =
     (λ x. next_condition (conditions_of ts before) v x)))
     (sym c.deref.ensures.value)) c.in_err-test.ensures)
 
-pub branches::condition-returns-in_err-value : goal.branches::condition-returns-in_err-value
-branches::condition-returns-in_err-value t c =
+pub branches::condition-returns-in-Err : goal.branches::condition-returns-in-Err
+branches::condition-returns-in-Err t c =
     let s = c.args.scope.now in
     let x = c.args.choice.now in
     let before = c.args.before in
     let a = term_of x.value in
     let tests = parts_of x.tests.items in
-    exits c.in_err-value.field-0.0 c.from_residual-in_err-value.result c.from_residual-in_err-value.ensures.1
-    (go_as (λ ts facts. condition_said (env_of ts facts s) (conditions_of ts before) x.at tests a)
+    go_as (λ ts facts. condition_said (env_of ts facts s) (conditions_of ts before) x.at tests a)
     (λ (ts : List Ty) (facts : Facts) (v : Value). and_then (typed (env_of ts facts s) (branch_want (branching_of ts before.values)) v.next a)
     (λ x. next_condition (conditions_of ts before) v x))
     (λ ts facts u. ap (λ xs. and_then (test_said (env_of ts facts s) before.next x.at (parts_of xs))
@@ -1990,7 +1985,7 @@ branches::condition-returns-in_err-value t c =
     (λ ts facts u. ap
     (λ w. and_then (typed (env_of ts facts s) w c.in_ok-test.test.next a)
     (λ x. next_condition (conditions_of ts before) (given_of ts c.in_ok-test.test) x))
-    (sym (c.next_want.ensures.want ts))) c.in_err-value.ensures))
+    (sym (c.next_want-want.ensures.want ts))) c.in-Err.ensures)
 
 pub branches::condition-returns : goal.branches::condition-returns
 branches::condition-returns t c =
@@ -2012,9 +2007,9 @@ branches::condition-returns t c =
     (λ ts facts u. ap
     (λ w. and_then (typed (env_of ts facts s) w c.in_ok-test.test.next a)
     (λ x. next_condition (conditions_of ts before) (given_of ts c.in_ok-test.test) x))
-    (sym (c.next_want.ensures.want ts))) c.in_ok-value.ensures
+    (sym (c.next_want-want.ensures.want ts))) c.in-Ok.ensures
     (stays c.typed.new.types conditions_of
-    (λ ts facts. next_condition (conditions_of ts before) (given_of ts c.in_ok-test.test) (typed_of ts c.in_ok-value.value))
+    (λ ts facts. next_condition (conditions_of ts before) (given_of ts c.in_ok-test.test) (typed_of ts c.in-Ok.value))
     ConditionsWithin c.with_condition.result c.with_condition.ensures.answers c.with_condition.ensures.within))
 
 pub branches::test_at-returns-in-len1 : goal.branches::test_at-returns-in-len1
@@ -2111,28 +2106,27 @@ branches::case_alone-returns-in_err-value t c =
     (λ ts facts u. case_chain (env_of ts facts s) (want_of ts c.args.want) n at a cs c.in_ok-first.first c.in_ok-first.ensures.next)
     c.in_err-value.ensures)
 
-pub branches::case_alone-returns-in_err-given : goal.branches::case_alone-returns-in_err-given
-branches::case_alone-returns-in_err-given t c =
+pub branches::case_alone-returns-in-Err : goal.branches::case_alone-returns-in-Err
+branches::case_alone-returns-in-Err t c =
     let s = c.args.scope.now in
     let at = c.args.at in
     let n = c.args.number in
     let a = term_of c.args.selector.now in
     let cs = choices_of c.args.choices.now in
-    exits c.in_err-given.field-0.0 c.from_residual-in_err-given.result c.from_residual-in_err-given.ensures.1
-    (go_as (λ ts facts. typed (env_of ts facts s) (want_of ts c.args.want) n (term.case_term at a cs))
+    go_as (λ ts facts. typed (env_of ts facts s) (want_of ts c.args.want) n (term.case_term at a cs))
     (λ (ts : List Ty) (facts : Facts) (v : Value). case_go (env_of ts facts s) (want_of ts c.args.want) n at cs v)
     (λ ts facts u. case_chain (env_of ts facts s) (want_of ts c.args.want) n at a cs c.in_ok-first.first c.in_ok-first.ensures.next) c.in_ok-value.ensures
     (stop_as typed_of (λ ts facts. case_go (env_of ts facts s) (want_of ts c.args.want) n at cs (given_of ts c.in_ok-value.value)) TypedWithin
     (λ (ts : List Ty) (facts : Facts) (p : Picked). case_then (env_of ts facts s) n at (given_of ts c.in_ok-value.value) p)
     (λ ts facts u. ap (λ q. and_then (picks_said (env_of ts facts s) (type_at ts c.in_ok-value.value.value.ty) q cs)
-    (case_then (env_of ts facts s) n at (given_of ts c.in_ok-value.value))) (sym (c.no_picks-none.ensures.picked ts))) c.in_err-given.ensures))
+    (case_then (env_of ts facts s) n at (given_of ts c.in_ok-value.value))) (sym (c.no_picks-none.ensures.picked ts))) c.in-Err.ensures)
 
 pub branches::case_alone-case_from-requires : goal.branches::case_alone-case_from-requires
 branches::case_alone-case_from-requires t c =
-    let g = c.in_ok-given.ensures.grown in
+    let g = c.in-Ok.ensures.grown in
     record {
       selector = (let l = g.length in let v = c.in_ok-value.ensures.fits in omega (arith, l, v));
-      given = c.in_ok-given.ensures.fits;
+      given = c.in-Ok.ensures.fits;
     }
 
 pub branches::case_alone-returns : goal.branches::case_alone-returns
@@ -2148,7 +2142,7 @@ branches::case_alone-returns t c =
     (go_as (λ ts facts. case_go (env_of ts facts s) (want_of ts c.args.want) n at cs (given_of ts c.in_ok-value.value))
     (λ (ts : List Ty) (facts : Facts) (p : Picked). case_then (env_of ts facts s) n at (given_of ts c.in_ok-value.value) p)
     (λ ts facts u. ap (λ q. and_then (picks_said (env_of ts facts s) (type_at ts c.in_ok-value.value.value.ty) q cs)
-    (case_then (env_of ts facts s) n at (given_of ts c.in_ok-value.value))) (sym (c.no_picks-none.ensures.picked ts))) c.in_ok-given.ensures
+    (case_then (env_of ts facts s) n at (given_of ts c.in_ok-value.value))) (sym (c.no_picks-none.ensures.picked ts))) c.in-Ok.ensures
     c.case_from.ensures)
 
 pub branches::case_with_else-returns-in_err-first : goal.branches::case_with_else-returns-in_err-first
@@ -2194,64 +2188,62 @@ branches::case_with_else-returns-in_err-value t c =
     (λ ts facts u. else_chain (env_of ts facts s) (want_of ts c.args.want) n at a cs b c.in_ok-first.first c.in_ok-first.ensures.next)
     c.in_err-value.ensures)
 
-pub branches::case_with_else-returns-in_err-given : goal.branches::case_with_else-returns-in_err-given
-branches::case_with_else-returns-in_err-given t c =
+pub branches::case_with_else-returns-in-Err : goal.branches::case_with_else-returns-in-Err
+branches::case_with_else-returns-in-Err t c =
     let s = c.args.scope.now in
     let at = c.args.at in
     let n = c.args.number in
     let a = term_of c.args.selector.now in
     let cs = choices_of c.args.choices.now in
     let b = term_of c.args.otherwise.now in
-    exits c.in_err-given.field-0.0 c.from_residual-in_err-given.result c.from_residual-in_err-given.ensures.1
-    (go_as (λ ts facts. typed (env_of ts facts s) (want_of ts c.args.want) n (term.case_else at a cs b))
+    go_as (λ ts facts. typed (env_of ts facts s) (want_of ts c.args.want) n (term.case_else at a cs b))
     (λ (ts : List Ty) (facts : Facts) (v : Value). else_go (env_of ts facts s) (want_of ts c.args.want) n at cs b v)
     (λ ts facts u. else_chain (env_of ts facts s) (want_of ts c.args.want) n at a cs b c.in_ok-first.first c.in_ok-first.ensures.next)
     c.in_ok-value.ensures
     (stop_as typed_of (λ ts facts. else_go (env_of ts facts s) (want_of ts c.args.want) n at cs b (given_of ts c.in_ok-value.value)) TypedWithin
     (λ (ts : List Ty) (facts : Facts) (p : Picked). else_then (env_of ts facts s) n at b (given_of ts c.in_ok-value.value) p)
     (λ ts facts u. ap (λ q. and_then (picks_said (env_of ts facts s) (type_at ts c.in_ok-value.value.value.ty) q cs)
-    (else_then (env_of ts facts s) n at b (given_of ts c.in_ok-value.value))) (sym (c.no_picks-none.ensures.picked ts))) c.in_err-given.ensures))
+    (else_then (env_of ts facts s) n at b (given_of ts c.in_ok-value.value))) (sym (c.no_picks-none.ensures.picked ts))) c.in-Err.ensures)
 
 pub branches::case_with_else-typed-requires : goal.branches::case_with_else-typed-requires
 branches::case_with_else-typed-requires t c = (
   omega (arith, c.decreases),
   (
-    ready_on c.in_ok-given.ensures.grown (ready_on c.in_ok-value.ensures.grown c.requires.ready),
-    c.next_want.ensures.within
-        (length c.picks.new.types) c.in_ok-given.ensures.fits,
+    ready_on c.in-Ok.ensures.grown (ready_on c.in_ok-value.ensures.grown c.requires.ready),
+    c.next_want-want.ensures.within
+        (length c.picks.new.types) c.in-Ok.ensures.fits,
   ),
 )
 
 pub branches::case_with_else-case_else_from-requires : goal.branches::case_with_else-case_else_from-requires
 branches::case_with_else-case_else_from-requires t c =
     record {
-      given = branches_more c.in_ok-last.ensures.grown.length c.in_ok-given.given.values c.in_ok-given.ensures.fits;
-      last = c.in_ok-last.ensures.fits;
+      given = branches_more c.in-Ok-typed.ensures.grown.length c.in-Ok.given.values c.in-Ok.ensures.fits;
+      last = c.in-Ok-typed.ensures.fits;
     }
 
-pub branches::case_with_else-returns-in_err-last : goal.branches::case_with_else-returns-in_err-last
-branches::case_with_else-returns-in_err-last t c =
+pub branches::case_with_else-returns-in-Err-typed : goal.branches::case_with_else-returns-in-Err-typed
+branches::case_with_else-returns-in-Err-typed t c =
     let s = c.args.scope.now in
     let at = c.args.at in
     let n = c.args.number in
     let a = term_of c.args.selector.now in
     let cs = choices_of c.args.choices.now in
     let b = term_of c.args.otherwise.now in
-    exits c.in_err-last.field-0.0 c.from_residual-in_err-last.result c.from_residual-in_err-last.ensures.1
-    (go_as (λ ts facts. typed (env_of ts facts s) (want_of ts c.args.want) n (term.case_else at a cs b))
+    go_as (λ ts facts. typed (env_of ts facts s) (want_of ts c.args.want) n (term.case_else at a cs b))
     (λ (ts : List Ty) (facts : Facts) (v : Value). else_go (env_of ts facts s) (want_of ts c.args.want) n at cs b v)
     (λ ts facts u. else_chain (env_of ts facts s) (want_of ts c.args.want) n at a cs b c.in_ok-first.first c.in_ok-first.ensures.next)
     c.in_ok-value.ensures
     (go_as (λ ts facts. else_go (env_of ts facts s) (want_of ts c.args.want) n at cs b (given_of ts c.in_ok-value.value))
     (λ (ts : List Ty) (facts : Facts) (p : Picked). else_then (env_of ts facts s) n at b (given_of ts c.in_ok-value.value) p)
     (λ ts facts u. ap (λ q. and_then (picks_said (env_of ts facts s) (type_at ts c.in_ok-value.value.value.ty) q cs)
-    (else_then (env_of ts facts s) n at b (given_of ts c.in_ok-value.value))) (sym (c.no_picks-none.ensures.picked ts))) c.in_ok-given.ensures
-    (stop_as typed_of (λ ts facts. else_then (env_of ts facts s) n at b (given_of ts c.in_ok-value.value) (picked_of ts c.in_ok-given.given)) TypedWithin
-    (λ (ts : List Ty) (facts : Facts) (x : Typed). case_else_end n at (given_of ts c.in_ok-value.value) (picked_of ts c.in_ok-given.given) x)
+    (else_then (env_of ts facts s) n at b (given_of ts c.in_ok-value.value))) (sym (c.no_picks-none.ensures.picked ts))) c.in-Ok.ensures
+    (stop_as typed_of (λ ts facts. else_then (env_of ts facts s) n at b (given_of ts c.in_ok-value.value) (picked_of ts c.in-Ok.given)) TypedWithin
+    (λ (ts : List Ty) (facts : Facts) (x : Typed). case_else_end n at (given_of ts c.in_ok-value.value) (picked_of ts c.in-Ok.given) x)
     (λ ts facts u. ap
-    (λ w. and_then (typed (env_of ts facts s) w c.in_ok-given.given.next b)
-    (case_else_end n at (given_of ts c.in_ok-value.value) (picked_of ts c.in_ok-given.given)))
-    (sym (c.next_want.ensures.want ts))) c.in_err-last.ensures)))
+    (λ w. and_then (typed (env_of ts facts s) w c.in-Ok.given.next b)
+    (case_else_end n at (given_of ts c.in_ok-value.value) (picked_of ts c.in-Ok.given)))
+    (sym (c.next_want-want.ensures.want ts))) c.in-Err-typed.ensures))
 
 pub branches::case_with_else-returns : goal.branches::case_with_else-returns
 branches::case_with_else-returns t c =
@@ -2268,13 +2260,13 @@ branches::case_with_else-returns t c =
     (go_as (λ ts facts. else_go (env_of ts facts s) (want_of ts c.args.want) n at cs b (given_of ts c.in_ok-value.value))
     (λ (ts : List Ty) (facts : Facts) (p : Picked). else_then (env_of ts facts s) n at b (given_of ts c.in_ok-value.value) p)
     (λ ts facts u. ap (λ q. and_then (picks_said (env_of ts facts s) (type_at ts c.in_ok-value.value.value.ty) q cs)
-    (else_then (env_of ts facts s) n at b (given_of ts c.in_ok-value.value))) (sym (c.no_picks-none.ensures.picked ts))) c.in_ok-given.ensures
-    (go_as (λ ts facts. else_then (env_of ts facts s) n at b (given_of ts c.in_ok-value.value) (picked_of ts c.in_ok-given.given))
-    (λ (ts : List Ty) (facts : Facts) (x : Typed). case_else_end n at (given_of ts c.in_ok-value.value) (picked_of ts c.in_ok-given.given) x)
+    (else_then (env_of ts facts s) n at b (given_of ts c.in_ok-value.value))) (sym (c.no_picks-none.ensures.picked ts))) c.in-Ok.ensures
+    (go_as (λ ts facts. else_then (env_of ts facts s) n at b (given_of ts c.in_ok-value.value) (picked_of ts c.in-Ok.given))
+    (λ (ts : List Ty) (facts : Facts) (x : Typed). case_else_end n at (given_of ts c.in_ok-value.value) (picked_of ts c.in-Ok.given) x)
     (λ ts facts u. ap
-    (λ w. and_then (typed (env_of ts facts s) w c.in_ok-given.given.next b)
-    (case_else_end n at (given_of ts c.in_ok-value.value) (picked_of ts c.in_ok-given.given)))
-    (sym (c.next_want.ensures.want ts))) c.in_ok-last.ensures c.case_else_from.ensures))
+    (λ w. and_then (typed (env_of ts facts s) w c.in-Ok.given.next b)
+    (case_else_end n at (given_of ts c.in_ok-value.value) (picked_of ts c.in-Ok.given)))
+    (sym (c.next_want-want.ensures.want ts))) c.in-Ok-typed.ensures c.case_else_from.ensures))
 
 pub branches::pick-labels-requires : goal.branches::pick-labels-requires
 branches::pick-labels-requires t c =

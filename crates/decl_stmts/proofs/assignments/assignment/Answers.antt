@@ -1,5 +1,4 @@
 use Rattle.std.proofs.Common.{◌∙◌, ap, sym, Bool, true, List}
-use Rattle.std.proofs.lemmas.Result.{err_from_is_err_and}
 use Rattle.std.specs.Prelude.{Ok}
 use Rattle.arc_base.specs.declared.place.Code.TheVariants.{NotTyped}
 use Rattle.arc_base.specs.Refusal.{and_then, refused}
@@ -26,8 +25,8 @@ returns c =
     let written = λ (ts : List Ty). path_of (expr_of ts c.args.target.expr) in
     stated_so (λ ts b. by ts b (is_source c.args.op (type_at ts c.args.target.ty) (type_at ts c.args.source.value.ty)) (written ts))
     (λ ts b u. ap (λ k. by ts b k (written ts)) (c.is_source.ensures ts (facts_in old.types) u ∙ c.if-not-is_source.false)
-    ∙ ap (by ts b true) (sym (c.in_ok-path.ensures.path ts)))
-    (did_so old next (λ ts. assigned c.args.op c.args.node (path_in ts c.in_ok-path.path) (expr_of ts c.args.source.value.expr)) c.written.result
+    ∙ ap (by ts b true) (sym (c.in-Ok.ensures.path ts)))
+    (did_so old next (λ ts. assigned c.args.op c.args.node (path_in ts c.in-Ok.path) (expr_of ts c.args.source.value.expr)) c.written.result
     c.requires.ready c.written.ensures)
 
 pub returns-then-not-is_source : goal.returns-then-not-is_source
@@ -42,12 +41,11 @@ returns-then-not-is_source c =
     (λ ts b u. ap (by ts b) (c.is_source.ensures ts (facts_in old.types) u ∙ c.if-not-is_source.true)
     ∙ ap (λ (n : Node). refused NotTyped n.at) (sym (c.node_of.ensures ts)))
 
-pub returns-in_err-path : goal.returns-in_err-path
-returns-in_err-path c =
+pub returns-in-Err : goal.returns-in-Err
+returns-in-Err c =
     let old = c.args.state.now in
     let by = λ (ts : List Ty) (b : Beside) (k : Bool). and_then (accepted_if k (valued_of ts c.args.source.value))
     (λ (z : Valued). Ok (did (state_of ts b old) (assigned c.args.op c.args.node (path_of (expr_of ts c.args.target.expr)) z.expr) c.args.source.next)) in
-    let p = err_from_is_err_and c.from_residual.result c.from_residual.ensures.1 in
-    rw (p.1, p.2) (stated_forgets (λ ts b s. one_stated ts b old s)
+    stated_forgets (λ ts b s. one_stated ts b old s)
     (λ ts b. by ts b (is_source c.args.op (type_at ts c.args.target.ty) (type_at ts c.args.source.value.ty)))
-    _ (further_same old) c.in_err-path.ensures.memory)
+    c.in-Err.stop (further_same old) c.in-Err.ensures.memory

@@ -1,5 +1,4 @@
 use Rattle.std.proofs.Common.{◌<◌, ◌∙◌, ap, subst, sym, length, ◌∷◌, [], List}
-use Rattle.std.proofs.lemmas.Result.{err_from_is_err_and}
 use Rattle.std.specs.Prelude.{Ok}
 use Rattle.indent_scanner.specs.Words.{normal}
 use Rattle.nim_types.specs.Types.{Ty}
@@ -27,28 +26,26 @@ returns c =
       answers = λ ts b waits u.
           let ty = type_at ts c.args.given.value.ty in
           let by = λ (p : P.Declared). declares_as n p (expr_of ts c.args.given.value.expr) ∷ [] in
-          ap Ok (new_is ts b old new (around_of ts c.args.around) c.args.binding d ty c.args.given.next waits (entry_of ts c.in_ok-decl.decl)
+          ap Ok (new_is ts b old new (around_of ts c.args.around) c.args.binding d ty c.args.given.next waits (entry_of ts c.in-Ok-variable.decl)
           (by (place_of old.place d.text d.at ty)) _
-          (c.in_ok-place.ensures.behind ts b) (c.in_ok-decl.ensures.entry ts
-          ∙ ap (λ x. variable (normal x) c.in_ok-place.place.number ty (is_var_binding c.args.binding) c.args.around.outermost) c.as_slice.ensures
-          ∙ ap (λ k. variable (normal d.text) k ty (is_var_binding c.args.binding) c.args.around.outermost) c.in_ok-place.ensures.number)
-          (ap by (c.in_ok-place.ensures.place ts)));
-      fits = c.in_ok-decl.ensures.within (length new.types)
+          (c.in-Ok.ensures.behind ts b) (c.in-Ok-variable.ensures.entry ts
+          ∙ ap (λ x. variable (normal x) c.in-Ok.place.number ty (is_var_binding c.args.binding) c.args.around.outermost) c.as_slice-word.ensures
+          ∙ ap (λ k. variable (normal d.text) k ty (is_var_binding c.args.binding) c.args.around.outermost) c.in-Ok.ensures.number)
+          (ap by (c.in-Ok.ensures.place ts)));
+      fits = c.in-Ok-variable.ensures.within (length new.types)
           (subst (λ (t : List TypeDef). c.args.given.value.ty < length t) (sym c.begin_variable.ensures.kept.types) c.requires.given);
     }
 
-pub returns-in_err-place : goal.returns-in_err-place
-returns-in_err-place c =
-    let p = err_from_is_err_and c.from_residual.result c.from_residual.ensures.1 in
-    rw (p.1, p.2) (defining_forgets c.args.state.now c.begin_variable.new.state
+pub returns-in-Err : goal.returns-in-Err
+returns-in-Err c =
+    defining_forgets c.args.state.now c.begin_variable.new.state
     (λ (ts : List Ty) (env : Env) (st : State). Ok
     (initialised (around_of ts c.args.around) c.args.at c.args.binding (numbered_of ts c.args.given) st c.args.name.now))
-    _ (still_kept c.begin_variable.ensures.kept) c.in_err-place.ensures.memory)
+    c.in-Err.stop (still_kept c.begin_variable.ensures.kept) c.in-Err.ensures.memory
 
-pub returns-in_err-decl : goal.returns-in_err-decl
-returns-in_err-decl c =
-    let p = err_from_is_err_and c.from_residual-in_err-decl.result c.from_residual-in_err-decl.ensures.1 in
-    rw (p.1, p.2) (defining_forgets c.args.state.now c.begin_variable.new.state
+pub returns-in-Err-variable : goal.returns-in-Err-variable
+returns-in-Err-variable c =
+    defining_forgets c.args.state.now c.begin_variable.new.state
     (λ (ts : List Ty) (env : Env) (st : State). Ok
     (initialised (around_of ts c.args.around) c.args.at c.args.binding (numbered_of ts c.args.given) st c.args.name.now))
-    _ (still_kept c.begin_variable.ensures.kept) c.in_err-decl.ensures.memory)
+    c.in-Err-variable.stop (still_kept c.begin_variable.ensures.kept) c.in-Err-variable.ensures.memory

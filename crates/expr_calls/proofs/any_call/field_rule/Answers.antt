@@ -18,7 +18,7 @@ returns-in-Some-clause-answers c = λ ts facts u.
     let n = c.args.number in
     let at = c.args.at in
     let is : field_found env x o ≡ Some (found_of ts c.in-Some.field) =
-    sym (sym (ap (option_map (found_of ts)) c.in-Some.is) ∙ c.in_ok-found.ensures.found ts facts u) in
+    sym (sym (ap (option_map (found_of ts)) c.in-Some.is) ∙ c.in-Ok.ensures.found ts facts u) in
     found_read ts env n at x o (found_of ts c.in-Some.field) c.read_found.result
     (field_so env n at x o ∙ ap (read_found n at o) is)
     (if_ok c.read_found.result c.read_found.ensures.expr (λ e h. h ts)) c.read_found.ensures.memory
@@ -30,7 +30,7 @@ returns-in-None-clause-answers c = λ ts facts u.
     let x = c.args.name.now in
     let n = c.args.number in
     let at = c.args.at in
-    let is : field_found env x o ≡ None = sym (sym (ap (option_map (found_of ts)) c.in-None.is) ∙ c.in_ok-found.ensures.found ts facts u) in
+    let is : field_found env x o ≡ None = sym (sym (ap (option_map (found_of ts)) c.in-None.is) ∙ c.in-Ok.ensures.found ts facts u) in
     answers_as (expr_of ts) (field_rule env n at x o) (field_or_call env n at x o None) c.dot_call.result
     (ap (field_or_call env n at x o) (field_so env n at x o ∙ ap (read_found n at o) is ∙ nothing_read n at o))
     (c.dot_call.ensures.answers ts facts u)
@@ -39,4 +39,4 @@ pub returns-in-Some-clause-within : goal.returns-in-Some-clause-within
 returns-in-Some-clause-within c =
     let n = length c.args.types.now in
     if_ok c.read_found.result c.read_found.ensures.number
-    (λ e h. subst (IsBelow n) (sym h) (subst (λ o. IfSome o (λ f. f.ty < n)) c.in-Some.is c.in_ok-found.ensures.within))
+    (λ e h. subst (IsBelow n) (sym h) (subst (λ o. IfSome o (λ f. f.ty < n)) c.in-Some.is c.in-Ok.ensures.within))

@@ -28,7 +28,7 @@ returns c = λ ts facts u.
     let ty = type_at ts c.args.ty in
     let v = valued_of ts c.args.value in
     let all = value_in facts e in
-    answers_as label_of (label_value facts ty v) (and_then (if_comes c.node_of.result.at all) (label_by c.node_of.result.at)) c.constant_label.result
+    answers_as label_of (label_value facts ty v) (and_then (if_comes c.node_of.result.at all) (label_by c.node_of.result.at)) c.constant_label-label.result
     (label_if facts ty v _ (c.is_same.ensures ts facts u ∙ c.if-not-is_same.false)
     ∙ ap (λ (n : Node). and_then (if_comes n.at all) (label_by n.at)) (sym (c.node_of.ensures ts)))
-    (c.constant_label.ensures ts facts u)
+    (c.constant_label-label.ensures ts facts u)

@@ -26,7 +26,7 @@ returns c = λ ts facts u.
     let e = expr_of ts c.args.value.expr in
     let v = valued_of ts c.args.value in
     let all = value_in facts e in
-    answers_as (λ (z : ℤ). z) (length_rule facts v) (and_then (if_comes c.node_of.result.at all) (length_by c.node_of.result.at)) c.constant_length.result
+    answers_as (λ (z : ℤ). z) (length_rule facts v) (and_then (if_comes c.node_of.result.at all) (length_by c.node_of.result.at)) c.constant_length-length.result
     (length_if facts v _ (ap is_int (c.entry.ensures.means ts facts u) ∙ c.is_int.ensures ts ∙ c.if-not-is_int.false)
     ∙ ap (λ (n : Node). and_then (if_comes n.at all) (length_by n.at)) (sym (c.node_of.ensures ts)))
-    (c.constant_length.ensures ts facts u)
+    (c.constant_length-length.ensures ts facts u)

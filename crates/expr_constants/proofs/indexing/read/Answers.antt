@@ -24,10 +24,10 @@ returns-in-Some-clause-answers c = λ ts env k u.
     let ty = type_at ts c.args.value.ty in
     let ps = c.in-Some.parts.now in
     let are : tuple_parts d ≡ Some ps = parts_some _ _ _ _ c.tuple_parts.ensures c.in-Some.is in
-    answers_as (λ e. typed_as (expr_of ts e) k) (indexed env n k k at v ty i) (indexed_by ts env n k at v d i (Some ps)) c.constant_part.result
+    answers_as (λ e. typed_as (expr_of ts e) k) (indexed env n k k at v ty i) (indexed_by ts env n k at v d i (Some ps)) c.constant_part-part.result
     (indexed_at ts env n k at v d i ty (Some ps) (c.entry-def.ensures.means ts env.facts u) are)
-    (gives_on (expr_of ts) (λ e. typed_as e k) (and_then (constant_at env.facts at i) (numbered_part n at v (types_at ts ps))) c.constant_part.result
-    (c.constant_part.ensures.answers ts env.facts u))
+    (gives_on (expr_of ts) (λ e. typed_as e k) (and_then (constant_at env.facts at i) (numbered_part n at v (types_at ts ps))) c.constant_part-part.result
+    (c.constant_part-part.ensures.answers ts env.facts u))
 
 pub returns-in-None-clause-answers : goal.returns-in-None-clause-answers
 returns-in-None-clause-answers c = λ ts env k u.
@@ -50,7 +50,7 @@ returns-in-Some-clause-within c =
     let n = length c.args.types.now in
     let ps = c.in-Some.parts.now in
     let are : tuple_parts c.entry-def.result.now ≡ Some ps = parts_some _ _ _ _ c.tuple_parts.ensures c.in-Some.is in
-    c.constant_part.ensures.within n (tuple_within n c.entry-def.result.now ps are c.entry-def.ensures.inside)
+    c.constant_part-part.ensures.within n (tuple_within n c.entry-def.result.now ps are c.entry-def.ensures.inside)
 
 pub returns-in-None-clause-within : goal.returns-in-None-clause-within
 returns-in-None-clause-within c =

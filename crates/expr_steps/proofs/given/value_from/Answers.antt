@@ -18,8 +18,8 @@ returns-clause-answers c = λ ts facts u.
     let g = asks_of ts c.args.left.now c.args.asks in
     let said = accepted g (can_be_written (env_of ts facts c.args.scope.now) (term_of c.args.tree.now) e) e in
     c.given_from.ensures.answers ts said
-    (answers_as (valued_of ts) said (accepted g c.in_ok-writable.writable e) c.accepted.result
-    (ap (λ w. accepted g w e) (c.in_ok-writable.ensures.is ts facts))
+    (answers_as (valued_of ts) said (accepted g c.in-Ok.writable e) c.accepted.result
+    (ap (λ w. accepted g w e) (c.in-Ok.ensures.is ts facts))
     (c.accepted.ensures.answers ts facts u))
 
 pub returns-clause-within : goal.returns-clause-within
