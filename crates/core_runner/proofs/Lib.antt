@@ -15,3 +15,4 @@ mod Entering
 mod Results
 mod Passing
 mod TableRows
+mod Directly

@@ -10,3 +10,4 @@ pub mod Mean
 pub mod Checked
 pub mod Entered
 pub mod Turned
+pub mod Direct

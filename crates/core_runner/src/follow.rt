@@ -70,7 +70,13 @@ fn either<'a>(condition: &Value, holds: Opening<'a>, fails: Opening<'a>) -> Open
         ≡ branch (is_true (int_of condition.now)) (opening_of ts holds.entry)
         (opening_of ts fails.entry) }
 {
-    if is_true(condition) { holds } else { fails }
+    if is_true(condition) {
+        drop(fails);
+        holds
+    } else {
+        drop(holds);
+        fails
+    }
 }
 
 // The value of a choice, or the choices behind it.

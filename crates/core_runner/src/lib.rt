@@ -3,6 +3,7 @@
 
 mod act;
 mod call;
+mod direct;
 mod expr;
 mod follow;
 mod label;

@@ -1,9 +1,9 @@
 // Where values stand.
-ghost use Rattle.std.specs.Prelude.{◌≡◌, [], slice_get, slice_set, IfOk, map};
+ghost use Rattle.std.specs.Prelude.{◌≡◌, [], slice_get, slice_set, IfOk, IfSome, map};
 ghost use Rattle.std.specs.Prelude.{Option, option_map, if◌then◌else◌, unsigned_abs, Some};
 ghost use Rattle.std.specs.Prelude.{None};
 ghost use Rattle.nim_core.specs.Ints.{inside};
-ghost use Rattle.nim_core.specs.Values.{Holds, value_in, number_of, length_of, put_part, deeper};
+ghost use Rattle.nim_core.specs.Values.{Holds, Number, value_in, number_of, length_of, put_part, deeper};
 ghost use Rattle.nim_core.specs.State.{slot_at, slot_in, whole_at, with_slot, load, store};
 ghost use Rattle.nim_core.specs.Places.{root_of};
 ghost use Rattle.core_runner.specs.Look.{located, slot_for, settled};
@@ -36,6 +36,28 @@ fn value_at(frames: &Vec<Frame>, level: usize, number: u32) -> Option<&Value>
 {
     match slot_of(frames, level, number) {
         Some(Slot::Holds(v)) => Some(v),
+        Some(Slot::Stands(_)) => None,
+        None => None,
+    }
+}
+
+// The number of a value that is one.
+fn plain(v: &Value) -> Option<i32>
+    ensures { IfSome result (λ z. value_of v.now ≡ Number z) }
+{
+    match v {
+        Value::Number(z) => Some(*z),
+        Value::Parts(_) => None,
+    }
+}
+
+/// The number that a place holds, where it holds one.
+pub fn holds(frames: &Vec<Frame>, level: usize, number: u32) -> Option<i32>
+    ensures { IfSome result (λ z. slot_at (world_of frames.now.items) level number
+        ≡ Holds (Number z)) }
+{
+    match slot_of(frames, level, number) {
+        Some(Slot::Holds(v)) => plain(v),
         Some(Slot::Stands(_)) => None,
         None => None,
     }

@@ -14,6 +14,7 @@ ghost use Rattle.core_runner.specs.Opens as spec;
 ghost use Rattle.nim_core.specs.declared.expr.Node.{Node};
 ghost use Rattle.core_runner.specs.View.{opening_of, way_of, run_of, StepOf};
 
+use crate::direct::filling_of;
 use crate::expr::{first, first_aim, gives, goes};
 use crate::place::fill;
 use crate::same::{is_itself, is_result};
@@ -269,6 +270,30 @@ fn begin<'a>(
     }
 }
 
+// A statement, before the rest of its block: at once, or in steps.
+fn start<'a>(
+    alloc: Global,
+    program: &Program,
+    stmt: &'a Stmt,
+    stmts: &'a Vec<Stmt>,
+    from: usize,
+    rest: &mut Rest<'a>,
+) -> Result<Step<'a>, Memory>
+    ensures { IfOk result (λ step. StepOf program.now
+        (run_of program.now (Runs (stmt_before (types_of program.now.types) stmt.now
+        (stmts_of (types_of program.now.types) (drop from stmts.now.items)))) rest.old) step
+        rest.new) }
+{
+    match filling_of(program, stmt, rest) {
+        None => begin(alloc, program, stmt, stmts, from, rest),
+        Some(it) => {
+            let v = Value::Number(it.value);
+            fill(&mut rest.frames, it.spot.level, it.spot.number, v);
+            Ok(Step::Goes(goes(Now::Run { stmts, from })))
+        }
+    }
+}
+
 /// The first of some statements, before the others.
 pub fn run<'a>(
     alloc: Global,
@@ -284,7 +309,7 @@ pub fn run<'a>(
     if from >= stmts.len() {
         return Ok(Step::Goes(gives(Value::Number(0))));
     }
-    begin(alloc, program, &stmts[from], stmts, from + 1, rest)
+    start(alloc, program, &stmts[from], stmts, from + 1, rest)
 }
 
 /// The next condition, or what is carried out otherwise.

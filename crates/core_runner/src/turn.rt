@@ -12,6 +12,7 @@ ghost use Rattle.core_runner.specs.Left.{Turned, Counted, EachOver, EachTurned, 
 ghost use Rattle.core_runner.specs.View.{answer_of, value_of, aim_of, int_of, way_of, run_of};
 ghost use Rattle.core_runner.specs.View.{loop_of, with_waiting, StepOf};
 
+use crate::direct::comes_to;
 use crate::expr::{first, gives, goes};
 use crate::follow::{aim_in, value_in};
 use crate::place::{fill, find, length_at, load_part};
@@ -75,13 +76,16 @@ pub fn fill_place<'a>(
     })
 }
 
-// A loop's test.
-fn again<'a>(condition: &'a Expr, body: &'a Vec<Stmt>, rest: &Rest<'a>) -> Step<'a>
+// A loop's test, and its turn where the condition is there at once.
+fn again<'a>(condition: &'a Expr, body: &'a Vec<Stmt>, rest: &mut Rest<'a>) -> Step<'a>
     ensures { (p : RustProgram) → StepOf p (run_of p
         (Loops (expr_of (types_of p.types) condition.now)
-        (stmts_of (types_of p.types) body.now.items)) rest.now) result rest.now }
+        (stmts_of (types_of p.types) body.now.items)) rest.old) result rest.new }
 {
-    Step::Goes(first(condition, Todo::Test { condition, body }))
+    match comes_to(condition, rest) {
+        None => Step::Goes(first(condition, Todo::Test { condition, body })),
+        Some(z) => test(condition, body, Answer::Valued(Value::Number(z)), rest),
+    }
 }
 
 /// What comes behind the body of a `while`.
