@@ -3,28 +3,23 @@
 //! The words are the names of files of rows. docs/ROWS.md has their form. What differs is said, and is status 1.
 #![tactic(auto)]
 
-mod calls;
 mod check;
 mod commands;
-mod declarations;
 mod escapes;
 mod given;
-mod instructions;
+mod machine;
 mod parsed;
-mod printed;
 mod programs;
 mod report;
 mod rows;
 mod runs;
-mod scanned;
-mod steps;
+mod text;
 mod trees;
 
-use crate::check::check_row;
-use crate::printed::Printed;
 use crate::report::Report;
-use crate::rows::rows_of;
-use arc_base::{HostSink, Memory, put_all};
+use crate::rows::run_rows;
+use crate::text::Text;
+use arc_base::{HostSink, put_all};
 use std::alloc::Global;
 use std::process::ExitCode;
 use std::{env, fs, io};
@@ -32,14 +27,8 @@ use std::{env, fs, io};
 /// The folder of programs that are run by their meaning.
 const MEANT: &str = "plain/";
 
-/// No memory was found, or a file or stream failed.
+/// A file or a stream failed, or there was no memory for what is said.
 struct Failed;
-
-impl From<Memory> for Failed {
-    fn from(_: Memory) -> Self {
-        Failed
-    }
-}
 
 impl From<io::Error> for Failed {
     fn from(_: io::Error) -> Self {
@@ -53,40 +42,29 @@ impl From<arc_base::Failed> for Failed {
     }
 }
 
-// Adds how many rows a file has.
-fn put_count(lines: &mut Printed, file: &str, count: i64) -> Result<(), Memory> {
-    lines.text(file)?;
-    lines.text(": ")?;
-    lines.number(count)?;
-    lines.text(" rows\n")
-}
-
-// Runs the rows of a file, and says what differs and how many there are.
-fn check_file(alloc: Global, file: &str, text: &str) -> Result<(Printed, bool), Memory> {
-    let rows = rows_of(alloc, text)?;
+// Runs the rows of a file with this text.
+fn report_of<'a>(alloc: Global, file: &'a str, text: &str) -> Report<'a> {
     let mut report = Report {
         file,
-        lines: Printed::new(alloc),
+        lines: Text::new(alloc, false),
+        count: 0,
         differs: false,
-        is_meant: file.split_once(MEANT).is_some(),
+        is_meant: file.contains(MEANT),
     };
-    let mut count = 0i64;
-    for row in &rows {
-        check_row(alloc, row, &mut report)?;
-        count = count.saturating_add(1);
-    }
-    put_count(&mut report.lines, file, count)?;
-    Ok((report.lines, report.differs))
+    run_rows(alloc, text, &mut report);
+    report.end();
+    report
 }
 
+// Runs the rows of the files that are named, and says what differs and how many rows each has.
 fn run(rt: &HostRuntime) -> Result<bool, Failed> {
     let mut out = HostSink::new(rt.stdout());
     let mut differs = false;
     for word in env::args(rt)?.skip(1) {
         let text = fs::read_to_string(rt, word.as_str())?;
-        let (lines, some) = check_file(rt.alloc(), word.as_str(), text.as_str())?;
-        put_all(&mut out, lines.as_slice())?;
-        differs = differs || some;
+        let report = report_of(rt.alloc(), word.as_str(), text.as_str());
+        put_all(&mut out, report.lines.as_slice())?;
+        differs = differs || report.differs;
     }
     Ok(differs)
 }

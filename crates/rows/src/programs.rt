@@ -1,5 +1,5 @@
 // Files of machine code, put together from words by the layout of docs/FORMATS.md. No code of the compiler takes part.
-use arc_base::{Bytes, Memory};
+use crate::text::Text;
 use std::alloc::Global;
 
 /// The header.
@@ -14,6 +14,9 @@ const NOTE_AT: u32 = 212;
 /// The name in the note, with its zero bytes.
 const NAME: &[u8] = b"NimArc\0\0";
 
+/// How many bytes of the note stand before its description.
+const NOTE_FRONT: u32 = 20;
+
 /// The description of a note whose lists are empty: the version and four counts.
 const DESCRIPTION: [u32; 5] = [1, 0, 0, 0, 0];
 
@@ -23,11 +26,11 @@ const HEAP: u32 = 4096;
 const STACK: u32 = 65_536;
 
 /// What the words of a program are of.
-#[derive(Clone, Copy, PartialEq, Eq)]
+#[derive(Clone, Copy)]
 enum Section {
     Code,
     Data,
-    Description,
+    Note,
     Heap,
     Stack,
 }
@@ -35,101 +38,64 @@ enum Section {
 /// A program, part by part.
 #[derive(Drop)]
 struct Program {
-    code: Bytes,
-    data: Bytes,
-    description: Bytes,
+    code: Text,
+    data: Text,
+    description: Text,
     heap: u32,
     stack: u32,
 }
 
-// Adds a word, its lowest byte first.
-fn put_word(bytes: &mut Bytes, word: u32) -> Result<(), Memory> {
-    bytes.append(&word.to_le_bytes())
+// Adds words, the lowest byte of each first.
+fn put_words(bytes: &mut Text, words: &[u32]) {
+    for word in words {
+        bytes.put(&word.to_le_bytes());
+    }
 }
 
 // How many bytes these are.
-fn count(bytes: &Bytes) -> u32 {
+fn count(bytes: &Text) -> u32 {
     u32::try_from(bytes.as_slice().len()).unwrap_or(0)
 }
 
 impl Program {
-    fn put(&mut self, section: Section, word: u32) -> Result<(), Memory> {
+    // Adds a word to a section, or sets the size that it is.
+    fn put(&mut self, section: Section, word: u32) {
         match section {
-            Section::Code => put_word(&mut self.code, word),
-            Section::Data => put_word(&mut self.data, word),
-            Section::Description => put_word(&mut self.description, word),
-            Section::Heap => {
-                self.heap = word;
-                Ok(())
-            }
-            Section::Stack => {
-                self.stack = word;
-                Ok(())
-            }
+            Section::Code => put_words(&mut self.code, &[word]),
+            Section::Data => put_words(&mut self.data, &[word]),
+            Section::Note => put_words(&mut self.description, &[word]),
+            Section::Heap => self.heap = word,
+            Section::Stack => self.stack = word,
         }
     }
 
-    // The name and the description, with their sizes.
-    fn note(&self, alloc: Global) -> Result<Bytes, Memory> {
-        let mut note = Bytes::new(alloc);
-        put_word(&mut note, 7)?;
-        put_word(&mut note, count(&self.description))?;
-        put_word(&mut note, 1)?;
-        note.append(NAME)?;
-        note.append(self.description.as_slice())?;
-        Ok(note)
+    // Adds the program headers.
+    fn put_headers(&self, file: &mut Text) {
+        let (c, d) = (count(&self.code), count(&self.data));
+        let n = count(&self.description).saturating_add(NOTE_FRONT);
+        let (code_at, data_at) = (
+            NOTE_AT.saturating_add(n),
+            NOTE_AT.saturating_add(n).saturating_add(c),
+        );
+        put_words(file, &[1, code_at, 0x1_0000, 0x1_0000, c, c, 5, 4]);
+        put_words(file, &[1, data_at, 0x10_0000, 0x10_0000, d, d, 6, 4]);
+        put_words(file, &[1, 0, 0x20_0000, 0x20_0000, 0, self.heap, 6, 4]);
+        put_words(file, &[1, 0, 0x200_0000, 0x200_0000, 0, self.stack, 6, 4]);
+        put_words(file, &[4, NOTE_AT, 0, 0, n, 0, 4, 4]);
     }
-}
 
-// Adds a program header.
-fn put_header(
-    file: &mut Bytes,
-    kind: u32,
-    offset: u32,
-    address: u32,
-    sizes: (u32, u32),
-    flags: u32,
-) -> Result<(), Memory> {
-    let (in_file, in_memory) = sizes;
-    for word in [kind, offset, address, address, in_file, in_memory, flags, 4] {
-        put_word(file, word)?;
+    // Its file.
+    fn written(&self, alloc: Global) -> Text {
+        let mut file = Text::new(alloc, false);
+        file.put(&HEADER);
+        self.put_headers(&mut file);
+        put_words(&mut file, &[7, count(&self.description), 1]);
+        file.put(NAME);
+        file.put(self.description.as_slice());
+        file.put(self.code.as_slice());
+        file.put(self.data.as_slice());
+        file
     }
-    Ok(())
-}
-
-// Adds the program headers, where the note has so many bytes.
-fn put_headers(file: &mut Bytes, program: &Program, n: u32) -> Result<(), Memory> {
-    let (c, d) = (count(&program.code), count(&program.data));
-    let code_at = NOTE_AT.saturating_add(n);
-    let data_at = code_at.saturating_add(c);
-    put_header(file, 1, code_at, 0x1_0000, (c, c), 5)?;
-    put_header(file, 1, data_at, 0x10_0000, (d, d), 6)?;
-    put_header(file, 1, 0, 0x20_0000, (0, program.heap), 6)?;
-    put_header(file, 1, 0, 0x200_0000, (0, program.stack), 6)?;
-    put_header(file, 4, NOTE_AT, 0, (n, 0), 4)
-}
-
-// The file of a program.
-fn written(alloc: Global, program: &Program) -> Result<Bytes, Memory> {
-    let note = program.note(alloc)?;
-    let mut file = Bytes::new(alloc);
-    file.append(&HEADER)?;
-    put_headers(&mut file, program, count(&note))?;
-    file.append(note.as_slice())?;
-    file.append(program.code.as_slice())?;
-    file.append(program.data.as_slice())?;
-    Ok(file)
-}
-
-// Adds the description of a note whose lists are empty, where there is none.
-fn put_description(description: &mut Bytes) -> Result<(), Memory> {
-    if !description.as_slice().is_empty() {
-        return Ok(());
-    }
-    for word in DESCRIPTION {
-        put_word(description, word)?;
-    }
-    Ok(())
 }
 
 // The section that a word names.
@@ -137,7 +103,7 @@ fn section_of(word: &str) -> Option<Section> {
     match word {
         "code" => Some(Section::Code),
         "data" => Some(Section::Data),
-        "note" => Some(Section::Description),
+        "note" => Some(Section::Note),
         "heap" => Some(Section::Heap),
         "stack" => Some(Section::Stack),
         _ => None,
@@ -146,11 +112,11 @@ fn section_of(word: &str) -> Option<Section> {
 
 /// The file with these words of code, to base 16. Behind `data`, `note`, `heap` or `stack` stand the words of the data
 /// and of the note's description, and the sizes of heap and stack. A word that is none counts as 0.
-pub fn program_file(alloc: Global, text: &str) -> Result<Bytes, Memory> {
+pub fn program_file(alloc: Global, text: &str) -> Text {
     let mut program = Program {
-        code: Bytes::new(alloc),
-        data: Bytes::new(alloc),
-        description: Bytes::new(alloc),
+        code: Text::new(alloc, false),
+        data: Text::new(alloc, false),
+        description: Text::new(alloc, false),
         heap: HEAP,
         stack: STACK,
     };
@@ -158,9 +124,11 @@ pub fn program_file(alloc: Global, text: &str) -> Result<Bytes, Memory> {
     for word in text.split_whitespace() {
         match section_of(word) {
             Some(next) => section = next,
-            None => program.put(section, u32::from_str_radix(word, 16).unwrap_or(0))?,
+            None => program.put(section, u32::from_str_radix(word, 16).unwrap_or(0)),
         }
     }
-    put_description(&mut program.description)?;
-    written(alloc, &program)
+    if program.description.as_slice().is_empty() {
+        put_words(&mut program.description, &DESCRIPTION);
+    }
+    program.written(alloc)
 }

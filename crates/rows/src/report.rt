@@ -1,102 +1,85 @@
 // What is said of rows that differ.
-use crate::printed::Printed;
 use crate::rows::Row;
-use arc_base::{Memory, Stream};
+use crate::text::Text;
+use arc_base::Stream;
 
 /// What differs in a file of rows.
 #[derive(Drop)]
 pub struct Report<'a> {
     pub file: &'a str,
-    pub lines: Printed,
+    pub lines: Text,
+    /// How many rows it has.
+    pub count: i64,
     pub differs: bool,
     /// Whether programs of the file are run by their meaning.
     pub is_meant: bool,
 }
 
-// Adds what is said of a row: where it stands, what is wrong, and why.
-fn put_said(
-    lines: &mut Printed,
-    file: &str,
-    line: u32,
-    what: &str,
-    why: &str,
-) -> Result<(), Memory> {
-    lines.text(file)?;
-    lines.text(":")?;
-    lines.number(i64::from(line))?;
-    lines.text(": ")?;
-    lines.text(what)?;
-    lines.text(why)
-}
-
-// Adds what was wanted and what was found, and the end of the line.
-fn put_values(lines: &mut Printed, wanted: &[u8], found: &[u8]) -> Result<(), Memory> {
-    lines.raw(wanted)?;
-    lines.text(", found ")?;
-    lines.raw(found)?;
-    lines.text("\n")
-}
-
 impl Report<'_> {
-    // Says what is wrong with a row, without the end of the line.
-    fn begin(&mut self, line: u32, what: &str, why: &str) -> Result<(), Memory> {
+    // Says what is wrong with a row, and why, without the end of the line.
+    fn begin(&mut self, line: u32, what: &str, why: &str) {
         self.differs = true;
-        put_said(&mut self.lines, self.file, line, what, why)
+        self.lines.say(self.file);
+        self.lines.say(":");
+        self.lines.number(i64::from(line));
+        self.lines.say(": ");
+        self.lines.say(what);
+        self.lines.say(why);
     }
 
-    /// That a row can't be read, and why.
-    pub fn say(&mut self, line: u32, what: &str, why: &str) -> Result<(), Memory> {
-        self.begin(line, what, why)?;
-        self.lines.text("\n")
-    }
-
-    // That a part differs.
-    fn differ(&mut self, line: u32, name: &str, wanted: &[u8], found: &[u8]) -> Result<(), Memory> {
-        self.begin(line, name, ": wanted ")?;
-        put_values(&mut self.lines, wanted, found)
+    /// Says what is wrong with a row, and why.
+    pub fn say(&mut self, line: u32, what: &str, why: &str) {
+        self.begin(line, what, why);
+        self.lines.say("\n");
     }
 
     /// That a part differs, unless it holds.
-    pub fn expect(
-        &mut self,
-        holds: bool,
-        line: u32,
-        name: &str,
-        wanted: &[u8],
-        found: &[u8],
-    ) -> Result<(), Memory> {
-        if holds {
-            Ok(())
-        } else {
-            self.differ(line, name, wanted, found)
+    pub fn expect(&mut self, holds: bool, line: u32, name: &str, wanted: &[u8], found: &[u8]) {
+        if !holds {
+            self.begin(line, name, ": wanted ");
+            self.lines.put(wanted);
+            self.lines.say(", found ");
+            self.lines.put(found);
+            self.lines.say("\n");
         }
     }
 
     /// That a part differs, unless what is wanted was found.
-    pub fn expect_same(
-        &mut self,
-        line: u32,
-        name: &str,
-        wanted: &[u8],
-        found: &[u8],
-    ) -> Result<(), Memory> {
-        self.expect(wanted == found, line, name, wanted, found)
+    pub fn expect_same(&mut self, line: u32, name: &str, wanted: &[u8], found: &Text) {
+        let (wanted, bytes) = (wanted.trim_ascii(), found.as_slice().trim_ascii());
+        self.expect(
+            wanted == bytes && !found.is_cut(),
+            line,
+            name,
+            wanted,
+            bytes,
+        );
+    }
+
+    /// Says how many rows the file has.
+    pub fn end(&mut self) {
+        self.lines.say(self.file);
+        self.lines.say(": ");
+        self.lines.number(self.count);
+        self.lines.say(" rows\n");
+        self.differs = self.differs || self.lines.is_cut();
     }
 
     /// Compares what was written to a stream with what a row wants: all of it, what it begins with,
     /// or a text of which it is a front. Where the row says nothing, nothing is to be written.
-    pub fn compare(&mut self, row: &Row, stream: Stream, found: &[u8]) -> Result<(), Memory> {
+    pub fn compare(&mut self, row: &Row, stream: Stream, found: &[u8]) {
         let (whole, begins, within) = match stream {
             Stream::Out => ("out", "out begins", "out within"),
             Stream::Err => ("err", "err begins", "err within"),
         };
+        let line = row.line;
         if let Some(wanted) = row.part(begins) {
-            return self.expect(found.starts_with(wanted), row.line, begins, wanted, found);
+            self.expect(found.starts_with(wanted), line, begins, wanted, found);
+        } else if let Some(wanted) = row.part(within) {
+            self.expect(wanted.starts_with(found), line, within, wanted, found);
+        } else {
+            let wanted = row.bytes(whole);
+            self.expect(wanted == found, line, whole, wanted, found);
         }
-        if let Some(wanted) = row.part(within) {
-            return self.expect(wanted.starts_with(found), row.line, within, wanted, found);
-        }
-        let wanted = row.part(whole).unwrap_or(b"");
-        self.expect_same(row.line, whole, wanted, found)
     }
 }

@@ -1,6 +1,5 @@
 // Expressions in short.
-use crate::printed::Printed;
-use arc_base::Memory;
+use crate::text::Text;
 use nim_tree::{BinaryOp, Choice, Expr, UnaryOp};
 
 fn unary_text(op: UnaryOp) -> &'static str {
@@ -34,70 +33,40 @@ fn binary_text(op: BinaryOp) -> &'static str {
     }
 }
 
-fn show_leaf(tree: &Expr, out: &mut Printed) -> Result<(), Memory> {
+/// An expression in short, with its place behind it.
+#[cycle(show_exprs)]
+pub fn show_expr(tree: &Expr, out: &mut Text) {
     match tree {
         Expr::Int { value, .. } => out.number(i64::from(*value)),
         Expr::Char { value, .. } => {
-            out.text("'")?;
-            out.number(i64::from(*value))
+            out.say("'");
+            out.number(i64::from(*value));
         }
         Expr::Text { text, .. } | Expr::Name { text, .. } | Expr::Quoted { text, .. } => {
-            out.raw(text.as_slice())
+            out.put(text.as_slice())
         }
-        Expr::Nil { .. } => out.text("nil"),
-        _ => Ok(()),
-    }
-}
-
-/// An expression in short.
-#[cycle(show_exprs)]
-pub fn show_expr(tree: &Expr, out: &mut Printed) -> Result<(), Memory> {
-    match tree {
+        Expr::Nil { .. } => out.say("nil"),
         Expr::Paren { inner, .. } => {
-            out.text("[")?;
-            show_expr(inner, out)?;
-            out.text("]")?;
-        }
-        Expr::Tuple { parts, .. } => show_parts("(tuple", parts, out)?,
-        Expr::Array { parts, .. } => show_parts("(array", parts, out)?,
-        Expr::Sequence { parts, .. } => show_parts("(seq", parts, out)?,
-        Expr::Construct { text, parts, .. } => {
-            out.raw(text.as_slice())?;
-            show_parts("(new", parts, out)?;
+            out.say("[");
+            show_expr(inner, out);
+            out.say("]");
         }
         Expr::Named { text, value, .. } => {
-            out.raw(text.as_slice())?;
-            out.text(":")?;
-            show_expr(value, out)?;
+            out.put(text.as_slice());
+            out.say(":");
+            show_expr(value, out);
         }
         Expr::Field { base, text, .. } => {
-            out.text("(. ")?;
-            show_expr(base, out)?;
-            out.text(" ")?;
-            out.raw(text.as_slice())?;
-            out.text(")")?;
+            out.say("(. ");
+            show_expr(base, out);
+            out.say(" ");
+            out.put(text.as_slice());
+            out.say(")");
         }
-        Expr::Call { base, parts, .. } => {
-            show_expr(base, out)?;
-            show_parts("(call", parts, out)?;
-        }
-        Expr::Index { base, parts, .. } => {
-            show_expr(base, out)?;
-            show_parts("(at", parts, out)?;
-        }
-        _ => show_operation(tree, out)?,
-    }
-    out.at(tree.place())
-}
-
-// An operation, a choice between values, or what has no parts.
-#[cycle(show_exprs)]
-fn show_operation(tree: &Expr, out: &mut Printed) -> Result<(), Memory> {
-    match tree {
         Expr::Unary { op, operand, .. } => {
-            out.text(unary_text(*op))?;
-            show_expr(operand, out)?;
-            out.text(")")
+            out.say(unary_text(*op));
+            show_expr(operand, out);
+            out.say(")");
         }
         Expr::Binary {
             op,
@@ -105,22 +74,51 @@ fn show_operation(tree: &Expr, out: &mut Printed) -> Result<(), Memory> {
             right,
             ..
         } => {
-            out.text(binary_text(*op))?;
-            show_expr(left, out)?;
-            out.text(" ")?;
-            show_expr(right, out)?;
-            out.text(")")
+            out.say(binary_text(*op));
+            show_expr(left, out);
+            out.say(" ");
+            show_expr(right, out);
+            out.say(")");
+        }
+        Expr::Range { low, high, .. } => {
+            show_expr(low, out);
+            out.say("..");
+            show_expr(high, out);
+        }
+        _ => show_list(tree, out),
+    }
+    out.at(tree.place());
+}
+
+// An expression with a list of parts or of branches.
+#[cycle(show_exprs)]
+fn show_list(tree: &Expr, out: &mut Text) {
+    match tree {
+        Expr::Tuple { parts, .. } => show_parts("(tuple", parts, out),
+        Expr::Array { parts, .. } => show_parts("(array", parts, out),
+        Expr::Sequence { parts, .. } => show_parts("(seq", parts, out),
+        Expr::Construct { text, parts, .. } => {
+            out.put(text.as_slice());
+            show_parts("(new", parts, out);
+        }
+        Expr::Call { base, parts, .. } => {
+            show_expr(base, out);
+            show_parts("(call", parts, out);
+        }
+        Expr::Index { base, parts, .. } => {
+            show_expr(base, out);
+            show_parts("(at", parts, out);
         }
         Expr::If {
             branches,
             otherwise,
             ..
         } => {
-            out.text("(ifx")?;
-            show_choices(branches, out)?;
-            out.text(" else ")?;
-            show_expr(otherwise, out)?;
-            out.text(")")
+            out.say("(ifx");
+            show_choices(branches, out);
+            out.say(" else ");
+            show_expr(otherwise, out);
+            out.say(")");
         }
         Expr::Case {
             selector,
@@ -128,52 +126,42 @@ fn show_operation(tree: &Expr, out: &mut Printed) -> Result<(), Memory> {
             otherwise,
             ..
         } => {
-            out.text("(casex ")?;
-            show_expr(selector, out)?;
-            show_choices(branches, out)?;
+            out.say("(casex ");
+            show_expr(selector, out);
+            show_choices(branches, out);
             if let Some(value) = otherwise {
-                out.text(" else ")?;
-                show_expr(value, out)?;
+                out.say(" else ");
+                show_expr(value, out);
             }
-            out.text(")")
+            out.say(")");
         }
-        Expr::Range { low, high, .. } => {
-            show_expr(low, out)?;
-            out.text("..")?;
-            show_expr(high, out)
-        }
-        _ => show_leaf(tree, out),
+        _ => {}
     }
 }
 
 /// Expressions behind a word, and the end of what they are parts of.
 #[cycle(show_exprs)]
-pub fn show_parts(word: &str, parts: &[Expr], out: &mut Printed) -> Result<(), Memory> {
-    out.text(word)?;
+pub fn show_parts(word: &str, parts: &[Expr], out: &mut Text) {
+    out.say(word);
+    show_each(parts, out);
+    out.say(")");
+}
+
+/// Expressions, with a space before each.
+#[cycle(show_exprs)]
+pub fn show_each(parts: &[Expr], out: &mut Text) {
     for part in parts {
-        out.text(" ")?;
-        show_expr(part, out)?;
+        out.say(" ");
+        show_expr(part, out);
     }
-    out.text(")")
 }
 
 #[cycle(show_exprs)]
-fn show_choices(branches: &[Choice], out: &mut Printed) -> Result<(), Memory> {
+fn show_choices(branches: &[Choice], out: &mut Text) {
     for branch in branches {
-        out.branch_at(branch.at)?;
-        show_tests(&branch.tests, out)?;
-        out.text(" ")?;
-        show_expr(&branch.value, out)?;
+        out.branch_at(branch.at);
+        show_each(&branch.tests, out);
+        out.say(" -> ");
+        show_expr(&branch.value, out);
     }
-    Ok(())
-}
-
-/// A condition or labels, and the arrow behind them.
-#[cycle(show_exprs)]
-pub fn show_tests(tests: &[Expr], out: &mut Printed) -> Result<(), Memory> {
-    for test in tests {
-        out.text(" ")?;
-        show_expr(test, out)?;
-    }
-    out.text(" ->")
 }
