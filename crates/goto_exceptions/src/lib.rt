@@ -1,0 +1,6 @@
+//! Owned code becomes block code, in which exceptions are an error word and jumps. Nothing raises yet.
+#![tactic(auto)]
+
+mod blocks;
+
+pub use blocks::{LINES_EACH, PACE, branches};

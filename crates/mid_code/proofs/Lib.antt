@@ -1,0 +1,9 @@
+mod NeverWrong
+mod LineMaps
+mod WholeMaps
+mod PlainCodes
+mod FlatWays
+mod Marked
+mod WaysByLists
+mod Same
+pub mod ForCallers
