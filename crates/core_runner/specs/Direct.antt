@@ -2,10 +2,11 @@
 -- It serves proofs alone: the promise of `mean` doesn't speak of it.
 use Rattle.std.specs.Prelude.{◌≡◌, ℕ, ℤ, List, [], Option, Some, None}
 use Rattle.nim_core.specs.declared.program.Program.{Program as RustProgram}
+use Rattle.nim_core.specs.declared.expr.Operator.{Operator}
 use Rattle.nim_core.specs.Program.{Expr, Path, Stmts, Program}
-use Rattle.nim_core.specs.Ints.{Checked, Fine, Trapped}
+use Rattle.nim_core.specs.Ints.{Checked, Fine, Trapped, applied}
 use Rattle.nim_core.specs.Values.{Number, Standing, Holds}
-use Rattle.nim_core.specs.State.{World, with_slot}
+use Rattle.nim_core.specs.State.{World, slot_at, with_slot}
 use Rattle.nim_core.specs.Acts.{On}
 use Rattle.nim_core.specs.Places.{Aim, place_at}
 use Rattle.core_runner.specs.declared.state.Rest.{Rest as RustRest}
@@ -56,6 +57,19 @@ ComesTo p rest expr z = Reaches (program_of p) (caller_of (types_of p.types) res
 pub record IsSpot (p : RustProgram) (rest : RustRest) (path : Path) (spot : Spot) : Type 0 where
   pub leads : Leads (program_of p) (caller_of (types_of p.types) rest.at) rest.units (world_of rest.frames.items) path spot.level spot.number
   pub own : located (world_of rest.frames.items) (spot_aim spot.level spot.number) ≡ Some (place_at spot.level spot.number)
+
+-- a place holds a number, another one is there, and an operation on both comes to this
+pub record Changes (rest : RustRest) (operator : Operator) (spot : Spot) (value : Option ℤ) (z : ℤ) : Type 0 where
+  pub held : ℤ
+  pub by : ℤ
+  pub stands : slot_at (world_of rest.frames.items) spot.level spot.number ≡ Holds (Number held)
+  pub given : value ≡ Some by
+  pub comes : applied operator held by ≡ Fine z
+
+-- that place gets it, and the path leads to it
+pub record IsChange (p : RustProgram) (rest : RustRest) (operator : Operator) (path : Path) (value : Option ℤ) (it : Filling) : Type 0 where
+  pub spot : IsSpot p rest path it.spot
+  pub changes : Changes rest operator it.spot value it.value
 
 -- statements begin with one that gives a place a number, and that is all it does
 abbrev pub Filled : RustProgram → RustRest → (Stmts → Stmts) → Filling → Type 0

@@ -4,11 +4,12 @@ ghost use Rattle.std.specs.Prelude.{◌≡◌, IfSome, Some};
 ghost use Rattle.nim_core.specs.declared.program.Program.{Program as RustProgram};
 ghost use Rattle.nim_core.specs.declared.expr.Node.{Node};
 ghost use Rattle.nim_core.specs.Ints.{applied, compared, truth};
-ghost use Rattle.nim_core.specs.Program.{Read, Assign, Then};
+ghost use Rattle.nim_core.specs.Program.{Read, Eval, Assign, Then};
 ghost use Rattle.nim_core.specs.View.{expr_of, path_of, stmt_before};
 ghost use Rattle.core_runner.specs.Table.{types_of};
 ghost use Rattle.core_runner.specs.Opens.{level_at};
-ghost use Rattle.core_runner.specs.Direct.{number_in, from_both, ComesTo, IsSpot, Filled};
+ghost use Rattle.core_runner.specs.Direct.{number_in, from_both, ComesTo, IsSpot, IsChange};
+ghost use Rattle.core_runner.specs.Direct.{Filled};
 ghost use Rattle.plain_values.specs.Checked.{checked_of};
 
 use crate::place::holds;
@@ -138,6 +139,16 @@ fn spot_of<'a>(path: &Path, rest: &Rest<'a>) -> Option<Spot>
     }
 }
 
+// The filling of a place, where the number is there.
+fn filled(spot: Spot, value: Option<i32>) -> Option<Filling>
+    ensures { IfSome result (λ it. (it.spot ≡ spot) × (value ≡ Some it.value)) }
+{
+    match value {
+        None => None,
+        Some(value) => Some(Filling { spot, value }),
+    }
+}
+
 // What an assignment fills, where path and value are there at once.
 fn assigned<'a>(program: &Program, path: &Path, value: &Expr, rest: &Rest<'a>) -> Option<Filling>
     ensures { (node : Node) → IfSome result (λ it. Filled program.now rest.now
@@ -156,6 +167,39 @@ fn assigned<'a>(program: &Program, path: &Path, value: &Expr, rest: &Rest<'a>) -
     }
 }
 
+// What a change of a number by another one fills, where both are there at once.
+fn changed<'a>(operator: Operator, path: &Path, by: Option<i32>, rest: &Rest<'a>) -> Option<Filling>
+    ensures { (p : RustProgram) → IfSome result (λ it. IsChange p rest.now operator
+        (path_of (types_of p.types) path.now) by it) }
+{
+    match spot_of(path, rest) {
+        None => None,
+        Some(spot) => {
+            let held = holds(&rest.frames, spot.level, spot.number);
+            filled(spot, operation(operator, held, by))
+        }
+    }
+}
+
+// What a step by a number, or by one, fills.
+fn stepped<'a>(expr: &Expr, rest: &Rest<'a>) -> Option<Filling>
+    ensures { (p : RustProgram) (node : Node) → IfSome result (λ it. Filled p rest.now
+        (Then (Eval node (expr_of (types_of p.types) expr.now))) it) }
+{
+    match expr {
+        Expr::Step {
+            operator,
+            path,
+            value,
+            ..
+        } => match value {
+            None => changed(*operator, path, Some(1), rest),
+            Some(value) => changed(*operator, path, comes_to(&**value, rest), rest),
+        },
+        _ => None,
+    }
+}
+
 /// What a statement fills, where that is all it does.
 pub fn filling_of<'a>(program: &Program, stmt: &Stmt, rest: &Rest<'a>) -> Option<Filling>
     ensures { IfSome result (λ it. Filled program.now rest.now
@@ -163,6 +207,13 @@ pub fn filling_of<'a>(program: &Program, stmt: &Stmt, rest: &Rest<'a>) -> Option
 {
     match stmt {
         Stmt::Assign { path, value, .. } => assigned(program, path, value, rest),
+        Stmt::Update {
+            operator,
+            path,
+            value,
+            ..
+        } => changed(*operator, path, comes_to(value, rest), rest),
+        Stmt::Eval { value, .. } => stepped(value, rest),
         _ => None,
     }
 }

@@ -143,7 +143,8 @@ pub fn boxes(alloc: Global, left: Expr, right: Expr) -> Result<(Box<Expr>, Box<E
             let right = Box::new(alloc, right)?;
             Ok((left, right))
         }
-        Err(_) => {
+        Err(left) => {
+            drop(left);
             drop(right);
             Err(Stop::Memory)
         }

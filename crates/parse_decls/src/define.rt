@@ -43,7 +43,13 @@ fn read_defined(
     let names = read_declareds(alloc, input, at, before, layout)?;
     let pragmas = read_pragmas(alloc, input, names.next, layout)?;
     let annotation = read_annotation(alloc, input, pragmas.next, layout)?;
-    let value = read_given(alloc, input, annotation.next, layout)?;
+    let value = match read_given(alloc, input, annotation.next, layout) {
+        Ok(value) => value,
+        Err(stop) => {
+            drop(annotation);
+            return Err(stop);
+        }
+    };
     Ok(Reading {
         value: Def {
             names: names.value,

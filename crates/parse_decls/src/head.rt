@@ -108,7 +108,13 @@ pub(crate) fn read_head(
     let generics = read_generics(alloc, input, name.next, layout)?;
     let params = read_params(alloc, input, generics.next, layout)?;
     let gives = read_annotation(alloc, input, params.next, layout)?;
-    let pragmas = read_pragmas(alloc, input, gives.next, layout)?;
+    let pragmas = match read_pragmas(alloc, input, gives.next, layout) {
+        Ok(pragmas) => pragmas,
+        Err(stop) => {
+            drop(gives);
+            return Err(stop);
+        }
+    };
     Ok(Reading {
         value: ProcHead {
             name: name.value,

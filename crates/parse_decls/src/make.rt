@@ -35,7 +35,8 @@ pub(crate) fn make_array(
             length,
             element,
         }),
-        Err(_) => {
+        Err(failed) => {
+            drop(failed);
             drop(length);
             Err(Stop::Memory)
         }

@@ -195,7 +195,13 @@ fn read_element(
         (λ k. run_inside k (Some (term_of count)) (origin_of input.now) (from_at input.now whole) left token
         (from_at input.now at)) input.now (suc at) result }
 {
-    let element = read_type(alloc, input, at, Layout::Brackets, whole, left)?;
+    let element = match read_type(alloc, input, at, Layout::Brackets, whole, left) {
+        Ok(element) => element,
+        Err(stop) => {
+            drop(count);
+            return Err(stop);
+        }
+    };
     if !input.closes_at(Bracket::Square, element.next) {
         let next = element.next;
         drop(count);

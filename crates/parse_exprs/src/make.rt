@@ -286,26 +286,18 @@ fn make_object(base: Expr, parts: Vec<Expr>) -> Option<Expr>
 
 // What brackets behind an expression make of it.
 pub(crate) fn make_applied(
-    alloc: Global,
     bracket: Bracket,
     names: bool,
-    base: Expr,
+    base: Box<Expr>,
     parts: Vec<Expr>,
-) -> Result<Option<Expr>, Stuck>
-    ensures ok { IfOk result (λ tree. tree_in tree ≡ applied bracket names (term_of base) (parts_of parts.items)) }
-    ensures err { IfErr result (λ e. e ≡ Memory) }
+) -> Option<Expr>
+    ensures { tree_in result ≡ applied bracket names (term_of base.value) (parts_of parts.items) }
 {
     let at = base.place();
     match bracket {
-        Bracket::Round if names => Ok(make_object(base, parts)),
-        Bracket::Round => {
-            let base = Box::new(alloc, base)?;
-            Ok(Some(Expr::Call { at, base, parts }))
-        }
-        Bracket::Square => {
-            let base = Box::new(alloc, base)?;
-            Ok(Some(Expr::Index { at, base, parts }))
-        }
+        Bracket::Round if names => make_object(Box::into_inner(base), parts),
+        Bracket::Round => Some(Expr::Call { at, base, parts }),
+        Bracket::Square => Some(Expr::Index { at, base, parts }),
     }
 }
 
@@ -323,35 +315,18 @@ pub(crate) fn make_unary(
     Ok(Expr::Unary { at, op, operand })
 }
 
-// Two expressions in boxes.
-fn boxes(alloc: Global, left: Expr, right: Expr) -> Result<(Box<Expr>, Box<Expr>), Stuck>
-    ensures ok { IfOk result (λ both. (both.0.value ≡ left) × (both.1.value ≡ right)) }
-    ensures err { IfErr result (λ e. e ≡ Memory) }
-{
-    match Box::new(alloc, left) {
-        Ok(left) => {
-            let right = Box::new(alloc, right)?;
-            Ok((left, right))
-        }
-        Err(_) => {
-            drop(right);
-            Err(Stuck::Memory)
-        }
-    }
-}
-
 // An operator between its operands.
 pub(crate) fn make_binary(
     alloc: Global,
     op: BinaryOp,
-    left: Expr,
+    left: Box<Expr>,
     right: Expr,
 ) -> Result<Expr, Stuck>
-    ensures ok { IfOk result (λ e. term_of e ≡ binary (place_of (term_of left)) op (term_of left) (term_of right)) }
+    ensures ok { IfOk result (λ e. term_of e ≡ binary (place_of (term_of left.value)) op (term_of left.value) (term_of right)) }
     ensures err { IfErr result (λ e. e ≡ Memory) }
 {
     let at = left.place();
-    let (left, right) = boxes(alloc, left, right)?;
+    let right = Box::new(alloc, right)?;
     Ok(Expr::Binary {
         at,
         op,
@@ -379,36 +354,29 @@ pub(crate) fn make_if(
 }
 
 // `case` and its branches.
-pub(crate) fn make_case(
-    alloc: Global,
-    at: Place,
-    selector: Expr,
-    branches: Vec<Choice>,
-) -> Result<Expr, Stuck>
-    ensures ok { IfOk result (λ e. term_of e ≡ case_term at (term_of selector) (choices_of branches.items)) }
-    ensures err { IfErr result (λ e. e ≡ Memory) }
+pub(crate) fn make_case(at: Place, selector: Box<Expr>, branches: Vec<Choice>) -> Expr
+    ensures { term_of result ≡ case_term at (term_of selector.value) (choices_of branches.items) }
 {
-    let selector = Box::new(alloc, selector)?;
-    Ok(Expr::Case {
+    Expr::Case {
         at,
         selector,
         branches,
         otherwise: None,
-    })
+    }
 }
 
 // `case` and its branches, with the value of `else`.
 pub(crate) fn make_case_else(
     alloc: Global,
     at: Place,
-    selector: Expr,
+    selector: Box<Expr>,
     branches: Vec<Choice>,
     otherwise: Expr,
 ) -> Result<Expr, Stuck>
-    ensures ok { IfOk result (λ e. term_of e ≡ case_else at (term_of selector) (choices_of branches.items) (term_of otherwise)) }
+    ensures ok { IfOk result (λ e. term_of e ≡ case_else at (term_of selector.value) (choices_of branches.items) (term_of otherwise)) }
     ensures err { IfErr result (λ e. e ≡ Memory) }
 {
-    let (selector, otherwise) = boxes(alloc, selector, otherwise)?;
+    let otherwise = Box::new(alloc, otherwise)?;
     Ok(Expr::Case {
         at,
         selector,
@@ -418,11 +386,11 @@ pub(crate) fn make_case_else(
 }
 
 // The ends of a label.
-pub(crate) fn make_range(alloc: Global, low: Expr, high: Expr) -> Result<Expr, Stuck>
-    ensures ok { IfOk result (λ e. term_of e ≡ range (place_of (term_of low)) (term_of low) (term_of high)) }
+pub(crate) fn make_range(alloc: Global, low: Box<Expr>, high: Expr) -> Result<Expr, Stuck>
+    ensures ok { IfOk result (λ e. term_of e ≡ range (place_of (term_of low.value)) (term_of low.value) (term_of high)) }
     ensures err { IfErr result (λ e. e ≡ Memory) }
 {
     let at = low.place();
-    let (low, high) = boxes(alloc, low, high)?;
+    let high = Box::new(alloc, high)?;
     Ok(Expr::Range { at, low, high })
 }

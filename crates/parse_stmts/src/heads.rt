@@ -59,29 +59,22 @@ pub(crate) fn read_label(
     let Some(behind) = past_dots(input, low.next, spaces) else {
         return Ok(low);
     };
+    let first = Box::new(alloc, low.value)?;
     let high = read_here(alloc, input, behind, spaces)?;
     Ok(Reading {
-        value: make_range(alloc, low.value, high.value)?,
+        value: make_range(alloc, first, high.value)?,
         next: high.next,
     })
 }
 
 // The values from low to high.
-fn make_range(alloc: Global, low: Expr, high: Expr) -> Result<Expr, Stop>
-    ensures ok { IfOk result (λ tree. term_of tree ≡ range (place_of (term_of low)) (term_of low) (term_of high)) }
+fn make_range(alloc: Global, low: Box<Expr>, high: Expr) -> Result<Expr, Stop>
+    ensures ok { IfOk result (λ tree. term_of tree ≡ range (place_of (term_of low.value)) (term_of low.value) (term_of high)) }
     ensures err { IfErr result (λ stop. stop ≡ Memory) }
 {
     let at = low.place();
-    match Box::new(alloc, low) {
-        Ok(low) => {
-            let high = Box::new(alloc, high)?;
-            Ok(Expr::Range { at, low, high })
-        }
-        Err(_) => {
-            drop(high);
-            Err(Stop::Memory)
-        }
-    }
+    let high = Box::new(alloc, high)?;
+    Ok(Expr::Range { at, low, high })
 }
 
 // ---- `for`
@@ -98,14 +91,26 @@ pub(crate) fn read_course(
 {
     let first = read_here(alloc, input, at, spaces)?;
     if let Some(behind) = past_dots(input, first.next, spaces) {
-        let last = read_here(alloc, input, behind, spaces)?;
+        let last = match read_here(alloc, input, behind, spaces) {
+            Ok(last) => last,
+            Err(stop) => {
+                drop(first);
+                return Err(stop);
+            }
+        };
         return Ok(Reading {
             value: Over::UpTo(first.value, last.value),
             next: last.next,
         });
     }
     if let Some(behind) = past_below(input, first.next, spaces) {
-        let end = read_here(alloc, input, behind, spaces)?;
+        let end = match read_here(alloc, input, behind, spaces) {
+            Ok(end) => end,
+            Err(stop) => {
+                drop(first);
+                return Err(stop);
+            }
+        };
         return Ok(Reading {
             value: Over::Below(first.value, end.value),
             next: end.next,

@@ -112,8 +112,20 @@ fn read_command(
         (λ k. run_command k (origin_of input.now) spaces (term_of callee.value)
         (from_at input.now callee.next)) input.now (suc callee.next) result }
 {
-    let first = read_value(alloc, input, callee.next, Layout::Lines(spaces))?;
-    let operands = read_operands(alloc, input, first, spaces)?;
+    let first = match read_value(alloc, input, callee.next, Layout::Lines(spaces)) {
+        Ok(first) => first,
+        Err(stop) => {
+            drop(callee);
+            return Err(stop);
+        }
+    };
+    let operands = match read_operands(alloc, input, first, spaces) {
+        Ok(operands) => operands,
+        Err(stop) => {
+            drop(callee);
+            return Err(stop);
+        }
+    };
     Ok(Reading {
         value: Stmt::Command {
             at: callee.value.place(),
@@ -188,7 +200,13 @@ fn read_assigned(
         (λ k. run_assigned k (Some op) (origin_of input.now) spaces (term_of target.value)
         (from_at input.now target.next)) input.now (suc target.next) result }
 {
-    let value = read_here(alloc, input, target.next + 1, spaces)?;
+    let value = match read_here(alloc, input, target.next + 1, spaces) {
+        Ok(value) => value,
+        Err(stop) => {
+            drop(target);
+            return Err(stop);
+        }
+    };
     Ok(Reading {
         value: Stmt::Assign {
             at: target.value.place(),

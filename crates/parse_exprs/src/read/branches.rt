@@ -16,6 +16,7 @@ use crate::make::{
 };
 use crate::read::operators::read_expr;
 use arc_base::Place;
+use nim_tree::Expr;
 use std::alloc::Global;
 
 /// `if`, its `elif` branches, and `else`.
@@ -201,11 +202,13 @@ fn read_branches(
         drop(selector);
         return Err(Stuck::Syntax(at));
     };
+    let deep = selector.depth;
+    let selected = Box::new(alloc, selector.tree)?;
     let inner = branch_layout(layout, token.indent);
     let tail = read_of(alloc, input, at + 1, inner, left - 1)?;
     let first = and_branch(no_branches(alloc, at), input.place_at(token), tail)?;
     let all = read_ofs(alloc, input, first, inner, left - 1)?;
-    read_otherwise(alloc, input, place, selector, all, inner, left)
+    read_otherwise(alloc, input, place, selected, deep, all, inner, left)
 }
 
 // Labels, a colon and a value.
@@ -274,9 +277,10 @@ fn read_label(
         drop(low);
         return Err(Stuck::Syntax(next));
     }
+    let first = Box::new(alloc, low.tree)?;
     let high = read_expr(alloc, input, next, layout, left)?;
     let deeper = low.depth.max(high.depth);
-    let tree = make_range(alloc, low.tree, high.tree)?;
+    let tree = make_range(alloc, first, high.tree)?;
     Ok(Reading {
         tree,
         next: high.next,
@@ -314,32 +318,32 @@ fn read_otherwise(
     alloc: Global,
     input: &Input,
     place: Place,
-    selector: Reading,
+    selector: Box<Expr>,
+    deep: u32,
     all: Branches,
     layout: Layout,
     left: u32,
 ) -> Result<Reading, Stuck>
-    requires selector_depth { selector.depth ≡ levels (term_of selector.tree) }
-    requires selector_few { selector.depth < left }
+    requires selector_depth { deep ≡ levels (term_of selector.value) }
+    requires selector_few { deep < left }
     requires depth { all.depth ≡ levels_in (choices_of all.branches.items) }
     requires few { all.depth < left }
     requires within { all.next ≤ length input.now.tokens.now }
     ensures { Comes (λ k. run_otherwise k (origin_of input.now) layout (left - 1) place
-        (term_of selector.tree) (choices_of all.branches.items) (from_at input.now all.next)) input.now
+        (term_of selector.value) (choices_of all.branches.items) (from_at input.now all.next)) input.now
         left all.next result }
 {
-    let deeper = selector.depth.max(all.depth);
+    let deeper = deep.max(all.depth);
     if !input.else_on(all.next, layout) {
-        let tree = make_case(alloc, place, selector.tree, all.branches)?;
         return Ok(Reading {
-            tree,
+            tree: make_case(place, selector, all.branches),
             next: all.next,
             depth: deeper + 1,
         });
     }
     let value = read_value(alloc, input, all.next + 1, layout, left - 1)?;
     let deepest = deeper.max(value.depth);
-    let tree = make_case_else(alloc, place, selector.tree, all.branches, value.tree)?;
+    let tree = make_case_else(alloc, place, selector, all.branches, value.tree)?;
     Ok(Reading {
         tree,
         next: value.next,

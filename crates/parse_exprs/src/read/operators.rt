@@ -85,9 +85,10 @@ fn read_more(
         drop(tree);
         return Err(Stuck::Deep);
     }
+    let first = Box::new(alloc, tree)?;
     let b = read_level(alloc, input, next + 1, layout, tighter, left - 1)?;
     let deeper = depth.max(b.depth);
-    let all = make_binary(alloc, op, tree, b.tree)?;
+    let all = make_binary(alloc, op, first, b.tree)?;
     Ok(Reading {
         tree: all,
         next: b.next,
@@ -238,8 +239,10 @@ fn read_field(
     ensures { Comes (λ k. run_applied k None (origin_of input.now) layout (left - 1) (term_of a.tree)
         (from_at input.now a.next)) input.now left (suc a.next) result }
 {
-    let Some(token) = input.name_on(a.next + 1, layout) else {
-        return Err(Stuck::Syntax(a.next + 1));
+    let next = a.next + 1;
+    let Some(token) = input.name_on(next, layout) else {
+        drop(a);
+        return Err(Stuck::Syntax(next));
     };
     let tree = make_field(alloc, a.tree, input.spelling(token))?;
     Ok(Reading {
@@ -268,10 +271,10 @@ fn read_applied(
 {
     let Reading { tree, next, depth } = a;
     let names = input.names_behind(&tree, bracket, next + 1);
+    let base = Box::new(alloc, tree)?;
     let parts = read_enclosed(alloc, input, next, bracket, names, left - 1)?;
     let deeper = depth.max(parts.depth);
-    let all = make_applied(alloc, bracket, names, tree, parts.parts)?;
-    match all {
+    match make_applied(bracket, names, base, parts.parts) {
         Some(tree) => Ok(Reading {
             tree,
             next: parts.next,

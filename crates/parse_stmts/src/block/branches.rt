@@ -94,8 +94,8 @@ fn read_branch(
     ensures { Comes chosen_of (λ k. run_branch k (origin_of input.now) spaces left (chosen_of some) place (from_at input.now at)) input.now (suc at) result }
 {
     let condition = read_here(alloc, input, at, spaces)?;
-    let block = read_body(alloc, input, condition.next, spaces, left)?;
     let tests = and_one(Vec::new(alloc), condition.value)?;
+    let block = read_body(alloc, input, condition.next, spaces, left)?;
     Ok(Reading {
         value: and_branch(some, place, tests, block.value)?,
         next: block.next,
@@ -196,11 +196,24 @@ fn read_branches(
     let layout = Layout::Lines(spaces);
     let next = input.past_colon(selector.next, layout);
     let Some(first) = input.first_of_at(next, layout) else {
+        drop(selector);
         return Err(stuck(input, next));
     };
     let level = branch_level(spaces, first.indent);
-    let all = read_ofs(alloc, input, next, level, left)?;
-    let other = read_else(alloc, input, all.next, level, left)?;
+    let all = match read_ofs(alloc, input, next, level, left) {
+        Ok(all) => all,
+        Err(stop) => {
+            drop(selector);
+            return Err(stop);
+        }
+    };
+    let other = match read_else(alloc, input, all.next, level, left) {
+        Ok(other) => other,
+        Err(stop) => {
+            drop(selector);
+            return Err(stop);
+        }
+    };
     let place = input.place_at(token);
     Ok(Reading {
         value: Stmt::Case {

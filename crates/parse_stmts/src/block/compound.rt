@@ -37,7 +37,13 @@ pub(crate) fn read_while(
     ensures { Comes statement_of (λ k. run_compound k L.While (origin_of input.now) spaces left token (from_at input.now (suc at))) input.now (suc at) result }
 {
     let condition = read_here(alloc, input, at + 1, spaces)?;
-    let block = read_body(alloc, input, condition.next, spaces, left)?;
+    let block = match read_body(alloc, input, condition.next, spaces, left) {
+        Ok(block) => block,
+        Err(stop) => {
+            drop(condition);
+            return Err(stop);
+        }
+    };
     Ok(Reading {
         value: Stmt::While {
             at: input.place_at(token),
@@ -67,7 +73,13 @@ pub(crate) fn read_for(
         return Err(stuck(input, variable.next));
     };
     let over = read_course(alloc, input, behind, spaces)?;
-    let block = read_body(alloc, input, over.next, spaces, left)?;
+    let block = match read_body(alloc, input, over.next, spaces, left) {
+        Ok(block) => block,
+        Err(stop) => {
+            drop(over);
+            return Err(stop);
+        }
+    };
     Ok(Reading {
         value: Stmt::For {
             at: input.place_at(token),
@@ -272,7 +284,13 @@ pub(crate) fn read_proc(
             next: head.next,
         });
     };
-    let block = read_block(alloc, input, behind, spaces, left)?;
+    let block = match read_block(alloc, input, behind, spaces, left) {
+        Ok(block) => block,
+        Err(stop) => {
+            drop(head);
+            return Err(stop);
+        }
+    };
     Ok(Reading {
         value: Stmt::Proc {
             at: place,

@@ -19,20 +19,18 @@ returns-in_err-annotation c =
     rw (p.1, p.2) (fails_leads _ _ _ (leads_on (leads_then _ c.in_ok-pragmas.ensures.runs) (leads_then _ c.in_ok-names.ensures.runs))
     _ (fails_then _ _ _ _ c.in_err-annotation.ensures))
 
-pub returns-in_err-value : goal.returns-in_err-value
-returns-in_err-value c =
-    let p = err_from_is_err_and c.from_residual-in_err-value.result c.from_residual-in_err-value.ensures.1 in
-    rw (p.1, p.2)
-    (fails_leads _ _ _ (leads_on (leads_then _ c.in_ok-annotation.ensures.runs)
-    (leads_on (leads_then _ c.in_ok-pragmas.ensures.runs) (leads_then _ c.in_ok-names.ensures.runs))) _ (fails_then _ _ _ _ c.in_err-value.ensures))
+pub returns-in-Err : goal.returns-in-Err
+returns-in-Err c =
+    fails_leads _ _ _ (leads_on (leads_then _ c.in_ok-annotation.ensures.runs)
+    (leads_on (leads_then _ c.in_ok-pragmas.ensures.runs) (leads_then _ c.in_ok-names.ensures.runs))) _ (fails_then _ _ _ _ c.in-Err.ensures)
 
 pub returns : goal.returns
 returns c =
     let g = c.in_ok-names.ensures.goes in
     let h = c.in_ok-pragmas.ensures.goes in
     let i = c.in_ok-annotation.ensures.goes in
-    let j = c.in_ok-value.ensures.goes in
-    found _ _ (leads_on (leads_then _ c.in_ok-value.ensures.runs)
+    let j = c.in-Ok.ensures.goes in
+    found _ _ (leads_on (leads_then _ c.in-Ok.ensures.runs)
     (leads_on (leads_then _ c.in_ok-annotation.ensures.runs)
     (leads_on (leads_then _ c.in_ok-pragmas.ensures.runs) (leads_then _ c.in_ok-names.ensures.runs)))) (omega (arith, g, h, i, j))
-    c.in_ok-value.ensures.within
+    c.in-Ok.ensures.within

@@ -27,13 +27,12 @@ returns-in_err-gives c =
     _ _ _ (leads_on (leads_then _ c.in_ok-params.ensures.runs)
     (leads_on (leads_then _ c.in_ok-generics.ensures.runs) (leads_then _ c.in_ok-name.ensures.runs))) _ (fails_then _ _ _ _ c.in_err-gives.ensures))
 
-pub returns-in_err-pragmas : goal.returns-in_err-pragmas
-returns-in_err-pragmas c =
-    let p = err_from_is_err_and c.from_residual-in_err-pragmas.result c.from_residual-in_err-pragmas.ensures.1 in
+pub returns-in-Err : goal.returns-in-Err
+returns-in-Err c =
     let l = leads_on (leads_then _ c.in_ok-gives.ensures.runs)
     (leads_on (leads_then _ c.in_ok-params.ensures.runs)
     (leads_on (leads_then _ c.in_ok-generics.ensures.runs) (leads_then _ c.in_ok-name.ensures.runs))) in
-    rw (p.1, p.2) (fails_leads _ _ _ l _ (fails_then _ _ _ _ c.in_err-pragmas.ensures))
+    fails_leads _ _ _ l _ (fails_then _ _ _ _ c.in-Err.ensures)
 
 pub returns : goal.returns
 returns c =
@@ -44,5 +43,5 @@ returns c =
     let h = c.in_ok-generics.ensures.goes in
     let i = c.in_ok-params.ensures.goes in
     let j = c.in_ok-gives.ensures.goes in
-    let m = c.in_ok-pragmas.ensures.goes in
-    found _ _ (leads_on (leads_then _ c.in_ok-pragmas.ensures.runs) l) (omega (arith, g, h, i, j, m)) c.in_ok-pragmas.ensures.within
+    let m = c.in-Ok.ensures.goes in
+    found _ _ (leads_on (leads_then _ c.in-Ok.ensures.runs) l) (omega (arith, g, h, i, j, m)) c.in-Ok.ensures.within

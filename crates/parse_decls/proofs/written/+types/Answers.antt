@@ -151,23 +151,22 @@ read_array-returns-in-None t c =
     _ _ (ap (option_map term_of) c.in-None.is) c.in_ok-length.ensures)
     _ (omega (arith, g)) _ c.read_inside.ensures
 
-pub read_element-returns-in_err-element : goal.read_element-returns-in_err-element
-read_element-returns-in_err-element t c =
-    let p = err_from_is_err_and c.from_residual.result c.from_residual.ensures.1 in
+pub read_element-returns-in-Err : goal.read_element-returns-in-Err
+read_element-returns-in-Err t c =
     let l = element_leads c.args.input.now (from_at c.args.input.now c.args.whole) c.args.left c.args.token _ (from_at c.args.input.now c.args.at) in
-    rw (p.1, p.2) (fails_leads _ _ _ l _ (fails_then _ _ _ _ c.in_err-element.ensures))
+    fails_leads _ _ _ l _ (fails_then _ _ _ _ c.in-Err.ensures)
 
 pub read_element-returns-then-not-closes_at : goal.read_element-returns-then-not-closes_at
 read_element-returns-then-not-closes_at t c =
     let l = element_leads c.args.input.now (from_at c.args.input.now c.args.whole) c.args.left c.args.token _ (from_at c.args.input.now c.args.at) in
-    close_fails _ _ _ (leads_on (leads_then _ c.in_ok-element.ensures.runs) l) (sym c.closes_at.ensures ∙ c.if-not-closes_at.true) _ c.stuck.ensures
+    close_fails _ _ _ (leads_on (leads_then _ c.in-Ok.ensures.runs) l) (sym c.closes_at.ensures ∙ c.if-not-closes_at.true) _ c.stuck.ensures
 
 pub read_element-returns : goal.read_element-returns
 read_element-returns t c =
     let l = element_leads c.args.input.now (from_at c.args.input.now c.args.whole) c.args.left c.args.token _ (from_at c.args.input.now c.args.at) in
-    let h = c.in_ok-element.ensures.goes in
+    let h = c.in-Ok.ensures.goes in
     found_is (c.in_ok-make_array.ensures.ok ∙ array_value (origin_of c.args.input.now) c.args.token _ _ c.place_at.ensures)
-    (close_found c.args.input.now (closes_at Square) _ _ refl (leads_on (leads_then _ c.in_ok-element.ensures.runs) l)
+    (close_found c.args.input.now (closes_at Square) _ _ refl (leads_on (leads_then _ c.in-Ok.ensures.runs) l)
     (sym c.closes_at.ensures ∙ c.if-not-closes_at.false) (omega (arith, h)))
 
 -- ---- a reference

@@ -2,13 +2,14 @@ use Rattle.std.proofs.Common.{◌≡◌, ◌≤◌, ◌<◌, ◌+◌, ◌-◌, s
 use Rattle.std.specs.Prelude.{Some, None, max, is_some}
 use Rattle.std.proofs.lemmas.Result.{err_from_is_err_and}
 use Rattle.nim_tree.specs.Terms.{term_of, parts_of, choices_of, levels, most_levels, levels_in, unary, sequence, named, if_term, part, no_parts, and_part}
+use Rattle.nim_tree.specs.Terms.{place_of, binary, range}
 use Rattle.nim_tree.specs.Terms.{choice, no_choices, and_choice}
 use Rattle.parse_exprs.specs.declared.layout.Layout.TheVariants.{Brackets}
 use Rattle.parse_exprs.specs.declared.input.Bracket.TheVariants.{Square}
-use Rattle.parse_exprs.specs.Look.{place_at, single_of, grouped, names_in, names_behind, closes_at, stays, square_at, first_of_at, past_colon, past_start}
+use Rattle.parse_exprs.specs.Look.{place_at, single_of, grouped, applied, names_in, names_behind, closes_at, stays, square_at, first_of_at, past_colon, past_start}
 use Rattle.parse_exprs.specs.Outcome.{got, bad, Settles}
 use Rattle.parse_exprs.specs.Run.{run_expr, run_level, run_chain, run_unary, run_suffixes, run_enclosed, run_list, run_parts, run_part, run_value, run_own_line}
-use Rattle.parse_exprs.specs.Run.{run_elifs, run_label, run_labels, run_ofs, run_branches}
+use Rattle.parse_exprs.specs.Run.{run_elifs, run_label, run_labels, run_ofs, run_branches, run_otherwise}
 use Rattle.parse_exprs.specs.Input.{origin_of, from_at}
 use Rattle.parse_exprs.specs.Gives.{Fails, Comes, tree_in, tail_of}
 use Rattle.parse_exprs.proofs.Levels.{single_level, grouped_levels, applied_levels, most_and, levels_and}
@@ -85,7 +86,7 @@ operators::read_more-returns-then-depth-left t c =
 
 pub operators::read_more-returns-in_err-b : goal.operators::read_more-returns-in_err-b
 operators::read_more-returns-in_err-b t c =
-    let p = err_from_is_err_and c.from_residual.result c.from_residual.ensures.1 in
+    let p = err_from_is_err_and c.from_residual-in_err-b.result c.from_residual-in_err-b.ensures.1 in
     let same : suc (c.args.left - 1) ≡ c.args.left = let g = c.if-depth-left.false in omega (arith, g) in
     let few : levels (term_of c.args.a.tree) ≤ c.args.left - 1 = let d = c.requires.depth in let g = c.if-depth-left.false in omega (arith, d, g) in
     let back = sym (behind_one c.args.a.next c.args.input.now.tokens.now) in
@@ -102,9 +103,11 @@ operators::read_more-returns t c =
     let runs = subst (λ v. Settles (λ k. run_level k (origin_of c.args.input.now) c.args.layout c.args.tighter (c.args.left - 1) v)
     (got (term_of c.in_ok-b.b.tree) (from_at c.args.input.now c.in_ok-b.b.next))) (sym (behind_one c.args.a.next c.args.input.now.tokens.now))
     c.in_ok-b.ensures.runs in
-    let high = ap levels c.in_ok-all.ensures.ok in
+    let made = c.in_ok-all.ensures.ok
+    ∙ ap (λ a. binary (place_of (term_of a)) c.args.op (term_of a) (term_of c.in_ok-b.b.tree)) c.in_ok-first.ensures.ok in
+    let high = ap levels made in
     record {
-      leads = leads_is (λ u us k. run_chain k (origin_of c.args.input.now) c.args.layout c.args.tighter c.args.left u us) c.in_ok-all.ensures.ok refl
+      leads = leads_is (λ u us k. run_chain k (origin_of c.args.input.now) c.args.layout c.args.tighter c.args.left u us) made refl
           (chain_on (origin_of c.args.input.now) c.args.layout c.args.tighter (term_of c.args.a.tree) c.args.op (from_at c.args.input.now c.args.a.next)
           c.requires.operator c.args.left (c.args.left - 1) same few (term_of c.in_ok-b.b.tree) (from_at c.args.input.now c.in_ok-b.b.next) runs);
       depth = let a = c.requires.depth in let b = c.in_ok-b.ensures.depth in let m = c.max-deeper.ensures in omega (arith, a, b, m, high);
@@ -254,7 +257,7 @@ operators::read_suffix-returns-in-None t c =
 
 pub operators::read_applied-returns-in_err-parts : goal.operators::read_applied-returns-in_err-parts
 operators::read_applied-returns-in_err-parts t c =
-    let p = err_from_is_err_and c.from_residual.result c.from_residual.ensures.1 in
+    let p = err_from_is_err_and c.from_residual-in_err-parts.result c.from_residual-in_err-parts.ensures.1 in
     let named = ap (names_behind (term_of c.args.a.tree) c.args.bracket) (behind_one c.args.a.next c.args.input.now.tokens.now)
     ∙ sym c.names_behind-names.ensures in
     rw (p.1, p.2)
@@ -265,7 +268,9 @@ pub operators::read_applied-returns-in-Some : goal.operators::read_applied-retur
 operators::read_applied-returns-in-Some t c =
     let named = ap (names_behind (term_of c.args.a.tree) c.args.bracket) (behind_one c.args.a.next c.args.input.now.tokens.now)
     ∙ sym c.names_behind-names.ensures in
-    let is = sym c.in_ok-all.ensures.ok ∙ ap tree_in c.in-Some.is in
+    let base = ap (λ b. applied c.args.bracket c.names_behind-names.result (term_of b) (parts_of c.in_ok-parts.parts.parts.items))
+    (sym c.in_ok-base.ensures.ok) ∙ sym c.make_applied.ensures in
+    let is = base ∙ ap tree_in c.in-Some.is in
     let high = applied_levels c.args.bracket c.names_behind-names.result (term_of c.args.a.tree) (parts_of c.in_ok-parts.parts.parts.items)
     (term_of c.in-Some.tree) is in
     found_at c.args.input.now (applied_got (origin_of c.args.input.now) c.args.layout (c.args.left - 1) (term_of c.args.a.tree)
@@ -279,9 +284,11 @@ pub operators::read_applied-returns-in-None : goal.operators::read_applied-retur
 operators::read_applied-returns-in-None t c =
     let named = ap (names_behind (term_of c.args.a.tree) c.args.bracket) (behind_one c.args.a.next c.args.input.now.tokens.now)
     ∙ sym c.names_behind-names.ensures in
+    let base = ap (λ b. applied c.args.bracket c.names_behind-names.result (term_of b) (parts_of c.in_ok-parts.parts.parts.items))
+    (sym c.in_ok-base.ensures.ok) ∙ sym c.make_applied.ensures in
     stuck_here c.args.input.now (c.args.a.next + 1) (applied_none (origin_of c.args.input.now) c.args.layout (c.args.left - 1) (term_of c.args.a.tree)
     (from_at c.args.input.now c.args.a.next) c.args.bracket c.names_behind-names.result named (parts_of c.in_ok-parts.parts.parts.items)
-    (from_at c.args.input.now c.in_ok-parts.parts.next) (sym c.in_ok-all.ensures.ok ∙ ap tree_in c.in-None.is) c.in_ok-parts.ensures.runs)
+    (from_at c.args.input.now c.in_ok-parts.parts.next) (base ∙ ap tree_in c.in-None.is) c.in_ok-parts.ensures.runs)
     (behind_one c.args.a.next c.args.input.now.tokens.now)
 
 pub atoms::read_atom-returns-in_default : goal.atoms::read_atom-returns-in_default
@@ -895,10 +902,12 @@ branches::read_label-returns t c =
     let stay = ap (stays c.args.layout) back ∙ (sym c.stays.ensures ∙ c.if-not-stays.false) in
     let runs = subst (λ v. Settles (λ k. run_expr k (origin_of c.args.input.now) c.args.layout c.args.left v)
     (got (term_of c.in_ok-high.high.tree) (from_at c.args.input.now c.in_ok-high.high.next))) (sym back) c.in_ok-high.ensures.runs in
-    let high = ap levels c.in_ok-tree.ensures.ok in
+    let made = c.in_ok-tree.ensures.ok
+    ∙ ap (λ a. range (place_of (term_of a)) (term_of a) (term_of c.in_ok-high.high.tree)) c.in_ok-first.ensures.ok in
+    let high = ap levels made in
     found_at c.args.input.now (label_got (origin_of c.args.input.now) c.args.layout c.args.left (from_at c.args.input.now c.args.at)
     (term_of c.in_ok-low.low.tree) (from_at c.args.input.now c.in_ok-low.low.next) c.in_ok-low.ensures.runs dots stay (term_of c.in_ok-high.high.tree)
-    (from_at c.args.input.now c.in_ok-high.high.next) runs) (sym c.in_ok-tree.ensures.ok) refl
+    (from_at c.args.input.now c.in_ok-high.high.next) runs) (sym made) refl
     (let a = c.in_ok-low.ensures.depth in let b = c.in_ok-high.ensures.depth in let m = c.max-deeper.ensures in omega (arith, a, b, m, high))
     (let a = c.in_ok-low.ensures.few in let b = c.in_ok-high.ensures.few in let m = c.max-deeper.ensures in omega (arith, a, b, m))
     (let a = c.in_ok-low.ensures.goes in let b = c.in_ok-high.ensures.goes in omega (arith, a, b)) c.in_ok-high.ensures.within
@@ -1062,7 +1071,7 @@ branches::read_branches-returns-in_default t c =
 
 pub branches::read_branches-returns-in_err-tail : goal.branches::read_branches-returns-in_err-tail
 branches::read_branches-returns-in_err-tail t c =
-    let p = err_from_is_err_and c.from_residual.result c.from_residual.ensures.1 in
+    let p = err_from_is_err_and c.from_residual-in_err-tail.result c.from_residual-in_err-tail.ensures.1 in
     let head = sym c.past_colon-at.ensures.past ∙ head_one c.past_colon-at.result c.args.input.now.tokens.now c.in-Some.ensures.some in
     let test = ap (first_of_at c.args.layout) (sym c.past_colon-at.ensures.past) ∙ (sym c.first_of_at.ensures.is ∙ ap is_some c.in-Some.is) in
     rw (p.1, p.2)
@@ -1110,25 +1119,27 @@ branches::read_branches-returns t c =
     (from_at c.args.input.now c.in_ok-tail.tail.next) c.in_ok-tail.ensures.runs (choices_of c.in_ok-all.all.branches.items)
     (from_at c.args.input.now c.in_ok-all.all.next) runs) (omega arith) (let p = c.past_colon-at.ensures.goes in let a = c.in_ok-tail.ensures.goes in
     let n = c.in_ok-first.ensures.next in let b = c.in_ok-all.ensures.goes in omega (arith, p, a, n, b)) c.read_otherwise.result
-    c.read_otherwise.ensures
+    (subst (λ a. Comes (λ k. run_otherwise k (origin_of c.args.input.now) c.branch_layout-inner.result (c.args.left - 1) c.args.place (term_of a)
+    (choices_of c.in_ok-all.all.branches.items) (from_at c.args.input.now c.in_ok-all.all.next)) c.args.input.now c.args.left c.in_ok-all.all.next
+    c.read_otherwise.result) c.in_ok-selected.ensures.ok c.read_otherwise.ensures)
 
 pub branches::read_otherwise-returns-then-not-else_on : goal.branches::read_otherwise-returns-then-not-else_on
 branches::read_otherwise-returns-then-not-else_on t c =
-    let made = c.in_ok-tree.ensures.ok in
+    let made = c.make_case.ensures in
     let high = ap levels made in
-    found_at c.args.input.now (otherwise_none (origin_of c.args.input.now) c.args.layout (c.args.left - 1) c.args.place (term_of c.args.selector.tree)
+    found_at c.args.input.now (otherwise_none (origin_of c.args.input.now) c.args.layout (c.args.left - 1) c.args.place (term_of c.args.selector.value)
     (choices_of c.args.all.branches.items) (from_at c.args.input.now c.args.all.next) (sym c.else_on.ensures ∙ c.if-not-else_on.true)) (sym made) refl
     (let a = c.requires.selector_depth in let b = c.requires.depth in let m = c.max-deeper.ensures in omega (arith, a, b, m, high))
     (let a = c.requires.selector_few in let b = c.requires.few in let m = c.max-deeper.ensures in omega (arith, a, b, m)) (omega arith) c.requires.within
 
 pub branches::read_otherwise-returns-in_err-value : goal.branches::read_otherwise-returns-in_err-value
 branches::read_otherwise-returns-in_err-value t c =
-    let p = err_from_is_err_and c.from_residual-in_err-value.result c.from_residual-in_err-value.ensures.1 in
+    let p = err_from_is_err_and c.from_residual.result c.from_residual.ensures.1 in
     let back = sym (behind_one c.args.all.next c.args.input.now.tokens.now) in
     let test = sym c.else_on.ensures ∙ c.if-not-else_on.false in
     rw (p.1, p.2)
     (fails_up c.args.input.now c.in_err-value.field-0.0 (otherwise_bad (origin_of c.args.input.now) c.args.layout (c.args.left - 1) c.args.place
-    (term_of c.args.selector.tree) (choices_of c.args.all.branches.items) (from_at c.args.input.now c.args.all.next) test)
+    (term_of c.args.selector.value) (choices_of c.args.all.branches.items) (from_at c.args.input.now c.args.all.next) test)
     (subst (λ v. Fails (λ k. run_value k (origin_of c.args.input.now) c.args.layout (c.args.left - 1) v) c.args.input.now c.in_err-value.field-0.0) back
     c.in_err-value.ensures))
 
@@ -1138,10 +1149,10 @@ branches::read_otherwise-returns t c =
     let test = sym c.else_on.ensures ∙ c.if-not-else_on.false in
     let runs = subst (λ v. Settles (λ k. run_value k (origin_of c.args.input.now) c.args.layout (c.args.left - 1) v)
     (got (term_of c.in_ok-value.value.tree) (from_at c.args.input.now c.in_ok-value.value.next))) back c.in_ok-value.ensures.runs in
-    let high = ap levels c.in_ok-tree-2.ensures.ok in
-    found_at c.args.input.now (otherwise_got (origin_of c.args.input.now) c.args.layout (c.args.left - 1) c.args.place (term_of c.args.selector.tree)
+    let high = ap levels c.in_ok-tree.ensures.ok in
+    found_at c.args.input.now (otherwise_got (origin_of c.args.input.now) c.args.layout (c.args.left - 1) c.args.place (term_of c.args.selector.value)
     (choices_of c.args.all.branches.items) (from_at c.args.input.now c.args.all.next) test (term_of c.in_ok-value.value.tree)
-    (from_at c.args.input.now c.in_ok-value.value.next) runs) (sym c.in_ok-tree-2.ensures.ok) refl
+    (from_at c.args.input.now c.in_ok-value.value.next) runs) (sym c.in_ok-tree.ensures.ok) refl
     (let a = c.requires.selector_depth in let b = c.requires.depth in let v = c.in_ok-value.ensures.depth in let m = c.max-deeper.ensures in
     let n = c.max-deepest.ensures in omega (arith, a, b, v, m, n, high))
     (let a = c.requires.selector_few in let b = c.requires.few in let v = c.in_ok-value.ensures.few in let m = c.max-deeper.ensures in

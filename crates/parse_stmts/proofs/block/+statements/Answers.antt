@@ -425,21 +425,19 @@ compound::read_while-returns-in_err-condition t c =
     let e = suc_at input c.args.at in
     rw (p.1, p.2) (fails_suc _ _ x (λ k. refl) _ (fails_then _ _ _ _ (fails_at (λ m k. run_here k x n m) x e _ c.in_err-condition.ensures)))
 
-pub compound::read_while-returns-in_err-block : goal.compound::read_while-returns-in_err-block
-compound::read_while-returns-in_err-block t c =
+pub compound::read_while-returns-in-Err : goal.compound::read_while-returns-in-Err
+compound::read_while-returns-in-Err t c =
     let input = c.args.input.now in let x = origin_of input in let n = c.args.spaces in let left = c.args.left in
-    let p = err_from_is_err_and c.from_residual-in_err-block.result c.from_residual-in_err-block.ensures.1 in
     let e = suc_at input c.args.at in
-    rw (p.1, p.2)
-    (fails_leads _ _ _ (leads_on (leads_then _ (settles_at (λ m k. run_here k x n m) e c.in_ok-condition.ensures.runs)) (leads_suc _ _ (λ k. refl)))
-    _ (fails_then _ _ _ _ c.in_err-block.ensures))
+    fails_leads _ _ _ (leads_on (leads_then _ (settles_at (λ m k. run_here k x n m) e c.in_ok-condition.ensures.runs)) (leads_suc _ _ (λ k. refl)))
+    _ (fails_then _ _ _ _ c.in-Err.ensures)
 
 pub compound::read_while-returns : goal.compound::read_while-returns
 compound::read_while-returns t c =
     let input = c.args.input.now in let x = origin_of input in let n = c.args.spaces in let left = c.args.left in
-    let e = suc_at input c.args.at in let h = c.in_ok-block.ensures in
-    rw (repeated c.place_at.result c.in_ok-condition.condition.value c.in_ok-block.block.value
-    ∙ ap (λ p. repeats p (term_of c.in_ok-condition.condition.value) (statements_of c.in_ok-block.block.value.items)) c.place_at.ensures)
+    let e = suc_at input c.args.at in let h = c.in-Ok.ensures in
+    rw (repeated c.place_at.result c.in_ok-condition.condition.value c.in-Ok.block.value
+    ∙ ap (λ p. repeats p (term_of c.in_ok-condition.condition.value) (statements_of c.in-Ok.block.value.items)) c.place_at.ensures)
     (found _ _ (leads_on (leads_then _ h.runs) (leads_on (leads_then _ (settles_at (λ m k. run_here k x n m) e c.in_ok-condition.ensures.runs))
     (leads_suc _ _ (λ k. refl)))) (omega (arith, h.goes, c.in_ok-condition.ensures.goes)) h.within)
 
@@ -468,23 +466,21 @@ compound::read_for-returns-in_err-over t c =
     (leads_on (leads_then _ (settles_at (λ m k. run_name x (Lines n) m) e c.in_ok-variable.ensures.runs)) (leads_suc _ _ (λ k. refl))))
     _ (fails_then _ _ _ _ (fails_at (λ m k. run_course k x n m) x c.in-Some.ensures.behind _ c.in_err-over.ensures)))
 
-pub compound::read_for-returns-in_err-block : goal.compound::read_for-returns-in_err-block
-compound::read_for-returns-in_err-block t c =
+pub compound::read_for-returns-in-Err : goal.compound::read_for-returns-in-Err
+compound::read_for-returns-in-Err t c =
     let input = c.args.input.now in let x = origin_of input in let n = c.args.spaces in let left = c.args.left in
-    let p = err_from_is_err_and c.from_residual-in_err-block.result c.from_residual-in_err-block.ensures.1 in
     let e = suc_at input c.args.at in
-    rw (p.1, p.2)
-    (fails_leads _ _ _ (leads_on (leads_then _ (settles_at (λ m k. run_course k x n m) c.in-Some.ensures.behind c.in_ok-over.ensures.runs))
+    fails_leads _ _ _ (leads_on (leads_then _ (settles_at (λ m k. run_course k x n m) c.in-Some.ensures.behind c.in_ok-over.ensures.runs))
     (leads_on (leads_unless _ _ c.in-Some.ensures.is)
     (leads_on (leads_then _ (settles_at (λ m k. run_name x (Lines n) m) e c.in_ok-variable.ensures.runs)) (leads_suc _ _ (λ k. refl)))))
-    _ (fails_then _ _ _ _ c.in_err-block.ensures))
+    _ (fails_then _ _ _ _ c.in-Err.ensures)
 
 pub compound::read_for-returns : goal.compound::read_for-returns
 compound::read_for-returns t c =
     let input = c.args.input.now in let x = origin_of input in let n = c.args.spaces in let left = c.args.left in
-    let e = suc_at input c.args.at in let h = c.in_ok-block.ensures in
-    rw (counted c.place_at.result c.in_ok-variable.variable.value c.in_ok-over.over.value c.in_ok-block.block.value
-    ∙ ap (λ p. counts p c.in_ok-variable.variable.value (course_of c.in_ok-over.over.value) (statements_of c.in_ok-block.block.value.items))
+    let e = suc_at input c.args.at in let h = c.in-Ok.ensures in
+    rw (counted c.place_at.result c.in_ok-variable.variable.value c.in_ok-over.over.value c.in-Ok.block.value
+    ∙ ap (λ p. counts p c.in_ok-variable.variable.value (course_of c.in_ok-over.over.value) (statements_of c.in-Ok.block.value.items))
     c.place_at.ensures)
     (found _ _ (leads_on (leads_then _ h.runs)
     (leads_on (leads_then _ (settles_at (λ m k. run_course k x n m) c.in-Some.ensures.behind c.in_ok-over.ensures.runs))
@@ -659,49 +655,45 @@ compound::read_proc-returns-in_default t c =
     (leads_on (leads_then _ (settles_at (λ m k. run_head k x (Lines n) m) e c.in_ok-head.ensures.runs.runs)) (leads_suc _ _ (λ k. refl))))
     (omega (arith, h.goes)) h.within)
 
-pub compound::read_proc-returns-in_err-block : goal.compound::read_proc-returns-in_err-block
-compound::read_proc-returns-in_err-block t c =
+pub compound::read_proc-returns-in-Err : goal.compound::read_proc-returns-in-Err
+compound::read_proc-returns-in-Err t c =
     let input = c.args.input.now in let x = origin_of input in let n = c.args.spaces in let left = c.args.left in
-    let p = err_from_is_err_and c.from_residual-in_err-block.result c.from_residual-in_err-block.ensures.1 in
     let e = suc_at input c.args.at in
-    rw (p.1, p.2)
-    (fails_leads
+    fails_leads
     _ _ _ (leads_on (leads_if _ _ c.in-Some.ensures.is)
     (leads_on (leads_then _ (settles_at (λ m k. run_head k x (Lines n) m) e c.in_ok-head.ensures.runs.runs)) (leads_suc _ _ (λ k. refl))))
-    _ (fails_then _ _ _ _ (fails_at (λ m k. run_block k x n left m) x c.in-Some.ensures.behind _ c.in_err-block.ensures)))
+    _ (fails_then _ _ _ _ (fails_at (λ m k. run_block k x n left m) x c.in-Some.ensures.behind _ c.in-Err.ensures))
 
 pub compound::read_proc-returns : goal.compound::read_proc-returns
 compound::read_proc-returns t c =
     let input = c.args.input.now in let x = origin_of input in let n = c.args.spaces in let left = c.args.left in
-    let e = suc_at input c.args.at in let h = c.in_ok-block.ensures in
-    rw (proclaimed c.place_at-place.result c.in_ok-head.head.value c.in_ok-block.block.value
-    ∙ ap (λ p. proclaims p (head_of c.in_ok-head.head.value) (statements_of c.in_ok-block.block.value.items)) c.place_at-place.ensures)
-    (found _ _ (leads_on (leads_then _ (settles_at (λ m k. run_block k x n left m) c.in-Some.ensures.behind c.in_ok-block.ensures.runs))
+    let e = suc_at input c.args.at in let h = c.in-Ok.ensures in
+    rw (proclaimed c.place_at-place.result c.in_ok-head.head.value c.in-Ok.block.value
+    ∙ ap (λ p. proclaims p (head_of c.in_ok-head.head.value) (statements_of c.in-Ok.block.value.items)) c.place_at-place.ensures)
+    (found _ _ (leads_on (leads_then _ (settles_at (λ m k. run_block k x n left m) c.in-Some.ensures.behind c.in-Ok.ensures.runs))
     (leads_on (leads_if _ _ c.in-Some.ensures.is)
     (leads_on (leads_then _ (settles_at (λ m k. run_head k x (Lines n) m) e c.in_ok-head.ensures.runs.runs)) (leads_suc _ _ (λ k. refl)))))
     (omega (arith, h.goes, c.in-Some.ensures.goes, c.in_ok-head.ensures.runs.goes)) h.within)
 
-pub branches::read_branches-returns-in_err-all : goal.branches::read_branches-returns-in_err-all
-branches::read_branches-returns-in_err-all t c =
+pub branches::read_branches-returns-in-Err : goal.branches::read_branches-returns-in-Err
+branches::read_branches-returns-in-Err t c =
     let input = c.args.input.now in let x = origin_of input in let n = c.args.spaces in let left = c.args.left in
-    let p = err_from_is_err_and c.from_residual.result c.from_residual.ensures.1 in
     let tok = c.args.token in let s = term_of c.args.selector.value in let mid = from_at input c.past_colon-next.result in let past =
     c.past_colon-next.ensures.past in
-    rw (p.1, p.2) (subst (λ (m : List Token). Fails (λ k. run_branches k x n left tok s m) x c.in_err-all.field-0.0) past
+    subst (λ (m : List Token). Fails (λ k. run_branches k x n left tok s m) x c.in-Err.stop) past
     (fails_leads _ _ _ (branches_on x n left tok s c.in-Some.first _ mid c.branch_level-level.result c.in-Some.ensures.some (sym c.in-Some.ensures.is)
-    c.branch_level-level.ensures) _ (fails_then _ _ _ _ c.in_err-all.ensures)))
+    c.branch_level-level.ensures) _ (fails_then _ _ _ _ c.in-Err.ensures))
 
-pub branches::read_branches-returns-in_err-other : goal.branches::read_branches-returns-in_err-other
-branches::read_branches-returns-in_err-other t c =
+pub branches::read_branches-returns-in-Err-read_else : goal.branches::read_branches-returns-in-Err-read_else
+branches::read_branches-returns-in-Err-read_else t c =
     let input = c.args.input.now in let x = origin_of input in let n = c.args.spaces in let left = c.args.left in
-    let p = err_from_is_err_and c.from_residual-in_err-other.result c.from_residual-in_err-other.ensures.1 in
     let tok = c.args.token in let s = term_of c.args.selector.value in let mid = from_at input c.past_colon-next.result in let past =
     c.past_colon-next.ensures.past in
-    rw (p.1, p.2) (subst (λ (m : List Token). Fails (λ k. run_branches k x n left tok s m) x c.in_err-other.field-0.0) past
+    subst (λ (m : List Token). Fails (λ k. run_branches k x n left tok s m) x c.in-Err-read_else.stop) past
     (fails_leads
-    _ _ _ (leads_on (leads_then _ c.in_ok-all.ensures.runs)
+    _ _ _ (leads_on (leads_then _ c.in-Ok.ensures.runs)
     (branches_on x n left tok s c.in-Some.first _ mid c.branch_level-level.result c.in-Some.ensures.some (sym c.in-Some.ensures.is)
-    c.branch_level-level.ensures)) _ (fails_then _ _ _ _ c.in_err-other.ensures)))
+    c.branch_level-level.ensures)) _ (fails_then _ _ _ _ c.in-Err-read_else.ensures))
 
 pub branches::read_branches-returns-in_default : goal.branches::read_branches-returns-in_default
 branches::read_branches-returns-in_default t c =
@@ -714,15 +706,15 @@ pub branches::read_branches-returns : goal.branches::read_branches-returns
 branches::read_branches-returns t c =
     let input = c.args.input.now in let x = origin_of input in let n = c.args.spaces in let left = c.args.left in
     let tok = c.args.token in let s = term_of c.args.selector.value in let mid = from_at input c.past_colon-next.result in let past =
-    c.past_colon-next.ensures.past in let h = c.in_ok-other.ensures in
-    rw (selected c.place_at-place.result c.args.selector.value c.in_ok-all.all.value c.in_ok-other.other.value
-    ∙ ap (λ p. selects p s (chosen_of c.in_ok-all.all.value) (block_of c.in_ok-other.other.value)) c.place_at-place.ensures)
+    c.past_colon-next.ensures.past in let h = c.in-Ok-read_else.ensures in
+    rw (selected c.place_at-place.result c.args.selector.value c.in-Ok.all.value c.in-Ok-read_else.other.value
+    ∙ ap (λ p. selects p s (chosen_of c.in-Ok.all.value) (block_of c.in-Ok-read_else.other.value)) c.place_at-place.ensures)
     (subst (λ (m : List Token). Found (λ k. run_branches k x n left tok s m) input (suc c.args.at)
-    (selects (place_at x tok) s (chosen_of c.in_ok-all.all.value) (block_of c.in_ok-other.other.value)) c.in_ok-other.other.next) past
+    (selects (place_at x tok) s (chosen_of c.in-Ok.all.value) (block_of c.in-Ok-read_else.other.value)) c.in-Ok-read_else.other.next) past
     (found _ _ (leads_on (leads_then _ h.runs)
-    (leads_on (leads_then _ c.in_ok-all.ensures.runs)
+    (leads_on (leads_then _ c.in-Ok.ensures.runs)
     (branches_on x n left tok s c.in-Some.first _ mid c.branch_level-level.result c.in-Some.ensures.some (sym c.in-Some.ensures.is)
-    c.branch_level-level.ensures))) (omega (arith, h.goes, c.in_ok-all.ensures.goes, c.past_colon-next.ensures.goes, c.requires.goes))
+    c.branch_level-level.ensures))) (omega (arith, h.goes, c.in-Ok.ensures.goes, c.past_colon-next.ensures.goes, c.requires.goes))
     h.within))
 
 pub statements::read_choice-returns-in_err-alone : goal.statements::read_choice-returns-in_err-alone

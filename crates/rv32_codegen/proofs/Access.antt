@@ -1,0 +1,445 @@
+-- What a line of word code does to memory, to arguments and outside, its label code does.
+use Rattle.std.proofs.Common.{◌≡◌, ℕ, suc, ◌+◌, ◌-◌, ◌*◌, ◌%◌, ◌^◌, ◌<◌, ◌≤◌, ◌⊎◌, inl, inr, List}
+use Rattle.std.proofs.Common.{[], ◌∷◌, ◌++◌, length, take, drop, get_or, set, true}
+use Rattle.std.proofs.Common.{Option, Some, None, Result, Ok, Err, refl, sym, ap, subst, ◌∙◌, arith, length-set, append-nil, add_assoc}
+use Rattle.std.specs.Prelude.{◌==◌, ◌&&◌, nat_lt, min, if◌then◌else◌}
+use Rattle.std.proofs.lemmas.Bool.{cases_eq, eq-eqb, ne_eqb, and_parts, ltb-true, cond-true, cond-false}
+use Rattle.std.proofs.lemmas.List.{get_or-set_same, get_or-set_other, length-take-le}
+use Rattle.arc_base.specs.declared.outside.Stream.{Stream}
+use Rattle.arc_base.specs.declared.outside.Stream.TheVariants.{Out, Err as ErrStream}
+use Rattle.arc_base.specs.Event.{Event, writes as write_events}
+use Rattle.arc_base.specs.Behaviour.{Live, Ended}
+use Rattle.arc_base.specs.Stepping.{Next, Goes, Ends, seen}
+use Rattle.arc_base.specs.Simulation.{Stops}
+use Rattle.rv32_isa.specs.declared.instr.Instr.TheVariants.{Addi, Ecall}
+use Rattle.rv32_isa.specs.declared.micro_op.Size.{Size}
+use Rattle.rv32_isa.specs.declared.micro_op.Size.TheVariants.{Byte, Half, Word}
+use Rattle.rv32_isa.specs.declared.micro_op.MicroOp.TheVariants.{Store}
+use Rattle.rv32_isa.specs.declared.machine.FaultKind.{FaultKind}
+use Rattle.rv32_isa.specs.declared.machine.FaultKind.TheVariants.{Misaligned, OutOfRange, BadCall}
+use Rattle.rv32_isa.specs.declared.label.LabelLine.{LabelLine}
+use Rattle.rv32_isa.specs.declared.label.LabelLine.TheVariants.{Do}
+use Rattle.rv32_isa.specs.Image.{stack_at}
+use Rattle.rv32_isa.specs.State.{State, reg, skip, readable, writable, filled}
+use Rattle.rv32_isa.specs.Values.{added}
+use Rattle.rv32_isa.specs.Steps.{signed12, size_of, found, low_bytes, loaded, stored, act, written}
+use Rattle.rv32_isa.specs.Steps as leads
+use Rattle.rv32_isa.specs.Machine.{Reply, Answers, Exits, Fails, answered, stream_of, write_bytes, write_call, read_call, call}
+use Rattle.rv32_isa.specs.LabelsMeaning.{LabelRun, did, led, replied, step}
+use Rattle.rv32_logic.specs.Registers.{put}
+use Rattle.rv32_logic.proofs.ForCallers.{plain_address, signed12_small}
+use Rattle.mid_code.specs.declared.word.TheConstants.{MOST_ARGUMENTS}
+use Rattle.mid_code.specs.declared.word.WordInstr.{WordInstr}
+use Rattle.mid_code.specs.declared.word.WordInstr.TheVariants as word
+use Rattle.mid_code.specs.Memory.{Memory, as_state, memory_of, number_at, may_put, bytes_at, may_fill}
+use Rattle.mid_code.specs.Words.{put as put_var, WordState, scene_of, loads, shows, on}
+use Rattle.rv32_codegen.specs.Code.{does, load, save, fetch, store, stream_number, argument_at, home_at, load_range, keep}
+use Rattle.rv32_codegen.proofs.Runs.{steps_one, steps_on, stops_one}
+use Rattle.rv32_codegen.proofs.Machine.{state_of, run_at, Fits, fits_words, word_place, Regs, Quiet, quiet_does, Goes_in, then_goes}
+use Rattle.rv32_codegen.proofs.Machine.{instr_goes, writes}
+use Rattle.rv32_codegen.proofs.PieceRuns.{Gets, put_gets, save_goes}
+use Rattle.rv32_codegen.proofs.Wider.{read_wider, may_wider, may_less, fill_wider, fits_kept, places_kept, found_wider, length-low_bytes}
+use Rattle.rv32_codegen.proofs.Lookups.{some_same}
+use Rattle.rv32_codegen.proofs.Frames.{size, word as home_word, Sits, sits_next, linked_kept, Setting, whole, True, Sim}
+use Rattle.rv32_codegen.proofs.LineRuns.{at_lines, setting, homes, frame_at, sim_goes, Sim_did, using_sim, if_sim, laid_of, inside_of, arguments_fit, var_goes}
+use Rattle.rv32_codegen.proofs.LineRuns.{both_go}
+use Rattle.rv32_codegen.proofs.LineRuns.{Behind, quiet_behind, Here, Line_sim, named_of, sets, same_true, keep_quiet}
+
+-- ---- calls of the environment
+
+-- a call, by its number
+abbrev call_number : State → List ℕ → ℕ → Reply
+call_number s input number =
+    if number == 93 then Exits (reg s 10 % 256) else
+    if number == 64 then write_call s input (stream_of (reg s 10)) else
+    if number == 63 then if reg s 10 == 0 then read_call s input else Fails BadCall else
+    Fails BadCall
+
+write_is : (s : State) (input : List ℕ) (stream : Stream) (bytes : List ℕ) → reg s 17 ≡ 64 → stream_of (reg s 10) ≡ Some stream →
+    readable s (reg s 11) (reg s 12) ≡ Some bytes → call s input ≡ Answers (answered s (reg s 12)) input (write_events stream bytes)
+write_is s input stream bytes number stream_is bytes_are =
+    let a : call s input ≡ write_call s input (stream_of (reg s 10)) = ap (call_number s input) number in
+    a ∙ ap (write_call s input) stream_is ∙ ap (write_bytes s input stream) bytes_are
+
+exit_is : (s : State) (input : List ℕ) (status : ℕ) → reg s 17 ≡ 93 → reg s 10 % 256 ≡ status → call s input ≡ Exits status
+exit_is s input status number status_is =
+    let a : call s input ≡ Exits (reg s 10 % 256) = ap (call_number s input) number in
+    a ∙ ap Exits status_is
+
+-- a read to a range
+abbrev read_at : State → List ℕ → (at n : ℕ) → Reply
+read_at s input at n =
+    let count = min n (length input) in
+    Answers (answered (filled s at (take count input)) count) (drop count input) []
+
+read_is : (s : State) (input : List ℕ) (at n : ℕ) → reg s 17 ≡ 63 → reg s 10 ≡ 0 → reg s 11 ≡ at → reg s 12 ≡ n →
+    writable s at n ≡ true →
+    call s input ≡ read_at s input at n
+read_is s input at n number stream at_is n_is may =
+    let by : ℕ → ℕ → Reply = λ a k. if writable s a k then read_at s input a k else Fails OutOfRange in
+    let a : call s input ≡ (if reg s 10 == 0 then read_call s input else Fails BadCall) = ap (call_number s input) number in
+    a
+    ∙ ap (λ x. if x == 0 then read_call s input else Fails BadCall) stream
+    ∙ ap (λ x. by x (reg s 12)) at_is ∙ ap (by at) n_is
+    ∙ cond-true (writable s at n) (read_at s input at n) (Fails OutOfRange) may
+
+stream_is : (stream : Stream) → stream_of (stream_number stream) ≡ Some stream
+stream_is Out = refl
+stream_is ErrStream = refl
+
+stream_small : (stream : Stream) → stream_number stream < 2048
+stream_small Out = omega arith
+stream_small ErrStream = omega arith
+
+module _ (g : Setting) where
+  -- ---- memory
+
+  -- where memory, input, lines and registers changed
+  memory_true : (t : WordState) (lines more : List WordInstr) (regs new ws : List ℕ) (j : ℕ) (f : True g t lines regs ws j) (a : ℕ)
+      (bytes input : List ℕ) →
+      writable (as_state t.memory) a (length bytes) ≡ true → Sits g.lay g.procs t.frame.proc more → Regs new (frame_at g t j) t.frame.base →
+      True g (record (at_lines t more) { memory = memory_of (filled (as_state t.memory) a bytes); input = input }) more new ws j
+  memory_true t lines more regs new ws j f a bytes input may sits kept = record {
+    fits = fits_kept regs t.memory ws a bytes may f.fits;
+    kept = subst (λ n. Regs new (stack_at + (n + 4 * j)) t.frame.base) (sym (places_kept regs t.memory ws a bytes may)) kept;
+    base_fits = f.base_fits;
+    sits = sits;
+    held = f.held;
+    given = f.given;
+    linked = f.linked;
+    deep = f.deep;
+  }
+
+  loaded_sim : (t : WordState) (r : LabelRun) (rest : List WordInstr) (to : ℕ) (o : Result ℕ FaultKind) →
+      ((w : ℕ) → o ≡ Ok w → Sim g r t (on (setting t rest to w))) → Sim_did g r t rest (loads (scene_of t) to o)
+  loaded_sim t r rest to (Err kind) h = tt
+  loaded_sim t r rest to (Ok w) h = h w refl
+
+  fetch_is : (s : Size) (regs : List ℕ) (m : Memory) (ws input : List ℕ) (rest : List LabelLine) →
+      did g.live (whole g) g.at (run_at regs m ws input (Do (fetch s) ∷ rest)) rest (fetch s)
+      ≡ led g.live (whole g) g.at (run_at regs m ws input (Do (fetch s) ∷ rest)) rest
+      (loaded (state_of regs m ws) 0 5 (found (state_of regs m ws) (added (get_or regs 5 0) (signed12 0)) s))
+  fetch_is Byte regs m ws input rest = refl
+  fetch_is Half regs m ws input rest = refl
+  fetch_is Word regs m ws input rest = refl
+
+  pub load_sim : (to address : ℕ) (s : Size) → Line_sim g (word.Load to address s)
+  load_sim to address s t rest regs ws j f =
+      let l = word.Load to address s in
+      let vars = t.frame.proc.vars in
+      let m = t.memory in
+      let named = and_parts (nat_lt to vars) (nat_lt address vars) (named_of g t l rest f.sits) in
+      let r = Here g t l rest regs ws j f in
+      let last = keep (homes g t) to (Behind g t l rest regs ws j f) in
+      using_sim g r t rest (t.frame.vars address) _ (λ a e.
+      loaded_sim t r rest to (number_at m a s) (λ w h.
+      let x = var_goes g t (l ∷ rest) regs ws j f regs 5 address a (Do (fetch s) ∷ last) refl (omega arith) (omega arith) e f.kept in
+      let mid = run_at x.0 m ws t.input (Do (fetch s) ∷ last) in
+      let st = state_of x.0 m ws in
+      let at_is = plain_address (get_or x.0 5 0) a x.2.same (f.held address a e).2 in
+      let is : found st (added (get_or x.0 5 0) (signed12 0)) s ≡ Ok w = ap (λ n. found st n s) at_is ∙ found_wider x.0 m ws a s w h in
+      let y = writes g.live (whole g) g.at m ws t.input x.0 (fetch s) 5 w last (keep_quiet g t l rest regs ws j f 5 to)
+      (fetch_is s x.0 m ws t.input last ∙ ap (λ o. led g.live (whole g) g.at mid last (loaded st 0 5 o)) is) in
+      let z = put_gets x.0 5 w (frame_at g t j) t.frame.base (omega arith) (omega arith) x.2.kept in
+      sets g t l rest regs ws j f r 2 4 5 to w w (put x.0 5 w) (λ e. omega (arith, e)) (ltb-true to vars named.0) (omega arith)
+      (then_goes g.live (whole g) g.at 1 1 3 1 _ _ _ x.1 y) z.same refl z.kept))
+
+  store_is : (s : Size) (regs : List ℕ) (m : Memory) (ws input : List ℕ) (rest : List LabelLine) →
+      did g.live (whole g) g.at (run_at regs m ws input (Do (store s) ∷ rest)) rest (store s)
+      ≡ led g.live (whole g) g.at (run_at regs m ws input (Do (store s) ∷ rest)) rest
+      (act (state_of regs m ws) 0 0 (Store (added (get_or regs 5 0) (signed12 0)) s (get_or regs 6 0)))
+  store_is Byte regs m ws input rest = refl
+  store_is Half regs m ws input rest = refl
+  store_is Word regs m ws input rest = refl
+
+  -- what a store does where it may be
+  store_goes : (st next : State) (s : Size) (x a v b : ℕ) → x ≡ a → v ≡ b → (a % size_of s == 0) ≡ true →
+      writable st a (size_of s) ≡ true →
+      filled st a (low_bytes s b) ≡ next → act st 0 0 (Store x s v) ≡ leads.Goes (skip next)
+  store_goes st next s x a v b at_is value whole_is may is =
+      ap (λ n. act st 0 0 (Store n s v)) at_is
+      ∙ ap (λ n. act st 0 0 (Store a s n)) value
+      ∙ cond-true (a % size_of s == 0) (stored st 0 a s b) (leads.Faults Misaligned st.pc 0) whole_is
+      ∙ cond-true (writable st a (size_of s)) (leads.Goes (skip (filled st a (low_bytes s b)))) (leads.Faults OutOfRange st.pc 0) may
+      ∙ ap (λ u. leads.Goes (skip u)) is
+
+  pub store_sim : (address from : ℕ) (s : Size) → Line_sim g (word.Store address from s)
+  unfolding memory_true
+  store_sim address from s t rest regs ws j f =
+      let l = word.Store address from s in
+      let k = Behind g t l rest regs ws j f in
+      let p = t.frame.proc in
+      let m = t.memory in
+      let r = Here g t l rest regs ws j f in
+      let sits = sits_next g.lay g.procs p l rest f.sits in
+      using_sim g r t rest (t.frame.vars address) _ (λ a e.
+      using_sim g r t rest (t.frame.vars from) _ (λ b d.
+      if_sim g r t rest (may_put m a s) _ _ (λ h.
+      let x = both_go g t (l ∷ rest) regs ws j f address from a b (Do (store s) ∷ k) refl e d in
+      let parts = and_parts (a % size_of s == 0) (writable (as_state m) a (size_of s)) h in
+      let bytes = low_bytes s b in
+      let may : writable (as_state m) a (length bytes) ≡ true = ap (writable (as_state m) a) (length-low_bytes s b) ∙ parts.1 in
+      let m' = memory_of (filled (as_state m) a bytes) in
+      let mid = run_at x.0 m ws t.input (Do (store s) ∷ k) in
+      let next = state_of x.0 m' ws in
+      let acts = store_goes (state_of x.0 m ws) next s _ a _ b (plain_address (get_or x.0 5 0) a x.3 (f.held address a e).2) x.4 parts.0
+      (may_wider x.0 m ws a (size_of s) parts.1) (fill_wider x.0 m ws a bytes may) in
+      let y = instr_goes g.live (whole g) g.at m ws t.input x.0 (store s) next k (quiet_behind g t rest sits)
+      (store_is s x.0 m ws t.input k ∙ ap (led g.live (whole g) g.at mid k) acts) in
+      let t' = record (at_lines t rest) { memory = m' } in
+      sim_goes g r (run_at x.0 m' ws t.input k) t t' 3 7 (then_goes g.live (whole g) g.at 2 1 6 1 r mid _ x.1 y) (omega arith) (omega arith)
+      (record { regs = x.0; ws = ws; j = j; facts = memory_true t (l ∷ rest) rest regs x.0 ws j f a bytes t.input may sits x.2; is = refl }))
+      (λ h. tt)))
+
+  -- ---- arguments
+
+  argument_place : (m : Memory) (ws : List ℕ) (j i : ℕ) → Fits m ws → i < MOST_ARGUMENTS → MOST_ARGUMENTS ≤ j → j < length ws →
+      added (word_place m j) (argument_at i) ≡ word_place m (j - suc i)
+  argument_place m ws j i fits lt le inside = omega (arith, fits.stack_most, lt, le, inside)
+
+  give_true : (t : WordState) (l : WordInstr) (rest : List WordInstr) (regs new ws : List ℕ) (j i a : ℕ) (f : True g t (l ∷ rest) regs ws j) →
+      i < MOST_ARGUMENTS →
+      Regs new (frame_at g t j) t.frame.base →
+      True g (record t { frame = record t.frame { left = rest; given = put_var t.frame.given i a } }) rest new (set ws (j - suc i) (a % 2 ^ 32)) j
+  give_true t l rest regs new ws j i a f lt kept =
+      let p = t.frame.proc in
+      let k = j - suc i in
+      let n = a % 2 ^ 32 in
+      let ws' = set ws k n in
+      let inside = inside_of g t (l ∷ rest) regs ws j f in
+      let fit = arguments_fit g t (l ∷ rest) regs ws j f in
+      let laid = laid_of g t (l ∷ rest) f.sits in
+      let some = laid.some in
+      let long : length ws' ≡ length ws = length-set ws k n in
+      let past : (x : ℕ) → j ≤ x → get_or ws' x 0 ≡ get_or ws x 0 = λ x le. get_or-set_other ws k x n 0 (λ s. omega (arith, s, le, lt, fit)) in
+      record {
+        fits = fits_words t.memory ws ws' long f.fits;
+        kept = kept;
+        base_fits = f.base_fits;
+        sits = sits_next g.lay g.procs p l rest f.sits;
+        held = λ v w e. let x = f.held v w e in (x.0, past (j + home_word (homes g t) v) (omega arith) ∙ x.1, x.2);
+        given = λ x w e. given_one x w e (cases_eq x i) fit lt inside some;
+        linked = linked_kept g.lay g.procs g.need g.total (whole g) g.at ws ws' j p t.frame.base t.callers long
+            (λ x o. past x (elim o [ inl e ↦ omega (arith, e) | inr le ↦ omega (arith, le) ])) f.linked;
+        deep = f.deep;
+      }
+    where
+      given_one : (x w : ℕ) → put_var t.frame.given i a x ≡ Some w → (x ≡ i) ⊎ (x ≡ i → ⊥) → MOST_ARGUMENTS ≤ j →
+          i < MOST_ARGUMENTS →
+          j + size (homes g t) ≤ length ws → 0 < size (homes g t) →
+          (x < MOST_ARGUMENTS) × (get_or (set ws (j - suc i) (a % 2 ^ 32)) (j - suc x) 0 ≡ w) × (w < 2 ^ 32)
+      given_one x w e (inl same) fit lt inside some =
+          let n = a % 2 ^ 32 in
+          let is = some_same n w (sym (cond-true (x == i) (Some n) (t.frame.given x) (eq-eqb x i same)) ∙ e) in (
+            omega (arith, same, lt),
+            ap (λ y. get_or (set ws (j - suc i) n) (j - suc y) 0) same ∙ get_or-set_same ws (j - suc i) n 0 (omega (arith, inside, some, lt, fit)) ∙ is,
+            omega (arith, is),
+          )
+      given_one x w e (inr ne) fit lt inside some =
+          let n = a % 2 ^ 32 in
+          let old = f.given x w (sym (cond-false (x == i) (Some n) (t.frame.given x) (ne_eqb x i ne)) ∙ e) in
+          (old.0, get_or-set_other ws (j - suc i) (j - suc x) n 0 (λ s. ne (omega (arith, s, old.0, lt, fit))) ∙ old.1, old.2)
+
+  pub argument_sim : (index from : ℕ) → Line_sim g (word.Argument index from)
+  unfolding give_true
+  argument_sim index from t rest regs ws j f =
+      let l = word.Argument index from in
+      let k = Behind g t l rest regs ws j f in
+      let m = t.memory in
+      let vars = t.frame.proc.vars in
+      let named = and_parts (nat_lt index MOST_ARGUMENTS) (nat_lt from vars) (named_of g t l rest f.sits) in
+      let lt = ltb-true index MOST_ARGUMENTS named.0 in
+      let r = Here g t l rest regs ws j f in
+      let inside = inside_of g t (l ∷ rest) regs ws j f in
+      let laid = laid_of g t (l ∷ rest) f.sits in
+      let some = laid.some in
+      let fit = arguments_fit g t (l ∷ rest) regs ws j f in
+      let quiet = quiet_behind g t rest (sits_next g.lay g.procs t.frame.proc l rest f.sits) in
+      using_sim g r t rest (t.frame.vars from) _ (λ a e.
+      let offset = argument_at index in
+      let x = var_goes g t (l ∷ rest) regs ws j f regs 5 from a (does (save 5 offset) k) (quiet_does (save 5 offset) k quiet) (omega arith) (omega arith) e
+      f.kept in
+      let y = save_goes g.live (whole g) g.at m ws t.input x.0 5 offset (j - suc index) a (frame_at g t j) t.frame.base k quiet (omega arith)
+      (argument_place m ws j index f.fits lt fit (omega (arith, inside, some))) (omega (arith, inside, some)) f.fits x.2.kept (λ e. omega (arith, e))
+      x.2.same in
+      let ws' = set ws (j - suc index) (a % 2 ^ 32) in
+      let t' = record t { frame = record t.frame { left = rest; given = put_var t.frame.given index a } } in
+      sim_goes g r (run_at y.0 m ws' t.input k) t t' 2 6 (then_goes g.live (whole g) g.at 1 1 3 3 _ _ _ x.1 y.1) (omega arith) (omega arith)
+      (record { regs = y.0; ws = ws'; j = j; facts = give_true t l rest regs y.0 ws j index a f lt y.2.kept; is = refl }))
+
+  -- ---- outside
+
+  -- an address and a length are in x11 and x12
+  range_goes : (t : WordState) (lines : List WordInstr) (regs ws : List ℕ) (j : ℕ) (f : True g t lines regs ws j) (v w a n : ℕ) (rest : List LabelLine)
+      →
+      Quiet rest → t.frame.vars v ≡ Some a → t.frame.vars w ≡ Some n → (new : List ℕ)
+      × Goes_in g.live (whole g) g.at 2 6 (run_at regs t.memory ws t.input (load_range (homes g t) v w rest)) (run_at new t.memory ws t.input rest)
+      × Regs new (frame_at g t j) t.frame.base × (get_or new 11 0 ≡ a) × (get_or new 12 0 ≡ n)
+  range_goes t lines regs ws j f v w a n rest quiet e d =
+      let second = load 12 (home_at (homes g t) w) in
+      let x = var_goes g t lines regs ws j f regs 11 v a (does second rest) (quiet_does second rest quiet) (omega arith) (omega arith) e f.kept in
+      let y = var_goes g t lines regs ws j f x.0 12 w n rest quiet (omega arith) (omega arith) d x.2.kept in (
+        y.0,
+        then_goes g.live (whole g) g.at 1 1 3 3 _ _ _ x.1 y.1,
+        y.2.kept,
+        y.2.other 11 (λ e. omega (arith, e)) ∙ x.2.same,
+        y.2.same,
+      )
+
+  -- a small number is in a register
+  small_goes : (m : Memory) (ws input regs : List ℕ) (rd n frame base : ℕ) (rest : List LabelLine) → Quiet rest → 3 < rd → rd < 32 → n < 2048 →
+      Regs regs frame base → (new : List ℕ)
+      × Goes_in g.live (whole g) g.at 1 1 (run_at regs m ws input (Do (Addi rd 0 n) ∷ rest)) (run_at new m ws input rest) × Gets regs new rd n frame base
+  small_goes m ws input regs rd n frame base rest quiet gt lt small h =
+      let v = added (get_or regs 0 0) (signed12 n) in
+      let v_is : v ≡ n = ap (λ x. added x (signed12 n)) h.good.none ∙ ap (added 0) (signed12_small n small)
+      ∙ (let e : (0 + n) % 2 ^ 32 ≡ n = omega (arith, small) in e) in (
+        put regs rd v,
+        writes g.live (whole g) g.at m ws input regs (Addi rd 0 n) rd v rest quiet refl,
+        subst (λ x. Gets regs (put regs rd v) rd x frame base) v_is (put_gets regs rd v frame base gt lt h),
+      )
+
+  -- what a call is asked for
+  record Asks (regs : List ℕ) (frame base stream number a n : ℕ) : Type 0 where
+    kept : Regs regs frame base
+    ten : get_or regs 10 0 ≡ stream
+    eleven : get_or regs 11 0 ≡ a
+    twelve : get_or regs 12 0 ≡ n
+    seventeen : get_or regs 17 0 ≡ number
+
+  ask_goes : (t : WordState) (lines : List WordInstr) (regs ws : List ℕ) (j : ℕ) (f : True g t lines regs ws j) (v w a n stream number : ℕ)
+      (k : List LabelLine) →
+      stream < 2048 → number < 2048 → t.frame.vars v ≡ Some a → t.frame.vars w ≡ Some n → (new : List ℕ)
+      × Goes_in g.live (whole g) g.at 4 8
+      (run_at regs t.memory ws t.input (load_range (homes g t) v w (Do (Addi 10 0 stream) ∷ Do (Addi 17 0 number) ∷ Do Ecall ∷ k)))
+      (run_at new t.memory ws t.input (Do Ecall ∷ k)) × Asks new (frame_at g t j) t.frame.base stream number a n
+  ask_goes t lines regs ws j f v w a n stream number k few less e d =
+      let m = t.memory in
+      let fr = frame_at g t j in
+      let base = t.frame.base in
+      let x = range_goes t lines regs ws j f v w a n (Do (Addi 10 0 stream) ∷ Do (Addi 17 0 number) ∷ Do Ecall ∷ k) refl e d in
+      let y = small_goes m ws t.input x.0 10 stream fr base (Do (Addi 17 0 number) ∷ Do Ecall ∷ k) refl (omega arith) (omega arith) few x.2 in
+      let z = small_goes m ws t.input y.0 17 number fr base (Do Ecall ∷ k) refl (omega arith) (omega arith) less y.2.kept in (
+        z.0,
+        then_goes g.live (whole g) g.at 3 1 7 1 _ _ _ (then_goes g.live (whole g) g.at 2 1 6 1 _ _ _ x.1 y.1) z.1,
+        record {
+          kept = z.2.kept;
+          ten = z.2.other 10 (λ e. omega (arith, e)) ∙ y.2.same;
+          eleven = z.2.other 11 (λ e. omega (arith, e)) ∙ y.2.other 11 (λ e. omega (arith, e)) ∙ x.3;
+          twelve = z.2.other 12 (λ e. omega (arith, e)) ∙ y.2.other 12 (λ e. omega (arith, e)) ∙ x.4;
+          seventeen = z.2.same;
+        },
+      )
+
+  wrote_sim : (t : WordState) (r : LabelRun) (rest : List WordInstr) (o : Option (List ℕ)) (stream : Stream) →
+      ((bytes : List ℕ) → o ≡ Some bytes → Sim g r t (Goes (write_events stream bytes) 1 (at_lines t rest))) →
+      Sim_did g r t rest (shows (scene_of t) stream o)
+  wrote_sim t r rest None stream h = tt
+  wrote_sim t r rest (Some bytes) stream h = h bytes refl
+
+  pub write_sim : (stream : Stream) (address len : ℕ) → Line_sim g (word.Write stream address len)
+  unfolding same_true
+  write_sim stream address len t rest regs ws j f =
+      let l = word.Write stream address len in
+      let k = Behind g t l rest regs ws j f in
+      let p = t.frame.proc in
+      let m = t.memory in
+      let r = Here g t l rest regs ws j f in
+      let sits = sits_next g.lay g.procs p l rest f.sits in
+      using_sim g r t rest (t.frame.vars address) _ (λ a e.
+      using_sim g r t rest (t.frame.vars len) _ (λ n d.
+      wrote_sim t r rest (bytes_at m a n) stream (λ bytes h.
+      let x = ask_goes t (l ∷ rest) regs ws j f address len a n (stream_number stream) 64 k (stream_small stream) (omega arith) e d in
+      let q = x.2 in
+      let mid = run_at x.0 m ws t.input (Do Ecall ∷ k) in
+      let s = state_of x.0 m ws in
+      let read : readable s (get_or x.0 11 0) (get_or x.0 12 0) ≡ Some bytes =
+      ap (λ i. readable s i (get_or x.0 12 0)) q.eleven ∙ ap (readable s a) q.twelve ∙ read_wider x.0 m ws a n bytes h in
+      let last = put x.0 10 (get_or x.0 12 0) in
+      let next = run_at last m ws t.input k in
+      let shown = write_events stream bytes in
+      let does_call : step g.live (whole g) g.at mid ≡ Goes shown 1 next =
+      ap (replied g.live (whole g) g.at mid k) (write_is s t.input stream bytes q.seventeen (ap stream_of q.ten ∙ stream_is stream) read)
+      ∙ ap (λ es. Goes (shown ++ es) 1 next) (quiet_behind g t rest sits) ∙ ap (λ es. Goes es 1 next) (append-nil shown) in
+      let showing = steps_one (step g.live (whole g) g.at) mid next shown 1 1 does_call (omega arith) in
+      let all = steps_on (step g.live (whole g) g.at) 4 1 8 1 r mid next [] shown x.1 showing in
+      let kept = (put_gets x.0 10 (get_or x.0 12 0) (frame_at g t j) t.frame.base (omega arith) (omega arith) q.kept).kept in (
+        next,
+        5,
+        record { work = all.work; within = omega (arith, all.within); by = all.by },
+        record { regs = last; ws = ws; j = j; facts = same_true g t (l ∷ rest) rest regs last ws j f sits kept; is = refl },
+        inl (omega arith),
+      ))))
+
+  pub read_sim : (to address len : ℕ) → Line_sim g (word.Read to address len)
+  unfolding memory_true
+  read_sim to address len t rest regs ws j f =
+      let l = word.Read to address len in
+      let p = t.frame.proc in
+      let m = t.memory in
+      let named = and_parts (nat_lt to p.vars) (nat_lt address p.vars && nat_lt len p.vars) (named_of g t l rest f.sits) in
+      let r = Here g t l rest regs ws j f in
+      let k = does (save 10 (home_at (homes g t) to)) (Behind g t l rest regs ws j f) in
+      using_sim g r t rest (t.frame.vars address) _ (λ a e.
+      using_sim g r t rest (t.frame.vars len) _ (λ n d.
+      if_sim g r t rest (may_fill m a n) _ _ (λ h.
+      let x = ask_goes t (l ∷ rest) regs ws j f address len a n 0 63 k (omega arith) (omega arith) e d in
+      let q = x.2 in
+      let count = min n (length t.input) in
+      let bytes = take count t.input in
+      let left = drop count t.input in
+      let long : length bytes ≡ count = length-take-le count t.input (omega arith) in
+      let may : writable (as_state m) a (length bytes) ≡ true = may_less (as_state m) a n (length bytes) (omega (arith, long)) h in
+      let m' = memory_of (filled (as_state m) a bytes) in
+      let mid = run_at x.0 m ws t.input (Do Ecall ∷ k) in
+      let s = state_of x.0 m ws in
+      let last = put x.0 10 count in
+      let next = run_at last m' ws left k in
+      let to_next : State → Next Event LabelRun = λ u. replied g.live (whole g) g.at mid k (Answers (answered u count) left []) in
+      let does_call : step g.live (whole g) g.at mid ≡ Goes [] 1 next =
+      ap (replied g.live (whole g) g.at mid k)
+      (read_is s t.input a n q.seventeen q.ten q.eleven q.twelve (may_wider x.0 m ws a n h))
+      ∙ ap to_next (fill_wider x.0 m ws a bytes may)
+      ∙ ap (λ es. Goes es 1 next) (keep_quiet g t l rest regs ws j f 10 to) in
+      let reading = steps_one (step g.live (whole g) g.at) mid next [] 1 1 does_call (omega arith) in
+      let z = put_gets x.0 10 count (frame_at g t j) t.frame.base (omega arith) (omega arith) q.kept in
+      let t' = record (at_lines t (l ∷ rest)) { memory = m'; input = left } in
+      let f' = memory_true t (l ∷ rest) (l ∷ rest) regs last ws j f a bytes left may f.sits z.kept in
+      sets g t' l rest last ws j f' r 5 9 10 to count count last (λ e. omega (arith, e)) (ltb-true to p.vars named.0) (omega arith)
+      (then_goes g.live (whole g) g.at 4 1 8 1 r mid next x.1 reading) z.same refl f'.kept)
+      (λ h. tt)))
+
+  -- steps, and then the end
+  stops_on : (k n q status : ℕ) (live : Live) (r s : LabelRun) → Goes_in g.live (whole g) g.at k n r s →
+      Stops (step g.live (whole g) g.at) s [] q status live → n + q ≤ 16 → Stops (step g.live (whole g) g.at) r [] 16 status live
+  stops_on k n q status live r s x y le = record {
+    work = x.work + y.work;
+    within = omega (arith, x.within, y.within, le);
+    by = let v = y.by in let u = x.by v.0 in (
+      u.0,
+      λ out done.
+          u.2 out done ∙ v.1 (out ++ []) (done + x.work)
+          ∙ ap (λ o. seen (o ++ []) (Ended status live) (done + x.work + y.work)) (append-nil out)
+          ∙ ap (λ i. seen (out ++ []) (Ended status live) i) (add_assoc done x.work y.work),
+    );
+  }
+
+  pub exit_sim : (status : ℕ) → Line_sim g (word.Exit status)
+  exit_sim status t rest regs ws j f =
+      let l = word.Exit status in
+      let k = Behind g t l rest regs ws j f in
+      let m = t.memory in
+      let r = Here g t l rest regs ws j f in
+      let fr = frame_at g t j in
+      using_sim g r t rest (t.frame.vars status) _ (λ a e.
+      let x = var_goes g t (l ∷ rest) regs ws j f regs 10 status a (Do (Addi 17 0 93) ∷ Do Ecall ∷ k) refl (omega arith) (omega arith) e f.kept in
+      let y = small_goes m ws t.input x.0 17 93 fr t.frame.base (Do Ecall ∷ k) refl (omega arith) (omega arith) (omega arith) x.2.kept in
+      let mid = run_at y.0 m ws t.input (Do Ecall ∷ k) in
+      let s = state_of y.0 m ws in
+      let ten : get_or y.0 10 0 ≡ a = y.2.other 10 (λ e. omega (arith, e)) ∙ x.2.same in
+      let live = g.live (as_state m) in
+      let ends : step g.live (whole g) g.at mid ≡ Ends [] 1 (a % 256) live =
+      ap (replied g.live (whole g) g.at mid k) (exit_is s t.input (a % 256) y.2.same (ap (λ i. i % 256) ten))
+      ∙ ap (Ends [] 1 (a % 256)) (g.alone s (as_state m) refl refl) in
+      let stop = stops_one (step g.live (whole g) g.at) mid [] 1 1 (a % 256) live ends (omega arith) in
+      stops_on 2 4 1 (a % 256) live r mid (then_goes g.live (whole g) g.at 1 1 3 1 r _ mid x.1 y.1) stop (omega arith))

@@ -1,0 +1,277 @@
+-- Word code's calls, and their frames in the machine's stack.
+use Rattle.std.proofs.Common.{◌≡◌, ℕ, suc, ◌+◌, ◌-◌, ◌*◌, ◌/◌, ◌%◌, ◌^◌, ◌<◌, ◌≤◌, ◌⊎◌, inl, inr, List, []}
+use Rattle.std.proofs.Common.{◌∷◌, ◌++◌, length, get_or, set, Some, true, refl}
+use Rattle.std.proofs.Common.{sym, ap, ◌∙◌, arith, append_assoc}
+use Rattle.std.specs.Prelude.{◌==◌, false}
+use Rattle.std.proofs.lemmas.Bool.{cases_eq, cases_Bool, eq-eqb, ne_eqb, and_parts, cond-true, cond-false}
+use Rattle.std.proofs.lemmas.List.{get_or-set_same, get_or-set_other}
+use Rattle.arc_base.specs.Event.{Event}
+use Rattle.arc_base.specs.Stepping.{Next}
+use Rattle.arc_base.specs.Simulation.{Does}
+use Rattle.rv32_isa.specs.declared.instr.Instr.TheVariants.{Ebreak}
+use Rattle.rv32_isa.specs.declared.label.LabelName.TheVariants.{Entry}
+use Rattle.rv32_isa.specs.declared.label.LabelLine.{LabelLine}
+use Rattle.rv32_isa.specs.declared.label.LabelLine.TheVariants as line
+use Rattle.rv32_isa.specs.Values.{added}
+use Rattle.rv32_isa.specs.Machine.{Lives}
+use Rattle.rv32_isa.specs.Labels.{Addresses, Rise, marks, mark_before}
+use Rattle.rv32_isa.specs.LabelsMeaning.{LabelRun, OfDataAndHeap, step}
+use Rattle.mid_code.specs.declared.word.TheConstants.{MOST_ARGUMENTS}
+use Rattle.mid_code.specs.declared.word.WordInstr.{WordInstr}
+use Rattle.mid_code.specs.declared.word.WordInstr.TheVariants.{Call}
+use Rattle.mid_code.specs.declared.word.WordProc.{WordProc}
+use Rattle.mid_code.specs.Words.{Vars, no_words, put, WordFrame, WordState, most_calls, is_counted, counted, from_proc, from_label, is_label, are_named}
+use Rattle.mid_code.specs.Words.{all_named}
+use Rattle.reg_scan.specs.declared.homes.Homes.{Homes}
+use Rattle.rv32_codegen.specs.Code.{home_at, after_call, lines_code, entry_code, hook_of, proc_code, start_code}
+use Rattle.rv32_codegen.proofs.Machine.{run_at, Fits, Regs, word_place}
+use Rattle.rv32_codegen.proofs.Chunks.{lines_fold, lines_end, body, body_split, entry_split}
+use Rattle.rv32_codegen.proofs.Lookups.{Layout, procs_code, behind, none_some, some_same, nil_cons, here, later}
+
+-- ---- homes, by words
+
+abbrev pub size : Homes → ℕ
+size h = h.frame / 4
+
+abbrev pub word : Homes → ℕ → ℕ
+word h v = home_at h v / 4
+
+-- what code needs of the homes of a procedure
+pub record IsLaid (h : Homes) (p : WordProc) : Type 0 where
+  pub frame : 4 * size h ≡ h.frame
+  pub some : 0 < size h
+  pub at : (v : ℕ) → v < p.vars → 4 * word h v ≡ home_at h v
+  pub apart : (v w : ℕ) → v < p.vars → w < p.vars → word h v ≡ word h w → v ≡ w
+  pub above : (v : ℕ) → v < p.vars → 0 < word h v
+  pub inside : (v : ℕ) → v < p.vars → word h v < size h
+  pub params : (v : ℕ) → v < p.params → word h v + suc v ≡ size h
+  pub few : p.params ≤ p.vars
+  pub named : all_named p.vars p.lines ≡ true
+
+-- ---- where lines stand
+
+-- one list is the end of another
+abbrev pub Within : List LabelLine → List LabelLine → Type 0
+Within whole left = (before : List LabelLine) × (whole ≡ before ++ left)
+
+pub within_more : (whole mid left front : List LabelLine) → Within whole mid → mid ≡ front ++ left → Within whole left
+within_more whole mid left front h e = (h.0 ++ front, h.1 ∙ ap (λ l. h.0 ++ l) e ∙ sym (append_assoc h.0 front left))
+
+module _ (lay : Layout) where
+  lines_within : (h : Homes) (p : WordProc) (before left : List WordInstr) (k : List LabelLine) →
+      Within (lines_code h p (before ++ left) k) (lines_code h p left k)
+  lines_within h p before left k = (lines_code h p before [], lines_fold h p before left k ∙ lines_end h p before (lines_code h p left k))
+
+  proc_within : (h : Homes) (p : WordProc) (k : List LabelLine) → Within (proc_code h p k) (lines_code h p p.lines (line.Do Ebreak ∷ k))
+  proc_within h p k = (
+    line.Label (Entry p.number) (hook_of p.kind) ∷ entry_code h [],
+    ap (λ l. line.Label (Entry p.number) (hook_of p.kind) ∷ l)
+        (entry_split h (lines_code h p p.lines (line.Do Ebreak ∷ k))),
+  )
+
+  procs_within : (n : ℕ) (procs : List WordProc) (p : WordProc) (tail : List WordProc) → from_proc n procs ≡ p ∷ tail →
+      Within (procs_code lay procs) (proc_code (lay p.number) p (procs_code lay tail))
+  procs_within n [] p tail e = absurd (nil_cons p tail e)
+  procs_within n (q ∷ procs) p tail e = elim (cases_Bool (q.number == n)) [
+    | inl t ↦
+        let is = here n q procs p tail t e in
+        ([], ap (λ x. proc_code (lay x.number) x (procs_code lay procs)) is.first ∙ ap (λ x. proc_code (lay p.number) p (procs_code lay x)) is.rest)
+    | inr f ↦
+        let x = procs_within n procs p tail (later n q procs p tail f e) in
+        let head = line.Label (Entry q.number) (hook_of q.kind) ∷ body (lay q.number) q in (
+          head ++ x.0,
+          ap (λ l. line.Label (Entry q.number) (hook_of q.kind) ∷ l) (body_split (lay q.number) q (procs_code lay procs))
+              ∙ ap (λ l. head ++ l) x.1
+              ∙ sym (append_assoc head x.0 _),
+        )
+  ]
+
+  -- ---- calls
+
+  module _ (procs : List WordProc) where
+    -- lines of a procedure that is there
+    pub record Sits (p : WordProc) (lines : List WordInstr) : Type 0 where
+      pub tail : List WordProc
+      pub found : from_proc p.number procs ≡ p ∷ tail
+      pub before : List WordInstr
+      pub split : before ++ lines ≡ p.lines
+
+    -- their code
+    abbrev pub code_here : (p : WordProc) (lines : List WordInstr) → Sits p lines → List LabelLine
+    code_here p lines sits = lines_code (lay p.number) p lines (behind lay sits.tail)
+
+    abbrev pub sits_next : (p : WordProc) (l : WordInstr) (lines : List WordInstr) → Sits p (l ∷ lines) → Sits p lines
+    sits_next p l lines s =
+        record { tail = s.tail; found = s.found; before = s.before ++ l ∷ []; split = append_assoc s.before (l ∷ []) lines ∙ s.split }
+
+    pub sits_within : (p : WordProc) (lines : List WordInstr) (s : Sits p lines) → Within (procs_code lay procs) (code_here p lines s)
+    sits_within p lines s =
+        let h = lay p.number in
+        let a = procs_within p.number procs p s.tail s.found in
+        let b = proc_within h p (procs_code lay s.tail) in
+        let c = lines_within h p s.before lines (behind lay s.tail) in
+        within_more _ (lines_code h p p.lines (behind lay s.tail)) _ c.0
+        (within_more _ (proc_code h p (procs_code lay s.tail)) _ b.0 a b.1)
+        (ap (λ x. lines_code h p x (behind lay s.tail)) (sym s.split) ∙ c.1)
+
+    named_at : (n : ℕ) (before : List WordInstr) (l : WordInstr) (rest : List WordInstr) → all_named n (before ++ l ∷ rest) ≡ true →
+        are_named n l ≡ true
+    named_at n [] l rest h = (and_parts (are_named n l) (all_named n rest) h).0
+    named_at n (x ∷ before) l rest h = named_at n before l rest (and_parts (are_named n x) (all_named n (before ++ l ∷ rest)) h).1
+
+    pub sits_named : (p : WordProc) (l : WordInstr) (rest : List WordInstr) → IsLaid (lay p.number) p → Sits p (l ∷ rest) →
+        are_named p.vars l ≡ true
+    sits_named p l rest laid s = named_at p.vars s.before l rest (ap (all_named p.vars) s.split ∙ laid.named)
+
+    pub label_split : (name : ℕ) (lines found : List WordInstr) → from_label name lines ≡ Some found → (before : List WordInstr)
+        × (before ++ found ≡ lines)
+    label_split name [] found e = absurd (none_some found e)
+    label_split name (l ∷ lines) found e = elim (cases_Bool (is_label name l)) [
+      | inl t ↦ ([], sym (some_same (l ∷ lines) found (sym (cond-true (is_label name l) (Some (l ∷ lines)) (from_label name lines) t) ∙ e)))
+      | inr f ↦
+          let h = label_split name lines found (sym (cond-false (is_label name l) (Some (l ∷ lines)) (from_label name lines) f) ∙ e) in
+          (l ∷ h.0, ap (λ x. l ∷ x) h.1)
+    ]
+
+    abbrev pub sits_at : (p : WordProc) (lines found : List WordInstr) (name : ℕ) → Sits p lines → from_label name p.lines ≡ Some found →
+        Sits p found
+    sits_at p lines found name s e =
+        let h = label_split name p.lines found e in
+        record { tail = s.tail; found = s.found; before = h.0; split = h.1 }
+
+    -- the frame that begins at word j holds the variables
+    abbrev pub Held : (ws : List ℕ) (j : ℕ) → WordProc → Vars → Type 0
+    Held ws j p vars = (v w : ℕ) → vars v ≡ Some w → (v < p.vars) × (get_or ws (j + word (lay p.number) v) 0 ≡ w) × (w < 2 ^ 32)
+
+    -- below it stand the arguments that were given
+    abbrev pub Gave : (ws : List ℕ) (j : ℕ) → Vars → Type 0
+    Gave ws j given = (i w : ℕ) → given i ≡ Some w → (i < MOST_ARGUMENTS) × (get_or ws (j - suc i) 0 ≡ w) × (w < 2 ^ 32)
+
+    -- `need` is what the longest chain takes that a procedure calls, and `total` what a call that counts may take with all that it calls
+    module _ (need : WordProc → ℕ) (total : ℕ) (whole : List LabelLine) (at : Addresses) where
+      -- so much stands below word j for all that a call may call yet, and for arguments
+      abbrev pub Deep : ℕ → WordFrame → List WordFrame → Type 0
+      Deep j c cs = 4 * MOST_ARGUMENTS + (need c.proc + total * (most_calls - counted (c ∷ cs))) ≤ 4 * j
+
+      -- a caller whose frame begins at word j, of a procedure of that number, whose return address is given and whose places begin at `base`
+      pub record Waits (ws : List ℕ) (j number return base : ℕ) (c : WordFrame) (cs : List WordFrame) : Type 0 where
+        pub sits : Sits c.proc c.left
+        pub behind_call : Within whole (line.Jump 1 (Entry number) ∷ after_call (lay c.proc.number) c.proc c.awaits (code_here c.proc c.left sits))
+        pub returns : return ≡ at (mark_before (after_call (lay c.proc.number) c.proc c.awaits (code_here c.proc c.left sits)))
+        pub base_is : base ≡ added c.base c.proc.room
+        pub base_fits : c.base < 2 ^ 32
+        pub awaits : c.awaits < c.proc.vars
+        pub given : c.given ≡ no_words
+        pub held : Held ws j c.proc c.vars
+        pub deep : Deep j c cs
+
+      -- the frame of a call begins at word j, and behind it follow those of the callers
+      abbrev pub Linked : (ws : List ℕ) (j : ℕ) → WordProc → (base : ℕ) → List WordFrame → Type 0
+      Linked ws j p base [] = j + size (lay p.number) ≡ length ws
+      Linked ws j p base (c ∷ cs) =
+          Waits ws (j + size (lay p.number)) p.number (get_or ws j 0) base c cs × Linked ws (j + size (lay p.number)) c.proc c.base cs
+
+      pub linked_inside : (ws : List ℕ) (j : ℕ) (p : WordProc) (base : ℕ) (cs : List WordFrame) → Linked ws j p base cs →
+          j + size (lay p.number) ≤ length ws
+      linked_inside ws j p base [] h = omega (arith, h)
+      linked_inside ws j p base (c ∷ cs) h = omega (arith, linked_inside ws (j + size (lay p.number)) c.proc c.base cs h.1)
+
+      -- words other than those of callers and the return address don't matter
+      pub linked_kept : (ws ws' : List ℕ) (j : ℕ) (p : WordProc) (base : ℕ) (cs : List WordFrame) → length ws' ≡ length ws →
+          ((k : ℕ) → (k ≡ j) ⊎ (j + size (lay p.number) ≤ k) → get_or ws' k 0 ≡ get_or ws k 0) → Linked ws j p base cs →
+          Linked ws' j p base cs
+      linked_kept ws ws' j p base [] long same h = h ∙ sym long
+      linked_kept ws ws' j p base (c ∷ cs) long same h =
+          let x = h.0 in
+          let next = j + size (lay p.number) in (
+            record {
+              sits = x.sits;
+              behind_call = x.behind_call;
+              returns = same j (inl refl) ∙ x.returns;
+              base_is = x.base_is;
+              base_fits = x.base_fits;
+              awaits = x.awaits;
+              given = x.given;
+              held = λ v w e. let y = x.held v w e in (y.0, same (next + word (lay c.proc.number) v) (inr (omega arith)) ∙ y.1, y.2);
+              deep = x.deep;
+            },
+            linked_kept ws ws' next c.proc c.base cs long (λ k o. same k (inr (past k next (size (lay c.proc.number)) o))) h.1,
+          )
+        where
+          past : (k n d : ℕ) → (k ≡ n) ⊎ (n + d ≤ k) → n ≤ k
+          past k n d (inl e) = omega (arith, e)
+          past k n d (inr le) = omega (arith, le)
+
+      -- what is true of word code's state and the words of frames, where the running call's frame begins at word j
+      pub record Facts (t : WordState) (lines : List WordInstr) (regs ws : List ℕ) (j : ℕ) : Type 0 where
+        pub fits : Fits t.memory ws
+        pub kept : Regs regs (word_place t.memory j) t.frame.base
+        pub base_fits : t.frame.base < 2 ^ 32
+        pub sits : Sits t.frame.proc lines
+        pub held : Held ws j t.frame.proc t.frame.vars
+        pub given : Gave ws j t.frame.given
+        pub linked : Linked ws j t.frame.proc t.frame.base t.callers
+        pub deep : Deep j t.frame t.callers
+
+      -- label code's machine is at the lines that are left
+      pub record Related (r : LabelRun) (t : WordState) : Type 0 where
+        pub regs : List ℕ
+        pub ws : List ℕ
+        pub j : ℕ
+        pub facts : Facts t t.frame.left regs ws j
+        pub is : r ≡ run_at regs t.memory ws t.input (code_here t.frame.proc t.frame.left facts.sits)
+
+    -- ---- a word that is written
+
+    pub put_held : (ws : List ℕ) (j : ℕ) (p : WordProc) (vars : Vars) (to n : ℕ) → IsLaid (lay p.number) p → to < p.vars →
+        j + size (lay p.number) ≤ length ws → Held ws j p vars → Held (set ws (j + word (lay p.number) to) (n % 2 ^ 32)) j p (put vars to n)
+    put_held ws j p vars to n laid lt inside h v w e =
+        let k = j + word (lay p.number) to in
+        let new = set ws k (n % 2 ^ 32) in
+        elim (cases_eq v to) [
+          | inl same ↦
+              let is = some_same (n % 2 ^ 32) w (sym (cond-true (v == to) (Some (n % 2 ^ 32)) (vars v) (eq-eqb v to same)) ∙ e) in
+              let home_in = laid.inside to lt in (
+                omega (arith, same, lt),
+                ap (λ x. get_or new (j + word (lay p.number) x) 0) same ∙ get_or-set_same ws k (n % 2 ^ 32) 0 (omega (arith, home_in, inside)) ∙ is,
+                omega (arith, is),
+              )
+          | inr ne ↦
+              let old : vars v ≡ Some w = sym (cond-false (v == to) (Some (n % 2 ^ 32)) (vars v) (ne_eqb v to ne)) ∙ e in
+              let x = h v w old in (
+                x.0,
+                get_or-set_other ws k (j + word (lay p.number) v) (n % 2 ^ 32) 0 (λ s. ne (laid.apart v to x.0 lt (omega (arith, s)))) ∙ x.1,
+                x.2,
+              )
+        ]
+
+-- ---- what is given of all code
+
+pub record Setting : Type 0 where
+  pub live : Lives
+  pub lay : Layout
+  pub procs : List WordProc
+  pub need : WordProc → ℕ
+  pub total : ℕ
+  pub at : Addresses
+  pub rises : Rise at (marks (start_code (procs_code lay procs)))
+  pub laid : (n : ℕ) (q : WordProc) (tail : List WordProc) → from_proc n procs ≡ q ∷ tail → IsLaid (lay q.number) q
+  pub alone : OfDataAndHeap live
+  pub fits : (n : ℕ) (q : WordProc) (tail : List WordProc) → from_proc n procs ≡ q ∷ tail → (lay q.number).frame + need q ≤ total
+  pub chains : (p q : WordProc) (ptail qtail : List WordProc) (before : List WordInstr) (to callee : ℕ) (rest : List WordInstr) →
+      from_proc p.number procs ≡ p ∷ ptail → before ++ Call to callee ∷ rest ≡ p.lines → from_proc callee procs ≡ q ∷ qtail →
+      is_counted q.kind ≡ false → (lay q.number).frame + need q ≤ need p
+
+module _ (g : Setting) where
+  abbrev pub whole : List LabelLine
+  whole = start_code (procs_code g.lay g.procs)
+
+  abbrev pub True : WordState → List WordInstr → List ℕ → List ℕ → ℕ → Type 0
+  True t lines regs ws j = Facts g.lay g.procs g.need g.total whole g.at t lines regs ws j
+
+  abbrev pub Rel : LabelRun → WordState → Type 0
+  Rel r t = Related g.lay g.procs g.need g.total whole g.at r t
+
+  -- label code does what comes of a line
+  abbrev pub Sim : LabelRun → WordState → Next Event WordState → Type 0
+  Sim r t x = Does (step g.live whole g.at) Rel (λ _. 0) 16 r t x

@@ -1,0 +1,182 @@
+-- The label code of word code: what it does, and what it may be laid out by.
+use Rattle.std.proofs.Common.{◌≡◌, ℕ, suc, ◌+◌, ◌*◌, ◌≤◌, List, [], ◌∷◌, length, Bool}
+use Rattle.std.proofs.Common.{true, false, refl, sym, ap, subst, ◌∙◌, arith}
+use Rattle.std.specs.Prelude.{nat_lt}
+use Rattle.std.proofs.lemmas.Bool.{and_from, and_parts}
+use Rattle.arc_base.specs.Event.{Event}
+use Rattle.arc_base.specs.Behaviour.{Behaviour, Agrees, Sound}
+use Rattle.arc_base.specs.Pace.{Paced}
+use Rattle.arc_base.specs.Stepping.{behaviour}
+use Rattle.rv32_isa.specs.declared.instr.Instr.{Instr}
+use Rattle.rv32_isa.specs.declared.instr.Instr.TheVariants.{Sw, Ebreak}
+use Rattle.rv32_isa.specs.declared.label.LabelLine.{LabelLine}
+use Rattle.rv32_isa.specs.declared.label.LabelLine.TheVariants.{Do}
+use Rattle.rv32_isa.specs.Machine.{Lives}
+use Rattle.rv32_isa.specs.Labels.{Addresses, Rise, marks, AreLines, begins, leads, hooks_lead}
+use Rattle.rv32_isa.specs.LabelsMeaning.{OfDataAndHeap, label_meaning}
+use Rattle.mid_code.specs.declared.word.ProcKind.{ProcKind}
+use Rattle.mid_code.specs.declared.word.ProcKind.TheVariants as kind
+use Rattle.mid_code.specs.declared.word.WordInstr.{WordInstr}
+use Rattle.mid_code.specs.declared.word.WordProc.{WordProc}
+use Rattle.mid_code.specs.declared.word.WordCode.{WordCode}
+use Rattle.mid_code.specs.Memory.{data_of}
+use Rattle.mid_code.specs.Running.{if_formed}
+use Rattle.mid_code.specs.Words.{from_proc, are_procs, start, word_meaning}
+use Rattle.mid_code.specs.Words as words
+use Rattle.reg_scan.specs.declared.homes.Homes.{Homes}
+use Rattle.rv32_codegen.specs.Code.{does, sum, negative, lines_code, hook_of, entry_code, homes_code, start_code, code_of}
+use Rattle.rv32_codegen.specs.Stack.{chain, frame_for, longest, most_frame}
+use Rattle.rv32_codegen.specs.Lowering.{AllHomes, CanRun, DoesWords, AlwaysDoes, is_kind, have_kinds, most_lines}
+use Rattle.rv32_codegen.proofs.Chunks.{line_long, length-does, few_sum, body, body_split, own_body, fields_own, leads_own}
+use Rattle.rv32_codegen.proofs.Lookups.{Layout, procs_code, number_is}
+use Rattle.rv32_codegen.proofs.Frames.{IsLaid, Setting}
+use Rattle.rv32_codegen.proofs.Depth.{need, chain_fits, need_most, places_whole}
+use Rattle.rv32_codegen.proofs.HomeFrames.{homes_for, frame_is, frame_most, laid_all, homes_are}
+use Rattle.rv32_codegen.proofs.Start.{Holding, code_agrees, code_paced}
+
+-- ---- agreement
+
+-- word code that is sound is well formed
+formed : (b : Bool) (x : Behaviour Event) → Sound (if_formed b x) → b ≡ true
+formed true x ok = refl
+formed false x ok = absurd (ok.no_fault 0 refl)
+
+module _ (code : WordCode) (homes : List Homes) (all : AllHomes code.procs homes) (live : Lives) (at : Addresses) (heap stack : ℕ) (input : List ℕ)
+    (alone : OfDataAndHeap live) (rises : Rise at (marks (code_of code.procs homes))) (can : CanRun code homes heap stack)
+    (ok : are_procs code.procs ≡ true) where
+  abbrev lay : Layout
+  lay = homes_for code.procs homes
+
+  abbrev frame_of : WordProc → ℕ
+  frame_of p = frame_for code.procs homes p.number
+
+  abbrev total : ℕ
+  total = most_frame homes + longest code.procs frame_of
+
+  same_code : code_of code.procs homes ≡ start_code (procs_code lay code.procs)
+  same_code = ap start_code (homes_are lay code.procs homes all ok (λ n e. refl))
+
+  laid : (n : ℕ) (q : WordProc) (tail : List WordProc) → from_proc n code.procs ≡ q ∷ tail → IsLaid (lay q.number) q
+  laid n q tail e = subst (λ m. IsLaid (lay m) q) (sym (number_is n code.procs q tail e)) (laid_all n code.procs homes q tail all ok e)
+
+  setting : Setting
+  setting = record {
+    live = live;
+    lay = lay;
+    procs = code.procs;
+    need = need code.procs frame_of;
+    total = total;
+    at = at;
+    rises = subst (λ l. Rise at (marks l)) same_code rises;
+    laid = laid;
+    alone = alone;
+    fits = λ n q tail e. omega (arith, frame_most code.procs homes q.number, need_most (chain code.procs frame_of (length code.procs)) n code.procs q tail e);
+    chains = λ p q ptail qtail before to callee rest found split there f.
+        subst (λ n. n + need code.procs frame_of q ≤ need code.procs frame_of p) (frame_is code.procs homes q.number)
+        (chain_fits code.procs frame_of p q ptail qtail before to callee rest can.no_circle found split there f);
+  }
+
+  room : Holding setting code.statics heap stack
+  unfolding setting
+  room =
+      let least = can.stack_least in
+      let sixteen = can.stack_whole in
+      record {
+        starts = can.starts;
+        statics_most = omega (arith, can.statics_most);
+        heap_most = can.heap_most;
+        stack_most = can.stack_most;
+        stack_whole = omega (arith, sixteen);
+        places_whole = places_whole code.procs ok;
+        stack_least = omega (arith, least);
+      }
+
+  abbrev high : Behaviour Event
+  high = behaviour (words.step live code.procs) (start code heap stack input)
+
+  does_formed : Sound high → (lines : List LabelLine) → lines ≡ start_code (procs_code lay code.procs) →
+      Agrees (label_meaning live lines at (data_of heap stack code.statics) heap stack input) high
+      × Paced 32 (label_meaning live lines at (data_of heap stack code.statics) heap stack input) high
+  unfolding setting
+  does_formed sound lines e = (
+    subst (λ l. Agrees (label_meaning live l at (data_of heap stack code.statics) heap stack input) high) (sym e)
+        (code_agrees setting code.statics heap stack input room sound),
+    subst (λ l. Paced 32 (label_meaning live l at (data_of heap stack code.statics) heap stack input) high) (sym e)
+        (code_paced setting code.statics heap stack input room sound),
+  )
+
+  pub does_words : Sound (word_meaning live code heap stack input) → DoesWords (code_of code.procs homes) code live at heap stack input
+  does_words sound =
+      let is : word_meaning live code heap stack input ≡ high = ap (λ b. if_formed b high) ok in
+      let x = does_formed (subst Sound is sound) (code_of code.procs homes) same_code in
+      record {
+        agrees = subst (Agrees (label_meaning live (code_of code.procs homes) at (data_of heap stack code.statics) heap stack input)) (sym is) x.0;
+        paced = subst (Paced 32 (label_meaning live (code_of code.procs homes) at (data_of heap stack code.statics) heap stack input)) (sym is) x.1;
+      }
+
+pub always_does : (code : WordCode) (homes : List Homes) → AllHomes code.procs homes → AlwaysDoes (code_of code.procs homes) code homes
+always_does code homes all live at heap stack input alone rises can sound =
+    does_words code homes all live at heap stack input alone rises can (formed (are_procs code.procs) _ sound) sound
+
+-- ---- what it may be laid out by
+
+homes_fields : (procs : List WordProc) (homes : List Homes) → AreLines (homes_code procs homes)
+homes_fields [] homes = tt
+homes_fields (p ∷ procs) [] = tt
+homes_fields (p ∷ procs) (h ∷ homes) =
+    (tt, subst AreLines (sym (body_split h p (homes_code procs homes))) (fields_own p.number (body h p) _ (own_body h p) (homes_fields procs homes)))
+
+pub code_fields : (procs : List WordProc) (homes : List Homes) → AreLines (code_of procs homes)
+code_fields procs homes = (
+  (omega arith, omega arith),
+  ((omega arith, omega arith, omega arith), ((omega arith, omega arith), ((omega arith, omega arith, omega arith), (omega arith, homes_fields procs homes)))),
+)
+
+begins_does : (is : List Instr) (rest : List LabelLine) → begins rest ≡ true → begins (does is rest) ≡ true
+begins_does [] rest h = h
+begins_does (i ∷ is) rest h = refl
+
+hook_leads : (k : ProcKind) (rest : List LabelLine) → is_kind k ≡ true → begins rest ≡ true → leads (hook_of k) rest ≡ true
+hook_leads kind.Counted rest h e = refl
+hook_leads (kind.Hook kind of) rest h e = and_from (nat_lt kind 4) (begins rest) h e
+hook_leads kind.Uncounted rest h e = refl
+
+homes_lead : (procs : List WordProc) (homes : List Homes) → have_kinds procs ≡ true → hooks_lead (homes_code procs homes) ≡ true
+homes_lead [] homes h = refl
+homes_lead (p ∷ procs) [] h = refl
+homes_lead (p ∷ procs) (own ∷ homes) h =
+    let parts = and_parts (is_kind p.kind) (have_kinds procs) h in
+    let rest = entry_code own (lines_code own p p.lines (Do Ebreak ∷ homes_code procs homes)) in
+    let first : begins rest ≡ true = begins_does (sum 2 2 (negative own.frame))
+    (Do (Sw 2 1 0) ∷ lines_code own p p.lines (Do Ebreak ∷ homes_code procs homes)) refl in
+    and_from (leads (hook_of p.kind) rest) (hooks_lead rest) (hook_leads p.kind rest parts.0 first)
+    (ap hooks_lead (body_split own p (homes_code procs homes))
+    ∙ leads_own p.number (body own p) (homes_code procs homes) (own_body own p) (homes_lead procs homes parts.1))
+
+pub code_leads : (procs : List WordProc) (homes : List Homes) → have_kinds procs ≡ true → hooks_lead (code_of procs homes) ≡ true
+code_leads procs homes h = homes_lead procs homes h
+
+lines_long : (h : Homes) (p : WordProc) (lines : List WordInstr) (k : List LabelLine) → length (lines_code h p lines k) ≤ 12 * length lines + length k
+lines_long h p [] k = omega arith
+lines_long h p (l ∷ lines) k = omega (arith, line_long h p l (lines_code h p lines k), lines_long h p lines k)
+
+pub code_long : (procs : List WordProc) (homes : List Homes) → length (code_of procs homes) ≤ most_lines procs
+code_long [] homes = omega arith
+code_long (p ∷ procs) [] = omega arith
+code_long (p ∷ procs) (h ∷ homes) =
+    let rest = Do Ebreak ∷ homes_code procs homes in
+    let lines = lines_code h p p.lines rest in
+    omega (
+      arith,
+      length-does (sum 2 2 (negative h.frame)) (Do (Sw 2 1 0) ∷ lines),
+      few_sum 2 2 (negative h.frame),
+      lines_long h p p.lines rest,
+      code_long procs homes,
+    )
+
+-- there are as many homes as procedures
+pub same_long : (procs : List WordProc) (homes : List Homes) → AllHomes procs homes → length homes ≡ length procs
+same_long [] [] h = refl
+same_long [] (x ∷ homes) h = absurd h
+same_long (p ∷ procs) [] h = absurd h
+same_long (p ∷ procs) (x ∷ homes) h = ap suc (same_long procs homes h.1)

@@ -1,0 +1,6 @@
+pub mod Code
+pub mod Stack
+pub mod Lowering
+pub mod Chains
+pub mod Layout
+pub mod Places

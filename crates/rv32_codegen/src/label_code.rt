@@ -1,0 +1,118 @@
+// From word code to label code.
+ghost use Rattle.std.specs.Prelude.{◌≡◌, ◌≤◌, ◌++◌, true, List, length, IfOk, OnOk};
+ghost use Rattle.rv32_isa.specs.declared.label.LabelLine.{LabelLine as Line};
+ghost use Rattle.rv32_isa.specs.Labels.{AreLines, has_instruction, hooks_lead};
+ghost use Rattle.rv32_codegen.specs.Code as spec;
+ghost use Rattle.rv32_codegen.specs.Lowering.{AllHomes, AlwaysDoes, have_kinds, most_lines};
+
+use crate::lines::emit_lines;
+use crate::pieces::{emit, emit_sum, negative, push};
+use arc_base::{Items, Memory};
+use mid_code::{ProcKind, WordCode, WordProc};
+use reg_scan::Homes;
+use rv32_isa::build::{add, ebreak, lui, lw, sw};
+use rv32_isa::{HookLabel, LabelCode, LabelLine, LabelName, STACK_AT, STATICS_AT};
+use std::alloc::Global;
+
+/// The lines of label code do at most so many times the work of the word code and one more.
+pub const CODE_PACE: u32 = 32;
+
+/// A line of word code becomes at most so many lines.
+pub const LINES_OF_LINE: u32 = 12;
+
+/// A procedure has at most so many lines beside those of its lines.
+pub const LINES_OF_PROC: u32 = 6;
+
+/// So many lines stand in front of all procedures.
+pub const LINES_OF_START: u32 = 5;
+
+// What the label of a procedure carries.
+fn hook_of(kind: ProcKind) -> Option<HookLabel>
+    ensures { result ≡ spec.hook_of kind }
+{
+    match kind {
+        ProcKind::Counted => None,
+        ProcKind::Hook { kind, of } => Some(HookLabel { kind, of }),
+        ProcKind::Uncounted => None,
+    }
+}
+
+// A procedure.
+fn emit_proc(lines: &mut LabelCode, homes: &Homes, proc: &WordProc) -> Result<(), Memory>
+    ensures { OnOk result ((k : List Line) →
+        lines.new ++ k ≡ lines.old ++ spec.proc_code homes.now proc.now k) }
+{
+    push(
+        lines,
+        LabelLine::Label {
+            name: LabelName::Entry {
+                procedure: proc.number,
+            },
+            hook: hook_of(proc.kind),
+        },
+    )?;
+    emit_sum(lines, 2, 2, negative(homes.frame))?;
+    emit(lines, &[sw(2, 1, 0)])?;
+    emit_lines(lines, homes, proc, proc.lines.as_slice())?;
+    emit(lines, &[ebreak()])
+}
+
+// Procedures, one after another.
+fn emit_procs(lines: &mut LabelCode, procs: &[WordProc], homes: &[Homes]) -> Result<(), Memory>
+    requires { length homes.now ≡ length procs.now }
+    ensures { OnOk result (lines.new ≡ lines.old ++ spec.homes_code procs.now homes.now) }
+{
+    for i in 0..procs.len() {
+        emit_proc(lines, &homes[i], &procs[i])?;
+    }
+    Ok(())
+}
+
+// What stands in front of them.
+fn emit_start(lines: &mut LabelCode) -> Result<(), Memory>
+    ensures { OnOk result ((k : List Line) → lines.new ++ k ≡ lines.old ++ spec.start_code k) }
+{
+    emit(
+        lines,
+        &[
+            lui(5, STATICS_AT / 4096),
+            lw(2, 5, 4),
+            lui(3, STACK_AT / 4096),
+            add(2, 2, 3),
+        ],
+    )?;
+    push(
+        lines,
+        LabelLine::Jump {
+            rd: 0,
+            to: LabelName::Entry { procedure: 0 },
+        },
+    )
+}
+
+// All lines.
+fn emit_code(alloc: Global, words: &WordCode, homes: &[Homes]) -> Result<LabelCode, Memory>
+    requires { length homes.now ≡ length words.now.procs }
+    ensures { IfOk result (λ lines. lines ≡ spec.code_of words.now.procs homes.now) }
+{
+    let mut lines = Items::new(alloc);
+    emit_start(&mut lines)?;
+    emit_procs(&mut lines, words.procs.as_slice(), homes)?;
+    Ok(lines)
+}
+
+/// Label code that does, under all addresses of its marks that rise, what the word code does: over
+/// the word code's data, and with each stack that is at least what `stack_need` gives.
+///
+/// There are homes for each procedure, in order.
+pub fn code(alloc: Global, words: &WordCode, homes: &[Homes]) -> Result<LabelCode, Memory>
+    requires { AllHomes words.now.procs homes.now }
+    ensures does { IfOk result (λ lines. AlwaysDoes lines words.now homes.now) }
+    ensures fits { IfOk result (λ lines. AreLines lines) }
+    ensures some { IfOk result (λ lines. has_instruction lines ≡ true) }
+    ensures leads { have_kinds words.now.procs ≡ true →
+        IfOk result (λ lines. hooks_lead lines ≡ true) }
+    ensures size { IfOk result (λ lines. length lines ≤ most_lines words.now.procs) }
+{
+    emit_code(alloc, words, homes)
+}

@@ -1,0 +1,346 @@
+// The label code of the lines of word code.
+ghost use Rattle.std.specs.Prelude.{◌≡◌, ◌++◌, ◌∷◌, List, OnOk};
+ghost use Rattle.mid_code.specs.declared.word.WordInstr.TheVariants as word;
+ghost use Rattle.rv32_isa.specs.declared.label.LabelLine.{LabelLine as Line};
+ghost use Rattle.rv32_codegen.specs.Code as code;
+
+use crate::pieces::{
+    compare, emit, emit_constant, emit_load, emit_save, emit_shift, emit_sum, fetch, negative,
+    operate, push, store, stream_number,
+};
+use arc_base::{Memory, Stream};
+use mid_code::{Test, WordInstr, WordOperation, WordProc};
+use reg_scan::{Home, Homes};
+use rv32_isa::build::{addi, ecall, jalr, lw};
+use rv32_isa::{LabelCode, LabelLine, LabelName, STATICS_AT, Size};
+
+/// Where the word code's own data begins: behind the sizes of heap and stack.
+const OWN_DATA_AT: u32 = STATICS_AT + 8;
+
+// How far a variable's home is from where the frame begins.
+fn home_at(homes: &Homes, variable: u32) -> u32
+    ensures { result ≡ code.home_at homes.now variable }
+{
+    match homes.of.as_slice().get(variable as usize) {
+        Some(Home::Frame(at)) => *at,
+        Some(Home::Reg(_)) => 0,
+        None => 0,
+    }
+}
+
+// How far the argument of that number is from there.
+fn argument_at(index: u32) -> u32
+    ensures { result ≡ code.argument_at index }
+{
+    negative(index.wrapping_add(1).wrapping_mul(4))
+}
+
+// Two variables into x5 and x6.
+fn load_both(lines: &mut LabelCode, homes: &Homes, left: u32, right: u32) -> Result<(), Memory>
+    ensures { OnOk result ((k : List Line) →
+        lines.new ++ k ≡ lines.old ++ code.load_both homes.now left right k) }
+{
+    emit_load(lines, 5, home_at(homes, left))?;
+    emit_load(lines, 6, home_at(homes, right))
+}
+
+// An address and a length into x11 and x12.
+fn load_range(lines: &mut LabelCode, homes: &Homes, address: u32, len: u32) -> Result<(), Memory>
+    ensures { OnOk result ((k : List Line) →
+        lines.new ++ k ≡ lines.old ++ code.load_range homes.now address len k) }
+{
+    emit_load(lines, 11, home_at(homes, address))?;
+    emit_load(lines, 12, home_at(homes, len))
+}
+
+// x5 into a variable.
+fn keep(lines: &mut LabelCode, homes: &Homes, to: u32) -> Result<(), Memory>
+    ensures { OnOk result ((k : List Line) →
+        lines.new ++ k ≡ lines.old ++ code.keep homes.now to k) }
+{
+    emit_save(lines, 5, home_at(homes, to))
+}
+
+// A label of the procedure.
+fn inner(proc: &WordProc, name: u32) -> LabelName
+    ensures { result ≡ LabelName.Inner proc.now.number name }
+{
+    LabelName::Inner {
+        procedure: proc.number,
+        name,
+    }
+}
+
+fn emit_set(lines: &mut LabelCode, homes: &Homes, to: u32, value: u32) -> Result<(), Memory>
+    ensures { OnOk result ((k : List Line) →
+        lines.new ++ k
+        ≡ lines.old ++ code.does (code.constant 5 value) (code.keep homes.now to k)) }
+{
+    emit_constant(lines, 5, value)?;
+    keep(lines, homes, to)
+}
+
+fn emit_copy(lines: &mut LabelCode, homes: &Homes, to: u32, from: u32) -> Result<(), Memory>
+    ensures { OnOk result ((k : List Line) → lines.new ++ k ≡ lines.old ++ code.does
+        (code.load 5 (code.home_at homes.now from)) (code.keep homes.now to k)) }
+{
+    emit_load(lines, 5, home_at(homes, from))?;
+    keep(lines, homes, to)
+}
+
+fn emit_compute(
+    lines: &mut LabelCode,
+    homes: &Homes,
+    to: u32,
+    operation: WordOperation,
+    left: u32,
+    right: u32,
+) -> Result<(), Memory>
+    ensures { OnOk result ((k : List Line) → lines.new ++ k ≡ lines.old ++
+        code.load_both homes.now left right
+        (LabelLine.Do (code.operate operation) ∷ code.keep homes.now to k)) }
+{
+    load_both(lines, homes, left, right)?;
+    emit(lines, &[operate(operation)])?;
+    keep(lines, homes, to)
+}
+
+fn emit_place(lines: &mut LabelCode, homes: &Homes, to: u32, at: u32) -> Result<(), Memory>
+    ensures { OnOk result ((k : List Line) →
+        lines.new ++ k ≡ lines.old ++ code.does (code.sum 5 3 at) (code.keep homes.now to k)) }
+{
+    emit_sum(lines, 5, 3, at)?;
+    keep(lines, homes, to)
+}
+
+fn emit_fetch(
+    lines: &mut LabelCode,
+    homes: &Homes,
+    to: u32,
+    address: u32,
+    size: Size,
+) -> Result<(), Memory>
+    ensures { OnOk result ((k : List Line) → lines.new ++ k ≡ lines.old ++ code.does
+        (code.load 5 (code.home_at homes.now address))
+        (LabelLine.Do (code.fetch size) ∷ code.keep homes.now to k)) }
+{
+    emit_load(lines, 5, home_at(homes, address))?;
+    emit(lines, &[fetch(size)])?;
+    keep(lines, homes, to)
+}
+
+fn emit_store(
+    lines: &mut LabelCode,
+    homes: &Homes,
+    address: u32,
+    from: u32,
+    size: Size,
+) -> Result<(), Memory>
+    ensures { OnOk result ((k : List Line) → lines.new ++ k
+        ≡ lines.old ++ code.load_both homes.now address from (LabelLine.Do (code.store size) ∷ k)) }
+{
+    load_both(lines, homes, address, from)?;
+    emit(lines, &[store(size)])
+}
+
+fn emit_branch(
+    lines: &mut LabelCode,
+    homes: &Homes,
+    test: Test,
+    left: u32,
+    right: u32,
+    to: LabelName,
+) -> Result<(), Memory>
+    ensures { OnOk result ((k : List Line) → lines.new ++ k ≡ lines.old ++
+        code.load_both homes.now left right
+        (LabelLine.Branch (code.compare test) 5 6 to ∷ k)) }
+{
+    load_both(lines, homes, left, right)?;
+    push(
+        lines,
+        LabelLine::Branch {
+            test: compare(test),
+            left: 5,
+            right: 6,
+            to,
+        },
+    )
+}
+
+fn emit_argument(lines: &mut LabelCode, homes: &Homes, index: u32, from: u32) -> Result<(), Memory>
+    ensures { OnOk result ((k : List Line) → lines.new ++ k ≡ lines.old ++ code.does
+        (code.load 5 (code.home_at homes.now from))
+        (code.does (code.save 5 (code.argument_at index)) k)) }
+{
+    emit_load(lines, 5, home_at(homes, from))?;
+    emit_save(lines, 5, argument_at(index))
+}
+
+fn emit_call(
+    lines: &mut LabelCode,
+    homes: &Homes,
+    proc: &WordProc,
+    to: u32,
+    callee: u32,
+) -> Result<(), Memory>
+    ensures { OnOk result ((k : List Line) →
+        lines.new ++ k ≡ lines.old ++ code.line_code homes.now proc.now (word.Call to callee) k) }
+{
+    emit_shift(lines, 3, proc.room)?;
+    push(
+        lines,
+        LabelLine::Jump {
+            rd: 1,
+            to: LabelName::Entry { procedure: callee },
+        },
+    )?;
+    emit_shift(lines, 3, negative(proc.room))?;
+    emit_save(lines, 10, home_at(homes, to))
+}
+
+fn emit_return(
+    lines: &mut LabelCode,
+    homes: &Homes,
+    proc: &WordProc,
+    from: u32,
+) -> Result<(), Memory>
+    ensures { OnOk result ((k : List Line) →
+        lines.new ++ k ≡ lines.old ++ code.line_code homes.now proc.now (word.Return from) k) }
+{
+    emit_load(lines, 10, home_at(homes, from))?;
+    emit(lines, &[lw(1, 2, 0)])?;
+    emit_sum(lines, 2, 2, homes.frame)?;
+    emit(lines, &[jalr(0, 1, 0)])
+}
+
+fn emit_read(
+    lines: &mut LabelCode,
+    homes: &Homes,
+    proc: &WordProc,
+    to: u32,
+    address: u32,
+    len: u32,
+) -> Result<(), Memory>
+    ensures { OnOk result ((k : List Line) →
+        lines.new ++ k
+        ≡ lines.old ++ code.line_code homes.now proc.now (word.Read to address len) k) }
+{
+    load_range(lines, homes, address, len)?;
+    emit(lines, &[addi(10, 0, 0), addi(17, 0, 63), ecall()])?;
+    emit_save(lines, 10, home_at(homes, to))
+}
+
+fn emit_write(
+    lines: &mut LabelCode,
+    homes: &Homes,
+    proc: &WordProc,
+    stream: Stream,
+    address: u32,
+    len: u32,
+) -> Result<(), Memory>
+    ensures { OnOk result ((k : List Line) →
+        lines.new ++ k
+        ≡ lines.old ++ code.line_code homes.now proc.now (word.Write stream address len) k) }
+{
+    load_range(lines, homes, address, len)?;
+    emit(
+        lines,
+        &[addi(10, 0, stream_number(stream)), addi(17, 0, 64), ecall()],
+    )
+}
+
+fn emit_exit(
+    lines: &mut LabelCode,
+    homes: &Homes,
+    proc: &WordProc,
+    status: u32,
+) -> Result<(), Memory>
+    ensures { OnOk result ((k : List Line) →
+        lines.new ++ k ≡ lines.old ++ code.line_code homes.now proc.now (word.Exit status) k) }
+{
+    emit_load(lines, 10, home_at(homes, status))?;
+    emit(lines, &[addi(17, 0, 93), ecall()])
+}
+
+// A line.
+fn emit_line(
+    lines: &mut LabelCode,
+    homes: &Homes,
+    proc: &WordProc,
+    line: WordInstr,
+) -> Result<(), Memory>
+    ensures { OnOk result ((k : List Line) →
+        lines.new ++ k ≡ lines.old ++ code.line_code homes.now proc.now line k) }
+{
+    match line {
+        WordInstr::Label { name } => push(
+            lines,
+            LabelLine::Label {
+                name: inner(proc, name),
+                hook: None,
+            },
+        ),
+        WordInstr::Constant { to, value } => emit_set(lines, homes, to, value),
+        WordInstr::Copy { to, from } => emit_copy(lines, homes, to, from),
+        WordInstr::Compute {
+            to,
+            operation,
+            left,
+            right,
+        } => emit_compute(lines, homes, to, operation, left, right),
+        WordInstr::Place { to, at } => emit_place(lines, homes, to, at),
+        WordInstr::Datum { to, at } => emit_set(lines, homes, to, datum_at(proc, at)),
+        WordInstr::Load { to, address, size } => emit_fetch(lines, homes, to, address, size),
+        WordInstr::Store {
+            address,
+            from,
+            size,
+        } => emit_store(lines, homes, address, from, size),
+        WordInstr::Jump { to } => push(
+            lines,
+            LabelLine::Jump {
+                rd: 0,
+                to: inner(proc, to),
+            },
+        ),
+        WordInstr::Branch {
+            test,
+            left,
+            right,
+            to,
+        } => emit_branch(lines, homes, test, left, right, inner(proc, to)),
+        WordInstr::Argument { index, from } => emit_argument(lines, homes, index, from),
+        WordInstr::Call { to, callee } => emit_call(lines, homes, proc, to, callee),
+        WordInstr::Return { from } => emit_return(lines, homes, proc, from),
+        WordInstr::Read { to, address, len } => emit_read(lines, homes, proc, to, address, len),
+        WordInstr::Write {
+            stream,
+            address,
+            len,
+        } => emit_write(lines, homes, proc, stream, address, len),
+        WordInstr::Exit { status } => emit_exit(lines, homes, proc, status),
+    }
+}
+
+// The address of a byte of a procedure's data.
+fn datum_at(proc: &WordProc, at: u32) -> u32
+    ensures { result ≡ code.datum_at proc.now at }
+{
+    OWN_DATA_AT.wrapping_add(proc.data_from).wrapping_add(at)
+}
+
+/// Lines of a procedure, one after another.
+pub fn emit_lines(
+    lines: &mut LabelCode,
+    homes: &Homes,
+    proc: &WordProc,
+    words: &[WordInstr],
+) -> Result<(), Memory>
+    ensures { OnOk result ((k : List Line) →
+        lines.new ++ k ≡ lines.old ++ code.lines_code homes.now proc.now words.now k) }
+{
+    for line in words {
+        emit_line(lines, homes, proc, *line)?;
+    }
+    Ok(())
+}

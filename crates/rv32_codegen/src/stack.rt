@@ -1,0 +1,211 @@
+// The stack that label code needs.
+ghost use Rattle.std.specs.Prelude.{◌≡◌, ◌≤◌, ◌+◌, ◌*◌, ◌++◌, true, false, max, length, List, IfOk, ℕ, if◌then◌else◌};
+ghost use Rattle.mid_code.specs.Words as words;
+ghost use Rattle.mid_code.specs.Sizes.{has_no_circle};
+ghost use Rattle.rv32_codegen.specs.Stack as stack;
+ghost use Rattle.rv32_codegen.specs.Chains as chains;
+ghost use Rattle.rv32_codegen.specs.Lowering.{AllHomes};
+
+use arc_base::{Items, Memory};
+use mid_code::{MOST_ARGUMENTS, ProcKind, SPARE_ROOM, WordCode, WordInstr, WordProc};
+use nim_core::ACTIVE_CALLS;
+use reg_scan::Homes;
+use std::alloc::Global;
+
+fn larger(a: u32, b: u32) -> u32
+    ensures { result ≡ max a b }
+{
+    if a < b { b } else { a }
+}
+
+fn is_counted(kind: ProcKind) -> bool
+    ensures { result ≡ words.is_counted kind }
+{
+    match kind {
+        ProcKind::Counted => true,
+        ProcKind::Hook { .. } => true,
+        ProcKind::Uncounted => false,
+    }
+}
+
+fn callee_of(line: WordInstr) -> Option<u32>
+    ensures { result ≡ chains.callee_of line }
+{
+    match line {
+        WordInstr::Call { callee, .. } => Some(callee),
+        _ => None,
+    }
+}
+
+// The number of the first procedure that has this one, or 0.
+fn number_for(procs: &[WordProc], taken: &[u32], number: u32) -> u32
+    requires { length taken.now ≡ length procs.now }
+    ensures { result ≡ chains.number_for procs.now taken.now number }
+{
+    for i in 0..procs.len() {
+        if procs[i].number == number {
+            return taken[i];
+        }
+    }
+    0
+}
+
+// What the procedure takes that a line calls, or 0.
+fn taken_for(procs: &[WordProc], taken: &[u32], line: WordInstr) -> u32
+    requires { length taken.now ≡ length procs.now }
+    ensures { result
+        ≡ chains.taken_for (chains.number_for procs.now taken.now) (chains.callee_of line) }
+{
+    match callee_of(line) {
+        Some(callee) => number_for(procs, taken, callee),
+        None => 0,
+    }
+}
+
+// The most that one of the procedures takes that these lines call.
+fn most_called(procs: &[WordProc], taken: &[u32], lines: &[WordInstr]) -> u32
+    requires { length taken.now ≡ length procs.now }
+    ensures { result ≡ words.most_called (chains.number_for procs.now taken.now) lines.now }
+{
+    let mut most = 0;
+    for line in lines {
+        most = larger(most, taken_for(procs, taken, *line));
+    }
+    most
+}
+
+// What chains take from a procedure on that takes so much itself.
+fn chain_from(procs: &[WordProc], taken: &[u32], size: u32, proc: &WordProc) -> u32
+    requires { length taken.now ≡ length procs.now }
+    ensures { result ≡ chains.chain_from (chains.number_for procs.now taken.now) size proc.now }
+{
+    if is_counted(proc.kind) {
+        return 0;
+    }
+    size.saturating_add(most_called(procs, taken, proc.lines.as_slice()))
+}
+
+// The same of each procedure.
+fn chains_from(
+    alloc: Global,
+    procs: &[WordProc],
+    taken: &[u32],
+    sizes: &[u32],
+) -> Result<Items<u32>, Memory>
+    requires taken { length taken.now ≡ length procs.now }
+    requires sizes { length sizes.now ≡ length procs.now }
+    ensures { IfOk result (λ next. next
+        ≡ chains.chains_from (chains.number_for procs.now taken.now) procs.now sizes.now) }
+{
+    let mut next = Items::new(alloc);
+    for i in 0..procs.len() {
+        next.push(chain_from(procs, taken, sizes[i], &procs[i]))?;
+    }
+    Ok(next)
+}
+
+fn none_of(alloc: Global, procs: &[WordProc]) -> Result<Items<u32>, Memory>
+    ensures { IfOk result (λ none. none ≡ chains.none_of procs.now) }
+{
+    let mut none = Items::new(alloc);
+    for _proc in procs {
+        none.push(0)?;
+    }
+    Ok(none)
+}
+
+fn is_same(a: &[u32], b: &[u32]) -> bool
+    ensures { result ≡ true → a.now ≡ b.now }
+{
+    a == b
+}
+
+// What the longest chains take, from each procedure on.
+fn longest_chains(alloc: Global, procs: &[WordProc], sizes: &[u32]) -> Result<Items<u32>, Memory>
+    requires { length sizes.now ≡ length procs.now }
+    ensures { IfOk result (λ taken. chains.AreLongest procs.now sizes.now taken) }
+{
+    let mut taken = none_of(alloc, procs)?;
+    for _round in 0..procs.len() {
+        let next = chains_from(alloc, procs, taken.as_slice(), sizes)?;
+        if is_same(next.as_slice(), taken.as_slice()) {
+            return Ok(taken);
+        }
+        taken = next;
+    }
+    Ok(taken)
+}
+
+// The longest chain that a procedure may call.
+fn most_chain(procs: &[WordProc], taken: &[u32]) -> u32
+    requires { length taken.now ≡ length procs.now }
+    ensures { result ≡ words.most_chain (chains.number_for procs.now taken.now) procs.now }
+{
+    let mut most = 0;
+    for proc in procs {
+        most = larger(most, most_called(procs, taken, proc.lines.as_slice()));
+    }
+    most
+}
+
+fn most_of(sizes: &[u32]) -> u32
+    ensures { result ≡ chains.most_of sizes.now }
+{
+    let mut most = 0;
+    for size in sizes {
+        most = larger(most, *size);
+    }
+    most
+}
+
+// What a call takes that counts, with the chains that it may call.
+fn call_size(alloc: Global, procs: &[WordProc], sizes: &[u32]) -> Result<u64, Memory>
+    requires { length sizes.now ≡ length procs.now }
+    ensures { IfOk result (λ size. chains.IsCallSize procs.now sizes.now size) }
+{
+    let taken = longest_chains(alloc, procs, sizes)?;
+    let chain = most_chain(procs, taken.as_slice());
+    Ok(u64::from(most_of(sizes)) + u64::from(chain))
+}
+
+fn rooms_of(alloc: Global, procs: &[WordProc]) -> Result<Items<u32>, Memory>
+    ensures { IfOk result (λ sizes. sizes ≡ chains.rooms_of procs.now) }
+{
+    let mut sizes = Items::new(alloc);
+    for proc in procs {
+        sizes.push(proc.room)?;
+    }
+    Ok(sizes)
+}
+
+fn frames_of(alloc: Global, homes: &[Homes]) -> Result<Items<u32>, Memory>
+    ensures { IfOk result (λ sizes. sizes ≡ chains.frames_of homes.now) }
+{
+    let mut sizes = Items::new(alloc);
+    for own in homes {
+        sizes.push(own.frame)?;
+    }
+    Ok(sizes)
+}
+
+/// The bytes of a stack for all calls that may be active: of each that counts the places and the
+/// frame, with those of the longest chain of calls that don't.
+///
+/// There are homes for each procedure, in order, procedures that don't count call each other in no
+/// circle, and the stack is at most 268,435,456 bytes.
+pub fn stack_need(alloc: Global, words: &WordCode, homes: &[Homes]) -> Result<u32, Memory>
+    requires homes { AllHomes words.now.procs homes.now }
+    requires circle { has_no_circle words.now.procs ≡ true }
+    requires most { stack.stack_need words.now.procs homes.now ≤ 268435456 }
+    ensures { IfOk result (λ need. need ≡ stack.stack_need words.now.procs homes.now) }
+{
+    let procs = words.procs.as_slice();
+    let rooms = rooms_of(alloc, procs)?;
+    let frames = frames_of(alloc, homes)?;
+    let places = call_size(alloc, procs, rooms.as_slice())?;
+    let frame = call_size(alloc, procs, frames.as_slice())?;
+    let calls = u64::from(ACTIVE_CALLS) + 1;
+    let spare = u64::from(SPARE_ROOM) + 4 * u64::from(MOST_ARGUMENTS);
+    let bytes = calls * places + calls * frame + spare;
+    Ok(((bytes + 15) / 16 * 16) as u32)
+}
