@@ -8,10 +8,10 @@ use Rattle.mid_code.specs.declared.owned.Owned.{Owned}
 use Rattle.mid_code.specs.declared.block.BlockProc.{BlockProc}
 use Rattle.mid_code.specs.declared.block.Blocks.{Blocks}
 use Rattle.mid_code.specs.Scene.{Known}
-use Rattle.mid_code.specs.Codes.{owned_proc, owned_meaning, block_proc, block_meaning}
+use Rattle.mid_code.specs.Codes.{owned_placed, owned_proc, owned_meaning, block_placed, block_proc, block_meaning}
 use Rattle.mid_code.specs.Plain.{block_from, block_proc_from, plain_blocks}
-use Rattle.mid_code.specs.Sizes.{line_count}
-use Rattle.mid_code.proofs.ForCallers.{same_agrees, same_pace}
+use Rattle.mid_code.specs.Sizes.{line_count, code_weight, data_bytes}
+use Rattle.mid_code.proofs.ForCallers.{same_agrees, same_pace, placed_as_blocks}
 use Rattle.goto_exceptions.specs.Branches.{IsBranched}
 
 length_map : {A B : Type 0} (g : A → B) (xs : List A) → length (map g xs) ≡ length xs
@@ -30,8 +30,16 @@ same_places : (procs : List OwnedProc) →
 same_places [] = refl
 same_places (p ∷ procs) = ap (λ rest. p.places ∷ rest) (same_places procs)
 
+same_hooks : (procs : List OwnedProc) →
+    map (λ (p : BlockProc). p.hook) (map block_proc_from procs) ≡ map (λ (p : OwnedProc). p.hook) procs
+same_hooks [] = refl
+same_hooks (p ∷ procs) = ap (λ rest. p.hook ∷ rest) (same_hooks procs)
+
 at_most : (m n : ℕ) → m ≡ n → m ≤ 1 * n
 at_most m n e = omega arith
+
+no_more : (m n : ℕ) → m ≡ n → m ≤ n
+no_more m n e = omega arith
 
 abbrev blocks_with : List BlockProc → Blocks
 blocks_with procs = record { procs = procs }
@@ -48,5 +56,10 @@ branched owned procs e itself steady same = subst (λ ps. IsBranched owned (bloc
   paced = λ table heap input sound.
       same_pace (block_meaning table (plain_blocks owned) heap input) (owned_meaning table owned heap input) (same table owned heap input);
   lines = λ known. at_most _ _ (same_lines known owned.procs);
+  weight = no_more (code_weight (map block_placed (map block_proc_from owned.procs))) (code_weight (map owned_placed owned.procs))
+      (ap code_weight (placed_as_blocks owned.procs));
+  data_size = λ table. no_more (data_bytes table (map block_placed (map block_proc_from owned.procs))) (data_bytes table (map owned_placed owned.procs))
+      (ap (data_bytes table) (placed_as_blocks owned.procs));
   places = same_places owned.procs;
+  hooks = same_hooks owned.procs;
 })

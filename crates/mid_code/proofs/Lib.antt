@@ -6,4 +6,5 @@ mod FlatWays
 mod Marked
 mod WaysByLists
 mod Same
+mod Weighing
 pub mod ForCallers

@@ -38,19 +38,19 @@ flat_lines : (lines : List FlatLine) → map owned_plain (map owned_from lines) 
 flat_lines [] = refl
 flat_lines (line ∷ lines) = ap (λ rest. line.line ∷ rest) (flat_lines lines)
 
-flat_all : (procs : List FlatProc) → map owned_placed (map owned_proc_from procs) ≡ map flat_placed procs
-flat_all [] = refl
-flat_all (p ∷ procs) =
+pub placed_as_owned : (procs : List FlatProc) → map owned_placed (map owned_proc_from procs) ≡ map flat_placed procs
+placed_as_owned [] = refl
+placed_as_owned (p ∷ procs) =
     ap (λ lines. record { first = p.first; span = p.span; places = p.places; lines = lines } ∷ map owned_placed (map owned_proc_from procs))
     (flat_lines p.lines)
-    ∙ ap (λ rest. flat_placed p ∷ rest) (flat_all procs)
+    ∙ ap (λ rest. flat_placed p ∷ rest) (placed_as_owned procs)
 
 owned_formed : (known : Known) (flat : Flat) → is_owned known (plain_owned flat) ≡ is_flat known flat
 owned_formed known flat =
     ap (λ procs. are_whole owned_label owned_plain procs && code_fits known (map owned_placed (map owned_proc_from flat.procs))) (owned_in known flat.procs)
     ∙ ap (λ b. b && code_fits known (map owned_placed (map owned_proc_from flat.procs)))
     (whole_map owned_from flat_label owned_label flat_line owned_plain (λ line. refl) (λ line. refl) (flat_procs known flat))
-    ∙ ap (λ procs. are_whole flat_label flat_line (flat_procs known flat) && code_fits known procs) (flat_all flat.procs)
+    ∙ ap (λ procs. are_whole flat_label flat_line (flat_procs known flat) && code_fits known procs) (placed_as_owned flat.procs)
 
 owned_runs : (known : Known) (flat : Flat) (plan : Plan) (n : ℕ) →
     runs owned_label (owned_does known) (owned_procs known (plain_owned flat)) n ≡ runs flat_label (flat_does known plan) (flat_procs known flat) n
@@ -86,19 +86,19 @@ owned_lines : (lines : List OwnedLine) → map block_plain (map block_from lines
 owned_lines [] = refl
 owned_lines (owned_line.Plain line ∷ lines) = ap (λ rest. line ∷ rest) (owned_lines lines)
 
-owned_all : (procs : List OwnedProc) → map block_placed (map block_proc_from procs) ≡ map owned_placed procs
-owned_all [] = refl
-owned_all (p ∷ procs) =
+pub placed_as_blocks : (procs : List OwnedProc) → map block_placed (map block_proc_from procs) ≡ map owned_placed procs
+placed_as_blocks [] = refl
+placed_as_blocks (p ∷ procs) =
     ap (λ lines. record { first = p.first; span = p.span; places = p.places; lines = lines } ∷ map block_placed (map block_proc_from procs))
     (owned_lines p.lines)
-    ∙ ap (λ rest. owned_placed p ∷ rest) (owned_all procs)
+    ∙ ap (λ rest. owned_placed p ∷ rest) (placed_as_blocks procs)
 
 blocks_formed : (known : Known) (owned : Owned) → is_blocks known (plain_blocks owned) ≡ is_owned known owned
 blocks_formed known owned =
     ap (λ procs. are_whole block_label block_plain procs && code_fits known (map block_placed (map block_proc_from owned.procs))) (block_in known owned.procs)
     ∙ ap (λ b. b && code_fits known (map block_placed (map block_proc_from owned.procs)))
     (whole_map block_from owned_label block_label owned_plain block_plain label_same plain_same (owned_procs known owned))
-    ∙ ap (λ procs. are_whole owned_label owned_plain (owned_procs known owned) && code_fits known procs) (owned_all owned.procs)
+    ∙ ap (λ procs. are_whole owned_label owned_plain (owned_procs known owned) && code_fits known procs) (placed_as_blocks owned.procs)
 
 block_runs : (known : Known) (owned : Owned) (n : ℕ) →
     runs block_label (block_does known) (map (block_proc known) (map block_proc_from owned.procs)) n

@@ -1,7 +1,7 @@
 -- What flat code, owned code and block code mean: after n lines. Code that isn't well formed is at a fault before its first line. They
 -- differ in what their lines have beside the operation, and in the lines that are yet to come: of flat code under its plan, of owned
 -- code on hooks, of block code on the error word.
-use Rattle.std.specs.Prelude.{ℕ, Bool, ◌&&◌, List, [], ◌∷◌, map, Option, Some, None}
+use Rattle.std.specs.Prelude.{◌≡◌, ℕ, Bool, ◌&&◌, List, [], ◌∷◌, map, Option, Some, None}
 use Rattle.arc_base.specs.Event.{Event}
 use Rattle.arc_base.specs.Behaviour.{Behaviour}
 use Rattle.nim_types.specs.declared.types.TypeDef.{TypeDef}
@@ -13,6 +13,7 @@ use Rattle.mid_code.specs.declared.line.Line.TheVariants.{Label}
 use Rattle.mid_code.specs.declared.place.PlaceKind.{PlaceKind}
 use Rattle.mid_code.specs.declared.place.PlaceKind.TheVariants.{Result}
 use Rattle.mid_code.specs.declared.place.FlatPlace.{FlatPlace}
+use Rattle.mid_code.specs.declared.place.HookOf.{HookOf}
 use Rattle.mid_code.specs.declared.flat.FlatLine.{FlatLine}
 use Rattle.mid_code.specs.declared.flat.FlatProc.{FlatProc}
 use Rattle.mid_code.specs.declared.flat.Flat.{Flat}
@@ -126,3 +127,18 @@ is_blocks known blocks = are_whole block_label block_plain (block_procs known bl
 abbrev pub block_meaning : List TypeDef → Blocks → (heap : ℕ) → (input : List ℕ) → Behaviour Event
 block_meaning table blocks heap input =
     if_formed (is_blocks (known_in table) blocks) (runs block_label (block_does (known_in table)) (block_procs (known_in table) blocks))
+
+-- ---- the hooks of users, procedure by procedure
+
+abbrev pub AreNone : List (Option HookOf) → Type 0
+AreNone [] = Unit {0}
+AreNone (hook ∷ hooks) = (hook ≡ None) × AreNone hooks
+
+abbrev pub flat_hooks : Flat → List (Option HookOf)
+flat_hooks flat = map (λ (p : FlatProc). p.hook) flat.procs
+
+abbrev pub owned_hooks : Owned → List (Option HookOf)
+owned_hooks owned = map (λ (p : OwnedProc). p.hook) owned.procs
+
+abbrev pub block_hooks : Blocks → List (Option HookOf)
+block_hooks blocks = map (λ (p : BlockProc). p.hook) blocks.procs

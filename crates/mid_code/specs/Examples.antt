@@ -418,6 +418,17 @@ left_over = record {
   lines = L.Constant 1 (P.Ordinal (pos 1) ∷ P.Ordinal (pos 2) ∷ []) ∷ L.Return None ∷ [];
 } ∷ []
 
+-- a number is written while an argument waits
+abbrev pub interrupted : List Small
+interrupted =
+    record { first = 0; span = 1; places = plain_place 0 (K.Param mode.Plain) 0 ∷ []; lines = L.Return None ∷ [] }
+    ∷ record {
+      first = 0;
+      span = 1;
+      places = temps_of 0 (1 ∷ []);
+      lines = L.Ordinal 1 (pos 7) ∷ L.Argument 1 ∷ L.Write 1 0 ∷ L.Call None 0 ∷ L.Return None ∷ [];
+    } ∷ []
+
 -- 2,001 calls below the start code: the one that is too many traps
 -- proc dive() = dive()
 abbrev pub diving : List Small

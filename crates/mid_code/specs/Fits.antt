@@ -200,6 +200,19 @@ pub record Signature : Type 0 where
 abbrev pub signature_of : Known → List FlatPlace → Signature
 signature_of known places = record { takes = taken_by known places; gives = given_by known places }
 
+-- While an argument waits, lines look up where the next one is, give it, and call. Nothing is evaluated, written or moved there, and no
+-- line leads to or comes from elsewhere: all operands come before the first argument.
+abbrev pub gives_more : Line → Bool
+gives_more L.Pass = true
+gives_more (L.Root to place global) = true
+gives_more (L.Fresh to from) = true
+gives_more (L.Part to from field) = true
+gives_more (L.Item to from index) = true
+gives_more (L.Argument from) = true
+gives_more (L.ArgumentAt from) = true
+gives_more (L.Call to proc) = true
+gives_more line = false
+
 -- ---- lines, among the places of their procedure and of the start code, and the procedures that may be called
 
 module _ (known : Known) (procs : List Signature) (globals places : List FlatPlace) where
@@ -284,7 +297,7 @@ module _ (known : Known) (procs : List Signature) (globals places : List FlatPla
   fits given (L.Label name) = true
   fits given (L.Jump to) = true
   fits given (L.Unless from to) = is_number (value from)
-  fits given (L.Fits from low high to) = is_number (value from)
+  fits given (L.Fits from low high to) = is_number (value from) && (is_int_number low && is_int_number high)
   fits given (L.Uncovered to) = true
   fits given (L.Count counter last inclusive more) = is_int (value counter) && (is_number (value last) && may_have (value more) (Number (pos 0)))
   fits given (L.Argument from) = is_there (value from)
@@ -303,20 +316,14 @@ module _ (known : Known) (procs : List Signature) (globals places : List FlatPla
   given_behind given (L.Call to proc) = []
   given_behind given line = given
 
-  -- no argument waits where lines lead to or come from elsewhere
-  abbrev pub none_waits : List Passed → Line → Bool
-  none_waits [] line = true
-  none_waits (p ∷ ps) (L.Label name) = false
-  none_waits (p ∷ ps) (L.Jump to) = false
-  none_waits (p ∷ ps) (L.Unless from to) = false
-  none_waits (p ∷ ps) (L.Fits from low high to) = false
-  none_waits (p ∷ ps) (L.Uncovered to) = false
-  none_waits (p ∷ ps) (L.Return result) = false
-  none_waits (p ∷ ps) line = true
+  -- behind what was given for the next call
+  abbrev pub may_stand : List Passed → Line → Bool
+  may_stand [] line = true
+  may_stand (p ∷ ps) line = gives_more line
 
   abbrev pub all_fit : List Passed → List Line → Bool
   all_fit given [] = true
-  all_fit given (line ∷ lines) = fits given line && (none_waits given line && all_fit (given_behind given line) lines)
+  all_fit given (line ∷ lines) = fits given line && (may_stand given line && all_fit (given_behind given line) lines)
 
 -- ---- whole code
 

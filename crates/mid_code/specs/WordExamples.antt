@@ -114,3 +114,11 @@ nameless = code_of (proc_of Counted 0 0 1 0 (Constant 1 0 ∷ Exit 1 ∷ []) ∷
 -- without an end, each call calls itself
 abbrev pub diving : ProcKind → WordCode
 diving kind = code_of (proc_of Counted 0 0 1 0 (Call 0 1 ∷ Exit 0 ∷ []) ∷ proc_of kind 1 0 1 0 (Call 0 1 ∷ Return 0 ∷ []) ∷ []) []
+
+-- a start code that is a user's hook
+abbrev pub seen_start : WordCode
+seen_start = code_of (proc_of (Hook 0 5) 0 0 1 0 (Constant 0 0 ∷ Exit 0 ∷ []) ∷ []) []
+
+-- a call of a user's hook of a fifth kind
+abbrev pub strange : WordCode
+strange = code_of (proc_of Counted 0 0 1 0 (Call 0 1 ∷ Exit 0 ∷ []) ∷ proc_of (Hook 4 5) 1 0 1 0 (Constant 0 3 ∷ Return 0 ∷ []) ∷ []) []

@@ -12,7 +12,7 @@ use Rattle.rv32_isa.specs.Machine.{Lives}
 use Rattle.rv32_isa.specs.Values.{added, subtracted, one_if, is_less_signed, low_product, high_product_signed, quotient_signed, remainder_signed}
 use Rattle.rv32_isa.specs.Values.{quotient, remainder, shifted_left, shifted_right, shifted_right_signed}
 use Rattle.nim_core.specs.declared.program.TheConstants.{ACTIVE_CALLS}
-use Rattle.mid_code.specs.declared.word.TheConstants.{SPARE_ROOM, MOST_VARIABLES, MOST_ARGUMENTS}
+use Rattle.mid_code.specs.declared.word.TheConstants.{SPARE_ROOM, MOST_VARIABLES, MOST_ARGUMENTS, HOOK_KINDS}
 use Rattle.mid_code.specs.declared.word.WordOperation.{WordOperation}
 use Rattle.mid_code.specs.declared.word.WordOperation.TheVariants.{Add, Subtract, Multiply, MultiplyHigh, Divide, Remainder, DivideUnsigned}
 use Rattle.mid_code.specs.declared.word.WordOperation.TheVariants.{RemainderUnsigned, And, Or, Xor, ShiftLeft, ShiftRight, ShiftRightSigned}
@@ -288,7 +288,8 @@ most_room (p ∷ procs) = max p.room (most_room procs)
 abbrev pub places_size : List WordProc → ℕ
 places_size procs = most_calls * (most_room procs + most_chain (chain_room (length procs) procs) procs) + SPARE_ROOM
 
--- ---- word code that is well formed: its lines name variables of their procedures, and procedures have numbers of their own
+-- ---- word code that is well formed: its lines name variables of their procedures, procedures have numbers of their own, and the start
+-- code counts and is no hook
 
 abbrev pub are_named : (vars : ℕ) → WordInstr → Bool
 are_named vars (Label name) = true
@@ -312,9 +313,16 @@ abbrev pub all_named : (vars : ℕ) → List WordInstr → Bool
 all_named vars [] = true
 all_named vars (line ∷ lines) = are_named vars line && all_named vars lines
 
+-- a user's hook is of one of the kinds that there are
+abbrev pub is_kind : ProcKind → Bool
+is_kind kind.Counted = true
+is_kind (kind.Hook kind of) = nat_lt kind HOOK_KINDS
+is_kind kind.Uncounted = true
+
 -- places are whole words
 abbrev pub is_proc : WordProc → Bool
-is_proc p = nat_le p.params p.vars && (nat_le p.vars MOST_VARIABLES && ((p.room % 4 == 0) && all_named p.vars p.lines))
+is_proc p =
+    nat_le p.params p.vars && (nat_le p.vars MOST_VARIABLES && ((p.room % 4 == 0) && (is_kind p.kind && all_named p.vars p.lines)))
 
 abbrev pub has_number : ℕ → List WordProc → Bool
 has_number number [] = false
@@ -324,11 +332,29 @@ abbrev pub are_procs : List WordProc → Bool
 are_procs [] = true
 are_procs (p ∷ procs) = is_proc p && (not (has_number p.number procs) && are_procs procs)
 
--- ---- whole runs
-
 abbrev pub first_of : List WordProc → WordProc
 first_of [] = record { number = 0; kind = kind.Counted; params = 0; vars = 0; room = 0; data_from = 0; lines = [] }
 first_of (p ∷ procs) = p
+
+abbrev pub may_start : ProcKind → Bool
+may_start kind.Counted = true
+may_start (kind.Hook kind of) = false
+may_start kind.Uncounted = false
+
+-- no procedure is a user's hook
+abbrev pub is_no_hook : ProcKind → Bool
+is_no_hook kind.Counted = true
+is_no_hook (kind.Hook kind of) = false
+is_no_hook kind.Uncounted = true
+
+abbrev pub have_no_hooks : List WordProc → Bool
+have_no_hooks [] = true
+have_no_hooks (p ∷ procs) = is_no_hook p.kind && have_no_hooks procs
+
+abbrev pub is_word_code : WordCode → Bool
+is_word_code code = are_procs code.procs && may_start (first_of (from_proc 0 code.procs)).kind
+
+-- ---- whole runs
 
 -- the start code, before its first line
 unfoldable pub start : WordCode → (heap stack : ℕ) → (input : List ℕ) → WordState
@@ -348,4 +374,4 @@ start code heap stack input = record {
 
 -- what is seen of word code after n lines
 abbrev pub word_meaning : Lives → WordCode → (heap stack : ℕ) → (input : List ℕ) → Behaviour Event
-word_meaning live code heap stack input = if_formed (are_procs code.procs) (behaviour (step live code.procs) (start code heap stack input))
+word_meaning live code heap stack input = if_formed (is_word_code code) (behaviour (step live code.procs) (start code heap stack input))

@@ -11,7 +11,7 @@ ghost use Rattle.mid_code.specs.Examples.{int_table, sum_code, array_table, bump
 ghost use Rattle.mid_code.specs.Examples.{lost, diving, too_early, bumping, gathering};
 ghost use Rattle.mid_code.specs.Examples.{pair_table, gather_code};
 ghost use Rattle.mid_code.specs.Examples.{pieces, one_two_three, char_table, unfit};
-ghost use Rattle.mid_code.specs.Examples.{twice, left_over};
+ghost use Rattle.mid_code.specs.Examples.{twice, left_over, interrupted};
 ghost use Rattle.mid_code.specs.Examples.{record_table, reading, read_code, changed};
 ghost use Rattle.mid_code.specs.Scene.{known_in};
 ghost use Rattle.mid_code.specs.Pieces.{value_of};
@@ -88,6 +88,7 @@ pub fn form_examples()
     ensures unfit { is_flat (known_in char_table) (as_flat unfit) ≡ false }
     ensures twice { is_flat (known_in char_table) (as_flat twice) ≡ false }
     ensures left_over { is_flat (known_in char_table) (as_flat left_over) ≡ false }
+    ensures interrupted { is_flat (known_in int_table) (as_flat interrupted) ≡ false }
 {}
 
 /// A loop that is left, with a place in its body and a `case` that covers its type, has the places,
@@ -127,4 +128,6 @@ pub fn word_examples()
         ≡ Running }
     ensures uncounted { (word_meaning none_live (word.diving Uncounted) 0 65536 [] 2001).phase
         ≡ Running }
+    ensures strange { (word_meaning none_live word.strange 0 65536 [] 0).phase ≡ Faulted }
+    ensures seen_start { (word_meaning none_live word.seen_start 0 65536 [] 0).phase ≡ Faulted }
 {}

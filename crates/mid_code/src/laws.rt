@@ -1,5 +1,5 @@
 // The laws of the four codes.
-ghost use Rattle.std.specs.Prelude.{◌≡◌, ◌≢◌, ◌↔◌, ◌+◌, ℕ, length, List};
+ghost use Rattle.std.specs.Prelude.{◌≡◌, ◌≢◌, ◌↔◌, ◌+◌, ◌≤◌, ℕ, length, List};
 ghost use Rattle.arc_base.specs.Behaviour.{Steady, Wrong};
 ghost use Rattle.nim_types.specs.declared.types.TypeDef.{TypeDef};
 ghost use Rattle.nim_plan.specs.declared.plan.Plan.{Plan};
@@ -18,6 +18,8 @@ ghost use Rattle.mid_code.specs.Points.{Sinks, FlatEdge};
 ghost use Rattle.mid_code.specs.FlatArrows.{flat_arrows};
 ghost use Rattle.mid_code.specs.Words.{word_meaning};
 ghost use Rattle.mid_code.specs.Joined.{joined};
+ghost use Rattle.mid_code.specs.Fits.{Placed};
+ghost use Rattle.mid_code.specs.Sizes.{lines_in, code_weight};
 
 /// What flat, owned and block code have shown only grows, and what is over stays so. Owned and block
 /// code are never wrong: that is what a plan may make of a run, and they have none.
@@ -64,4 +66,9 @@ pub fn words()
 pub fn joining()
     ensures statics { (code other : WordCode) →
         length (joined code other).statics ≡ length code.statics + length other.statics }
+{}
+
+/// Code has no more lines than it weighs.
+pub fn weights()
+    ensures lines { (procs : List Placed) → lines_in procs ≤ code_weight procs }
 {}

@@ -15,6 +15,9 @@ pub const MOST_VARIABLES: u32 = 67_108_864;
 /// stack, and with `SPARE_ROOM` they are the 65,536 bytes that it has beside the frames of calls.
 pub const MOST_ARGUMENTS: u32 = 12_288;
 
+/// How many kinds of hooks there are: destroy 0, wasMoved 1, sink 2, copy 3.
+pub const HOOK_KINDS: u32 = 4;
+
 /// An operation on two words, as the machine's instruction of that name does it.
 #[derive(Clone, Copy, PartialEq, Eq)]
 pub enum WordOperation {

@@ -2,11 +2,10 @@
 use Rattle.std.proofs.Common.{◌≡◌, ℕ, suc, ◌+◌, ◌-◌, ◌*◌, ◌%◌, ◌^◌, ◌<◌, ◌≤◌, ◌⊎◌, inl, inr, List}
 use Rattle.std.proofs.Common.{[], ◌∷◌, ◌++◌, length, take, drop, get_or, set, true}
 use Rattle.std.proofs.Common.{Option, Some, None, Result, Ok, Err, refl, sym, ap, subst, ◌∙◌, arith, length-set, append-nil, add_assoc}
-use Rattle.std.specs.Prelude.{◌==◌, ◌&&◌, nat_lt, min, if◌then◌else◌}
+use Rattle.std.specs.Prelude.{◌==◌, ◌&&◌, nat_lt, min}
 use Rattle.std.proofs.lemmas.Bool.{cases_eq, eq-eqb, ne_eqb, and_parts, ltb-true, cond-true, cond-false}
 use Rattle.std.proofs.lemmas.List.{get_or-set_same, get_or-set_other, length-take-le}
 use Rattle.arc_base.specs.declared.outside.Stream.{Stream}
-use Rattle.arc_base.specs.declared.outside.Stream.TheVariants.{Out, Err as ErrStream}
 use Rattle.arc_base.specs.Event.{Event, writes as write_events}
 use Rattle.arc_base.specs.Behaviour.{Live, Ended}
 use Rattle.arc_base.specs.Stepping.{Next, Goes, Ends, seen}
@@ -16,15 +15,15 @@ use Rattle.rv32_isa.specs.declared.micro_op.Size.{Size}
 use Rattle.rv32_isa.specs.declared.micro_op.Size.TheVariants.{Byte, Half, Word}
 use Rattle.rv32_isa.specs.declared.micro_op.MicroOp.TheVariants.{Store}
 use Rattle.rv32_isa.specs.declared.machine.FaultKind.{FaultKind}
-use Rattle.rv32_isa.specs.declared.machine.FaultKind.TheVariants.{Misaligned, OutOfRange, BadCall}
+use Rattle.rv32_isa.specs.declared.machine.FaultKind.TheVariants.{Misaligned, OutOfRange}
 use Rattle.rv32_isa.specs.declared.label.LabelLine.{LabelLine}
 use Rattle.rv32_isa.specs.declared.label.LabelLine.TheVariants.{Do}
 use Rattle.rv32_isa.specs.Image.{stack_at}
-use Rattle.rv32_isa.specs.State.{State, reg, skip, readable, writable, filled}
+use Rattle.rv32_isa.specs.State.{State, skip, readable, writable, filled}
 use Rattle.rv32_isa.specs.Values.{added}
 use Rattle.rv32_isa.specs.Steps.{signed12, size_of, found, low_bytes, loaded, stored, act, written}
 use Rattle.rv32_isa.specs.Steps as leads
-use Rattle.rv32_isa.specs.Machine.{Reply, Answers, Exits, Fails, answered, stream_of, write_bytes, write_call, read_call, call}
+use Rattle.rv32_isa.specs.Machine.{Answers, answered, stream_of}
 use Rattle.rv32_isa.specs.LabelsMeaning.{LabelRun, did, led, replied, step}
 use Rattle.rv32_logic.specs.Registers.{put}
 use Rattle.rv32_logic.proofs.ForCallers.{plain_address, signed12_small}
@@ -32,64 +31,23 @@ use Rattle.mid_code.specs.declared.word.TheConstants.{MOST_ARGUMENTS}
 use Rattle.mid_code.specs.declared.word.WordInstr.{WordInstr}
 use Rattle.mid_code.specs.declared.word.WordInstr.TheVariants as word
 use Rattle.mid_code.specs.Memory.{Memory, as_state, memory_of, number_at, may_put, bytes_at, may_fill}
+use Rattle.reg_scan.specs.Alive.{Alive, read_by}
+use Rattle.reg_scan.specs.Homes.{home_of}
 use Rattle.mid_code.specs.Words.{put as put_var, WordState, scene_of, loads, shows, on}
-use Rattle.rv32_codegen.specs.Code.{does, load, save, fetch, store, stream_number, argument_at, home_at, load_range, keep}
+use Rattle.rv32_codegen.specs.Code.{does, save, fetch, store, stream_number, move, give, left_of, right_of, argument_at, move_range}
 use Rattle.rv32_codegen.proofs.Runs.{steps_one, steps_on, stops_one}
 use Rattle.rv32_codegen.proofs.Machine.{state_of, run_at, Fits, fits_words, word_place, Regs, Quiet, quiet_does, Goes_in, then_goes}
 use Rattle.rv32_codegen.proofs.Machine.{instr_goes, writes}
 use Rattle.rv32_codegen.proofs.PieceRuns.{Gets, put_gets, save_goes}
+use Rattle.rv32_codegen.proofs.Asked.{write_is, exit_is, read_is, stream_is, stream_small}
 use Rattle.rv32_codegen.proofs.Wider.{read_wider, may_wider, may_less, fill_wider, fits_kept, places_kept, found_wider, length-low_bytes}
 use Rattle.rv32_codegen.proofs.Lookups.{some_same}
-use Rattle.rv32_codegen.proofs.Frames.{size, word as home_word, Sits, sits_next, linked_kept, Setting, whole, True, Sim}
-use Rattle.rv32_codegen.proofs.LineRuns.{at_lines, setting, homes, frame_at, sim_goes, Sim_did, using_sim, if_sim, laid_of, inside_of, arguments_fit, var_goes}
-use Rattle.rv32_codegen.proofs.LineRuns.{both_go}
-use Rattle.rv32_codegen.proofs.LineRuns.{Behind, quiet_behind, Here, Line_sim, named_of, sets, same_true, keep_quiet}
-
--- ---- calls of the environment
-
--- a call, by its number
-abbrev call_number : State → List ℕ → ℕ → Reply
-call_number s input number =
-    if number == 93 then Exits (reg s 10 % 256) else
-    if number == 64 then write_call s input (stream_of (reg s 10)) else
-    if number == 63 then if reg s 10 == 0 then read_call s input else Fails BadCall else
-    Fails BadCall
-
-write_is : (s : State) (input : List ℕ) (stream : Stream) (bytes : List ℕ) → reg s 17 ≡ 64 → stream_of (reg s 10) ≡ Some stream →
-    readable s (reg s 11) (reg s 12) ≡ Some bytes → call s input ≡ Answers (answered s (reg s 12)) input (write_events stream bytes)
-write_is s input stream bytes number stream_is bytes_are =
-    let a : call s input ≡ write_call s input (stream_of (reg s 10)) = ap (call_number s input) number in
-    a ∙ ap (write_call s input) stream_is ∙ ap (write_bytes s input stream) bytes_are
-
-exit_is : (s : State) (input : List ℕ) (status : ℕ) → reg s 17 ≡ 93 → reg s 10 % 256 ≡ status → call s input ≡ Exits status
-exit_is s input status number status_is =
-    let a : call s input ≡ Exits (reg s 10 % 256) = ap (call_number s input) number in
-    a ∙ ap Exits status_is
-
--- a read to a range
-abbrev read_at : State → List ℕ → (at n : ℕ) → Reply
-read_at s input at n =
-    let count = min n (length input) in
-    Answers (answered (filled s at (take count input)) count) (drop count input) []
-
-read_is : (s : State) (input : List ℕ) (at n : ℕ) → reg s 17 ≡ 63 → reg s 10 ≡ 0 → reg s 11 ≡ at → reg s 12 ≡ n →
-    writable s at n ≡ true →
-    call s input ≡ read_at s input at n
-read_is s input at n number stream at_is n_is may =
-    let by : ℕ → ℕ → Reply = λ a k. if writable s a k then read_at s input a k else Fails OutOfRange in
-    let a : call s input ≡ (if reg s 10 == 0 then read_call s input else Fails BadCall) = ap (call_number s input) number in
-    a
-    ∙ ap (λ x. if x == 0 then read_call s input else Fails BadCall) stream
-    ∙ ap (λ x. by x (reg s 12)) at_is ∙ ap (by at) n_is
-    ∙ cond-true (writable s at n) (read_at s input at n) (Fails OutOfRange) may
-
-stream_is : (stream : Stream) → stream_of (stream_number stream) ≡ Some stream
-stream_is Out = refl
-stream_is ErrStream = refl
-
-stream_small : (stream : Stream) → stream_number stream < 2048
-stream_small Out = omega arith
-stream_small ErrStream = omega arith
+use Rattle.rv32_codegen.proofs.Frees.{free_apart}
+use Rattle.rv32_codegen.proofs.Frames.{size, Alike, word_kept, word_alike, Sits, sits_next, linked_kept, held_alike, Setting, whole, True, Sim}
+use Rattle.rv32_codegen.proofs.HomeRuns.{seats_past, alike_refl}
+use Rattle.rv32_codegen.proofs.LineRuns.{at_lines, setting, homes, frame_at, sim_goes, Sim_did, using_sim, if_sim, laid_of, inside_of, arguments_fit}
+use Rattle.rv32_codegen.proofs.LineRuns.{var_moves, var_brought, both_go, small_of, Behind, quiet_behind, Here, Line_sim, named_of, sets_from, same_true}
+use Rattle.rv32_codegen.proofs.LineRuns.{Passing_line, passes_alive, give_quiet}
 
 module _ (g : Setting) where
   -- ---- memory
@@ -98,13 +56,14 @@ module _ (g : Setting) where
   memory_true : (t : WordState) (lines more : List WordInstr) (regs new ws : List ℕ) (j : ℕ) (f : True g t lines regs ws j) (a : ℕ)
       (bytes input : List ℕ) →
       writable (as_state t.memory) a (length bytes) ≡ true → Sits g.lay g.procs t.frame.proc more → Regs new (frame_at g t j) t.frame.base →
+      Alike regs new → ((v : ℕ) → Alive t.frame.proc.lines v more → Alive t.frame.proc.lines v lines) →
       True g (record (at_lines t more) { memory = memory_of (filled (as_state t.memory) a bytes); input = input }) more new ws j
-  memory_true t lines more regs new ws j f a bytes input may sits kept = record {
+  memory_true t lines more regs new ws j f a bytes input may sits kept same stays = record {
     fits = fits_kept regs t.memory ws a bytes may f.fits;
     kept = subst (λ n. Regs new (stack_at + (n + 4 * j)) t.frame.base) (sym (places_kept regs t.memory ws a bytes may)) kept;
     base_fits = f.base_fits;
     sits = sits;
-    held = f.held;
+    held = held_alike g.lay g.procs regs new ws j t.frame.proc lines more t.frame.vars (laid_of g t lines f.sits) same stays f.held;
     given = f.given;
     linked = f.linked;
     deep = f.deep;
@@ -115,13 +74,13 @@ module _ (g : Setting) where
   loaded_sim t r rest to (Err kind) h = tt
   loaded_sim t r rest to (Ok w) h = h w refl
 
-  fetch_is : (s : Size) (regs : List ℕ) (m : Memory) (ws input : List ℕ) (rest : List LabelLine) →
-      did g.live (whole g) g.at (run_at regs m ws input (Do (fetch s) ∷ rest)) rest (fetch s)
-      ≡ led g.live (whole g) g.at (run_at regs m ws input (Do (fetch s) ∷ rest)) rest
-      (loaded (state_of regs m ws) 0 5 (found (state_of regs m ws) (added (get_or regs 5 0) (signed12 0)) s))
-  fetch_is Byte regs m ws input rest = refl
-  fetch_is Half regs m ws input rest = refl
-  fetch_is Word regs m ws input rest = refl
+  fetch_is : (s : Size) (rs : ℕ) (regs : List ℕ) (m : Memory) (ws input : List ℕ) (rest : List LabelLine) →
+      did g.live (whole g) g.at (run_at regs m ws input (Do (fetch s rs) ∷ rest)) rest (fetch s rs)
+      ≡ led g.live (whole g) g.at (run_at regs m ws input (Do (fetch s rs) ∷ rest)) rest
+      (loaded (state_of regs m ws) 0 5 (found (state_of regs m ws) (added (get_or regs rs 0) (signed12 0)) s))
+  fetch_is Byte rs regs m ws input rest = refl
+  fetch_is Half rs regs m ws input rest = refl
+  fetch_is Word rs regs m ws input rest = refl
 
   pub load_sim : (to address : ℕ) (s : Size) → Line_sim g (word.Load to address s)
   load_sim to address s t rest regs ws j f =
@@ -129,28 +88,32 @@ module _ (g : Setting) where
       let vars = t.frame.proc.vars in
       let m = t.memory in
       let named = and_parts (nat_lt to vars) (nat_lt address vars) (named_of g t l rest f.sits) in
+      let rs = left_of (homes g t) address in
       let r = Here g t l rest regs ws j f in
-      let last = keep (homes g t) to (Behind g t l rest regs ws j f) in
+      let last = does (give 5 (home_of (homes g t) to)) (Behind g t l rest regs ws j f) in
+      let lives : Alive t.frame.proc.lines address (l ∷ rest) = read_by (inl refl) in
       using_sim g r t rest (t.frame.vars address) _ (λ a e.
       loaded_sim t r rest to (number_at m a s) (λ w h.
-      let x = var_goes g t (l ∷ rest) regs ws j f regs 5 address a (Do (fetch s) ∷ last) refl (omega arith) (omega arith) e f.kept in
-      let mid = run_at x.0 m ws t.input (Do (fetch s) ∷ last) in
+      let x = var_brought g t (l ∷ rest) regs ws j f regs 5 address a (Do (fetch s rs) ∷ last) refl (omega arith) (omega arith) lives e f.kept
+      (alike_refl regs) in
+      let mid = run_at x.0 m ws t.input (Do (fetch s rs) ∷ last) in
       let st = state_of x.0 m ws in
-      let at_is = plain_address (get_or x.0 5 0) a x.2.same (f.held address a e).2 in
-      let is : found st (added (get_or x.0 5 0) (signed12 0)) s ≡ Ok w = ap (λ n. found st n s) at_is ∙ found_wider x.0 m ws a s w h in
-      let y = writes g.live (whole g) g.at m ws t.input x.0 (fetch s) 5 w last (keep_quiet g t l rest regs ws j f 5 to)
-      (fetch_is s x.0 m ws t.input last ∙ ap (λ o. led g.live (whole g) g.at mid last (loaded st 0 5 o)) is) in
+      let at_is = plain_address (get_or x.0 rs 0) a x.2.same (small_of g t (l ∷ rest) regs ws j f address a lives e) in
+      let is : found st (added (get_or x.0 rs 0) (signed12 0)) s ≡ Ok w = ap (λ n. found st n s) at_is ∙ found_wider x.0 m ws a s w h in
+      let y = writes g.live (whole g) g.at m ws t.input x.0 (fetch s rs) 5 w last (give_quiet g t l rest regs ws j f 5 to)
+      (fetch_is s rs x.0 m ws t.input last ∙ ap (λ o. led g.live (whole g) g.at mid last (loaded st 0 5 o)) is) in
       let z = put_gets x.0 5 w (frame_at g t j) t.frame.base (omega arith) (omega arith) x.2.kept in
-      sets g t l rest regs ws j f r 2 4 5 to w w (put x.0 5 w) (λ e. omega (arith, e)) (ltb-true to vars named.0) (omega arith)
-      (then_goes g.live (whole g) g.at 1 1 3 1 _ _ _ x.1 y) z.same refl z.kept))
+      sets_from g t l rest regs ws j f r 1 4 to w (put x.0 5 w) (record { goes = refl; is = refl }) (ltb-true to vars named.0) (omega arith)
+      (λ n free ne. z.other n (free_apart n 5 free refl) ∙ x.2.others n (free_apart n 5 free refl)) z.kept 5 (omega arith) (λ e. omega (arith, e))
+      (then_goes g.live (whole g) g.at 0 1 3 1 _ _ _ x.1 y) z.same))
 
-  store_is : (s : Size) (regs : List ℕ) (m : Memory) (ws input : List ℕ) (rest : List LabelLine) →
-      did g.live (whole g) g.at (run_at regs m ws input (Do (store s) ∷ rest)) rest (store s)
-      ≡ led g.live (whole g) g.at (run_at regs m ws input (Do (store s) ∷ rest)) rest
-      (act (state_of regs m ws) 0 0 (Store (added (get_or regs 5 0) (signed12 0)) s (get_or regs 6 0)))
-  store_is Byte regs m ws input rest = refl
-  store_is Half regs m ws input rest = refl
-  store_is Word regs m ws input rest = refl
+  store_is : (s : Size) (ra rs : ℕ) (regs : List ℕ) (m : Memory) (ws input : List ℕ) (rest : List LabelLine) →
+      did g.live (whole g) g.at (run_at regs m ws input (Do (store s ra rs) ∷ rest)) rest (store s ra rs)
+      ≡ led g.live (whole g) g.at (run_at regs m ws input (Do (store s ra rs) ∷ rest)) rest
+      (act (state_of regs m ws) 0 0 (Store (added (get_or regs ra 0) (signed12 0)) s (get_or regs rs 0)))
+  store_is Byte ra rs regs m ws input rest = refl
+  store_is Half ra rs regs m ws input rest = refl
+  store_is Word ra rs regs m ws input rest = refl
 
   -- what a store does where it may be
   store_goes : (st next : State) (s : Size) (x a v b : ℕ) → x ≡ a → v ≡ b → (a % size_of s == 0) ≡ true →
@@ -170,25 +133,32 @@ module _ (g : Setting) where
       let k = Behind g t l rest regs ws j f in
       let p = t.frame.proc in
       let m = t.memory in
+      let i = store s (left_of (homes g t) address) (right_of (homes g t) from) in
       let r = Here g t l rest regs ws j f in
       let sits = sits_next g.lay g.procs p l rest f.sits in
+      let lives : Alive p.lines address (l ∷ rest) = read_by (inl refl) in
+      let also : Alive p.lines from (l ∷ rest) = read_by (inr refl) in
       using_sim g r t rest (t.frame.vars address) _ (λ a e.
       using_sim g r t rest (t.frame.vars from) _ (λ b d.
       if_sim g r t rest (may_put m a s) _ _ (λ h.
-      let x = both_go g t (l ∷ rest) regs ws j f address from a b (Do (store s) ∷ k) refl e d in
+      let x = both_go g t (l ∷ rest) regs ws j f address from a b (Do i ∷ k) refl lives also e d in
       let parts = and_parts (a % size_of s == 0) (writable (as_state m) a (size_of s)) h in
       let bytes = low_bytes s b in
       let may : writable (as_state m) a (length bytes) ≡ true = ap (writable (as_state m) a) (length-low_bytes s b) ∙ parts.1 in
       let m' = memory_of (filled (as_state m) a bytes) in
-      let mid = run_at x.0 m ws t.input (Do (store s) ∷ k) in
+      let mid = run_at x.0 m ws t.input (Do i ∷ k) in
       let next = state_of x.0 m' ws in
-      let acts = store_goes (state_of x.0 m ws) next s _ a _ b (plain_address (get_or x.0 5 0) a x.3 (f.held address a e).2) x.4 parts.0
+      let small = small_of g t (l ∷ rest) regs ws j f address a lives e in
+      let acts = store_goes (state_of x.0 m ws) next s _ a _ b (plain_address (get_or x.0 (left_of (homes g t) address) 0) a x.2.first small)
+      x.2.second parts.0
       (may_wider x.0 m ws a (size_of s) parts.1) (fill_wider x.0 m ws a bytes may) in
-      let y = instr_goes g.live (whole g) g.at m ws t.input x.0 (store s) next k (quiet_behind g t rest sits)
-      (store_is s x.0 m ws t.input k ∙ ap (led g.live (whole g) g.at mid k) acts) in
+      let y = instr_goes g.live (whole g) g.at m ws t.input x.0 i next k (quiet_behind g t rest sits)
+      (store_is s (left_of (homes g t) address) (right_of (homes g t) from) x.0 m ws t.input k ∙ ap (led g.live (whole g) g.at mid k) acts) in
       let t' = record (at_lines t rest) { memory = m' } in
-      sim_goes g r (run_at x.0 m' ws t.input k) t t' 3 7 (then_goes g.live (whole g) g.at 2 1 6 1 r mid _ x.1 y) (omega arith) (omega arith)
-      (record { regs = x.0; ws = ws; j = j; facts = memory_true t (l ∷ rest) rest regs x.0 ws j f a bytes t.input may sits x.2; is = refl }))
+      let facts = memory_true t (l ∷ rest) rest regs x.0 ws j f a bytes t.input may sits x.2.kept x.2.alike
+      (λ v alive. passes_alive g l p.lines rest v (record { goes = refl; none = refl }) alive) in
+      sim_goes g r (run_at x.0 m' ws t.input k) t t' 1 7 (then_goes g.live (whole g) g.at 0 1 6 1 r mid _ x.1 y) (omega arith) (omega arith)
+      (record { regs = x.0; ws = ws; j = j; facts = facts; is = refl }))
       (λ h. tt)))
 
   -- ---- arguments
@@ -198,10 +168,10 @@ module _ (g : Setting) where
   argument_place m ws j i fits lt le inside = omega (arith, fits.stack_most, lt, le, inside)
 
   give_true : (t : WordState) (l : WordInstr) (rest : List WordInstr) (regs new ws : List ℕ) (j i a : ℕ) (f : True g t (l ∷ rest) regs ws j) →
-      i < MOST_ARGUMENTS →
-      Regs new (frame_at g t j) t.frame.base →
+      i < MOST_ARGUMENTS → Passing_line g l →
+      Regs new (frame_at g t j) t.frame.base → Alike regs new →
       True g (record t { frame = record t.frame { left = rest; given = put_var t.frame.given i a } }) rest new (set ws (j - suc i) (a % 2 ^ 32)) j
-  give_true t l rest regs new ws j i a f lt kept =
+  give_true t l rest regs new ws j i a f lt line kept same =
       let p = t.frame.proc in
       let k = j - suc i in
       let n = a % 2 ^ 32 in
@@ -217,7 +187,14 @@ module _ (g : Setting) where
         kept = kept;
         base_fits = f.base_fits;
         sits = sits_next g.lay g.procs p l rest f.sits;
-        held = λ v w e. let x = f.held v w e in (x.0, past (j + home_word (homes g t) v) (omega arith) ∙ x.1, x.2);
+        held = λ v w lives e. let x = f.held v w (passes_alive g l p.lines rest v line lives) e in (
+          x.0,
+          (
+            word_kept new ws ws' j (home_of (homes g t) v) past
+                ∙ word_alike regs new ws j (size (homes g t)) (home_of (homes g t) v) (laid.there v x.0) same ∙ x.1.0,
+            x.1.1,
+          ),
+        );
         given = λ x w e. given_one x w e (cases_eq x i) fit lt inside some;
         linked = linked_kept g.lay g.procs g.need g.total (whole g) g.at ws ws' j p t.frame.base t.callers long
             (λ x o. past x (elim o [ inl e ↦ omega (arith, e) | inr le ↦ omega (arith, le) ])) f.linked;
@@ -255,39 +232,61 @@ module _ (g : Setting) where
       let some = laid.some in
       let fit = arguments_fit g t (l ∷ rest) regs ws j f in
       let quiet = quiet_behind g t rest (sits_next g.lay g.procs t.frame.proc l rest f.sits) in
+      let lives : Alive t.frame.proc.lines from (l ∷ rest) = read_by (inl refl) in
+      let rs = left_of (homes g t) from in
       using_sim g r t rest (t.frame.vars from) _ (λ a e.
       let offset = argument_at index in
-      let x = var_goes g t (l ∷ rest) regs ws j f regs 5 from a (does (save 5 offset) k) (quiet_does (save 5 offset) k quiet) (omega arith) (omega arith) e
-      f.kept in
-      let y = save_goes g.live (whole g) g.at m ws t.input x.0 5 offset (j - suc index) a (frame_at g t j) t.frame.base k quiet (omega arith)
-      (argument_place m ws j index f.fits lt fit (omega (arith, inside, some))) (omega (arith, inside, some)) f.fits x.2.kept (λ e. omega (arith, e))
-      x.2.same in
+      let there = laid.there from (f.held from a lives e).0 in
+      let x = var_brought g t (l ∷ rest) regs ws j f regs 5 from a (does (save rs offset) k) (quiet_does (save rs offset) k quiet) (omega arith)
+      (omega arith) lives e f.kept (alike_refl regs) in
+      let y = save_goes g.live (whole g) g.at m ws t.input x.0 rs offset (j - suc index) a (frame_at g t j) t.frame.base k quiet (omega arith)
+      (argument_place m ws j index f.fits lt fit (omega (arith, inside, some))) (omega (arith, inside, some)) f.fits x.2.kept
+      (seats_past (size (homes g t)) (home_of (homes g t) from) there) x.2.same in
       let ws' = set ws (j - suc index) (a % 2 ^ 32) in
       let t' = record t { frame = record t.frame { left = rest; given = put_var t.frame.given index a } } in
-      sim_goes g r (run_at y.0 m ws' t.input k) t t' 2 6 (then_goes g.live (whole g) g.at 1 1 3 3 _ _ _ x.1 y.1) (omega arith) (omega arith)
-      (record { regs = y.0; ws = ws'; j = j; facts = give_true t l rest regs y.0 ws j index a f lt y.2.kept; is = refl }))
+      let alike : Alike regs y.0 = λ n free. y.2.other n (free_apart n 7 free refl) ∙ x.2.others n (free_apart n 5 free refl) in
+      sim_goes g r (run_at y.0 m ws' t.input k) t t' 1 6 (then_goes g.live (whole g) g.at 0 1 3 3 _ _ _ x.1 y.1) (omega arith) (omega arith)
+      (record {
+        regs = y.0;
+        ws = ws';
+        j = j;
+        facts = give_true t l rest regs y.0 ws j index a f lt (record { goes = refl; none = refl }) y.2.kept alike;
+        is = refl;
+      }))
 
   -- ---- outside
 
   -- an address and a length are in x11 and x12
+  record Range (regs new : List ℕ) (frame base a n : ℕ) : Type 0 where
+    kept : Regs new frame base
+    eleven : get_or new 11 0 ≡ a
+    twelve : get_or new 12 0 ≡ n
+    alike : Alike regs new
+
   range_goes : (t : WordState) (lines : List WordInstr) (regs ws : List ℕ) (j : ℕ) (f : True g t lines regs ws j) (v w a n : ℕ) (rest : List LabelLine)
       →
-      Quiet rest → t.frame.vars v ≡ Some a → t.frame.vars w ≡ Some n → (new : List ℕ)
-      × Goes_in g.live (whole g) g.at 2 6 (run_at regs t.memory ws t.input (load_range (homes g t) v w rest)) (run_at new t.memory ws t.input rest)
-      × Regs new (frame_at g t j) t.frame.base × (get_or new 11 0 ≡ a) × (get_or new 12 0 ≡ n)
-  range_goes t lines regs ws j f v w a n rest quiet e d =
-      let second = load 12 (home_at (homes g t) w) in
-      let x = var_goes g t lines regs ws j f regs 11 v a (does second rest) (quiet_does second rest quiet) (omega arith) (omega arith) e f.kept in
-      let y = var_goes g t lines regs ws j f x.0 12 w n rest quiet (omega arith) (omega arith) d x.2.kept in (
+      Quiet rest → Alive t.frame.proc.lines v lines → Alive t.frame.proc.lines w lines → t.frame.vars v ≡ Some a → t.frame.vars w ≡ Some n →
+      (new : List ℕ)
+      × Goes_in g.live (whole g) g.at 2 6 (run_at regs t.memory ws t.input (move_range (homes g t) v w rest)) (run_at new t.memory ws t.input rest)
+      × Range regs new (frame_at g t j) t.frame.base a n
+  range_goes t lines regs ws j f v w a n rest quiet lives also e d =
+      let second = move 12 (home_of (homes g t) w) in
+      let x = var_moves g t lines regs ws j f regs 11 v a (does second rest) (quiet_does second rest quiet) (omega arith) (omega arith) lives e f.kept
+      (alike_refl regs) in
+      let alike : Alike regs x.0 = λ r free. x.2.other r (free_apart r 11 free refl) in
+      let y = var_moves g t lines regs ws j f x.0 12 w n rest quiet (omega arith) (omega arith) also d x.2.kept alike in (
         y.0,
         then_goes g.live (whole g) g.at 1 1 3 3 _ _ _ x.1 y.1,
-        y.2.kept,
-        y.2.other 11 (λ e. omega (arith, e)) ∙ x.2.same,
-        y.2.same,
+        record {
+          kept = y.2.kept;
+          eleven = y.2.other 11 (λ e. omega (arith, e)) ∙ x.2.same;
+          twelve = y.2.same;
+          alike = λ r free. y.2.other r (free_apart r 12 free refl) ∙ alike r free;
+        },
       )
 
   -- a small number is in a register
-  small_goes : (m : Memory) (ws input regs : List ℕ) (rd n frame base : ℕ) (rest : List LabelLine) → Quiet rest → 3 < rd → rd < 32 → n < 2048 →
+  small_goes : (m : Memory) (ws input regs : List ℕ) (rd n frame base : ℕ) (rest : List LabelLine) → Quiet rest → 4 < rd → rd < 32 → n < 2048 →
       Regs regs frame base → (new : List ℕ)
       × Goes_in g.live (whole g) g.at 1 1 (run_at regs m ws input (Do (Addi rd 0 n) ∷ rest)) (run_at new m ws input rest) × Gets regs new rd n frame base
   small_goes m ws input regs rd n frame base rest quiet gt lt small h =
@@ -300,34 +299,37 @@ module _ (g : Setting) where
       )
 
   -- what a call is asked for
-  record Asks (regs : List ℕ) (frame base stream number a n : ℕ) : Type 0 where
+  record Asks (old regs : List ℕ) (frame base stream number a n : ℕ) : Type 0 where
     kept : Regs regs frame base
     ten : get_or regs 10 0 ≡ stream
     eleven : get_or regs 11 0 ≡ a
     twelve : get_or regs 12 0 ≡ n
     seventeen : get_or regs 17 0 ≡ number
+    alike : Alike old regs
 
   ask_goes : (t : WordState) (lines : List WordInstr) (regs ws : List ℕ) (j : ℕ) (f : True g t lines regs ws j) (v w a n stream number : ℕ)
       (k : List LabelLine) →
-      stream < 2048 → number < 2048 → t.frame.vars v ≡ Some a → t.frame.vars w ≡ Some n → (new : List ℕ)
+      stream < 2048 → number < 2048 → Alive t.frame.proc.lines v lines → Alive t.frame.proc.lines w lines →
+      t.frame.vars v ≡ Some a → t.frame.vars w ≡ Some n → (new : List ℕ)
       × Goes_in g.live (whole g) g.at 4 8
-      (run_at regs t.memory ws t.input (load_range (homes g t) v w (Do (Addi 10 0 stream) ∷ Do (Addi 17 0 number) ∷ Do Ecall ∷ k)))
-      (run_at new t.memory ws t.input (Do Ecall ∷ k)) × Asks new (frame_at g t j) t.frame.base stream number a n
-  ask_goes t lines regs ws j f v w a n stream number k few less e d =
+      (run_at regs t.memory ws t.input (move_range (homes g t) v w (Do (Addi 10 0 stream) ∷ Do (Addi 17 0 number) ∷ Do Ecall ∷ k)))
+      (run_at new t.memory ws t.input (Do Ecall ∷ k)) × Asks regs new (frame_at g t j) t.frame.base stream number a n
+  ask_goes t lines regs ws j f v w a n stream number k few less lives also e d =
       let m = t.memory in
       let fr = frame_at g t j in
       let base = t.frame.base in
-      let x = range_goes t lines regs ws j f v w a n (Do (Addi 10 0 stream) ∷ Do (Addi 17 0 number) ∷ Do Ecall ∷ k) refl e d in
-      let y = small_goes m ws t.input x.0 10 stream fr base (Do (Addi 17 0 number) ∷ Do Ecall ∷ k) refl (omega arith) (omega arith) few x.2 in
+      let x = range_goes t lines regs ws j f v w a n (Do (Addi 10 0 stream) ∷ Do (Addi 17 0 number) ∷ Do Ecall ∷ k) refl lives also e d in
+      let y = small_goes m ws t.input x.0 10 stream fr base (Do (Addi 17 0 number) ∷ Do Ecall ∷ k) refl (omega arith) (omega arith) few x.2.kept in
       let z = small_goes m ws t.input y.0 17 number fr base (Do Ecall ∷ k) refl (omega arith) (omega arith) less y.2.kept in (
         z.0,
         then_goes g.live (whole g) g.at 3 1 7 1 _ _ _ (then_goes g.live (whole g) g.at 2 1 6 1 _ _ _ x.1 y.1) z.1,
         record {
           kept = z.2.kept;
           ten = z.2.other 10 (λ e. omega (arith, e)) ∙ y.2.same;
-          eleven = z.2.other 11 (λ e. omega (arith, e)) ∙ y.2.other 11 (λ e. omega (arith, e)) ∙ x.3;
-          twelve = z.2.other 12 (λ e. omega (arith, e)) ∙ y.2.other 12 (λ e. omega (arith, e)) ∙ x.4;
+          eleven = z.2.other 11 (λ e. omega (arith, e)) ∙ y.2.other 11 (λ e. omega (arith, e)) ∙ x.2.eleven;
+          twelve = z.2.other 12 (λ e. omega (arith, e)) ∙ y.2.other 12 (λ e. omega (arith, e)) ∙ x.2.twelve;
           seventeen = z.2.same;
+          alike = λ r free. z.2.other r (free_apart r 17 free refl) ∙ y.2.other r (free_apart r 10 free refl) ∙ x.2.alike r free;
         },
       )
 
@@ -346,10 +348,12 @@ module _ (g : Setting) where
       let m = t.memory in
       let r = Here g t l rest regs ws j f in
       let sits = sits_next g.lay g.procs p l rest f.sits in
+      let lives : Alive p.lines address (l ∷ rest) = read_by (inl refl) in
+      let also : Alive p.lines len (l ∷ rest) = read_by (inr refl) in
       using_sim g r t rest (t.frame.vars address) _ (λ a e.
       using_sim g r t rest (t.frame.vars len) _ (λ n d.
       wrote_sim t r rest (bytes_at m a n) stream (λ bytes h.
-      let x = ask_goes t (l ∷ rest) regs ws j f address len a n (stream_number stream) 64 k (stream_small stream) (omega arith) e d in
+      let x = ask_goes t (l ∷ rest) regs ws j f address len a n (stream_number stream) 64 k (stream_small stream) (omega arith) lives also e d in
       let q = x.2 in
       let mid = run_at x.0 m ws t.input (Do Ecall ∷ k) in
       let s = state_of x.0 m ws in
@@ -363,11 +367,14 @@ module _ (g : Setting) where
       ∙ ap (λ es. Goes (shown ++ es) 1 next) (quiet_behind g t rest sits) ∙ ap (λ es. Goes es 1 next) (append-nil shown) in
       let showing = steps_one (step g.live (whole g) g.at) mid next shown 1 1 does_call (omega arith) in
       let all = steps_on (step g.live (whole g) g.at) 4 1 8 1 r mid next [] shown x.1 showing in
-      let kept = (put_gets x.0 10 (get_or x.0 12 0) (frame_at g t j) t.frame.base (omega arith) (omega arith) q.kept).kept in (
+      let z = put_gets x.0 10 (get_or x.0 12 0) (frame_at g t j) t.frame.base (omega arith) (omega arith) q.kept in
+      let alike : Alike regs last = λ r free. z.other r (free_apart r 10 free refl) ∙ q.alike r free in
+      let facts = same_true g t (l ∷ rest) rest regs last ws j f sits z.kept alike
+      (λ v alive. passes_alive g l p.lines rest v (record { goes = refl; none = refl }) alive) in (
         next,
         5,
         record { work = all.work; within = omega (arith, all.within); by = all.by },
-        record { regs = last; ws = ws; j = j; facts = same_true g t (l ∷ rest) rest regs last ws j f sits kept; is = refl },
+        record { regs = last; ws = ws; j = j; facts = facts; is = refl },
         inl (omega arith),
       ))))
 
@@ -379,11 +386,13 @@ module _ (g : Setting) where
       let m = t.memory in
       let named = and_parts (nat_lt to p.vars) (nat_lt address p.vars && nat_lt len p.vars) (named_of g t l rest f.sits) in
       let r = Here g t l rest regs ws j f in
-      let k = does (save 10 (home_at (homes g t) to)) (Behind g t l rest regs ws j f) in
+      let k = does (give 10 (home_of (homes g t) to)) (Behind g t l rest regs ws j f) in
+      let lives : Alive p.lines address (l ∷ rest) = read_by (inl refl) in
+      let also : Alive p.lines len (l ∷ rest) = read_by (inr refl) in
       using_sim g r t rest (t.frame.vars address) _ (λ a e.
       using_sim g r t rest (t.frame.vars len) _ (λ n d.
       if_sim g r t rest (may_fill m a n) _ _ (λ h.
-      let x = ask_goes t (l ∷ rest) regs ws j f address len a n 0 63 k (omega arith) (omega arith) e d in
+      let x = ask_goes t (l ∷ rest) regs ws j f address len a n 0 63 k (omega arith) (omega arith) lives also e d in
       let q = x.2 in
       let count = min n (length t.input) in
       let bytes = take count t.input in
@@ -400,13 +409,15 @@ module _ (g : Setting) where
       ap (replied g.live (whole g) g.at mid k)
       (read_is s t.input a n q.seventeen q.ten q.eleven q.twelve (may_wider x.0 m ws a n h))
       ∙ ap to_next (fill_wider x.0 m ws a bytes may)
-      ∙ ap (λ es. Goes es 1 next) (keep_quiet g t l rest regs ws j f 10 to) in
+      ∙ ap (λ es. Goes es 1 next) (give_quiet g t l rest regs ws j f 10 to) in
       let reading = steps_one (step g.live (whole g) g.at) mid next [] 1 1 does_call (omega arith) in
       let z = put_gets x.0 10 count (frame_at g t j) t.frame.base (omega arith) (omega arith) q.kept in
       let t' = record (at_lines t (l ∷ rest)) { memory = m'; input = left } in
-      let f' = memory_true t (l ∷ rest) (l ∷ rest) regs last ws j f a bytes left may f.sits z.kept in
-      sets g t' l rest last ws j f' r 5 9 10 to count count last (λ e. omega (arith, e)) (ltb-true to p.vars named.0) (omega arith)
-      (then_goes g.live (whole g) g.at 4 1 8 1 r mid next x.1 reading) z.same refl f'.kept)
+      let alike : Alike regs last = λ r free. z.other r (free_apart r 10 free refl) ∙ q.alike r free in
+      let f' = memory_true t (l ∷ rest) (l ∷ rest) regs last ws j f a bytes left may f.sits z.kept alike (λ v alive. alive) in
+      sets_from g t' l rest last ws j f' r 5 9 to count last (record { goes = refl; is = refl }) (ltb-true to p.vars named.0) (omega arith)
+      (λ r free ne. refl) f'.kept 10 (omega arith) (λ e. omega (arith, e))
+      (then_goes g.live (whole g) g.at 4 1 8 1 r mid next x.1 reading) z.same)
       (λ h. tt)))
 
   -- steps, and then the end
@@ -431,8 +442,10 @@ module _ (g : Setting) where
       let m = t.memory in
       let r = Here g t l rest regs ws j f in
       let fr = frame_at g t j in
+      let lives : Alive t.frame.proc.lines status (l ∷ rest) = read_by (inl refl) in
       using_sim g r t rest (t.frame.vars status) _ (λ a e.
-      let x = var_goes g t (l ∷ rest) regs ws j f regs 10 status a (Do (Addi 17 0 93) ∷ Do Ecall ∷ k) refl (omega arith) (omega arith) e f.kept in
+      let x = var_moves g t (l ∷ rest) regs ws j f regs 10 status a (Do (Addi 17 0 93) ∷ Do Ecall ∷ k) refl (omega arith) (omega arith) lives e f.kept
+      (alike_refl regs) in
       let y = small_goes m ws t.input x.0 17 93 fr t.frame.base (Do Ecall ∷ k) refl (omega arith) (omega arith) (omega arith) x.2.kept in
       let mid = run_at y.0 m ws t.input (Do Ecall ∷ k) in
       let s = state_of y.0 m ws in

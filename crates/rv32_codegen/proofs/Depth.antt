@@ -7,8 +7,7 @@ use Rattle.std.proofs.lemmas.Bool.{cases_Bool, and_parts, eqb-true, leb-true, co
 use Rattle.mid_code.specs.declared.word.WordInstr.{WordInstr}
 use Rattle.mid_code.specs.declared.word.WordInstr.TheVariants as word
 use Rattle.mid_code.specs.declared.word.WordProc.{WordProc}
-use Rattle.mid_code.specs.Words.{is_counted, from_proc, most_called, most_chain, most_room, uncounted_room, chain_room, places_size, is_proc, are_procs}
-use Rattle.mid_code.specs.Words.{all_named}
+use Rattle.mid_code.specs.Words.{is_counted, from_proc, most_called, most_chain, most_room, uncounted_room, chain_room, places_size, is_kind, is_proc, are_procs}
 use Rattle.mid_code.specs.Sizes.{uncounted_length, chain_length, has_no_circle}
 use Rattle.rv32_codegen.specs.Stack.{uncounted, chain}
 use Rattle.rv32_codegen.specs.Chains.{callee_of, taken_for}
@@ -159,7 +158,13 @@ pub room_whole : (p : WordProc) → is_proc p ≡ true → p.room % 4 ≡ 0
 room_whole p h =
     let a = (and_parts (nat_le p.params p.vars) _ h).1 in
     let b = (and_parts (nat_le p.vars _) _ a).1 in
-    eqb-true (p.room % 4) 0 (and_parts (p.room % 4 == 0) (all_named p.vars p.lines) b).0
+    eqb-true (p.room % 4) 0 (and_parts (p.room % 4 == 0) _ b).0
+
+pub kind_known : (p : WordProc) → is_proc p ≡ true → is_kind p.kind ≡ true
+kind_known p h =
+    let a = (and_parts (nat_le p.params p.vars) _ h).1 in
+    let b = (and_parts (nat_le p.vars _) _ a).1 in
+    (and_parts (is_kind p.kind) _ (and_parts (p.room % 4 == 0) _ b).1).0
 
 most_whole : (procs : List WordProc) → are_procs procs ≡ true → most_room procs % 4 ≡ 0
 most_whole [] h = refl

@@ -1,7 +1,7 @@
 -- Word code's calls, and their frames in the machine's stack.
-use Rattle.std.proofs.Common.{◌≡◌, ℕ, suc, ◌+◌, ◌-◌, ◌*◌, ◌/◌, ◌%◌, ◌^◌, ◌<◌, ◌≤◌, ◌⊎◌, inl, inr, List, []}
+use Rattle.std.proofs.Common.{◌≡◌, ◌≢◌, ℕ, suc, ◌+◌, ◌-◌, ◌*◌, ◌/◌, ◌%◌, ◌^◌, ◌<◌, ◌≤◌, ◌⊎◌, inl, inr, List, []}
 use Rattle.std.proofs.Common.{◌∷◌, ◌++◌, length, get_or, set, Some, true, refl}
-use Rattle.std.proofs.Common.{sym, ap, ◌∙◌, arith, append_assoc}
+use Rattle.std.proofs.Common.{sym, ap, ◌∙◌, arith, append_assoc, length-set}
 use Rattle.std.specs.Prelude.{◌==◌, false}
 use Rattle.std.proofs.lemmas.Bool.{cases_eq, cases_Bool, eq-eqb, ne_eqb, and_parts, cond-true, cond-false}
 use Rattle.std.proofs.lemmas.List.{get_or-set_same, get_or-set_other}
@@ -22,8 +22,12 @@ use Rattle.mid_code.specs.declared.word.WordInstr.TheVariants.{Call}
 use Rattle.mid_code.specs.declared.word.WordProc.{WordProc}
 use Rattle.mid_code.specs.Words.{Vars, no_words, put, WordFrame, WordState, most_calls, is_counted, counted, from_proc, from_label, is_label, are_named}
 use Rattle.mid_code.specs.Words.{all_named}
+use Rattle.reg_scan.specs.declared.homes.Home.{Home}
+use Rattle.reg_scan.specs.declared.homes.Home.TheVariants.{Reg, Frame}
 use Rattle.reg_scan.specs.declared.homes.Homes.{Homes}
-use Rattle.rv32_codegen.specs.Code.{home_at, after_call, lines_code, entry_code, hook_of, proc_code, start_code}
+use Rattle.reg_scan.specs.Alive.{Alive}
+use Rattle.reg_scan.specs.Homes.{home_of, is_free, IsFrame, IsHomes}
+use Rattle.rv32_codegen.specs.Code.{after_call, lines_code, entry_code, hook_of, proc_code, start_code}
 use Rattle.rv32_codegen.proofs.Machine.{run_at, Fits, Regs, word_place}
 use Rattle.rv32_codegen.proofs.Chunks.{lines_fold, lines_end, body, body_split, entry_split}
 use Rattle.rv32_codegen.proofs.Lookups.{Layout, procs_code, behind, none_some, some_same, nil_cons, here, later}
@@ -33,20 +37,82 @@ use Rattle.rv32_codegen.proofs.Lookups.{Layout, procs_code, behind, none_some, s
 abbrev pub size : Homes → ℕ
 size h = h.frame / 4
 
-abbrev pub word : Homes → ℕ → ℕ
-word h v = home_at h v / 4
+-- a home that code can use, where the frame has so many words: one of them, behind the return address, or a free register
+abbrev pub IsThere : (size : ℕ) → Home → Type 0
+IsThere n (Reg number) = is_free number ≡ true
+IsThere n (Frame at) = (4 * (at / 4) ≡ at) × ((0 < at / 4) × (at / 4 < n))
 
 -- what code needs of the homes of a procedure
 pub record IsLaid (h : Homes) (p : WordProc) : Type 0 where
+  pub homes : IsHomes p h
   pub frame : 4 * size h ≡ h.frame
   pub some : 0 < size h
-  pub at : (v : ℕ) → v < p.vars → 4 * word h v ≡ home_at h v
-  pub apart : (v w : ℕ) → v < p.vars → w < p.vars → word h v ≡ word h w → v ≡ w
-  pub above : (v : ℕ) → v < p.vars → 0 < word h v
-  pub inside : (v : ℕ) → v < p.vars → word h v < size h
-  pub params : (v : ℕ) → v < p.params → word h v + suc v ≡ size h
+  pub there : (v : ℕ) → v < p.vars → IsThere (size h) (home_of h v)
   pub few : p.params ≤ p.vars
   pub named : all_named p.vars p.lines ≡ true
+
+-- ---- words at homes
+
+-- what stands at a home, where the frame begins at word j
+abbrev pub word_at : (regs ws : List ℕ) (j : ℕ) → Home → ℕ
+word_at regs ws j (Reg number) = get_or regs number 0
+word_at regs ws j (Frame at) = get_or ws (j + at / 4) 0
+
+-- a word of the frame is written, where the home is one
+abbrev pub saved : (ws : List ℕ) (j : ℕ) → Home → (value : ℕ) → List ℕ
+saved ws j (Reg number) value = ws
+saved ws j (Frame at) value = set ws (j + at / 4) value
+
+-- a register has a word, where the home is one
+abbrev pub HasWord : (regs : List ℕ) → Home → (value : ℕ) → Type 0
+HasWord regs (Reg number) value = get_or regs number 0 ≡ value
+HasWord regs (Frame at) value = Unit {0}
+
+-- free registers are as they were
+abbrev pub Alike : (regs new : List ℕ) → Type 0
+Alike regs new = (r : ℕ) → is_free r ≡ true → get_or new r 0 ≡ get_or regs r 0
+
+-- but for one
+abbrev pub Alike_but : (rd : ℕ) (regs new : List ℕ) → Type 0
+Alike_but rd regs new = (r : ℕ) → is_free r ≡ true → r ≢ rd → get_or new r 0 ≡ get_or regs r 0
+
+pub length-saved : (ws : List ℕ) (j : ℕ) (home : Home) (value : ℕ) → length (saved ws j home value) ≡ length ws
+length-saved ws j (Reg number) value = refl
+length-saved ws j (Frame at) value = length-set ws (j + at / 4) value
+
+-- words outside of the frame, and the return address, stay
+pub saved_outside : (ws : List ℕ) (j n k : ℕ) (home : Home) (value : ℕ) → IsThere n home → (k ≤ j) ⊎ (j + n ≤ k) →
+    get_or (saved ws j home value) k 0 ≡ get_or ws k 0
+saved_outside ws j n k (Reg number) value h o = refl
+saved_outside ws j n k (Frame at) value h (inl le) = get_or-set_other ws (j + at / 4) k value 0 (λ s. omega (arith, s, le, h.1.0))
+saved_outside ws j n k (Frame at) value h (inr le) = get_or-set_other ws (j + at / 4) k value 0 (λ s. omega (arith, s, le, h.1.1))
+
+saved_here : (regs ws : List ℕ) (j n : ℕ) (home : Home) (value : ℕ) → IsThere n home → j + n ≤ length ws → HasWord regs home value →
+    word_at regs (saved ws j home value) j home ≡ value
+saved_here regs ws j n (Reg number) value h inside has = has
+saved_here regs ws j n (Frame at) value h inside has = get_or-set_same ws (j + at / 4) value 0 (omega (arith, h.1.1, inside))
+
+saved_apart : (regs ws : List ℕ) (j n : ℕ) (home other : Home) (value : ℕ) → IsThere n home → IsThere n other → other ≢ home →
+    word_at regs (saved ws j home value) j other ≡ word_at regs ws j other
+saved_apart regs ws j n (Reg number) other value h g ne = refl
+saved_apart regs ws j n (Frame at) (Reg number) value h g ne = refl
+saved_apart regs ws j n (Frame at) (Frame from) value h g ne =
+    get_or-set_other ws (j + at / 4) (j + from / 4) value 0 (λ s. ne (ap Frame (let e : from ≡ at = omega (arith, s, h.0, g.0) in e)))
+
+-- what stands at a home by words behind a place that stay
+pub word_kept : (regs ws ws' : List ℕ) (j : ℕ) (home : Home) → ((k : ℕ) → j ≤ k → get_or ws' k 0 ≡ get_or ws k 0) →
+    word_at regs ws' j home ≡ word_at regs ws j home
+word_kept regs ws ws' j (Reg number) same = refl
+word_kept regs ws ws' j (Frame at) same = same (j + at / 4) (omega arith)
+
+pub word_alike : (regs new ws : List ℕ) (j n : ℕ) (home : Home) → IsThere n home → Alike regs new → word_at new ws j home ≡ word_at regs ws j home
+word_alike regs new ws j n (Reg number) h same = same number h
+word_alike regs new ws j n (Frame at) h same = refl
+
+-- whatever registers hold
+pub word_framed : (regs new ws : List ℕ) (j : ℕ) (home : Home) → IsFrame home → word_at new ws j home ≡ word_at regs ws j home
+word_framed regs new ws j (Reg number) h = absurd h
+word_framed regs new ws j (Frame at) h = refl
 
 -- ---- where lines stand
 
@@ -139,9 +205,22 @@ module _ (lay : Layout) where
         let h = label_split name p.lines found e in
         record { tail = s.tail; found = s.found; before = h.0; split = h.1 }
 
-    -- the frame that begins at word j holds the variables
-    abbrev pub Held : (ws : List ℕ) (j : ℕ) → WordProc → Vars → Type 0
-    Held ws j p vars = (v w : ℕ) → vars v ≡ Some w → (v < p.vars) × (get_or ws (j + word (lay p.number) v) 0 ≡ w) × (w < 2 ^ 32)
+    -- Of each variable that is alive at some lines the word stands at its home, where the frame begins at word j.
+    abbrev pub Held : (regs ws : List ℕ) (j : ℕ) → WordProc → (lines : List WordInstr) → Vars → Type 0
+    Held regs ws j p lines vars =
+        (v w : ℕ) → Alive p.lines v lines → vars v ≡ Some w →
+        (v < p.vars) × ((word_at regs ws j (home_of (lay p.number) v) ≡ w) × (w < 2 ^ 32))
+
+    -- Of a call that waits it stands there whatever registers hold, but for the variable that awaits the result, which has another home.
+    abbrev pub Rests : (ws : List ℕ) (j : ℕ) → WordFrame → Type 0
+    Rests ws j c =
+        (v w : ℕ) → Alive c.proc.lines v c.left → v ≢ c.awaits → c.vars v ≡ Some w →
+        (v < c.proc.vars) × (((regs : List ℕ) → word_at regs ws j (home_of (lay c.proc.number) v) ≡ w) × (w < 2 ^ 32))
+
+    abbrev pub Apart : WordFrame → Type 0
+    Apart c =
+        (v : ℕ) → Alive c.proc.lines v c.left → v ≢ c.awaits → v < c.proc.vars →
+        home_of (lay c.proc.number) v ≢ home_of (lay c.proc.number) c.awaits
 
     -- below it stand the arguments that were given
     abbrev pub Gave : (ws : List ℕ) (j : ℕ) → Vars → Type 0
@@ -162,7 +241,8 @@ module _ (lay : Layout) where
         pub base_fits : c.base < 2 ^ 32
         pub awaits : c.awaits < c.proc.vars
         pub given : c.given ≡ no_words
-        pub held : Held ws j c.proc c.vars
+        pub rests : Rests ws j c
+        pub apart : Apart c
         pub deep : Deep j c cs
 
       -- the frame of a call begins at word j, and behind it follow those of the callers
@@ -192,7 +272,14 @@ module _ (lay : Layout) where
               base_fits = x.base_fits;
               awaits = x.awaits;
               given = x.given;
-              held = λ v w e. let y = x.held v w e in (y.0, same (next + word (lay c.proc.number) v) (inr (omega arith)) ∙ y.1, y.2);
+              rests = λ v w lives ne e. let y = x.rests v w lives ne e in (
+                y.0,
+                (
+                  (λ regs. word_kept regs ws ws' next (home_of (lay c.proc.number) v) (λ k le. same k (inr le)) ∙ y.1.0 regs),
+                  y.1.1,
+                ),
+              );
+              apart = x.apart;
               deep = x.deep;
             },
             linked_kept ws ws' next c.proc c.base cs long (λ k o. same k (inr (past k next (size (lay c.proc.number)) o))) h.1,
@@ -208,7 +295,7 @@ module _ (lay : Layout) where
         pub kept : Regs regs (word_place t.memory j) t.frame.base
         pub base_fits : t.frame.base < 2 ^ 32
         pub sits : Sits t.frame.proc lines
-        pub held : Held ws j t.frame.proc t.frame.vars
+        pub held : Held regs ws j t.frame.proc lines t.frame.vars
         pub given : Gave ws j t.frame.given
         pub linked : Linked ws j t.frame.proc t.frame.base t.callers
         pub deep : Deep j t.frame t.callers
@@ -221,27 +308,46 @@ module _ (lay : Layout) where
         pub facts : Facts t t.frame.left regs ws j
         pub is : r ≡ run_at regs t.memory ws t.input (code_here t.frame.proc t.frame.left facts.sits)
 
-    -- ---- a word that is written
+    -- ---- words at other lines
 
-    pub put_held : (ws : List ℕ) (j : ℕ) (p : WordProc) (vars : Vars) (to n : ℕ) → IsLaid (lay p.number) p → to < p.vars →
-        j + size (lay p.number) ≤ length ws → Held ws j p vars → Held (set ws (j + word (lay p.number) to) (n % 2 ^ 32)) j p (put vars to n)
-    put_held ws j p vars to n laid lt inside h v w e =
-        let k = j + word (lay p.number) to in
-        let new = set ws k (n % 2 ^ 32) in
+    -- registers and lines changed, and nothing is alive that wasn't
+    pub held_alike : (regs new ws : List ℕ) (j : ℕ) (p : WordProc) (lines more : List WordInstr) (vars : Vars) → IsLaid (lay p.number) p →
+        Alike regs new →
+        ((v : ℕ) → Alive p.lines v more → Alive p.lines v lines) → Held regs ws j p lines vars → Held new ws j p more vars
+    held_alike regs new ws j p lines more vars laid same stays h v w lives e =
+        let x = h v w (stays v lives) e in
+        (x.0, (word_alike regs new ws j (size (lay p.number)) (home_of (lay p.number) v) (laid.there v x.0) same ∙ x.1.0, x.1.1))
+
+    -- a word is written
+    pub put_held : (new ws : List ℕ) (j : ℕ) (p : WordProc) (rest : List WordInstr) (vars : Vars) (to n : ℕ) → IsLaid (lay p.number) p →
+        to < p.vars →
+        j + size (lay p.number) ≤ length ws →
+        ((v w : ℕ) → Alive p.lines v rest → v ≢ to → vars v ≡ Some w →
+        (v < p.vars) × ((word_at new ws j (home_of (lay p.number) v) ≡ w) × (w < 2 ^ 32))) →
+        ((v : ℕ) → Alive p.lines v rest → v ≢ to → v < p.vars → home_of (lay p.number) v ≢ home_of (lay p.number) to) →
+        HasWord new (home_of (lay p.number) to) (n % 2 ^ 32) →
+        Held new (saved ws j (home_of (lay p.number) to) (n % 2 ^ 32)) j p rest (put vars to n)
+    put_held new ws j p rest vars to n laid lt inside old apart has v w lives e =
+        let h = lay p.number in
+        let value = n % 2 ^ 32 in
+        let ws' = saved ws j (home_of h to) value in
         elim (cases_eq v to) [
           | inl same ↦
-              let is = some_same (n % 2 ^ 32) w (sym (cond-true (v == to) (Some (n % 2 ^ 32)) (vars v) (eq-eqb v to same)) ∙ e) in
-              let home_in = laid.inside to lt in (
+              let is = some_same value w (sym (cond-true (v == to) (Some value) (vars v) (eq-eqb v to same)) ∙ e) in (
                 omega (arith, same, lt),
-                ap (λ x. get_or new (j + word (lay p.number) x) 0) same ∙ get_or-set_same ws k (n % 2 ^ 32) 0 (omega (arith, home_in, inside)) ∙ is,
-                omega (arith, is),
+                (
+                  ap (λ x. word_at new ws' j (home_of h x)) same
+                      ∙ saved_here new ws j (size h) (home_of h to) value (laid.there to lt) inside has ∙ is,
+                  omega (arith, is),
+                ),
               )
           | inr ne ↦
-              let old : vars v ≡ Some w = sym (cond-false (v == to) (Some (n % 2 ^ 32)) (vars v) (ne_eqb v to ne)) ∙ e in
-              let x = h v w old in (
+              let x = old v w lives ne (sym (cond-false (v == to) (Some value) (vars v) (ne_eqb v to ne)) ∙ e) in (
                 x.0,
-                get_or-set_other ws k (j + word (lay p.number) v) (n % 2 ^ 32) 0 (λ s. ne (laid.apart v to x.0 lt (omega (arith, s)))) ∙ x.1,
-                x.2,
+                (
+                  saved_apart new ws j (size h) (home_of h to) (home_of h v) value (laid.there to lt) (laid.there v x.0) (apart v lives ne x.0) ∙ x.1.0,
+                  x.1.1,
+                ),
               )
         ]
 

@@ -1,20 +1,20 @@
 -- Homes for each procedure are a layout.
-use Rattle.std.proofs.Common.{◌≡◌, ℕ, suc, ◌+◌, ◌-◌, ◌*◌, ◌%◌, ◌<◌, ◌≤◌, ◌⊎◌, List, [], ◌∷◌, Bool}
+use Rattle.std.proofs.Common.{◌≡◌, ℕ, ◌%◌, ◌≤◌, ◌⊎◌, List, [], ◌∷◌, Bool}
 use Rattle.std.proofs.Common.{true, false, inl, inr, refl, sym, ap, subst, ◌∙◌, arith}
 use Rattle.std.specs.Prelude.{max, ◌==◌, not, nat_le, if◌then◌else◌}
 use Rattle.std.proofs.lemmas.Bool.{cases_Bool, and_parts, or_left, or_right, eq-eqb, eqb-true, leb-true, cond-true, cond-false, cond_both, true≢false}
 use Rattle.mid_code.specs.declared.word.TheConstants.{MOST_VARIABLES}
 use Rattle.mid_code.specs.declared.word.WordProc.{WordProc}
-use Rattle.mid_code.specs.Words.{from_proc, all_named, is_proc, has_number, are_procs}
+use Rattle.mid_code.specs.Words.{from_proc, all_named, is_kind, is_proc, has_number, are_procs}
 use Rattle.reg_scan.specs.declared.homes.Home.{Home}
 use Rattle.reg_scan.specs.declared.homes.Home.TheVariants.{Reg, Frame}
 use Rattle.reg_scan.specs.declared.homes.Homes.{Homes}
 use Rattle.reg_scan.specs.Homes.{home_of, IsPlace, IsHomes}
-use Rattle.rv32_codegen.specs.Code.{offset_of, home_at, proc_code, homes_code}
+use Rattle.rv32_codegen.specs.Code.{proc_code, homes_code}
 use Rattle.rv32_codegen.specs.Stack.{frame_for, most_frame}
 use Rattle.rv32_codegen.specs.Lowering.{AllHomes}
 use Rattle.rv32_codegen.proofs.Lookups.{Layout, procs_code, nil_cons, here, later}
-use Rattle.rv32_codegen.proofs.Frames.{IsLaid}
+use Rattle.rv32_codegen.proofs.Frames.{size, IsThere, IsLaid}
 use Rattle.rv32_codegen.proofs.Depth.{proc_parts}
 
 abbrev pub no_homes : Homes
@@ -46,50 +46,25 @@ frame_most (p ∷ procs) (h ∷ homes) number =
 
 -- ---- homes of one procedure, by words
 
-record Placed (frame offset : ℕ) : Type 0 where
-  whole : offset % 4 ≡ 0
-  low : 4 ≤ offset
-  high : offset + 4 ≤ frame
-
-placed : (frame : ℕ) (home : Home) → IsPlace frame home → Placed frame (offset_of home)
-placed frame (Reg number) h = absurd h
-placed frame (Frame at) h = record { whole = h.0; low = h.1.0; high = h.1.1 }
-
-same_home : (frame : ℕ) (a b : Home) → IsPlace frame a → IsPlace frame b → offset_of a ≡ offset_of b → a ≡ b
-same_home frame (Reg number) b h k e = absurd h
-same_home frame (Frame at) (Reg number) h k e = absurd k
-same_home frame (Frame at) (Frame other) h k e = ap Frame e
-
-in_frame : (frame : ℕ) (home : Home) → IsPlace frame home → home ≡ Frame (offset_of home)
-in_frame frame (Reg number) h = absurd h
-in_frame frame (Frame at) h = refl
+placed : (h : Homes) (home : Home) → h.frame % 4 ≡ 0 → IsPlace h.frame home → IsThere (size h) home
+placed h (Reg number) whole is = is
+placed h (Frame at) whole is = (omega (arith, is.0), (omega (arith, is.1.0), omega (arith, is.0, is.1.1, whole)))
 
 pub laid_by : (p : WordProc) (h : Homes) → IsHomes p h → is_proc p ≡ true → IsLaid h p
 laid_by p h is ok =
     let first = and_parts (nat_le p.params p.vars) _ ok in
-    let few = leb-true p.params p.vars first.0 in
     let second = and_parts (nat_le p.vars MOST_VARIABLES) _ first.1 in
-    let third = and_parts (p.room % 4 == 0) (all_named p.vars p.lines) second.1 in
+    let third = and_parts (p.room % 4 == 0) _ second.1 in
+    let fourth = and_parts (is_kind p.kind) (all_named p.vars p.lines) third.1 in
     let whole = is.whole in
     let least = is.least in
-    let at : (v : ℕ) → v < p.vars → Placed h.frame (home_at h v) = λ v lt. placed h.frame (home_of h v) (is.there v lt) in
     record {
+      homes = is;
       frame = omega (arith, whole);
       some = omega (arith, whole, least);
-      at = λ v lt. let x = at v lt in let y = x.whole in omega (arith, y);
-      apart = λ v w lt less e.
-          let x = at v lt in let y = at w less in let a = x.whole in let b = y.whole in
-          is.apart v w lt less (same_home h.frame (home_of h v) (home_of h w) (is.there v lt) (is.there w less) (omega (arith, a, b, e)));
-      above = λ v lt. let x = at v lt in let y = x.low in omega (arith, y);
-      inside = λ v lt. let x = at v lt in let y = x.high in let z = x.whole in omega (arith, y, z, whole);
-      params = λ v lt.
-          let var : v < p.vars = omega (arith, lt, few) in
-          let x = at v var in
-          let y = x.low in
-          let e : home_at h v ≡ h.frame - 4 * suc v = is.params v (home_at h v) lt var (in_frame h.frame (home_of h v) (is.there v var)) in
-          omega (arith, e, y, whole);
-      few = few;
-      named = third.1;
+      there = λ v lt. placed h (home_of h v) whole (is.there v lt);
+      few = leb-true p.params p.vars first.0;
+      named = fourth.1;
     }
 
 -- ---- homes of all

@@ -1,42 +1,41 @@
 -- What a line of word code does that sets a variable or jumps, its label code does.
-use Rattle.std.proofs.Common.{◌≡◌, ◌≢◌, ℕ, suc, ◌+◌, ◌-◌, ◌*◌, ◌%◌, ◌^◌, ◌<◌, ◌≤◌, inl, inr, List, []}
-use Rattle.std.proofs.Common.{◌∷◌, length, get_or, set, Bool, true, false}
-use Rattle.std.proofs.Common.{Option, Some, None, refl, ap, subst, ◌∙◌, arith, length-set}
+use Rattle.std.proofs.Common.{◌≡◌, ◌≢◌, ℕ, suc, ◌+◌, ◌-◌, ◌%◌, ◌^◌, ◌<◌, ◌≤◌, inl, inr, List, []}
+use Rattle.std.proofs.Common.{◌∷◌, length, get_or, Bool, true, false}
+use Rattle.std.proofs.Common.{Option, Some, None, refl, ap, subst, ◌∙◌, arith}
 use Rattle.std.specs.Prelude.{◌&&◌, nat_lt, if◌then◌else◌}
-use Rattle.std.proofs.lemmas.Bool.{and_parts, ltb-true, cond-true, cond-false}
-use Rattle.std.proofs.lemmas.List.{get_or-set_other}
-use Rattle.arc_base.specs.Event.{Event}
-use Rattle.arc_base.specs.Stepping.{Next, Goes}
-use Rattle.rv32_isa.specs.declared.label.LabelName.TheVariants.{Inner}
+use Rattle.std.proofs.lemmas.Bool.{and_parts, ltb-true}
 use Rattle.rv32_isa.specs.declared.label.LabelLine.{LabelLine}
-use Rattle.rv32_isa.specs.declared.label.LabelLine.TheVariants.{Do, Branch}
+use Rattle.rv32_isa.specs.declared.label.LabelLine.TheVariants.{Do}
 use Rattle.rv32_isa.specs.Values.{added}
 use Rattle.rv32_isa.specs.Steps.{written}
-use Rattle.rv32_isa.specs.Labels.{holds as label_holds, from_label as label_from}
-use Rattle.rv32_isa.specs.LabelsMeaning.{LabelRun, did, led, goto, comes, step}
+use Rattle.rv32_isa.specs.LabelsMeaning.{LabelRun, did, led, step}
 use Rattle.rv32_logic.specs.Registers.{put}
 use Rattle.mid_code.specs.declared.word.TheConstants.{MOST_ARGUMENTS}
 use Rattle.mid_code.specs.declared.word.WordOperation.{WordOperation}
 use Rattle.mid_code.specs.declared.word.WordOperation.TheVariants as operation
-use Rattle.mid_code.specs.declared.word.Test.{Test}
-use Rattle.mid_code.specs.declared.word.Test.TheVariants as test
 use Rattle.mid_code.specs.declared.word.WordInstr.{WordInstr}
 use Rattle.mid_code.specs.declared.word.WordInstr.TheVariants as word
 use Rattle.mid_code.specs.Memory.{Memory}
-use Rattle.mid_code.specs.Words.{put as put_var, WordState, computed, holds, WordDid, scene_of, onward, using, on, jumped, settled}
+use Rattle.mid_code.specs.Words.{put as put_var, WordState, computed, WordDid, scene_of, onward, using, on, settled}
 use Rattle.mid_code.specs.Words.{does as word_does}
-use Rattle.mid_code.specs.Words.{from_label, are_named}
+use Rattle.mid_code.specs.Words.{are_named}
+use Rattle.reg_scan.specs.declared.homes.Home.{Home}
 use Rattle.reg_scan.specs.declared.homes.Homes.{Homes}
-use Rattle.rv32_codegen.specs.Code.{does, load, save, operate, compare, home_at, datum_at, load_both, keep, lines_code}
+use Rattle.reg_scan.specs.Alive.{effect_of, IsOne, Alive, read_by, kept_by}
+use Rattle.reg_scan.specs.Homes.{home_of}
+use Rattle.rv32_codegen.specs.Code.{does, operate, datum_at, seat, bring, move, settle, give, target, left_of, right_of, bring_both, keep}
 use Rattle.rv32_codegen.proofs.Runs.{steps_one}
-use Rattle.rv32_codegen.proofs.Machine.{state_of, run_at, Fits, fits_words, word_place, Regs, Quiet, quiet_does, Goes_in, then_goes, goes_within}
+use Rattle.rv32_codegen.proofs.Machine.{state_of, run_at, fits_words, word_place, Regs, Quiet, quiet_does, Goes_in, then_goes, goes_within}
 use Rattle.rv32_codegen.proofs.Machine.{writes}
-use Rattle.rv32_codegen.proofs.PieceRuns.{Gets, put_gets, Leads, constant_any, sum_any, load_goes, save_goes}
+use Rattle.rv32_codegen.proofs.PieceRuns.{Gets, put_gets, Leads, constant_any, datum_any, sum_any}
+use Rattle.rv32_codegen.proofs.Frees.{free_apart}
+use Rattle.rv32_codegen.proofs.Computed.{computed_small}
+use Rattle.rv32_codegen.proofs.HomeRuns.{seat_above, seat_small, seats_apart, Brought, Settled, home_moves, home_brings, Lands, home_gives, home_settles}
+use Rattle.rv32_codegen.proofs.HomeRuns.{alike_refl, word_but}
 use Rattle.rv32_codegen.proofs.Chunks.{quiet_lines}
-use Rattle.rv32_codegen.proofs.Lookups.{behind, inner_is}
-use Rattle.rv32_codegen.proofs.Frames.{size, word as home_word, IsLaid, Sits, code_here, sits_next, sits_named, sits_at, linked_inside}
-use Rattle.rv32_codegen.proofs.Frames.{linked_kept}
-use Rattle.rv32_codegen.proofs.Frames.{put_held, Setting, whole, True, Rel, Sim}
+use Rattle.rv32_codegen.proofs.Lookups.{behind}
+use Rattle.rv32_codegen.proofs.Frames.{size, IsLaid, saved, Alike, Alike_but, length-saved, saved_outside, word_alike, Sits, code_here, sits_next}
+use Rattle.rv32_codegen.proofs.Frames.{sits_named, linked_inside, linked_kept, held_alike, put_held, Setting, whole, True, Rel, Sim}
 
 -- with other lines left
 abbrev pub at_lines : WordState → List WordInstr → WordState
@@ -45,11 +44,6 @@ at_lines t lines = onward t lines (scene_of t)
 -- with a variable that has a number's low 32 bits
 abbrev pub setting : WordState → List WordInstr → (to number : ℕ) → WordState
 setting t rest to number = record t { frame = record t.frame { left = rest; vars = put_var t.frame.vars to number } }
-
--- a word of the running call's frame
-place_is : (m : Memory) (ws : List ℕ) (j k offset : ℕ) → Fits m ws → 4 * k ≡ offset → j + k < length ws →
-    added (word_place m j) offset ≡ word_place m (j + k)
-place_is m ws j k offset fits e lt = omega (arith, fits.stack_most, e, lt)
 
 module _ (g : Setting) where
   abbrev pub homes : WordState → Homes
@@ -94,36 +88,65 @@ module _ (g : Setting) where
     arguments_fit = omega (arith, f.deep)
 
     -- a variable's word into a register
-    pub var_goes : (old : List ℕ) (rd v a : ℕ) (rest : List LabelLine) → Quiet rest → 3 < rd → rd < 32 → t.frame.vars v ≡ Some a →
-        Regs old (frame_at t j) t.frame.base →
-        Leads g.live (whole g) g.at t.memory ws t.input 1 3 old (load rd (home_at (homes t) v)) rest (λ new. Gets old new rd a (frame_at t j) t.frame.base)
-    var_goes old rd v a rest quiet gt lt e h =
+    pub var_moves : (old : List ℕ) (rd v a : ℕ) (rest : List LabelLine) → Quiet rest → 4 < rd → rd < 32 → Alive t.frame.proc.lines v lines →
+        t.frame.vars v ≡ Some a → Regs old (frame_at t j) t.frame.base → Alike regs old →
+        Leads g.live (whole g) g.at t.memory ws t.input 1 3 old (move rd (home_of (homes t) v)) rest
+        (λ new. Gets old new rd a (frame_at t j) t.frame.base)
+    var_moves old rd v a rest quiet gt lt lives e kept same =
         let laid = laid_of t lines f.sits in
-        let x = f.held v a e in
-        let k = home_word (homes t) v in
-        let at_home = laid.at v x.0 in
-        let home_in = laid.inside v x.0 in
-        let inside = inside_of in
-        let most = f.fits.stack_most in
-        let within : j + k < length ws = omega (arith, home_in, inside) in
-        load_goes g.live (whole g) g.at t.memory ws t.input old rd (home_at (homes t) v) (j + k) a (frame_at t j) t.frame.base rest quiet
-        (omega (arith, at_home, within, most)) (place_is t.memory ws j k (home_at (homes t) v) f.fits at_home within) within f.fits h gt lt x.1 x.2
+        let x = f.held v a lives e in
+        let home = home_of (homes t) v in
+        let there = laid.there v x.0 in
+        home_moves g.live (whole g) g.at t.memory ws t.input j (size (homes t)) t.frame.base rest quiet f.fits inside_of old rd a home there gt lt
+        (word_alike regs old ws j (size (homes t)) home there same ∙ x.1.0) x.1.1 kept
 
-    -- two variables' words into x5 and x6
-    pub both_go : (v w a b : ℕ) (rest : List LabelLine) → Quiet rest → t.frame.vars v ≡ Some a → t.frame.vars w ≡ Some b →
+    -- into the register in which it is used
+    pub var_brought : (old : List ℕ) (other v a : ℕ) (rest : List LabelLine) → Quiet rest → 4 < other → other < 32 → Alive t.frame.proc.lines v lines →
+        t.frame.vars v ≡ Some a → Regs old (frame_at t j) t.frame.base → Alike regs old →
+        Leads g.live (whole g) g.at t.memory ws t.input 0 3 old (bring other (home_of (homes t) v)) rest
+        (λ new. Brought old new other (home_of (homes t) v) a (frame_at t j) t.frame.base)
+    var_brought old other v a rest quiet gt lt lives e kept same =
+        let laid = laid_of t lines f.sits in
+        let x = f.held v a lives e in
+        let home = home_of (homes t) v in
+        let there = laid.there v x.0 in
+        home_brings g.live (whole g) g.at t.memory ws t.input j (size (homes t)) t.frame.base rest quiet f.fits inside_of old other a home there gt lt
+        (word_alike regs old ws j (size (homes t)) home there same ∙ x.1.0) x.1.1 kept
+
+    -- registers with two variables' words
+    pub record Both (new : List ℕ) (v w a b : ℕ) : Type 0 where
+      pub kept : Regs new (frame_at t j) t.frame.base
+      pub first : get_or new (left_of (homes t) v) 0 ≡ a
+      pub second : get_or new (right_of (homes t) w) 0 ≡ b
+      pub alike : Alike regs new
+
+    -- two variables' words where they are used
+    pub both_go : (v w a b : ℕ) (rest : List LabelLine) → Quiet rest → Alive t.frame.proc.lines v lines → Alive t.frame.proc.lines w lines →
+        t.frame.vars v ≡ Some a → t.frame.vars w ≡ Some b →
         (new : List ℕ)
-        × Goes_in g.live (whole g) g.at 2 6 (run_at regs t.memory ws t.input (load_both (homes t) v w rest)) (run_at new t.memory ws t.input rest)
-        × Regs new (frame_at t j) t.frame.base × (get_or new 5 0 ≡ a) × (get_or new 6 0 ≡ b)
-    both_go v w a b rest quiet e k =
-        let second = load 6 (home_at (homes t) w) in
-        let x = var_goes regs 5 v a (does second rest) (quiet_does second rest quiet) (omega arith) (omega arith) e f.kept in
-        let y = var_goes x.0 6 w b rest quiet (omega arith) (omega arith) k x.2.kept in (
+        × Goes_in g.live (whole g) g.at 0 6 (run_at regs t.memory ws t.input (bring_both (homes t) v w rest)) (run_at new t.memory ws t.input rest)
+        × Both new v w a b
+    both_go v w a b rest quiet lives also e k =
+        let second = bring 6 (home_of (homes t) w) in
+        let laid = laid_of t lines f.sits in
+        let n = size (homes t) in
+        let there = laid.there v (f.held v a lives e).0 in
+        let x = var_brought regs 5 v a (does second rest) (quiet_does second rest quiet) (omega arith) (omega arith) lives e f.kept (alike_refl regs) in
+        let alike : Alike regs x.0 = λ r free. x.2.others r (free_apart r 5 free refl) in
+        let y = var_brought x.0 6 w b rest quiet (omega arith) (omega arith) also k x.2.kept alike in (
           y.0,
-          then_goes g.live (whole g) g.at 1 1 3 3 _ _ _ x.1 y.1,
-          y.2.kept,
-          y.2.other 5 (λ e. omega (arith, e)) ∙ x.2.same,
-          y.2.same,
+          then_goes g.live (whole g) g.at 0 0 3 3 _ _ _ x.1 y.1,
+          record {
+            kept = y.2.kept;
+            first = y.2.others (left_of (homes t) v) (seats_apart n (home_of (homes t) v) there) ∙ x.2.same;
+            second = y.2.same;
+            alike = λ r free. y.2.others r (free_apart r 6 free refl) ∙ alike r free;
+          },
         )
+
+    -- a variable's word is one of 32 bits
+    pub small_of : (v a : ℕ) → Alive t.frame.proc.lines v lines → t.frame.vars v ≡ Some a → a < 2 ^ 32
+    small_of v a lives e = (f.held v a lives e).1.1
 
   -- the code behind a line
   abbrev pub Behind : (t : WordState) (l : WordInstr) (rest : List WordInstr) (regs ws : List ℕ) (j : ℕ) → True g t (l ∷ rest) regs ws j →
@@ -148,84 +171,129 @@ module _ (g : Setting) where
 
   -- ---- a line that sets a variable
 
+  -- the register that a variable is computed into
+  pub target_above : (t : WordState) (lines : List WordInstr) (to : ℕ) → Sits g.lay g.procs t.frame.proc lines → to < t.frame.proc.vars →
+      4 < target (homes t) to
+  target_above t lines to s lt = seat_above (size (homes t)) 5 (home_of (homes t) to) ((laid_of t lines s).there to lt) (omega arith)
+
+  pub target_small : (t : WordState) (lines : List WordInstr) (to : ℕ) → Sits g.lay g.procs t.frame.proc lines → to < t.frame.proc.vars →
+      target (homes t) to < 32
+  target_small t lines to s lt = seat_small (size (homes t)) 5 (home_of (homes t) to) ((laid_of t lines s).there to lt) (omega arith)
+
+  -- a line from which control goes on to the next one, and which sets a variable
+  pub record Setting_line (l : WordInstr) (to : ℕ) : Type 0 where
+    pub goes : (effect_of l).goes_on ≡ true
+    pub is : (effect_of l).to ≡ Some to
+
   set_true : (t : WordState) (l : WordInstr) (rest : List WordInstr) (regs new ws : List ℕ) (j to n : ℕ) (f : True g t (l ∷ rest) regs ws j) →
-      to < t.frame.proc.vars →
-      Regs new (frame_at t j) t.frame.base → True g (setting t rest to n) rest new (set ws (j + home_word (homes t) to) (n % 2 ^ 32)) j
-  set_true t l rest regs new ws j to n f lt kept =
+      Setting_line l to → to < t.frame.proc.vars → Settled regs new (home_of (homes t) to) (n % 2 ^ 32) (frame_at t j) t.frame.base →
+      True g (setting t rest to n) rest new (saved ws j (home_of (homes t) to) (n % 2 ^ 32)) j
+  set_true t l rest regs new ws j to n f line lt x =
       let p = t.frame.proc in
-      let k = j + home_word (homes t) to in
-      let ws' = set ws k (n % 2 ^ 32) in
+      let h = homes t in
+      let home = home_of h to in
+      let value = n % 2 ^ 32 in
+      let ws' = saved ws j home value in
       let laid = laid_of t (l ∷ rest) f.sits in
+      let there = laid.there to lt in
       let inside = inside_of t (l ∷ rest) regs ws j f in
-      let home_in = laid.inside to lt in
-      let home_above = laid.above to lt in
-      let long : length ws' ≡ length ws = length-set ws k (n % 2 ^ 32) in
+      let long : length ws' ≡ length ws = length-saved ws j home value in
+      let apart : (v : ℕ) → Alive p.lines v rest → v ≢ to → v < p.vars → home_of h v ≢ home =
+      λ v lives ne less. laid.homes.apart f.sits.before rest l v to f.sits.split line.is lives ne less lt in
       record {
         fits = fits_words t.memory ws ws' long f.fits;
-        kept = kept;
+        kept = x.kept;
         base_fits = f.base_fits;
         sits = sits_next g.lay g.procs p l rest f.sits;
-        held = put_held g.lay g.procs ws j p t.frame.vars to n laid lt inside f.held;
-        given = λ i w e. let x = f.given i w e in (
-          x.0,
-          get_or-set_other ws k (j - suc i) (n % 2 ^ 32) 0 (λ s. below j i (home_word (homes t) to) home_above (arguments_fit t (l ∷ rest) regs ws j f) x.0
-              s) ∙ x.1,
-          x.2,
-        );
+        held = put_held g.lay g.procs new ws j p rest t.frame.vars to n laid lt inside
+            (λ v w lives ne e.
+            let y = f.held v w (kept_by line.goes (λ s. ne (subst (λ o. IsOne o v) line.is s)) lives) e in (
+              y.0,
+              (
+                word_but regs new ws j (size h) home (home_of h v) (laid.there v y.0) (apart v lives ne y.0) x.alike ∙ y.1.0,
+                y.1.1,
+              ),
+            )) apart x.has;
+        given = λ i w e. let y = f.given i w e in
+            (y.0, saved_outside ws j (size h) (j - suc i) home value there (inl (omega arith)) ∙ y.1, y.2);
         linked = linked_kept g.lay g.procs g.need g.total (whole g) g.at ws ws' j p t.frame.base t.callers long
-            (λ i o. get_or-set_other ws k i (n % 2 ^ 32) 0 (elim o [
-              | inl e ↦ (λ s. omega (arith, s, e, home_above))
-              | inr le ↦ (λ s. omega (arith, s, le, home_in))
-            ])) f.linked;
+            (λ k o. saved_outside ws j (size h) k home value there (elim o [ inl e ↦ inl (omega (arith, e)) | inr le ↦ inr le ])) f.linked;
         deep = f.deep;
       }
-    where
-      below : (j i k : ℕ) → 0 < k → MOST_ARGUMENTS ≤ j → i < MOST_ARGUMENTS → j - suc i ≡ j + k → ⊥
-      below j i k pos fit lt e = omega (arith, pos, fit, lt, e)
 
-  -- where code comes to the save of a register, and then to what follows
-  pub sets : (t : WordState) (l : WordInstr) (rest : List WordInstr) (regs ws : List ℕ) (j : ℕ) (f : True g t (l ∷ rest) regs ws j) (r : LabelRun)
-      (least count rs to w n : ℕ) (new : List ℕ) → rs ≢ 7 → to < t.frame.proc.vars → count + 3 ≤ 16 →
-      Goes_in g.live (whole g) g.at least count r (run_at new t.memory ws t.input (does (save rs (home_at (homes t) to)) (Behind t l rest regs ws j f))) →
-      get_or new rs 0 ≡ w → w % 2 ^ 32 ≡ n % 2 ^ 32 → Regs new (frame_at t j) t.frame.base → Sim g r t (on (setting t rest to n))
-  unfolding set_true
-  sets t l rest regs ws j f r least count rs to w n new ne lt few ran is same kept =
-      let p = t.frame.proc in
-      let k = Behind t l rest regs ws j f in
-      let laid = laid_of t (l ∷ rest) f.sits in
-      let home = home_word (homes t) to in
-      let at_home = laid.at to lt in
-      let home_in = laid.inside to lt in
-      let inside = inside_of t (l ∷ rest) regs ws j f in
-      let most = f.fits.stack_most in
-      let within : j + home < length ws = omega (arith, home_in, inside) in
-      let x = save_goes g.live (whole g) g.at t.memory ws t.input new rs (home_at (homes t) to) (j + home) w (frame_at t j) t.frame.base k
-      (quiet_behind t rest (sits_next g.lay g.procs p l rest f.sits)) (omega (arith, at_home, within, most))
-      (place_is t.memory ws j home (home_at (homes t) to) f.fits at_home within) within f.fits kept ne is in
-      let y = set_true t l rest regs x.0 ws j to n f lt x.2.kept in
-      let ws' = set ws (j + home) (n % 2 ^ 32) in
-      let saved = subst (λ v. Goes_in g.live (whole g) g.at 1 3 (run_at new t.memory ws t.input (does (save rs (home_at (homes t) to)) k))
-      (run_at x.0 t.memory (set ws (j + home) v) t.input k)) same x.1 in
-      sim_goes r (run_at x.0 t.memory ws' t.input k) t (setting t rest to n) (least + 1) (count + 3)
-      (then_goes g.live (whole g) g.at least 1 count 3 r (run_at new t.memory ws t.input (does (save rs (home_at (homes t) to)) k))
-      (run_at x.0 t.memory ws' t.input k) ran saved) (omega arith) few (record { regs = x.0; ws = ws'; j = j; facts = y; is = refl })
+  -- free registers but the one that is computed into are as they were, and others still
+  then_settled : (regs mid new : List ℕ) (home : Home) (value frame base : ℕ) → Alike_but (seat 5 home) regs mid →
+      Settled mid new home value frame base → Settled regs new home value frame base
+  then_settled regs mid new home value frame base same x =
+      record { kept = x.kept; has = x.has; alike = λ r free ne. x.alike r free ne ∙ same r free ne }
+
+  -- where code comes to what puts a word to its home, and then to what follows
+  module _ (t : WordState) (l : WordInstr) (rest : List WordInstr) (regs ws : List ℕ) (j : ℕ) (f : True g t (l ∷ rest) regs ws j) (r : LabelRun)
+      (least count to n : ℕ) (mid : List ℕ) (line : Setting_line l to) (lt : to < t.frame.proc.vars) (few : count + 3 ≤ 16)
+      (same : Alike_but (target (homes t) to) regs mid) (kept : Regs mid (frame_at t j) t.frame.base) where
+    abbrev ends_at : List LabelLine
+    ends_at = Behind t l rest regs ws j f
+
+    abbrev its_home : Home
+    its_home = home_of (homes t) to
+
+    sets_by : (more : ℕ) (code : List LabelLine) → 0 < least + more →
+        Goes_in g.live (whole g) g.at least count r (run_at mid t.memory ws t.input code) →
+        Lands g.live (whole g) g.at t.memory ws t.input j (size (homes t)) t.frame.base ends_at (quiet_behind t rest (sits_next g.lay g.procs t.frame.proc l rest f.sits))
+        f.fits (inside_of t (l ∷ rest) regs ws j f) more 3 mid code its_home (n % 2 ^ 32) → Sim g r t (on (setting t rest to n))
+    unfolding set_true
+    sets_by more code pos ran x =
+        let y = set_true t l rest regs x.0 ws j to n f line lt
+        (then_settled regs mid x.0 its_home (n % 2 ^ 32) (frame_at t j) t.frame.base same x.2) in
+        let ws' = saved ws j its_home (n % 2 ^ 32) in
+        sim_goes r (run_at x.0 t.memory ws' t.input ends_at) t (setting t rest to n) (least + more) (count + 3)
+        (then_goes g.live (whole g) g.at least more count 3 r (run_at mid t.memory ws t.input code)
+        (run_at x.0 t.memory ws' t.input ends_at) ran x.1) pos few (record { regs = x.0; ws = ws'; j = j; facts = y; is = refl })
+
+    -- from the register that it is computed into
+    pub sets : 0 < least →
+        Goes_in g.live (whole g) g.at least count r (run_at mid t.memory ws t.input (keep (homes t) to ends_at)) →
+        get_or mid (target (homes t) to) 0 ≡ n % 2 ^ 32 → Sim g r t (on (setting t rest to n))
+    sets pos ran is =
+        sets_by 0 (keep (homes t) to ends_at) (omega (arith, pos)) ran
+        (home_settles g.live (whole g) g.at t.memory ws t.input j (size (homes t)) t.frame.base ends_at
+        (quiet_behind t rest (sits_next g.lay g.procs t.frame.proc l rest f.sits)) f.fits (inside_of t (l ∷ rest) regs ws j f) mid (n % 2 ^ 32) its_home
+        ((laid_of t (l ∷ rest) f.sits).there to lt) is (omega arith) kept)
+
+    -- from another register
+    pub sets_from : (rs : ℕ) → rs < 32 → rs ≢ 7 →
+        Goes_in g.live (whole g) g.at least count r (run_at mid t.memory ws t.input (does (give rs its_home) ends_at)) →
+        get_or mid rs 0 ≡ n → Sim g r t (on (setting t rest to n))
+    sets_from rs less ne ran is =
+        sets_by 1 (does (give rs its_home) ends_at) (omega arith) ran
+        (home_gives g.live (whole g) g.at t.memory ws t.input j (size (homes t)) t.frame.base ends_at
+        (quiet_behind t rest (sits_next g.lay g.procs t.frame.proc l rest f.sits)) f.fits (inside_of t (l ∷ rest) regs ws j f) mid rs n its_home
+        ((laid_of t (l ∷ rest) f.sits).there to lt) less ne is kept)
 
   -- ---- lines
 
   -- where only lines and registers changed
   unfoldable pub same_true : (t : WordState) (lines more : List WordInstr) (regs new ws : List ℕ) (j : ℕ) (f : True g t lines regs ws j) →
-      Sits g.lay g.procs t.frame.proc more →
-      Regs new (frame_at t j) t.frame.base → True g (at_lines t more) more new ws j
-  same_true t lines more regs new ws j f sits kept = record {
+      Sits g.lay g.procs t.frame.proc more → Regs new (frame_at t j) t.frame.base → Alike regs new →
+      ((v : ℕ) → Alive t.frame.proc.lines v more → Alive t.frame.proc.lines v lines) → True g (at_lines t more) more new ws j
+  same_true t lines more regs new ws j f sits kept same stays = record {
     fits = f.fits;
     kept = kept;
     base_fits = f.base_fits;
     sits = sits;
-    held = f.held;
+    held = held_alike g.lay g.procs regs new ws j t.frame.proc lines more t.frame.vars (laid_of t lines f.sits) same stays f.held;
     given = f.given;
     linked = f.linked;
     deep = f.deep;
   }
+
+  -- a line from which control goes on to the next one, and which sets nothing
+  pub record Passing_line (l : WordInstr) : Type 0 where
+    pub goes : (effect_of l).goes_on ≡ true
+    pub none : (effect_of l).to ≡ None
+
+  pub passes_alive : (l : WordInstr) (all rest : List WordInstr) (v : ℕ) → Passing_line l → Alive all v rest → Alive all v (l ∷ rest)
+  passes_alive l all rest v line lives = kept_by line.goes (λ s. subst (λ o. IsOne o v) line.none s) lives
 
   pub label_sim : (name : ℕ) → Line_sim (word.Label name)
   unfolding same_true
@@ -238,198 +306,136 @@ module _ (g : Setting) where
         regs = regs;
         ws = ws;
         j = j;
-        facts = same_true t (l ∷ rest) rest regs regs ws j f (sits_next g.lay g.procs t.frame.proc l rest f.sits) f.kept;
+        facts = same_true t (l ∷ rest) rest regs regs ws j f (sits_next g.lay g.procs t.frame.proc l rest f.sits) f.kept (alike_refl regs)
+            (λ v lives. passes_alive l t.frame.proc.lines rest v (record { goes = refl; none = refl }) lives);
         is = refl;
       })
 
-  -- behind the front of a line, its save and what follows
-  pub keep_quiet : (t : WordState) (l : WordInstr) (rest : List WordInstr) (regs ws : List ℕ) (j : ℕ) (f : True g t (l ∷ rest) regs ws j) (rs to : ℕ)
-      →
-      Quiet (does (save rs (home_at (homes t) to)) (Behind t l rest regs ws j f))
-  keep_quiet t l rest regs ws j f rs to =
-      quiet_does (save rs (home_at (homes t) to)) _ (quiet_behind t rest (sits_next g.lay g.procs t.frame.proc l rest f.sits))
+  -- behind the front of a line, what puts a word to its home and what follows
+  pub keep_quiet : (t : WordState) (l : WordInstr) (rest : List WordInstr) (regs ws : List ℕ) (j : ℕ) (f : True g t (l ∷ rest) regs ws j) (to : ℕ) →
+      Quiet (keep (homes t) to (Behind t l rest regs ws j f))
+  keep_quiet t l rest regs ws j f to =
+      quiet_does (settle (home_of (homes t) to)) _ (quiet_behind t rest (sits_next g.lay g.procs t.frame.proc l rest f.sits))
+
+  pub give_quiet : (t : WordState) (l : WordInstr) (rest : List WordInstr) (regs ws : List ℕ) (j : ℕ) (f : True g t (l ∷ rest) regs ws j) (rs to : ℕ)
+      → Quiet (does (give rs (home_of (homes t) to)) (Behind t l rest regs ws j f))
+  give_quiet t l rest regs ws j f rs to =
+      quiet_does (give rs (home_of (homes t) to)) _ (quiet_behind t rest (sits_next g.lay g.procs t.frame.proc l rest f.sits))
+
+  -- a word into the register that a variable is computed into
+  gets_but : (regs new : List ℕ) (rd value frame base : ℕ) → Gets regs new rd value frame base → Alike_but rd regs new
+  gets_but regs new rd value frame base x r free ne = x.other r ne
 
   pub constant_sim : (to value : ℕ) → Line_sim (word.Constant to value)
   constant_sim to value t rest regs ws j f =
       let l = word.Constant to value in
+      let rd = target (homes t) to in
+      let lt = ltb-true to t.frame.proc.vars (named_of t l rest f.sits) in
       let last = keep (homes t) to (Behind t l rest regs ws j f) in
-      let quiet = keep_quiet t l rest regs ws j f 5 to in
-      let x = constant_any g.live (whole g) g.at t.memory ws t.input regs 5 value (frame_at t j) t.frame.base last quiet (omega arith) (omega arith) f.kept in
-      sets t l rest regs ws j f (Here t l rest regs ws j f) 1 2 5 to (value % 2 ^ 32) value x.0 (λ e. omega (arith, e))
-      (ltb-true to t.frame.proc.vars (named_of t l rest f.sits)) (omega arith) x.1 x.2.same (omega arith) x.2.kept
+      let x = constant_any g.live (whole g) g.at t.memory ws t.input regs rd value (frame_at t j) t.frame.base last (keep_quiet t l rest regs ws j f to)
+      (target_above t (l ∷ rest) to f.sits lt) (target_small t (l ∷ rest) to f.sits lt) f.kept in
+      sets t l rest regs ws j f (Here t l rest regs ws j f) 1 2 to value x.0 (record { goes = refl; is = refl }) lt (omega arith)
+      (gets_but regs x.0 rd (value % 2 ^ 32) (frame_at t j) t.frame.base x.2) x.2.kept (omega arith) x.1 x.2.same
 
   pub datum_sim : (to a : ℕ) → Line_sim (word.Datum to a)
   datum_sim to a t rest regs ws j f =
       let l = word.Datum to a in
+      let rd = target (homes t) to in
+      let lt = ltb-true to t.frame.proc.vars (named_of t l rest f.sits) in
       let last = keep (homes t) to (Behind t l rest regs ws j f) in
-      let quiet = keep_quiet t l rest regs ws j f 5 to in
       let value = datum_at t.frame.proc a in
       let n = (scene_of t).data_at + a in
-      let x = constant_any g.live (whole g) g.at t.memory ws t.input regs 5 value (frame_at t j) t.frame.base last quiet (omega arith) (omega arith) f.kept in
-      let same : value % 2 ^ 32 % 2 ^ 32 ≡ n % 2 ^ 32 = omega arith in
-      sets t l rest regs ws j f (Here t l rest regs ws j f) 1 2 5 to (value % 2 ^ 32) n x.0 (λ e. omega (arith, e))
-      (ltb-true to t.frame.proc.vars (named_of t l rest f.sits)) (omega arith) x.1 x.2.same same x.2.kept
+      let x = datum_any g.live (whole g) g.at t.memory ws t.input regs rd value (frame_at t j) t.frame.base last (keep_quiet t l rest regs ws j f to)
+      (target_above t (l ∷ rest) to f.sits lt) (target_small t (l ∷ rest) to f.sits lt) (omega arith) f.kept in
+      let same : value ≡ n % 2 ^ 32 = omega arith in
+      sets t l rest regs ws j f (Here t l rest regs ws j f) 1 2 to n x.0 (record { goes = refl; is = refl }) lt (omega arith)
+      (gets_but regs x.0 rd value (frame_at t j) t.frame.base x.2) x.2.kept (omega arith) x.1 (x.2.same ∙ same)
 
   pub copy_sim : (to from : ℕ) → Line_sim (word.Copy to from)
   copy_sim to from t rest regs ws j f =
       let l = word.Copy to from in
       let vars = t.frame.proc.vars in
       let named = and_parts (nat_lt to vars) (nat_lt from vars) (named_of t l rest f.sits) in
+      let lt = ltb-true to vars named.0 in
+      let rd = target (homes t) to in
       let r = Here t l rest regs ws j f in
       using_sim r t rest (t.frame.vars from) _ (λ a e.
-      let x = var_goes t (l ∷ rest) regs ws j f regs 5 from a _ (keep_quiet t l rest regs ws j f 5 to) (omega arith) (omega arith) e f.kept in
-      sets t l rest regs ws j f r 1 3 5 to a a x.0 (λ e. omega (arith, e)) (ltb-true to vars named.0) (omega arith) x.1 x.2.same refl x.2.kept)
+      let lives : Alive t.frame.proc.lines from (l ∷ rest) = read_by (inl refl) in
+      let x = var_moves t (l ∷ rest) regs ws j f regs rd from a _ (keep_quiet t l rest regs ws j f to) (target_above t (l ∷ rest) to f.sits lt)
+      (target_small t (l ∷ rest) to f.sits lt) lives e f.kept (alike_refl regs) in
+      let small = small_of t (l ∷ rest) regs ws j f from a lives e in
+      sets t l rest regs ws j f r 1 3 to a x.0 (record { goes = refl; is = refl }) lt (omega arith)
+      (gets_but regs x.0 rd a (frame_at t j) t.frame.base x.2) x.2.kept (omega arith) x.1
+      (x.2.same ∙ (let g : a ≡ a % 2 ^ 32 = omega (arith, small) in g)))
 
-  operate_is : (o : WordOperation) (regs : List ℕ) (m : Memory) (ws input : List ℕ) (rest : List LabelLine) →
-      did g.live (whole g) g.at (run_at regs m ws input (Do (operate o) ∷ rest)) rest (operate o)
-      ≡ led g.live (whole g) g.at (run_at regs m ws input (Do (operate o) ∷ rest)) rest
-      (written (state_of regs m ws) 5 (computed o (get_or regs 5 0) (get_or regs 6 0)))
-  operate_is operation.Add regs m ws input rest = refl
-  operate_is operation.Subtract regs m ws input rest = refl
-  operate_is operation.Multiply regs m ws input rest = refl
-  operate_is operation.MultiplyHigh regs m ws input rest = refl
-  operate_is operation.Divide regs m ws input rest = refl
-  operate_is operation.Remainder regs m ws input rest = refl
-  operate_is operation.DivideUnsigned regs m ws input rest = refl
-  operate_is operation.RemainderUnsigned regs m ws input rest = refl
-  operate_is operation.And regs m ws input rest = refl
-  operate_is operation.Or regs m ws input rest = refl
-  operate_is operation.Xor regs m ws input rest = refl
-  operate_is operation.ShiftLeft regs m ws input rest = refl
-  operate_is operation.ShiftRight regs m ws input rest = refl
-  operate_is operation.ShiftRightSigned regs m ws input rest = refl
-  operate_is operation.Less regs m ws input rest = refl
-  operate_is operation.Below regs m ws input rest = refl
+  operate_is : (o : WordOperation) (rd left right : ℕ) (regs : List ℕ) (m : Memory) (ws input : List ℕ) (rest : List LabelLine) →
+      did g.live (whole g) g.at (run_at regs m ws input (Do (operate o rd left right) ∷ rest)) rest (operate o rd left right)
+      ≡ led g.live (whole g) g.at (run_at regs m ws input (Do (operate o rd left right) ∷ rest)) rest
+      (written (state_of regs m ws) rd (computed o (get_or regs left 0) (get_or regs right 0)))
+  operate_is operation.Add rd left right regs m ws input rest = refl
+  operate_is operation.Subtract rd left right regs m ws input rest = refl
+  operate_is operation.Multiply rd left right regs m ws input rest = refl
+  operate_is operation.MultiplyHigh rd left right regs m ws input rest = refl
+  operate_is operation.Divide rd left right regs m ws input rest = refl
+  operate_is operation.Remainder rd left right regs m ws input rest = refl
+  operate_is operation.DivideUnsigned rd left right regs m ws input rest = refl
+  operate_is operation.RemainderUnsigned rd left right regs m ws input rest = refl
+  operate_is operation.And rd left right regs m ws input rest = refl
+  operate_is operation.Or rd left right regs m ws input rest = refl
+  operate_is operation.Xor rd left right regs m ws input rest = refl
+  operate_is operation.ShiftLeft rd left right regs m ws input rest = refl
+  operate_is operation.ShiftRight rd left right regs m ws input rest = refl
+  operate_is operation.ShiftRightSigned rd left right regs m ws input rest = refl
+  operate_is operation.Less rd left right regs m ws input rest = refl
+  operate_is operation.Below rd left right regs m ws input rest = refl
 
   pub compute_sim : (to : ℕ) (o : WordOperation) (left right : ℕ) → Line_sim (word.Compute to o left right)
   compute_sim to o left right t rest regs ws j f =
       let l = word.Compute to o left right in
       let vars = t.frame.proc.vars in
       let named = and_parts (nat_lt to vars) (nat_lt left vars && nat_lt right vars) (named_of t l rest f.sits) in
+      let lt = ltb-true to vars named.0 in
+      let h = homes t in
+      let rd = target h to in
+      let i = operate o rd (left_of h left) (right_of h right) in
       let r = Here t l rest regs ws j f in
       let m = t.memory in
-      let last = keep (homes t) to (Behind t l rest regs ws j f) in
+      let last = keep h to (Behind t l rest regs ws j f) in
+      let above = target_above t (l ∷ rest) to f.sits lt in
+      let under = target_small t (l ∷ rest) to f.sits lt in
+      let lives : Alive t.frame.proc.lines left (l ∷ rest) = read_by (inl refl) in
+      let also : Alive t.frame.proc.lines right (l ∷ rest) = read_by (inr refl) in
       using_sim r t rest (t.frame.vars left) _ (λ a e.
       using_sim r t rest (t.frame.vars right) _ (λ b k.
-      let x = both_go t (l ∷ rest) regs ws j f left right a b (Do (operate o) ∷ last) refl e k in
-      let v = computed o (get_or x.0 5 0) (get_or x.0 6 0) in
-      let y = writes g.live (whole g) g.at m ws t.input x.0 (operate o) 5 v last (keep_quiet t l rest regs ws j f 5 to) (operate_is o x.0 m ws t.input last)
-      in
-      let value : v ≡ computed o a b = ap (λ n. computed o n (get_or x.0 6 0)) x.3 ∙ ap (computed o a) x.4 in
-      let z = put_gets x.0 5 v (frame_at t j) t.frame.base (omega arith) (omega arith) x.2 in
-      sets t l rest regs ws j f r 3 7 5 to v (computed o a b) (put x.0 5 v) (λ e. omega (arith, e)) (ltb-true to vars named.0) (omega arith)
-      (then_goes g.live (whole g) g.at 2 1 6 1 _ _ _ x.1 y) z.same (ap (λ n. n % 2 ^ 32) value) z.kept))
+      let x = both_go t (l ∷ rest) regs ws j f left right a b (Do i ∷ last) refl lives also e k in
+      let v = computed o (get_or x.0 (left_of h left) 0) (get_or x.0 (right_of h right) 0) in
+      let y = writes g.live (whole g) g.at m ws t.input x.0 i rd v last (keep_quiet t l rest regs ws j f to)
+      (operate_is o rd (left_of h left) (right_of h right) x.0 m ws t.input last) in
+      let value : v ≡ computed o a b = ap (λ n. computed o n (get_or x.0 (right_of h right) 0)) x.2.first ∙ ap (computed o a) x.2.second in
+      let small = computed_small o a b (small_of t (l ∷ rest) regs ws j f left a lives e) (small_of t (l ∷ rest) regs ws j f right b also k) in
+      let low : computed o a b ≡ computed o a b % 2 ^ 32 = omega (arith, small) in
+      let z = put_gets x.0 rd v (frame_at t j) t.frame.base above under x.2.kept in
+      sets t l rest regs ws j f r 1 7 to (computed o a b) (put x.0 rd v) (record { goes = refl; is = refl }) lt (omega arith)
+      (λ s free ne. z.other s ne ∙ x.2.alike s free) z.kept (omega arith)
+      (then_goes g.live (whole g) g.at 0 1 6 1 _ _ _ x.1 y) (z.same ∙ value ∙ low)))
 
   pub place_sim : (to a : ℕ) → Line_sim (word.Place to a)
   place_sim to a t rest regs ws j f =
       let l = word.Place to a in
       let base = t.frame.base in
-      let x = sum_any g.live (whole g) g.at t.memory ws t.input regs 5 3 a (keep (homes t) to (Behind t l rest regs ws j f))
-      (keep_quiet t l rest regs ws j f 5 to) (omega arith) (omega arith)
+      let rd = target (homes t) to in
+      let lt = ltb-true to t.frame.proc.vars (named_of t l rest f.sits) in
+      let above = target_above t (l ∷ rest) to f.sits lt in
+      let x = sum_any g.live (whole g) g.at t.memory ws t.input regs rd 3 a (keep (homes t) to (Behind t l rest regs ws j f))
+      (keep_quiet t l rest regs ws j f to) (omega (arith, above)) (target_small t (l ∷ rest) to f.sits lt)
       (λ e. omega (arith, e)) f.kept.good in
       let v = added (get_or regs 3 0) a in
-      let same : v % 2 ^ 32 ≡ (base + a) % 2 ^ 32 =
-      ap (λ n. added n a % 2 ^ 32) f.kept.base_is ∙ (let h : (base + a) % 2 ^ 32 % 2 ^ 32 ≡ (base + a) % 2 ^ 32 = omega arith in h) in
+      let same : v ≡ (base + a) % 2 ^ 32 = ap (λ n. added n a) f.kept.base_is in
       let kept : Regs x.0 (frame_at t j) base = record {
         good = x.2.good;
-        frame_is = x.2.other 2 (λ e. omega (arith, e)) (λ e. omega (arith, e)) ∙ f.kept.frame_is;
-        base_is = x.2.other 3 (λ e. omega (arith, e)) (λ e. omega (arith, e)) ∙ f.kept.base_is;
+        frame_is = x.2.other 2 (λ e. omega (arith, e, above)) (λ e. omega (arith, e)) ∙ f.kept.frame_is;
+        base_is = x.2.other 3 (λ e. omega (arith, e, above)) (λ e. omega (arith, e)) ∙ f.kept.base_is;
+        data_is = x.2.other 4 (λ e. omega (arith, e, above)) (λ e. omega (arith, e)) ∙ f.kept.data_is;
       } in
-      sets t l rest regs ws j f (Here t l rest regs ws j f) 1 3 5 to v (base + a) x.0 (λ e. omega (arith, e))
-      (ltb-true to t.frame.proc.vars (named_of t l rest f.sits)) (omega arith) x.1 x.2.same same kept
-
-  -- ---- jumps
-
-  jump_true : (t : WordState) (lines found : List WordInstr) (regs new ws : List ℕ) (j name : ℕ) (f : True g t lines regs ws j) →
-      from_label name t.frame.proc.lines ≡ Some found → Regs new (frame_at t j) t.frame.base →
-      Rel g (run_at new t.memory ws t.input (lines_code (homes t) t.frame.proc found (behind g.lay f.sits.tail))) (at_lines t found)
-  unfolding same_true
-  jump_true t lines found regs new ws j name f e kept = record {
-    regs = new;
-    ws = ws;
-    j = j;
-    facts = same_true t lines found regs new ws j f (sits_at g.lay g.procs t.frame.proc lines found name f.sits e) kept;
-    is = refl;
-  }
-
-  found_label : (t : WordState) (lines found : List WordInstr) (regs ws : List ℕ) (j name : ℕ) (f : True g t lines regs ws j) →
-      from_label name t.frame.proc.lines ≡ Some found →
-      label_from (Inner t.frame.proc.number name) (whole g) ≡ Some (lines_code (homes t) t.frame.proc found (behind g.lay f.sits.tail))
-  found_label t lines found regs ws j name f e = inner_is g.lay t.frame.proc.number name g.procs t.frame.proc f.sits.tail found f.sits.found e
-
-  jumped_sim : (t : WordState) (r : LabelRun) (o : Option (List WordInstr)) →
-      ((found : List WordInstr) → o ≡ Some found → Sim g r t (on (at_lines t found))) →
-      Sim g r t (jumped t (scene_of t) o)
-  jumped_sim t r None h = tt
-  jumped_sim t r (Some found) h = h found refl
-
-  -- a jump to a label of the procedure
-  module _ (t : WordState) (lines found : List WordInstr) (regs new ws : List ℕ) (j to : ℕ) (f : True g t lines regs ws j) (mid : List LabelLine)
-      (e : from_label to t.frame.proc.lines ≡ Some found) where
-    abbrev there : LabelRun
-    there = run_at new t.memory ws t.input (lines_code (homes t) t.frame.proc found (behind g.lay f.sits.tail))
-
-    goes_there : step g.live (whole g) g.at (run_at new t.memory ws t.input mid)
-        ≡ goto (state_of new t.memory ws) (label_from (Inner t.frame.proc.number to) (whole g)) t.input →
-        Goes_in g.live (whole g) g.at 1 1 (run_at new t.memory ws t.input mid) there
-    goes_there h =
-        let s = state_of new t.memory ws in
-        let quiet = quiet_lines (homes t) t.frame.proc found (behind g.lay f.sits.tail) refl in
-        steps_one (step g.live (whole g) g.at) _ _ [] 1 1
-        (h ∙ ap (λ o. goto s o t.input) (found_label t lines found regs ws j to f e) ∙ ap (λ es. Goes es 1 there) quiet) (omega arith)
-
-  pub jump_sim : (to : ℕ) → Line_sim (word.Jump to)
-  jump_sim to t rest regs ws j f =
-      let l = word.Jump to in
-      let p = t.frame.proc in
-      let r = Here t l rest regs ws j f in
-      jumped_sim t r (from_label to p.lines) (λ found e.
-      sim_goes r _ t (at_lines t found) 1 1 (goes_there t (l ∷ rest) found regs regs ws j to f r.left e refl) (omega arith) (omega arith)
-      (jump_true t (l ∷ rest) found regs regs ws j to f e f.kept))
-
-  holds_same : (x : Test) (a b : ℕ) → label_holds (compare x) a b ≡ holds x a b
-  holds_same test.Equal a b = refl
-  holds_same test.Unequal a b = refl
-  holds_same test.Less a b = refl
-  holds_same test.AtLeast a b = refl
-  holds_same test.Below a b = refl
-  holds_same test.NotBelow a b = refl
-
-  pub branch_sim : (x : Test) (left right to : ℕ) → Line_sim (word.Branch x left right to)
-  unfolding same_true
-  branch_sim x left right to t rest regs ws j f =
-      let l = word.Branch x left right to in
-      let k = Behind t l rest regs ws j f in
-      let p = t.frame.proc in
-      let r = Here t l rest regs ws j f in
-      using_sim r t rest (t.frame.vars left) _ (λ a e.
-      using_sim r t rest (t.frame.vars right) _ (λ b d.
-      let branch = Branch (compare x) 5 6 (Inner p.number to) ∷ k in
-      let y = both_go t (l ∷ rest) regs ws j f left right a b branch refl e d in
-      let s = state_of y.0 t.memory ws in
-      let mid = run_at y.0 t.memory ws t.input branch in
-      let yes = goto s (label_from (Inner p.number to) (whole g)) t.input in
-      let no : Next Event LabelRun = comes [] s k t.input in
-      let test_is : step g.live (whole g) g.at mid ≡ (if holds x a b then yes else no) =
-      ap (λ n. if label_holds (compare x) n (get_or y.0 6 0) then yes else no) y.3
-      ∙ ap (λ n. if label_holds (compare x) a n then yes else no) y.4
-      ∙ ap (λ c. if c then yes else no) (holds_same x a b) in
-      if_sim r t rest (holds x a b) _ _
-      (λ h. jumped_sim t r (from_label to p.lines) (λ found c.
-      let goes = goes_there t (l ∷ rest) found regs y.0 ws j to f branch c (test_is ∙ cond-true (holds x a b) yes no h) in
-      sim_goes r _ t (at_lines t found) 3 7 (then_goes g.live (whole g) g.at 2 1 6 1 r mid _ y.1 goes) (omega arith) (omega arith)
-      (jump_true t (l ∷ rest) found regs y.0 ws j to f c y.2)))
-      (λ h.
-      let next = run_at y.0 t.memory ws t.input k in
-      let quiet = quiet_behind t rest (sits_next g.lay g.procs p l rest f.sits) in
-      let goes : Goes_in g.live (whole g) g.at 1 1 mid next =
-      steps_one (step g.live (whole g) g.at) mid next [] 1 1 (test_is ∙ cond-false (holds x a b) yes no h
-      ∙ ap (λ es. Goes es 1 next) quiet) (omega arith) in
-      sim_goes r next t (at_lines t rest) 3 7 (then_goes g.live (whole g) g.at 2 1 6 1 r mid next y.1 goes) (omega arith) (omega arith)
-      (record {
-        regs = y.0;
-        ws = ws;
-        j = j;
-        facts = same_true t (l ∷ rest) rest regs y.0 ws j f (sits_next g.lay g.procs p l rest f.sits) y.2;
-        is = refl;
-      }))))
+      sets t l rest regs ws j f (Here t l rest regs ws j f) 1 3 to (base + a) x.0 (record { goes = refl; is = refl }) lt (omega arith)
+      (λ r free ne. x.2.other r ne (free_apart r 5 free refl)) kept (omega arith) x.1 (x.2.same ∙ same)

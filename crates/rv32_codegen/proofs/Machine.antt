@@ -8,7 +8,7 @@ use Rattle.arc_base.specs.Simulation.{Steps}
 use Rattle.rv32_isa.specs.declared.instr.Instr.{Instr}
 use Rattle.rv32_isa.specs.declared.label.LabelLine.{LabelLine}
 use Rattle.rv32_isa.specs.declared.label.LabelLine.TheVariants.{Do}
-use Rattle.rv32_isa.specs.Image.{stack_at}
+use Rattle.rv32_isa.specs.Image.{statics_at, stack_at}
 use Rattle.rv32_isa.specs.State.{State, with_reg, skip}
 use Rattle.rv32_isa.specs.Steps.{written}
 use Rattle.rv32_isa.specs.Regions.{HasRegions}
@@ -63,17 +63,19 @@ pub record Regs (regs : List ℕ) (frame base : ℕ) : Type 0 where
   pub good : IsRegs regs
   pub frame_is : get_or regs 2 0 ≡ frame
   pub base_is : get_or regs 3 0 ≡ base
+  pub data_is : get_or regs 4 0 ≡ statics_at
 
 -- another register than the one that was written
 pub put_other : (regs : List ℕ) (r s value : ℕ) → s ≢ r → get_or (put regs r value) s 0 ≡ get_or regs s 0
 put_other regs zero s value ne = refl
 put_other regs (suc r) s value ne = get_or-set_other regs (suc r) s value 0 ne
 
-pub put_kept : (regs : List ℕ) (r value frame base : ℕ) → 3 < r → Regs regs frame base → Regs (put regs r value) frame base
+pub put_kept : (regs : List ℕ) (r value frame base : ℕ) → 4 < r → Regs regs frame base → Regs (put regs r value) frame base
 put_kept regs r value frame base gt h = record {
   good = put_regs regs r value h.good;
   frame_is = put_other regs r 2 value (λ e. omega (arith, gt, e)) ∙ h.frame_is;
   base_is = put_other regs r 3 value (λ e. omega (arith, gt, e)) ∙ h.base_is;
+  data_is = put_other regs r 4 value (λ e. omega (arith, gt, e)) ∙ h.data_is;
 }
 
 -- a register has a value, and those other than it are as they were

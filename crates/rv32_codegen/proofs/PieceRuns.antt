@@ -11,6 +11,7 @@ use Rattle.rv32_isa.specs.declared.label.LabelLine.{LabelLine}
 use Rattle.rv32_isa.specs.declared.label.LabelLine.TheVariants.{Do}
 use Rattle.rv32_isa.specs.Words.{little, word_bytes}
 use Rattle.rv32_isa.specs.State.{reg, readable, put_bytes, filled}
+use Rattle.rv32_isa.specs.Image.{statics_at}
 use Rattle.rv32_isa.specs.Values.{added}
 use Rattle.rv32_isa.specs.Steps.{signed12}
 use Rattle.rv32_isa.specs.Machine.{Lives}
@@ -20,7 +21,7 @@ use Rattle.rv32_isa.proofs.ForCallers.{little-word_bytes, length-word_bytes}
 use Rattle.rv32_logic.specs.Registers.{put, IsRegs}
 use Rattle.rv32_logic.proofs.ForCallers.{put_regs, put_same, constant_is, stack_read, stack_may, stack_put, lw_goes, sw_goes}
 use Rattle.mid_code.specs.Memory.{Memory}
-use Rattle.rv32_codegen.specs.Code.{does, is_near, lower, upper, constant, sum, shift, load, save}
+use Rattle.rv32_codegen.specs.Code.{does, is_near, lower, upper, negative, constant, datum, sum, shift, load, save}
 use Rattle.rv32_codegen.proofs.Area.{area, length-area, area_read, area_put, word_bytes-low}
 use Rattle.rv32_codegen.proofs.Runs.{steps_none}
 use Rattle.rv32_codegen.proofs.Machine.{state_of, run_at, Fits, regions, word_place, Regs, put_other, put_kept, Quiet}
@@ -34,7 +35,7 @@ pub record Gets (regs new : List ℕ) (rd value frame base : ℕ) : Type 0 where
   pub same : get_or new rd 0 ≡ value
   pub other : (r : ℕ) → r ≢ rd → get_or new r 0 ≡ get_or regs r 0
 
-pub put_gets : (regs : List ℕ) (rd value frame base : ℕ) → 3 < rd → rd < 32 → Regs regs frame base →
+pub put_gets : (regs : List ℕ) (rd value frame base : ℕ) → 4 < rd → rd < 32 → Regs regs frame base →
     Gets regs (put regs rd value) rd value frame base
 put_gets regs rd value frame base gt lt h = record {
   kept = put_kept regs rd value frame base gt h;
@@ -42,9 +43,11 @@ put_gets regs rd value frame base gt lt h = record {
   other = λ r ne. put_other regs rd r value ne;
 }
 
-then_gets : (regs mid new : List ℕ) (rd v w frame base : ℕ) → Gets regs mid rd v frame base → Gets mid new rd w frame base →
-    Gets regs new rd w frame base
-then_gets regs mid new rd v w frame base x y = record { kept = y.kept; same = y.same; other = λ r ne. y.other r ne ∙ x.other r ne }
+-- the same, whatever the registers hold
+record Puts (regs new : List ℕ) (rd value : ℕ) : Type 0 where
+  good : IsRegs new
+  same : get_or new rd 0 ≡ value
+  other : (r : ℕ) → r ≢ rd → get_or new r 0 ≡ get_or regs r 0
 
 -- a register got the sum of one and a value; x5 may have changed
 pub record Sums (regs new : List ℕ) (rd from value : ℕ) : Type 0 where
@@ -98,7 +101,7 @@ module _ (live : Lives) (whole : List LabelLine) (at : Addresses) (m : Memory) (
 
   -- ---- constants
 
-  constant_near : (regs : List ℕ) (rd value frame base : ℕ) (rest : List LabelLine) → Quiet rest → 3 < rd → rd < 32 → value < 2 ^ 32 →
+  constant_near : (regs : List ℕ) (rd value frame base : ℕ) (rest : List LabelLine) → Quiet rest → 4 < rd → rd < 32 → value < 2 ^ 32 →
       is_near value ≡ true →
       Regs regs frame base → Leads 1 2 regs (Addi rd 0 (lower value) ∷ []) rest (λ new. Gets regs new rd value frame base)
   constant_near regs rd value frame base rest quiet gt lt fits near h =
@@ -111,24 +114,47 @@ module _ (live : Lives) (whole : List LabelLine) (at : Addresses) (m : Memory) (
         subst (λ n. Gets regs (put regs rd v) rd n frame base) v_is (put_gets regs rd v frame base gt lt h),
       )
 
-  constant_far : (regs : List ℕ) (rd value frame base : ℕ) (rest : List LabelLine) → Quiet rest → 3 < rd → rd < 32 → value < 2 ^ 32 →
-      Regs regs frame base →
-      Leads 1 2 regs (Lui rd (upper value) ∷ Addi rd rd (lower value) ∷ []) rest (λ new. Gets regs new rd value frame base)
-  constant_far regs rd value frame base rest quiet gt lt fits h =
+  -- whatever the registers hold
+  constant_puts : (regs : List ℕ) (rd value : ℕ) (rest : List LabelLine) → Quiet rest → 0 < rd → rd < 32 → value < 2 ^ 32 → IsRegs regs →
+      Leads 1 2 regs (Lui rd (upper value) ∷ Addi rd rd (lower value) ∷ []) rest (λ new. Puts regs new rd value)
+  constant_puts regs rd value rest quiet pos lt fits h =
       let high = upper value * 2 ^ 12 in
       let one = put regs rd high in
       let v = added (get_or one rd 0) (signed12 (lower value)) in
-      let x = put_gets regs rd high frame base gt lt h in
-      let v_is : v ≡ value = ap (λ n. added n (signed12 (lower value))) x.same ∙ constant_is value fits in
+      let good = put_regs regs rd high h in
+      let v_is : v ≡ value = ap (λ n. added n (signed12 (lower value))) (put_same regs rd high h pos lt) ∙ constant_is value fits in
       let a = writes live whole at m ws input regs (Lui rd (upper value)) rd high (Do (Addi rd rd (lower value)) ∷ rest) refl refl in
-      let b = writes live whole at m ws input one (Addi rd rd (lower value)) rd v rest quiet refl in
-      let y = then_gets regs one (put one rd v) rd high v frame base x (put_gets one rd v frame base gt lt x.kept) in (
+      let b = writes live whole at m ws input one (Addi rd rd (lower value)) rd v rest quiet refl in (
         put one rd v,
         goes_within live whole at 2 1 2 2 _ _ (omega arith) (omega arith) (then_goes live whole at 1 1 1 1 _ _ _ a b),
-        subst (λ n. Gets regs (put one rd v) rd n frame base) v_is y,
+        record {
+          good = put_regs one rd v good;
+          same = put_same one rd v good pos lt ∙ v_is;
+          other = λ r ne. put_other one rd r v ne ∙ put_other regs rd r high ne;
+        },
       )
 
-  constant_goes : (regs : List ℕ) (rd value frame base : ℕ) (rest : List LabelLine) → Quiet rest → 3 < rd → rd < 32 → value < 2 ^ 32 →
+  constant_far : (regs : List ℕ) (rd value frame base : ℕ) (rest : List LabelLine) → Quiet rest → 4 < rd → rd < 32 → value < 2 ^ 32 →
+      Regs regs frame base →
+      Leads 1 2 regs (Lui rd (upper value) ∷ Addi rd rd (lower value) ∷ []) rest (λ new. Gets regs new rd value frame base)
+  constant_far regs rd value frame base rest quiet gt lt fits h =
+      let x = constant_puts regs rd value rest quiet (omega (arith, gt)) lt fits h.good in
+      let y = x.2 in (
+        x.0,
+        x.1,
+        record {
+          kept = record {
+            good = y.good;
+            frame_is = y.other 2 (λ e. omega (arith, e, gt)) ∙ h.frame_is;
+            base_is = y.other 3 (λ e. omega (arith, e, gt)) ∙ h.base_is;
+            data_is = y.other 4 (λ e. omega (arith, e, gt)) ∙ h.data_is;
+          };
+          same = y.same;
+          other = y.other;
+        },
+      )
+
+  constant_goes : (regs : List ℕ) (rd value frame base : ℕ) (rest : List LabelLine) → Quiet rest → 4 < rd → rd < 32 → value < 2 ^ 32 →
       Regs regs frame base → Leads 1 2 regs (constant rd value) rest (λ new. Gets regs new rd value frame base)
   constant_goes regs rd value frame base rest quiet gt lt fits h =
       cond_both (is_near value) (Addi rd 0 (lower value) ∷ []) (Lui rd (upper value) ∷ Addi rd rd (lower value) ∷ [])
@@ -137,11 +163,30 @@ module _ (live : Lives) (whole : List LabelLine) (at : Addresses) (m : Memory) (
       (λ far. constant_far regs rd value frame base rest quiet gt lt fits h)
 
   -- any constant is one of 32 bits
-  pub constant_any : (regs : List ℕ) (rd value frame base : ℕ) (rest : List LabelLine) → Quiet rest → 3 < rd → rd < 32 → Regs regs frame base →
+  pub constant_any : (regs : List ℕ) (rd value frame base : ℕ) (rest : List LabelLine) → Quiet rest → 4 < rd → rd < 32 → Regs regs frame base →
       Leads 1 2 regs (constant rd value) rest (λ new. Gets regs new rd (value % 2 ^ 32) frame base)
   constant_any regs rd value frame base rest quiet gt lt h =
       subst (λ is. Leads 1 2 regs is rest (λ new. Gets regs new rd (value % 2 ^ 32) frame base)) (sym (constant_low rd value))
       (constant_goes regs rd (value % 2 ^ 32) frame base rest quiet gt lt (omega arith) h)
+
+  -- ---- addresses of data
+
+  pub datum_any : (regs : List ℕ) (rd address frame base : ℕ) (rest : List LabelLine) → Quiet rest → 4 < rd → rd < 32 → address < 2 ^ 32 →
+      Regs regs frame base → Leads 1 2 regs (datum rd address) rest (λ new. Gets regs new rd address frame base)
+  datum_any regs rd address frame base rest quiet gt lt fits h =
+      let offset = (address + negative statics_at) % 2 ^ 32 in
+      cond_both (is_near offset) (Addi rd 4 (lower offset) ∷ []) (constant rd address)
+      (λ is. Leads 1 2 regs is rest (λ new. Gets regs new rd address frame base))
+      (λ near.
+      let v = added (get_or regs 4 0) (signed12 (lower offset)) in
+      let v_is : v ≡ address = ap (λ n. added n (signed12 (lower offset))) h.data_is ∙ ap (added statics_at) (near_is offset (omega arith) near)
+      ∙ (let g : (statics_at + (address + negative statics_at) % 2 ^ 32) % 2 ^ 32 ≡ address = omega (arith, fits) in g) in
+      let one = writes live whole at m ws input regs (Addi rd 4 (lower offset)) rd v rest quiet refl in (
+        put regs rd v,
+        goes_within live whole at 1 1 1 2 _ _ (omega arith) (omega arith) one,
+        subst (λ n. Gets regs (put regs rd v) rd n frame base) v_is (put_gets regs rd v frame base gt lt h),
+      ))
+      (λ far. constant_goes regs rd address frame base rest quiet gt lt fits h)
 
   -- ---- sums
 
@@ -164,8 +209,7 @@ module _ (live : Lives) (whole : List LabelLine) (at : Addresses) (m : Memory) (
       IsRegs regs →
       Leads 1 3 regs (Lui 5 (upper value) ∷ Addi 5 5 (lower value) ∷ Add rd from 5 ∷ []) rest (λ new. Sums regs new rd from value)
   sum_far regs rd from value rest quiet pos lt ne fits h =
-      let x = constant_far regs 5 value (get_or regs 2 0) (get_or regs 3 0) (Do (Add rd from 5) ∷ rest) refl (omega arith) (omega arith) fits
-      (record { good = h; frame_is = refl; base_is = refl }) in
+      let x = constant_puts regs 5 value (Do (Add rd from 5) ∷ rest) refl (omega arith) (omega arith) fits h in
       let one = x.0 in
       let v = added (get_or one from 0) (get_or one 5 0) in
       let b = writes live whole at m ws input one (Add rd from 5) rd v rest quiet refl in
@@ -174,8 +218,8 @@ module _ (live : Lives) (whole : List LabelLine) (at : Addresses) (m : Memory) (
         put one rd v,
         goes_within live whole at 2 1 3 3 _ _ (omega arith) (omega arith) (then_goes live whole at 1 1 2 1 _ _ _ x.1 b),
         record {
-          good = put_regs one rd v x.2.kept.good;
-          same = put_same one rd v x.2.kept.good pos lt ∙ v_is;
+          good = put_regs one rd v x.2.good;
+          same = put_same one rd v x.2.good pos lt ∙ v_is;
           other = λ r not_rd not_5. put_other one rd r v not_rd ∙ x.2.other r not_5;
         },
       )
@@ -274,7 +318,7 @@ module _ (live : Lives) (whole : List LabelLine) (at : Addresses) (m : Memory) (
   sum_is : (high low frame offset : ℕ) → added high low ≡ offset → added (added high frame) low ≡ added frame offset
   sum_is high low frame offset e = omega (arith, e)
 
-  reach_goes : (regs : List ℕ) (rd offset frame base : ℕ) (rest : List LabelLine) → Quiet rest → 3 < rd → rd < 32 → offset < 2 ^ 32 →
+  reach_goes : (regs : List ℕ) (rd offset frame base : ℕ) (rest : List LabelLine) → Quiet rest → 4 < rd → rd < 32 → offset < 2 ^ 32 →
       Regs regs frame base →
       Leads 2 2 regs (Lui rd (upper offset) ∷ Add rd rd 2 ∷ []) rest (λ new. Reached regs new rd offset frame base)
   reach_goes regs rd offset frame base rest quiet gt lt fits h =
@@ -303,7 +347,7 @@ module _ (live : Lives) (whole : List LabelLine) (at : Addresses) (m : Memory) (
   -- a word that is so far from where the frame begins, into a register
   module _ (regs : List ℕ) (rd offset k w frame base : ℕ) (rest : List LabelLine) (quiet : Quiet rest) (fits : offset < 2 ^ 32)
       (place : added frame offset ≡ word_place m k) (within : k < length ws) (room : Fits m ws) (h : Regs regs frame base) where
-    pub load_goes : 3 < rd → rd < 32 → get_or ws k 0 ≡ w → w < 2 ^ 32 →
+    pub load_goes : 4 < rd → rd < 32 → get_or ws k 0 ≡ w → w < 2 ^ 32 →
         Leads 1 3 regs (load rd offset) rest (λ new. Gets regs new rd w frame base)
     load_goes gt lt word_is small =
         cond_both (is_near offset) (Lw rd 2 (lower offset) ∷ []) (Lui rd (upper offset) ∷ Add rd rd 2 ∷ Lw rd rd (lower offset) ∷ [])

@@ -44,9 +44,11 @@ use Rattle.rv32_codegen.proofs.Area.{area}
 use Rattle.rv32_codegen.proofs.Machine.{state_of, run_at, Fits, word_place, put_other, quiet_does, Goes_in, then_goes, instr_goes, writes}
 use Rattle.rv32_codegen.proofs.Lookups.{procs_code, behind, none_some, number_is, code_from, entry_is}
 use Rattle.rv32_codegen.proofs.Frames.{size, code_here, Setting, whole, True, Rel, Sim}
-use Rattle.rv32_codegen.proofs.LineRuns.{Line_sim, label_sim, constant_sim, datum_sim, copy_sim, compute_sim, place_sim, jump_sim, branch_sim}
+use Rattle.rv32_codegen.proofs.LineRuns.{Line_sim, label_sim, constant_sim, datum_sim, copy_sim, compute_sim, place_sim}
+use Rattle.rv32_codegen.proofs.JumpRuns.{jump_sim, branch_sim}
 use Rattle.rv32_codegen.proofs.Access.{load_sim, store_sim, argument_sim, write_sim, read_sim, exit_sim}
-use Rattle.rv32_codegen.proofs.Calls.{seen_is, enters, call_sim, return_sim}
+use Rattle.rv32_codegen.proofs.Calls.{seen_is, enters, call_sim}
+use Rattle.rv32_codegen.proofs.Returns.{return_sim}
 
 -- ---- each line of word code is work
 
@@ -226,6 +228,7 @@ module _ (g : Setting) where
         one : get_or regs 1 0 ≡ 0
         two : get_or regs 2 0 ≡ word_place memory count
         three : get_or regs 3 0 ≡ stack_at
+        four : get_or regs 4 0 ≡ statics_at
 
       sets_up : (regs : List ℕ) × Goes_in g.live (whole g) g.at 4 4 (run_at zeros memory ws input (whole g))
           (run_at regs memory ws input (Jump 0 (Entry 0) ∷ procs_code g.lay g.procs)) × Begun regs
@@ -233,22 +236,22 @@ module _ (g : Setting) where
           let fifth : List LabelLine = Jump 0 (Entry 0) ∷ procs_code g.lay g.procs in
           let fourth : List LabelLine = Do (Add 2 2 3) ∷ fifth in
           let third : List LabelLine = Do (Lui 3 (stack_at / 4096)) ∷ fourth in
-          let second : List LabelLine = Do (Lw 2 5 4) ∷ third in
-          let one = put zeros 5 low_at in
-          let a = writes g.live (whole g) g.at memory ws input zeros (Lui 5 (statics_at / 4096)) 5 low_at second refl refl in
+          let second : List LabelLine = Do (Lw 2 4 4) ∷ third in
+          let one = put zeros 4 low_at in
+          let a = writes g.live (whole g) g.at memory ws input zeros (Lui 4 (statics_at / 4096)) 4 low_at second refl refl in
           let v = little (word_bytes stack) in
           let small = room.stack_most in
           let v_is : v ≡ stack = little-word_bytes stack (omega (arith, small)) in
           let two = put one 2 v in
-          let goes = lw_goes (state_of one memory ws) 0 0 2 5 4 (statics_at + 4) (word_bytes stack) refl refl (size_read one) in
-          let b = instr_goes g.live (whole g) g.at memory ws input one (Lw 2 5 4) (state_of two memory ws) third refl
+          let goes = lw_goes (state_of one memory ws) 0 0 2 4 4 (statics_at + 4) (word_bytes stack) refl refl (size_read one) in
+          let b = instr_goes g.live (whole g) g.at memory ws input one (Lw 2 4 4) (state_of two memory ws) third refl
           (ap (led g.live (whole g) g.at (run_at one memory ws input second) third) goes) in
           let three = put two 3 base_at in
           let c = writes g.live (whole g) g.at memory ws input two (Lui 3 (stack_at / 4096)) 3 base_at fourth refl refl in
           let top = added (get_or three 2 0) (get_or three 3 0) in
           let regs = put three 2 top in
           let d = writes g.live (whole g) g.at memory ws input three (Add 2 2 3) 2 top fifth refl refl in
-          let good1 = put_regs zeros 5 low_at zero_regs in
+          let good1 = put_regs zeros 4 low_at zero_regs in
           let good2 = put_regs one 2 v good1 in
           let good3 = put_regs two 3 base_at good2 in
           let two_is : get_or three 2 0 ≡ stack = put_other two 3 2 base_at (λ e. omega (arith, e)) ∙ put_same one 2 v good1 (omega arith) (omega arith)
@@ -263,9 +266,12 @@ module _ (g : Setting) where
               good = put_regs three 2 top good3;
               one = put_other three 2 1 top (λ e. omega (arith, e)) ∙ put_other two 3 1 base_at (λ e. omega (arith, e))
                   ∙ put_other one 2 1 v (λ e. omega (arith, e))
-                  ∙ put_other zeros 5 1 low_at (λ e. omega (arith, e));
+                  ∙ put_other zeros 4 1 low_at (λ e. omega (arith, e));
               two = put_same three 2 top good3 (omega arith) (omega arith) ∙ top_is;
               three = put_other three 2 3 top (λ e. omega (arith, e)) ∙ three_is;
+              four = put_other three 2 4 top (λ e. omega (arith, e)) ∙ put_other two 3 4 base_at (λ e. omega (arith, e))
+                  ∙ put_other one 2 4 v (λ e. omega (arith, e))
+                  ∙ put_same zeros 4 low_at zero_regs (omega arith) (omega arith);
             },
           )
 
@@ -296,6 +302,7 @@ module _ (g : Setting) where
           let split = mul-suc g.total ACTIVE_CALLS in
           let under : size h ≤ count = omega (arith, least, all, split, stack_is, total, frame) in
           let w = enters g memory ws input x.0 count 0 stack_at q tail fits laid under (omega (arith, long)) x.2.good x.2.one (omega arith) x.2.two x.2.three
+          x.2.four
           in
           let k = count - size h in
           let new = set ws k 0 in
@@ -314,7 +321,7 @@ module _ (g : Setting) where
             kept = w.2;
             base_fits = omega arith;
             sits = record { tail = tail; found = ap (λ n. from_proc n g.procs) number ∙ found; before = []; split = refl };
-            held = λ v x e. absurd (none_some x e);
+            held = λ v x lives e. absurd (none_some x e);
             given = λ v x e. absurd (none_some x e);
             linked = omega (arith, long_new, long, under);
             deep = subst (λ n. 4 * MOST_ARGUMENTS + (g.need q + g.total * n) ≤ 4 * k) (sym fewer)

@@ -2,7 +2,7 @@
 use Rattle.std.proofs.Common.{◌≡◌, ℕ, suc, ◌+◌, ◌*◌, ◌≤◌, List, [], ◌∷◌, length, Bool}
 use Rattle.std.proofs.Common.{true, false, refl, sym, ap, subst, ◌∙◌, arith}
 use Rattle.std.specs.Prelude.{nat_lt}
-use Rattle.std.proofs.lemmas.Bool.{and_from, and_parts}
+use Rattle.std.proofs.lemmas.Bool.{and_from, and_parts, true≢false}
 use Rattle.arc_base.specs.Event.{Event}
 use Rattle.arc_base.specs.Behaviour.{Behaviour, Agrees, Sound}
 use Rattle.arc_base.specs.Pace.{Paced}
@@ -12,7 +12,7 @@ use Rattle.rv32_isa.specs.declared.instr.Instr.TheVariants.{Sw, Ebreak}
 use Rattle.rv32_isa.specs.declared.label.LabelLine.{LabelLine}
 use Rattle.rv32_isa.specs.declared.label.LabelLine.TheVariants.{Do}
 use Rattle.rv32_isa.specs.Machine.{Lives}
-use Rattle.rv32_isa.specs.Labels.{Addresses, Rise, marks, AreLines, begins, leads, hooks_lead}
+use Rattle.rv32_isa.specs.Labels.{Addresses, Rise, marks, begins, leads, hooks_lead}
 use Rattle.rv32_isa.specs.LabelsMeaning.{OfDataAndHeap, label_meaning}
 use Rattle.mid_code.specs.declared.word.ProcKind.{ProcKind}
 use Rattle.mid_code.specs.declared.word.ProcKind.TheVariants as kind
@@ -21,16 +21,16 @@ use Rattle.mid_code.specs.declared.word.WordProc.{WordProc}
 use Rattle.mid_code.specs.declared.word.WordCode.{WordCode}
 use Rattle.mid_code.specs.Memory.{data_of}
 use Rattle.mid_code.specs.Running.{if_formed}
-use Rattle.mid_code.specs.Words.{from_proc, are_procs, start, word_meaning}
+use Rattle.mid_code.specs.Words.{from_proc, first_of, is_kind, are_procs, may_start, is_word_code, start, word_meaning}
 use Rattle.mid_code.specs.Words as words
 use Rattle.reg_scan.specs.declared.homes.Homes.{Homes}
 use Rattle.rv32_codegen.specs.Code.{does, sum, negative, lines_code, hook_of, entry_code, homes_code, start_code, code_of}
 use Rattle.rv32_codegen.specs.Stack.{chain, frame_for, longest, most_frame}
-use Rattle.rv32_codegen.specs.Lowering.{AllHomes, CanRun, DoesWords, AlwaysDoes, is_kind, have_kinds, most_lines}
-use Rattle.rv32_codegen.proofs.Chunks.{line_long, length-does, few_sum, body, body_split, own_body, fields_own, leads_own}
+use Rattle.rv32_codegen.specs.Lowering.{AllHomes, CanRun, DoesWords, AlwaysDoes, most_lines}
+use Rattle.rv32_codegen.proofs.Chunks.{line_long, length-does, few_sum, body, body_split, own_body, leads_own}
 use Rattle.rv32_codegen.proofs.Lookups.{Layout, procs_code, number_is}
 use Rattle.rv32_codegen.proofs.Frames.{IsLaid, Setting}
-use Rattle.rv32_codegen.proofs.Depth.{need, chain_fits, need_most, places_whole}
+use Rattle.rv32_codegen.proofs.Depth.{need, chain_fits, need_most, proc_parts, kind_known, places_whole}
 use Rattle.rv32_codegen.proofs.HomeFrames.{homes_for, frame_is, frame_most, laid_all, homes_are}
 use Rattle.rv32_codegen.proofs.Start.{Holding, code_agrees, code_paced}
 
@@ -41,9 +41,20 @@ formed : (b : Bool) (x : Behaviour Event) → Sound (if_formed b x) → b ≡ tr
 formed true x ok = refl
 formed false x ok = absurd (ok.no_fault 0 refl)
 
+counts_first : (k : ProcKind) → may_start k ≡ true → k ≡ kind.Counted
+counts_first kind.Counted h = refl
+counts_first (kind.Hook kind of) h = absurd (true≢false (sym h))
+counts_first kind.Uncounted h = absurd (true≢false (sym h))
+
 module _ (code : WordCode) (homes : List Homes) (all : AllHomes code.procs homes) (live : Lives) (at : Addresses) (heap stack : ℕ) (input : List ℕ)
     (alone : OfDataAndHeap live) (rises : Rise at (marks (code_of code.procs homes))) (can : CanRun code homes heap stack)
-    (ok : are_procs code.procs ≡ true) where
+    (is_code : is_word_code code ≡ true) where
+  ok : are_procs code.procs ≡ true
+  ok = (and_parts (are_procs code.procs) _ is_code).0
+
+  starts : (first_of (from_proc 0 code.procs)).kind ≡ kind.Counted
+  starts = counts_first (first_of (from_proc 0 code.procs)).kind (and_parts (are_procs code.procs) _ is_code).1
+
   abbrev lay : Layout
   lay = homes_for code.procs homes
 
@@ -82,7 +93,7 @@ module _ (code : WordCode) (homes : List Homes) (all : AllHomes code.procs homes
       let least = can.stack_least in
       let sixteen = can.stack_whole in
       record {
-        starts = can.starts;
+        starts = starts;
         statics_most = omega (arith, can.statics_most);
         heap_most = can.heap_most;
         stack_most = can.stack_most;
@@ -107,7 +118,7 @@ module _ (code : WordCode) (homes : List Homes) (all : AllHomes code.procs homes
 
   pub does_words : Sound (word_meaning live code heap stack input) → DoesWords (code_of code.procs homes) code live at heap stack input
   does_words sound =
-      let is : word_meaning live code heap stack input ≡ high = ap (λ b. if_formed b high) ok in
+      let is : word_meaning live code heap stack input ≡ high = ap (λ b. if_formed b high) is_code in
       let x = does_formed (subst Sound is sound) (code_of code.procs homes) same_code in
       record {
         agrees = subst (Agrees (label_meaning live (code_of code.procs homes) at (data_of heap stack code.statics) heap stack input)) (sym is) x.0;
@@ -116,21 +127,9 @@ module _ (code : WordCode) (homes : List Homes) (all : AllHomes code.procs homes
 
 pub always_does : (code : WordCode) (homes : List Homes) → AllHomes code.procs homes → AlwaysDoes (code_of code.procs homes) code homes
 always_does code homes all live at heap stack input alone rises can sound =
-    does_words code homes all live at heap stack input alone rises can (formed (are_procs code.procs) _ sound) sound
+    does_words code homes all live at heap stack input alone rises can (formed (is_word_code code) _ sound) sound
 
 -- ---- what it may be laid out by
-
-homes_fields : (procs : List WordProc) (homes : List Homes) → AreLines (homes_code procs homes)
-homes_fields [] homes = tt
-homes_fields (p ∷ procs) [] = tt
-homes_fields (p ∷ procs) (h ∷ homes) =
-    (tt, subst AreLines (sym (body_split h p (homes_code procs homes))) (fields_own p.number (body h p) _ (own_body h p) (homes_fields procs homes)))
-
-pub code_fields : (procs : List WordProc) (homes : List Homes) → AreLines (code_of procs homes)
-code_fields procs homes = (
-  (omega arith, omega arith),
-  ((omega arith, omega arith, omega arith), ((omega arith, omega arith), ((omega arith, omega arith, omega arith), (omega arith, homes_fields procs homes)))),
-)
 
 begins_does : (is : List Instr) (rest : List LabelLine) → begins rest ≡ true → begins (does is rest) ≡ true
 begins_does [] rest h = h
@@ -141,20 +140,20 @@ hook_leads kind.Counted rest h e = refl
 hook_leads (kind.Hook kind of) rest h e = and_from (nat_lt kind 4) (begins rest) h e
 hook_leads kind.Uncounted rest h e = refl
 
-homes_lead : (procs : List WordProc) (homes : List Homes) → have_kinds procs ≡ true → hooks_lead (homes_code procs homes) ≡ true
+homes_lead : (procs : List WordProc) (homes : List Homes) → are_procs procs ≡ true → hooks_lead (homes_code procs homes) ≡ true
 homes_lead [] homes h = refl
 homes_lead (p ∷ procs) [] h = refl
 homes_lead (p ∷ procs) (own ∷ homes) h =
-    let parts = and_parts (is_kind p.kind) (have_kinds procs) h in
+    let parts = proc_parts p procs h in
     let rest = entry_code own (lines_code own p p.lines (Do Ebreak ∷ homes_code procs homes)) in
     let first : begins rest ≡ true = begins_does (sum 2 2 (negative own.frame))
     (Do (Sw 2 1 0) ∷ lines_code own p p.lines (Do Ebreak ∷ homes_code procs homes)) refl in
-    and_from (leads (hook_of p.kind) rest) (hooks_lead rest) (hook_leads p.kind rest parts.0 first)
+    and_from (leads (hook_of p.kind) rest) (hooks_lead rest) (hook_leads p.kind rest (kind_known p parts.0) first)
     (ap hooks_lead (body_split own p (homes_code procs homes))
     ∙ leads_own p.number (body own p) (homes_code procs homes) (own_body own p) (homes_lead procs homes parts.1))
 
-pub code_leads : (procs : List WordProc) (homes : List Homes) → have_kinds procs ≡ true → hooks_lead (code_of procs homes) ≡ true
-code_leads procs homes h = homes_lead procs homes h
+pub code_leads : (code : WordCode) (homes : List Homes) → is_word_code code ≡ true → hooks_lead (code_of code.procs homes) ≡ true
+code_leads code homes h = homes_lead code.procs homes (and_parts (are_procs code.procs) _ h).0
 
 lines_long : (h : Homes) (p : WordProc) (lines : List WordInstr) (k : List LabelLine) → length (lines_code h p lines k) ≤ 12 * length lines + length k
 lines_long h p [] k = omega arith

@@ -1,6 +1,6 @@
 -- The label code of word code. No public contract speaks of it.
 --
--- x2 is where the frame of the running call begins, x3 where its places begin. The frame's first word is the return address, and the
+-- x2 is where the frame of the running call begins, x3 where its places begin, x4 where the data begins. The frame's first word is the return address, and the
 -- caller's frame follows behind its last one. Arguments are put right below the frame, where the last words of the callee's will be.
 use Rattle.std.specs.Prelude.{ℕ, suc, ◌+◌, ◌-◌, ◌*◌, ◌/◌, ◌%◌, ◌^◌, Bool, nat_lt, ◌==◌, if◌then◌else◌, List, []}
 use Rattle.std.specs.Prelude.{◌∷◌, Option, Some, None}
@@ -58,6 +58,12 @@ negative n = (2 ^ 32 - n % 2 ^ 32) % 2 ^ 32
 abbrev pub constant : (rd value : ℕ) → List Instr
 constant rd value = if is_near value then Addi rd 0 (lower value) ∷ [] else Lui rd (upper value) ∷ Addi rd rd (lower value) ∷ []
 
+-- the address of a byte of the data into a register
+abbrev pub datum : (rd address : ℕ) → List Instr
+datum rd address =
+    if is_near ((address + negative statics_at) % 2 ^ 32) then Addi rd 4 (lower ((address + negative statics_at) % 2 ^ 32)) ∷ []
+    else constant rd address
+
 -- the sum of a register and a word into a register
 abbrev pub sum : (rd from value : ℕ) → List Instr
 sum rd from value =
@@ -74,36 +80,36 @@ load rd offset = if is_near offset then Lw rd 2 (lower offset) ∷ [] else Lui r
 abbrev pub save : (rs offset : ℕ) → List Instr
 save rs offset = if is_near offset then Sw 2 rs (lower offset) ∷ [] else Lui 7 (upper offset) ∷ Add 7 7 2 ∷ Sw 7 rs (lower offset) ∷ []
 
--- x5 gets the result of an operation on x5 and x6
-abbrev pub operate : WordOperation → Instr
-operate operation.Add = Add 5 5 6
-operate operation.Subtract = Sub 5 5 6
-operate operation.Multiply = Mul 5 5 6
-operate operation.MultiplyHigh = Mulh 5 5 6
-operate operation.Divide = Div 5 5 6
-operate operation.Remainder = Rem 5 5 6
-operate operation.DivideUnsigned = Divu 5 5 6
-operate operation.RemainderUnsigned = Remu 5 5 6
-operate operation.And = And 5 5 6
-operate operation.Or = Or 5 5 6
-operate operation.Xor = Xor 5 5 6
-operate operation.ShiftLeft = Sll 5 5 6
-operate operation.ShiftRight = Srl 5 5 6
-operate operation.ShiftRightSigned = Sra 5 5 6
-operate operation.Less = Slt 5 5 6
-operate operation.Below = Sltu 5 5 6
+-- a register gets the result of an operation on two
+abbrev pub operate : WordOperation → (rd left right : ℕ) → Instr
+operate operation.Add rd left right = Add rd left right
+operate operation.Subtract rd left right = Sub rd left right
+operate operation.Multiply rd left right = Mul rd left right
+operate operation.MultiplyHigh rd left right = Mulh rd left right
+operate operation.Divide rd left right = Div rd left right
+operate operation.Remainder rd left right = Rem rd left right
+operate operation.DivideUnsigned rd left right = Divu rd left right
+operate operation.RemainderUnsigned rd left right = Remu rd left right
+operate operation.And rd left right = And rd left right
+operate operation.Or rd left right = Or rd left right
+operate operation.Xor rd left right = Xor rd left right
+operate operation.ShiftLeft rd left right = Sll rd left right
+operate operation.ShiftRight rd left right = Srl rd left right
+operate operation.ShiftRightSigned rd left right = Sra rd left right
+operate operation.Less rd left right = Slt rd left right
+operate operation.Below rd left right = Sltu rd left right
 
--- x5 gets what stands at the address in x5
-abbrev pub fetch : Size → Instr
-fetch size.Byte = Lbu 5 5 0
-fetch size.Half = Lhu 5 5 0
-fetch size.Word = Lw 5 5 0
+-- x5 gets what stands at the address in a register
+abbrev pub fetch : Size → (address : ℕ) → Instr
+fetch size.Byte address = Lbu 5 address 0
+fetch size.Half address = Lhu 5 address 0
+fetch size.Word address = Lw 5 address 0
 
--- x6 is put to the address in x5
-abbrev pub store : Size → Instr
-store size.Byte = Sb 5 6 0
-store size.Half = Sh 5 6 0
-store size.Word = Sw 5 6 0
+-- a register is put to the address in a register
+abbrev pub store : Size → (address rs : ℕ) → Instr
+store size.Byte address rs = Sb address rs 0
+store size.Half address rs = Sh address rs 0
+store size.Word address rs = Sw address rs 0
 
 abbrev pub compare : Test → LabelTest
 compare test.Equal = label_test.Equal
@@ -119,15 +125,32 @@ stream_number Err = 2
 
 -- ---- homes
 
-abbrev pub offset_of : Home → ℕ
-offset_of (Reg number) = 0
-offset_of (Frame at) = at
+-- the register in which a word is used: its own, or this one
+abbrev pub seat : (other : ℕ) → Home → ℕ
+seat other (Reg number) = number
+seat other (Frame at) = other
 
--- how far a variable's home is from where the frame begins
-abbrev pub home_at : Homes → (variable : ℕ) → ℕ
-home_at homes variable = offset_of (home_of homes variable)
+-- a word into that register
+abbrev pub bring : (other : ℕ) → Home → List Instr
+bring other (Reg number) = []
+bring other (Frame at) = load other at
 
--- how far the argument of that number is from there
+-- a word into a register
+abbrev pub move : (rd : ℕ) → Home → List Instr
+move rd (Reg number) = Addi rd number 0 ∷ []
+move rd (Frame at) = load rd at
+
+-- from where it is computed, its own register or x5, to its home
+abbrev pub settle : Home → List Instr
+settle (Reg number) = []
+settle (Frame at) = save 5 at
+
+-- a register to a home
+abbrev pub give : (rs : ℕ) → Home → List Instr
+give rs (Reg number) = Addi number rs 0 ∷ []
+give rs (Frame at) = save rs at
+
+-- how far the argument of that number is from where the frame begins
 abbrev pub argument_at : ℕ → ℕ
 argument_at index = negative (4 * suc index)
 
@@ -139,39 +162,53 @@ datum_at p at = (own_data_at + p.data_from + at) % 2 ^ 32
 
 -- behind a call
 abbrev pub after_call : Homes → WordProc → ℕ → List LabelLine → List LabelLine
-after_call h p to k = does (shift 3 (negative p.room)) (does (save 10 (home_at h to)) k)
+after_call h p to k = does (shift 3 (negative p.room)) (does (give 10 (home_of h to)) k)
 
--- two variables into x5 and x6
-abbrev pub load_both : Homes → (left right : ℕ) → List LabelLine → List LabelLine
-load_both h left right k = does (load 5 (home_at h left)) (does (load 6 (home_at h right)) k)
+-- two variables into registers, x5 and x6 where they have none
+abbrev pub bring_both : Homes → (left right : ℕ) → List LabelLine → List LabelLine
+bring_both h left right k = does (bring 5 (home_of h left)) (does (bring 6 (home_of h right)) k)
 
 -- an address and a length into x11 and x12
-abbrev pub load_range : Homes → (address len : ℕ) → List LabelLine → List LabelLine
-load_range h address len k = does (load 11 (home_at h address)) (does (load 12 (home_at h len)) k)
+abbrev pub move_range : Homes → (address len : ℕ) → List LabelLine → List LabelLine
+move_range h address len k = does (move 11 (home_of h address)) (does (move 12 (home_of h len)) k)
 
--- x5 into a variable
+-- what was computed becomes a variable's
 abbrev pub keep : Homes → (to : ℕ) → List LabelLine → List LabelLine
-keep h to k = does (save 5 (home_at h to)) k
+keep h to k = does (settle (home_of h to)) k
+
+-- the register that a variable is computed into
+abbrev pub target : Homes → (to : ℕ) → ℕ
+target h to = seat 5 (home_of h to)
+
+-- the registers of two variables that were brought
+abbrev pub left_of : Homes → (left : ℕ) → ℕ
+left_of h left = seat 5 (home_of h left)
+
+abbrev pub right_of : Homes → (right : ℕ) → ℕ
+right_of h right = seat 6 (home_of h right)
 
 abbrev pub line_code : Homes → WordProc → WordInstr → List LabelLine → List LabelLine
 line_code h p (word.Label name) k = Label (Inner p.number name) None ∷ k
-line_code h p (word.Constant to value) k = does (constant 5 value) (keep h to k)
-line_code h p (word.Copy to from) k = does (load 5 (home_at h from)) (keep h to k)
-line_code h p (word.Compute to operation left right) k = load_both h left right (Do (operate operation) ∷ keep h to k)
-line_code h p (word.Place to at) k = does (sum 5 3 at) (keep h to k)
-line_code h p (word.Datum to at) k = does (constant 5 (datum_at p at)) (keep h to k)
-line_code h p (word.Load to address size) k = does (load 5 (home_at h address)) (Do (fetch size) ∷ keep h to k)
-line_code h p (word.Store address from size) k = load_both h address from (Do (store size) ∷ k)
+line_code h p (word.Constant to value) k = does (constant (target h to) value) (keep h to k)
+line_code h p (word.Copy to from) k = does (move (target h to) (home_of h from)) (keep h to k)
+line_code h p (word.Compute to operation left right) k =
+    bring_both h left right (Do (operate operation (target h to) (left_of h left) (right_of h right)) ∷ keep h to k)
+line_code h p (word.Place to at) k = does (sum (target h to) 3 at) (keep h to k)
+line_code h p (word.Datum to at) k = does (datum (target h to) (datum_at p at)) (keep h to k)
+line_code h p (word.Load to address size) k =
+    does (bring 5 (home_of h address)) (Do (fetch size (left_of h address)) ∷ does (give 5 (home_of h to)) k)
+line_code h p (word.Store address from size) k = bring_both h address from (Do (store size (left_of h address) (right_of h from)) ∷ k)
 line_code h p (word.Jump to) k = Jump 0 (Inner p.number to) ∷ k
-line_code h p (word.Branch test left right to) k = load_both h left right (Branch (compare test) 5 6 (Inner p.number to) ∷ k)
-line_code h p (word.Argument index from) k = does (load 5 (home_at h from)) (does (save 5 (argument_at index)) k)
+line_code h p (word.Branch test left right to) k =
+    bring_both h left right (Branch (compare test) (left_of h left) (right_of h right) (Inner p.number to) ∷ k)
+line_code h p (word.Argument index from) k = does (bring 5 (home_of h from)) (does (save (left_of h from) (argument_at index)) k)
 line_code h p (word.Call to callee) k = does (shift 3 p.room) (Jump 1 (Entry callee) ∷ after_call h p to k)
-line_code h p (word.Return from) k = does (load 10 (home_at h from)) (Do (Lw 1 2 0) ∷ does (sum 2 2 h.frame) (Do (Jalr 0 1 0) ∷ k))
+line_code h p (word.Return from) k = does (move 10 (home_of h from)) (Do (Lw 1 2 0) ∷ does (sum 2 2 h.frame) (Do (Jalr 0 1 0) ∷ k))
 line_code h p (word.Read to address len) k =
-    load_range h address len (Do (Addi 10 0 0) ∷ Do (Addi 17 0 63) ∷ Do Ecall ∷ does (save 10 (home_at h to)) k)
+    move_range h address len (Do (Addi 10 0 0) ∷ Do (Addi 17 0 63) ∷ Do Ecall ∷ does (give 10 (home_of h to)) k)
 line_code h p (word.Write stream address len) k =
-    load_range h address len (Do (Addi 10 0 (stream_number stream)) ∷ Do (Addi 17 0 64) ∷ Do Ecall ∷ k)
-line_code h p (word.Exit status) k = does (load 10 (home_at h status)) (Do (Addi 17 0 93) ∷ Do Ecall ∷ k)
+    move_range h address len (Do (Addi 10 0 (stream_number stream)) ∷ Do (Addi 17 0 64) ∷ Do Ecall ∷ k)
+line_code h p (word.Exit status) k = does (move 10 (home_of h status)) (Do (Addi 17 0 93) ∷ Do Ecall ∷ k)
 
 abbrev pub lines_code : Homes → WordProc → List WordInstr → List LabelLine → List LabelLine
 lines_code h p [] k = k
@@ -197,10 +234,10 @@ homes_code [] homes = []
 homes_code (p ∷ procs) [] = []
 homes_code (p ∷ procs) (h ∷ homes) = proc_code h p (homes_code procs homes)
 
--- x2 gets the end of the stack, whose size stands in the data, and x3 where the stack begins; then the start code begins
+-- x4 gets where the data begins, x2 the end of the stack, whose size stands there, and x3 where the stack begins; then the start code begins
 abbrev pub start_code : List LabelLine → List LabelLine
 start_code k =
-    Do (Lui 5 (statics_at / 4096)) ∷ Do (Lw 2 5 4) ∷ Do (Lui 3 (stack_at / 4096)) ∷ Do (Add 2 2 3) ∷ Jump 0 (Entry 0) ∷ k
+    Do (Lui 4 (statics_at / 4096)) ∷ Do (Lw 2 4 4) ∷ Do (Lui 3 (stack_at / 4096)) ∷ Do (Add 2 2 3) ∷ Jump 0 (Entry 0) ∷ k
 
 abbrev pub code_of : List WordProc → List Homes → List LabelLine
 code_of procs homes = start_code (homes_code procs homes)

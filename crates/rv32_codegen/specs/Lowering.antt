@@ -1,23 +1,22 @@
 -- What the label code of word code does.
 --
 --     word code ──code──> label code ──lay_out──> image
-use Rattle.std.specs.Prelude.{◌≡◌, ◌≤◌, ℕ, ◌+◌, ◌*◌, ◌%◌, Bool, true, nat_lt, ◌&&◌, List, [], ◌∷◌, length}
+use Rattle.std.specs.Prelude.{◌≡◌, ◌≤◌, ℕ, ◌+◌, ◌*◌, ◌%◌, true, List, [], ◌∷◌, length}
 use Rattle.arc_base.specs.Behaviour.{Agrees, Sound}
 use Rattle.arc_base.specs.Pace.{Paced}
 use Rattle.rv32_isa.specs.Machine.{Lives}
 use Rattle.rv32_isa.specs.declared.label.LabelLine.{LabelLine}
 use Rattle.rv32_isa.specs.Labels.{Addresses, Rise, marks}
 use Rattle.rv32_isa.specs.LabelsMeaning.{OfDataAndHeap, label_meaning}
-use Rattle.mid_code.specs.declared.word.ProcKind.{ProcKind}
-use Rattle.mid_code.specs.declared.word.ProcKind.TheVariants.{Counted, Hook, Uncounted}
 use Rattle.mid_code.specs.declared.word.WordProc.{WordProc}
 use Rattle.mid_code.specs.declared.word.WordCode.{WordCode}
 use Rattle.mid_code.specs.Memory.{data_of}
-use Rattle.mid_code.specs.Sizes.{word_line_count, has_no_circle}
-use Rattle.mid_code.specs.Words.{from_proc, first_of, word_meaning}
+use Rattle.mid_code.specs.Sizes.{word_weight, word_line_count, has_no_circle}
+use Rattle.mid_code.specs.Words.{word_meaning}
 use Rattle.reg_scan.specs.declared.homes.Homes.{Homes}
 use Rattle.reg_scan.specs.Homes.{IsHomes}
-use Rattle.rv32_codegen.specs.declared.label_code.TheConstants.{CODE_PACE, LINES_OF_LINE, LINES_OF_PROC, LINES_OF_START}
+use Rattle.rv32_codegen.specs.declared.label_code.TheConstants.{CODE_PACE, LINES_OF_LINE, LINES_OF_PROC, LINES_OF_START, BYTES_OF_LINE}
+use Rattle.rv32_codegen.specs.declared.label_code.TheConstants.{BYTES_OF_START}
 use Rattle.rv32_codegen.specs.Stack.{stack_need}
 
 -- homes for each procedure, in order
@@ -27,9 +26,8 @@ AllHomes [] (h ∷ homes) = ⊥
 AllHomes (p ∷ procs) [] = ⊥
 AllHomes (p ∷ procs) (h ∷ homes) = IsHomes p h × AllHomes procs homes
 
--- Data, heap and stack with which it may run, where its start code counts and is no hook.
+-- Data, heap and stack with which it may run.
 pub record CanRun (code : WordCode) (homes : List Homes) (heap stack : ℕ) : Type 0 where
-  pub starts : (first_of (from_proc 0 code.procs)).kind ≡ Counted
   pub no_circle : has_no_circle code.procs ≡ true
   pub statics_most : length code.statics ≤ 1048568
   pub heap_most : heap ≤ 16777216
@@ -48,16 +46,10 @@ AlwaysDoes lines code homes =
     CanRun code homes heap stack →
     Sound (word_meaning live code heap stack input) → DoesWords lines code live at heap stack input
 
--- a user's hook is of one of the four kinds
-abbrev pub is_kind : ProcKind → Bool
-is_kind Counted = true
-is_kind (Hook kind of) = nat_lt kind 4
-is_kind Uncounted = true
-
-abbrev pub have_kinds : List WordProc → Bool
-have_kinds [] = true
-have_kinds (p ∷ procs) = is_kind p.kind && have_kinds procs
-
 -- so many lines at most
 abbrev pub most_lines : List WordProc → ℕ
 most_lines procs = LINES_OF_START + (LINES_OF_PROC * length procs + LINES_OF_LINE * word_line_count procs)
+
+-- so many bytes at most, where all branches are laid out as too far
+abbrev pub most_bytes : List WordProc → ℕ
+most_bytes procs = BYTES_OF_START + BYTES_OF_LINE * word_weight procs

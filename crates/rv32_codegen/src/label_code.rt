@@ -2,8 +2,10 @@
 ghost use Rattle.std.specs.Prelude.{◌≡◌, ◌≤◌, ◌++◌, true, List, length, IfOk, OnOk};
 ghost use Rattle.rv32_isa.specs.declared.label.LabelLine.{LabelLine as Line};
 ghost use Rattle.rv32_isa.specs.Labels.{AreLines, has_instruction, hooks_lead};
+ghost use Rattle.mid_code.specs.Words.{is_word_code};
 ghost use Rattle.rv32_codegen.specs.Code as spec;
-ghost use Rattle.rv32_codegen.specs.Lowering.{AllHomes, AlwaysDoes, have_kinds, most_lines};
+ghost use Rattle.rv32_codegen.specs.Layout.{all_far, size};
+ghost use Rattle.rv32_codegen.specs.Lowering.{AllHomes, AlwaysDoes, most_lines, most_bytes};
 
 use crate::lines::emit_lines;
 use crate::pieces::{emit, emit_sum, negative, push};
@@ -25,6 +27,13 @@ pub const LINES_OF_PROC: u32 = 6;
 
 /// So many lines stand in front of all procedures.
 pub const LINES_OF_START: u32 = 5;
+
+/// A line of word code, and the rest of a procedure, have at most so many bytes where all branches
+/// are laid out as too far.
+pub const BYTES_OF_LINE: u32 = 48;
+
+/// What stands in front of all procedures has so many bytes.
+pub const BYTES_OF_START: u32 = 20;
 
 // What the label of a procedure carries.
 fn hook_of(kind: ProcKind) -> Option<HookLabel>
@@ -75,8 +84,8 @@ fn emit_start(lines: &mut LabelCode) -> Result<(), Memory>
     emit(
         lines,
         &[
-            lui(5, STATICS_AT / 4096),
-            lw(2, 5, 4),
+            lui(4, STATICS_AT / 4096),
+            lw(2, 4, 4),
             lui(3, STACK_AT / 4096),
             add(2, 2, 3),
         ],
@@ -110,9 +119,10 @@ pub fn code(alloc: Global, words: &WordCode, homes: &[Homes]) -> Result<LabelCod
     ensures does { IfOk result (λ lines. AlwaysDoes lines words.now homes.now) }
     ensures fits { IfOk result (λ lines. AreLines lines) }
     ensures some { IfOk result (λ lines. has_instruction lines ≡ true) }
-    ensures leads { have_kinds words.now.procs ≡ true →
+    ensures leads { is_word_code words.now ≡ true →
         IfOk result (λ lines. hooks_lead lines ≡ true) }
     ensures size { IfOk result (λ lines. length lines ≤ most_lines words.now.procs) }
+    ensures bytes { IfOk result (λ lines. size all_far lines ≤ most_bytes words.now.procs) }
 {
     emit_code(alloc, words, homes)
 }

@@ -8,7 +8,9 @@ mod lines;
 mod pieces;
 mod stack;
 
-pub use label_code::{CODE_PACE, LINES_OF_LINE, LINES_OF_PROC, LINES_OF_START, code};
+pub use label_code::{
+    BYTES_OF_LINE, BYTES_OF_START, CODE_PACE, LINES_OF_LINE, LINES_OF_PROC, LINES_OF_START, code,
+};
 pub use layout::{
     BRANCH_REACH, LAYOUT_PACE, LINE_BYTES, LayFault, MOST_CODE_BYTES, lay_out, layouts,
 };

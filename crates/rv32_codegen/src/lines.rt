@@ -2,11 +2,12 @@
 ghost use Rattle.std.specs.Prelude.{◌≡◌, ◌++◌, ◌∷◌, List, OnOk};
 ghost use Rattle.mid_code.specs.declared.word.WordInstr.TheVariants as word;
 ghost use Rattle.rv32_isa.specs.declared.label.LabelLine.{LabelLine as Line};
+ghost use Rattle.reg_scan.specs.Homes.{home_of};
 ghost use Rattle.rv32_codegen.specs.Code as code;
 
 use crate::pieces::{
-    compare, emit, emit_constant, emit_load, emit_save, emit_shift, emit_sum, fetch, negative,
-    operate, push, store, stream_number,
+    compare, emit, emit_bring, emit_constant, emit_datum, emit_give, emit_move, emit_save,
+    emit_settle, emit_shift, emit_sum, fetch, negative, operate, push, seat, store, stream_number,
 };
 use arc_base::{Memory, Stream};
 use mid_code::{Test, WordInstr, WordOperation, WordProc};
@@ -17,48 +18,67 @@ use rv32_isa::{LabelCode, LabelLine, LabelName, STATICS_AT, Size};
 /// Where the word code's own data begins: behind the sizes of heap and stack.
 const OWN_DATA_AT: u32 = STATICS_AT + 8;
 
-// How far a variable's home is from where the frame begins.
-fn home_at(homes: &Homes, variable: u32) -> u32
-    ensures { result ≡ code.home_at homes.now variable }
+// The home of a variable.
+fn home_of(homes: &Homes, variable: u32) -> Home
+    ensures { result ≡ home_of homes.now variable }
 {
     match homes.of.as_slice().get(variable as usize) {
-        Some(Home::Frame(at)) => *at,
-        Some(Home::Reg(_)) => 0,
-        None => 0,
+        Some(home) => *home,
+        None => Home::Frame(0),
     }
 }
 
-// How far the argument of that number is from there.
+// The register that a variable is computed into.
+fn target(homes: &Homes, to: u32) -> u32
+    ensures { result ≡ code.target homes.now to }
+{
+    seat(5, home_of(homes, to))
+}
+
+// The registers of two variables that were brought.
+fn left_of(homes: &Homes, left: u32) -> u32
+    ensures { result ≡ code.left_of homes.now left }
+{
+    seat(5, home_of(homes, left))
+}
+
+fn right_of(homes: &Homes, right: u32) -> u32
+    ensures { result ≡ code.right_of homes.now right }
+{
+    seat(6, home_of(homes, right))
+}
+
+// How far the argument of that number is from where the frame begins.
 fn argument_at(index: u32) -> u32
     ensures { result ≡ code.argument_at index }
 {
     negative(index.wrapping_add(1).wrapping_mul(4))
 }
 
-// Two variables into x5 and x6.
-fn load_both(lines: &mut LabelCode, homes: &Homes, left: u32, right: u32) -> Result<(), Memory>
+// Two variables into registers, x5 and x6 where they have none.
+fn bring_both(lines: &mut LabelCode, homes: &Homes, left: u32, right: u32) -> Result<(), Memory>
     ensures { OnOk result ((k : List Line) →
-        lines.new ++ k ≡ lines.old ++ code.load_both homes.now left right k) }
+        lines.new ++ k ≡ lines.old ++ code.bring_both homes.now left right k) }
 {
-    emit_load(lines, 5, home_at(homes, left))?;
-    emit_load(lines, 6, home_at(homes, right))
+    emit_bring(lines, 5, home_of(homes, left))?;
+    emit_bring(lines, 6, home_of(homes, right))
 }
 
 // An address and a length into x11 and x12.
-fn load_range(lines: &mut LabelCode, homes: &Homes, address: u32, len: u32) -> Result<(), Memory>
+fn move_range(lines: &mut LabelCode, homes: &Homes, address: u32, len: u32) -> Result<(), Memory>
     ensures { OnOk result ((k : List Line) →
-        lines.new ++ k ≡ lines.old ++ code.load_range homes.now address len k) }
+        lines.new ++ k ≡ lines.old ++ code.move_range homes.now address len k) }
 {
-    emit_load(lines, 11, home_at(homes, address))?;
-    emit_load(lines, 12, home_at(homes, len))
+    emit_move(lines, 11, home_of(homes, address))?;
+    emit_move(lines, 12, home_of(homes, len))
 }
 
-// x5 into a variable.
+// What was computed becomes a variable's.
 fn keep(lines: &mut LabelCode, homes: &Homes, to: u32) -> Result<(), Memory>
     ensures { OnOk result ((k : List Line) →
         lines.new ++ k ≡ lines.old ++ code.keep homes.now to k) }
 {
-    emit_save(lines, 5, home_at(homes, to))
+    emit_settle(lines, home_of(homes, to))
 }
 
 // A label of the procedure.
@@ -74,17 +94,27 @@ fn inner(proc: &WordProc, name: u32) -> LabelName
 fn emit_set(lines: &mut LabelCode, homes: &Homes, to: u32, value: u32) -> Result<(), Memory>
     ensures { OnOk result ((k : List Line) →
         lines.new ++ k
-        ≡ lines.old ++ code.does (code.constant 5 value) (code.keep homes.now to k)) }
+        ≡ lines.old ++ code.does (code.constant (code.target homes.now to) value)
+        (code.keep homes.now to k)) }
 {
-    emit_constant(lines, 5, value)?;
+    emit_constant(lines, target(homes, to), value)?;
+    keep(lines, homes, to)
+}
+
+fn emit_address(lines: &mut LabelCode, homes: &Homes, to: u32, address: u32) -> Result<(), Memory>
+    ensures { OnOk result ((k : List Line) →
+        lines.new ++ k ≡ lines.old ++ code.does (code.datum (code.target homes.now to) address)
+        (code.keep homes.now to k)) }
+{
+    emit_datum(lines, target(homes, to), address)?;
     keep(lines, homes, to)
 }
 
 fn emit_copy(lines: &mut LabelCode, homes: &Homes, to: u32, from: u32) -> Result<(), Memory>
     ensures { OnOk result ((k : List Line) → lines.new ++ k ≡ lines.old ++ code.does
-        (code.load 5 (code.home_at homes.now from)) (code.keep homes.now to k)) }
+        (code.move (code.target homes.now to) (home_of homes.now from)) (code.keep homes.now to k)) }
 {
-    emit_load(lines, 5, home_at(homes, from))?;
+    emit_move(lines, target(homes, to), home_of(homes, from))?;
     keep(lines, homes, to)
 }
 
@@ -97,19 +127,27 @@ fn emit_compute(
     right: u32,
 ) -> Result<(), Memory>
     ensures { OnOk result ((k : List Line) → lines.new ++ k ≡ lines.old ++
-        code.load_both homes.now left right
-        (LabelLine.Do (code.operate operation) ∷ code.keep homes.now to k)) }
+        code.bring_both homes.now left right (LabelLine.Do (code.operate operation
+        (code.target homes.now to) (code.left_of homes.now left) (code.right_of homes.now right))
+        ∷ code.keep homes.now to k)) }
 {
-    load_both(lines, homes, left, right)?;
-    emit(lines, &[operate(operation)])?;
+    bring_both(lines, homes, left, right)?;
+    let instr = operate(
+        operation,
+        target(homes, to),
+        left_of(homes, left),
+        right_of(homes, right),
+    );
+    emit(lines, &[instr])?;
     keep(lines, homes, to)
 }
 
 fn emit_place(lines: &mut LabelCode, homes: &Homes, to: u32, at: u32) -> Result<(), Memory>
     ensures { OnOk result ((k : List Line) →
-        lines.new ++ k ≡ lines.old ++ code.does (code.sum 5 3 at) (code.keep homes.now to k)) }
+        lines.new ++ k ≡ lines.old ++ code.does (code.sum (code.target homes.now to) 3 at)
+        (code.keep homes.now to k)) }
 {
-    emit_sum(lines, 5, 3, at)?;
+    emit_sum(lines, target(homes, to), 3, at)?;
     keep(lines, homes, to)
 }
 
@@ -121,12 +159,13 @@ fn emit_fetch(
     size: Size,
 ) -> Result<(), Memory>
     ensures { OnOk result ((k : List Line) → lines.new ++ k ≡ lines.old ++ code.does
-        (code.load 5 (code.home_at homes.now address))
-        (LabelLine.Do (code.fetch size) ∷ code.keep homes.now to k)) }
+        (code.bring 5 (home_of homes.now address))
+        (LabelLine.Do (code.fetch size (code.left_of homes.now address))
+        ∷ code.does (code.give 5 (home_of homes.now to)) k)) }
 {
-    emit_load(lines, 5, home_at(homes, address))?;
-    emit(lines, &[fetch(size)])?;
-    keep(lines, homes, to)
+    emit_bring(lines, 5, home_of(homes, address))?;
+    emit(lines, &[fetch(size, left_of(homes, address))])?;
+    emit_give(lines, 5, home_of(homes, to))
 }
 
 fn emit_store(
@@ -137,10 +176,12 @@ fn emit_store(
     size: Size,
 ) -> Result<(), Memory>
     ensures { OnOk result ((k : List Line) → lines.new ++ k
-        ≡ lines.old ++ code.load_both homes.now address from (LabelLine.Do (code.store size) ∷ k)) }
+        ≡ lines.old ++ code.bring_both homes.now address from (LabelLine.Do (code.store size
+        (code.left_of homes.now address) (code.right_of homes.now from)) ∷ k)) }
 {
-    load_both(lines, homes, address, from)?;
-    emit(lines, &[store(size)])
+    bring_both(lines, homes, address, from)?;
+    let instr = store(size, left_of(homes, address), right_of(homes, from));
+    emit(lines, &[instr])
 }
 
 fn emit_branch(
@@ -152,16 +193,16 @@ fn emit_branch(
     to: LabelName,
 ) -> Result<(), Memory>
     ensures { OnOk result ((k : List Line) → lines.new ++ k ≡ lines.old ++
-        code.load_both homes.now left right
-        (LabelLine.Branch (code.compare test) 5 6 to ∷ k)) }
+        code.bring_both homes.now left right (LabelLine.Branch (code.compare test)
+        (code.left_of homes.now left) (code.right_of homes.now right) to ∷ k)) }
 {
-    load_both(lines, homes, left, right)?;
+    bring_both(lines, homes, left, right)?;
     push(
         lines,
         LabelLine::Branch {
             test: compare(test),
-            left: 5,
-            right: 6,
+            left: left_of(homes, left),
+            right: right_of(homes, right),
             to,
         },
     )
@@ -169,11 +210,11 @@ fn emit_branch(
 
 fn emit_argument(lines: &mut LabelCode, homes: &Homes, index: u32, from: u32) -> Result<(), Memory>
     ensures { OnOk result ((k : List Line) → lines.new ++ k ≡ lines.old ++ code.does
-        (code.load 5 (code.home_at homes.now from))
-        (code.does (code.save 5 (code.argument_at index)) k)) }
+        (code.bring 5 (home_of homes.now from))
+        (code.does (code.save (code.left_of homes.now from) (code.argument_at index)) k)) }
 {
-    emit_load(lines, 5, home_at(homes, from))?;
-    emit_save(lines, 5, argument_at(index))
+    emit_bring(lines, 5, home_of(homes, from))?;
+    emit_save(lines, left_of(homes, from), argument_at(index))
 }
 
 fn emit_call(
@@ -195,7 +236,7 @@ fn emit_call(
         },
     )?;
     emit_shift(lines, 3, negative(proc.room))?;
-    emit_save(lines, 10, home_at(homes, to))
+    emit_give(lines, 10, home_of(homes, to))
 }
 
 fn emit_return(
@@ -207,7 +248,7 @@ fn emit_return(
     ensures { OnOk result ((k : List Line) →
         lines.new ++ k ≡ lines.old ++ code.line_code homes.now proc.now (word.Return from) k) }
 {
-    emit_load(lines, 10, home_at(homes, from))?;
+    emit_move(lines, 10, home_of(homes, from))?;
     emit(lines, &[lw(1, 2, 0)])?;
     emit_sum(lines, 2, 2, homes.frame)?;
     emit(lines, &[jalr(0, 1, 0)])
@@ -225,9 +266,9 @@ fn emit_read(
         lines.new ++ k
         ≡ lines.old ++ code.line_code homes.now proc.now (word.Read to address len) k) }
 {
-    load_range(lines, homes, address, len)?;
+    move_range(lines, homes, address, len)?;
     emit(lines, &[addi(10, 0, 0), addi(17, 0, 63), ecall()])?;
-    emit_save(lines, 10, home_at(homes, to))
+    emit_give(lines, 10, home_of(homes, to))
 }
 
 fn emit_write(
@@ -242,7 +283,7 @@ fn emit_write(
         lines.new ++ k
         ≡ lines.old ++ code.line_code homes.now proc.now (word.Write stream address len) k) }
 {
-    load_range(lines, homes, address, len)?;
+    move_range(lines, homes, address, len)?;
     emit(
         lines,
         &[addi(10, 0, stream_number(stream)), addi(17, 0, 64), ecall()],
@@ -258,7 +299,7 @@ fn emit_exit(
     ensures { OnOk result ((k : List Line) →
         lines.new ++ k ≡ lines.old ++ code.line_code homes.now proc.now (word.Exit status) k) }
 {
-    emit_load(lines, 10, home_at(homes, status))?;
+    emit_move(lines, 10, home_of(homes, status))?;
     emit(lines, &[addi(17, 0, 93), ecall()])
 }
 
@@ -289,7 +330,7 @@ fn emit_line(
             right,
         } => emit_compute(lines, homes, to, operation, left, right),
         WordInstr::Place { to, at } => emit_place(lines, homes, to, at),
-        WordInstr::Datum { to, at } => emit_set(lines, homes, to, datum_at(proc, at)),
+        WordInstr::Datum { to, at } => emit_address(lines, homes, to, datum_at(proc, at)),
         WordInstr::Load { to, address, size } => emit_fetch(lines, homes, to, address, size),
         WordInstr::Store {
             address,

@@ -5,11 +5,12 @@ ghost use Rattle.rv32_codegen.specs.Code as code;
 
 use arc_base::{Memory, Stream};
 use mid_code::{Test, WordOperation};
+use reg_scan::Home;
 use rv32_isa::build::{
     add, addi, and, div, divu, lbu, lhu, lui, lw, mul, mulh, or, rem, remu, sb, sh, sll, slt, sltu,
     sra, srl, sub, sw, xor,
 };
-use rv32_isa::{Instr, LabelCode, LabelLine, Size, Test as LabelTest};
+use rv32_isa::{Instr, LabelCode, LabelLine, STATICS_AT, Size, Test as LabelTest};
 
 /// A line.
 pub fn push(lines: &mut LabelCode, line: LabelLine) -> Result<(), Memory>
@@ -66,6 +67,18 @@ pub fn emit_constant(lines: &mut LabelCode, rd: u32, value: u32) -> Result<(), M
     emit(lines, &[lui(rd, upper(value)), addi(rd, rd, lower(value))])
 }
 
+/// The address of a byte of the data into a register.
+pub fn emit_datum(lines: &mut LabelCode, rd: u32, address: u32) -> Result<(), Memory>
+    ensures { OnOk result ((k : List Line) →
+        lines.new ++ k ≡ lines.old ++ code.does (code.datum rd address) k) }
+{
+    let offset = address.wrapping_add(negative(STATICS_AT));
+    if is_near(offset) {
+        return emit(lines, &[addi(rd, 4, lower(offset))]);
+    }
+    emit_constant(lines, rd, address)
+}
+
 /// The sum of a register and a word into a register.
 pub fn emit_sum(lines: &mut LabelCode, rd: u32, from: u32, value: u32) -> Result<(), Memory>
     ensures { OnOk result ((k : List Line) →
@@ -96,7 +109,7 @@ pub fn emit_shift(lines: &mut LabelCode, rd: u32, amount: u32) -> Result<(), Mem
 }
 
 /// A word of the frame into a register.
-pub fn emit_load(lines: &mut LabelCode, rd: u32, offset: u32) -> Result<(), Memory>
+fn emit_load(lines: &mut LabelCode, rd: u32, offset: u32) -> Result<(), Memory>
     ensures { OnOk result ((k : List Line) →
         lines.new ++ k ≡ lines.old ++ code.does (code.load rd offset) k) }
 {
@@ -131,49 +144,103 @@ pub fn emit_save(lines: &mut LabelCode, rs: u32, offset: u32) -> Result<(), Memo
     )
 }
 
-/// The instruction of an operation on x5 and x6 into x5.
-pub fn operate(operation: WordOperation) -> Instr
-    ensures { result ≡ code.operate operation }
+/// The register in which a word is used: its own, or this one.
+pub fn seat(other: u32, home: Home) -> u32
+    ensures { result ≡ code.seat other home }
+{
+    match home {
+        Home::Reg(number) => number,
+        Home::Frame(_) => other,
+    }
+}
+
+/// A word into the register in which it is used.
+pub fn emit_bring(lines: &mut LabelCode, other: u32, home: Home) -> Result<(), Memory>
+    ensures { OnOk result ((k : List Line) →
+        lines.new ++ k ≡ lines.old ++ code.does (code.bring other home) k) }
+{
+    match home {
+        Home::Reg(_) => Ok(()),
+        Home::Frame(at) => emit_load(lines, other, at),
+    }
+}
+
+/// A word into a register.
+pub fn emit_move(lines: &mut LabelCode, rd: u32, home: Home) -> Result<(), Memory>
+    ensures { OnOk result ((k : List Line) →
+        lines.new ++ k ≡ lines.old ++ code.does (code.move rd home) k) }
+{
+    match home {
+        Home::Reg(number) => emit(lines, &[addi(rd, number, 0)]),
+        Home::Frame(at) => emit_load(lines, rd, at),
+    }
+}
+
+/// A word from where it was computed, its own register or x5, to its home.
+pub fn emit_settle(lines: &mut LabelCode, home: Home) -> Result<(), Memory>
+    ensures { OnOk result ((k : List Line) →
+        lines.new ++ k ≡ lines.old ++ code.does (code.settle home) k) }
+{
+    match home {
+        Home::Reg(_) => Ok(()),
+        Home::Frame(at) => emit_save(lines, 5, at),
+    }
+}
+
+/// A register to a home.
+pub fn emit_give(lines: &mut LabelCode, rs: u32, home: Home) -> Result<(), Memory>
+    ensures { OnOk result ((k : List Line) →
+        lines.new ++ k ≡ lines.old ++ code.does (code.give rs home) k) }
+{
+    match home {
+        Home::Reg(number) => emit(lines, &[addi(number, rs, 0)]),
+        Home::Frame(at) => emit_save(lines, rs, at),
+    }
+}
+
+/// The instruction that puts the result of an operation on two registers into one.
+pub fn operate(operation: WordOperation, rd: u32, left: u32, right: u32) -> Instr
+    ensures { result ≡ code.operate operation rd left right }
 {
     match operation {
-        WordOperation::Add => add(5, 5, 6),
-        WordOperation::Subtract => sub(5, 5, 6),
-        WordOperation::Multiply => mul(5, 5, 6),
-        WordOperation::MultiplyHigh => mulh(5, 5, 6),
-        WordOperation::Divide => div(5, 5, 6),
-        WordOperation::Remainder => rem(5, 5, 6),
-        WordOperation::DivideUnsigned => divu(5, 5, 6),
-        WordOperation::RemainderUnsigned => remu(5, 5, 6),
-        WordOperation::And => and(5, 5, 6),
-        WordOperation::Or => or(5, 5, 6),
-        WordOperation::Xor => xor(5, 5, 6),
-        WordOperation::ShiftLeft => sll(5, 5, 6),
-        WordOperation::ShiftRight => srl(5, 5, 6),
-        WordOperation::ShiftRightSigned => sra(5, 5, 6),
-        WordOperation::Less => slt(5, 5, 6),
-        WordOperation::Below => sltu(5, 5, 6),
+        WordOperation::Add => add(rd, left, right),
+        WordOperation::Subtract => sub(rd, left, right),
+        WordOperation::Multiply => mul(rd, left, right),
+        WordOperation::MultiplyHigh => mulh(rd, left, right),
+        WordOperation::Divide => div(rd, left, right),
+        WordOperation::Remainder => rem(rd, left, right),
+        WordOperation::DivideUnsigned => divu(rd, left, right),
+        WordOperation::RemainderUnsigned => remu(rd, left, right),
+        WordOperation::And => and(rd, left, right),
+        WordOperation::Or => or(rd, left, right),
+        WordOperation::Xor => xor(rd, left, right),
+        WordOperation::ShiftLeft => sll(rd, left, right),
+        WordOperation::ShiftRight => srl(rd, left, right),
+        WordOperation::ShiftRightSigned => sra(rd, left, right),
+        WordOperation::Less => slt(rd, left, right),
+        WordOperation::Below => sltu(rd, left, right),
     }
 }
 
-/// The instruction that loads so much into x5 from the address in it.
-pub fn fetch(size: Size) -> Instr
-    ensures { result ≡ code.fetch size }
+/// The instruction that loads so much into x5 from the address in a register.
+pub fn fetch(size: Size, address: u32) -> Instr
+    ensures { result ≡ code.fetch size address }
 {
     match size {
-        Size::Byte => lbu(5, 5, 0),
-        Size::Half => lhu(5, 5, 0),
-        Size::Word => lw(5, 5, 0),
+        Size::Byte => lbu(5, address, 0),
+        Size::Half => lhu(5, address, 0),
+        Size::Word => lw(5, address, 0),
     }
 }
 
-/// The instruction that stores so much of x6 to the address in x5.
-pub fn store(size: Size) -> Instr
-    ensures { result ≡ code.store size }
+/// The instruction that stores so much of a register to the address in a register.
+pub fn store(size: Size, address: u32, rs: u32) -> Instr
+    ensures { result ≡ code.store size address rs }
 {
     match size {
-        Size::Byte => sb(5, 6, 0),
-        Size::Half => sh(5, 6, 0),
-        Size::Word => sw(5, 6, 0),
+        Size::Byte => sb(address, rs, 0),
+        Size::Half => sh(address, rs, 0),
+        Size::Word => sw(address, rs, 0),
     }
 }
 

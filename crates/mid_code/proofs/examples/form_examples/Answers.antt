@@ -27,3 +27,6 @@ returns-clause-twice c = refl
 
 pub returns-clause-left_over : goal.returns-clause-left_over
 returns-clause-left_over c = refl
+
+pub returns-clause-interrupted : goal.returns-clause-interrupted
+returns-clause-interrupted c = refl

@@ -49,3 +49,9 @@ returns-clause-summing_work c = refl
 pub returns-clause-not_yet_careless : goal.returns-clause-not_yet_careless
 unfolding start
 returns-clause-not_yet_careless c = refl
+
+pub returns-clause-strange : goal.returns-clause-strange
+returns-clause-strange c = refl
+
+pub returns-clause-seen_start : goal.returns-clause-seen_start
+returns-clause-seen_start c = refl

@@ -1,24 +1,19 @@
-use Rattle.std.proofs.Common.{◌≡◌, ◌+◌, ◌-◌, ◌*◌, ◌<◌, ◌≤◌, [], ◌∷◌, ◌++◌, refl, sym, ap, ◌∙◌, arith}
-use Rattle.std.proofs.Common.{append_assoc, append-nil}
-use Rattle.reg_scan.specs.declared.homes.Home.TheVariants.{Frame}
-use Rattle.reg_scan.proofs.Frames.{in_frame, next_home, are_homes}
+use Rattle.std.proofs.Common.{◌+◌, ◌*◌, true, false, refl}
+use Rattle.reg_scan.specs.declared.homes.Homes.{Homes}
+use Rattle.reg_scan.proofs.OwnHomes.{are_homes, right_by_test, right_in_frame}
 use Rattle.reg_scan.proofs.homes.assign.Goals as goal
 
-pub loop-variable-preserved : goal.loop-variable-preserved
-loop-variable-preserved c =
-    let n = c.args.proc.now.vars in
-    let i = c.loop-variable.variable in
-    let lt : i < n = c.loop-variable-test.true in
-    ap (λ l. l ++ in_frame (n - (i + 1))) c.in_ok-push.ensures.ok
-    ∙ append_assoc c.loop-variable.of (Frame (4 * (n - i)) ∷ []) (in_frame (n - (i + 1)))
-    ∙ ap (λ l. c.loop-variable.of ++ l) (sym (next_home n i lt))
-    ∙ c.loop-variable.invariant
+pub returns-then-is_fine : goal.returns-then-is_fine
+returns-then-is_fine c =
+    let p = c.args.proc.now in
+    let homes : Homes = record { of = c.in_ok-of.of; frame = 4 * (p.vars + 1) } in
+    are_homes true p homes c.in_ok-of.ensures refl
+    (right_by_test c.deref-2.result.now c.in_ok-choice.choice.labels p homes c.as_slice.result.now c.as_slice-2.result.now c.as_slice.ensures
+    c.as_slice-2.ensures
+    (c.is_fine-is_fine.ensures.right c.if-is_fine.true) (c.is_fine-is_fine.ensures.first c.if-is_fine.true))
 
 pub returns : goal.returns
 returns c =
-    let n = c.args.proc.now.vars in
-    let i = c.loop-variable.variable in
-    let past : n ≤ i = c.loop-variable-test.false in
-    let end : n - i ≡ 0 = omega (arith, past) in
-    are_homes c.args.proc.now _
-    (sym (append-nil c.loop-variable.of) ∙ ap (λ k. c.loop-variable.of ++ in_frame k) (sym end) ∙ c.loop-variable.invariant) refl
+    let p = c.args.proc.now in
+    let homes : Homes = record { of = c.in_ok-of-2.of; frame = 4 * (p.vars + 1) } in
+    are_homes false p homes c.in_ok-of-2.ensures refl (right_in_frame p homes c.in_ok-of-2.ensures)

@@ -1,8 +1,11 @@
 use Rattle.std.proofs.Common.{◌≤◌, length, sym, ap, subst, ◌∙◌}
 use Rattle.std.proofs.lemmas.Result.{IfOk-weaker}
 use Rattle.rv32_isa.specs.Labels.{AreLines, hooks_lead}
-use Rattle.rv32_codegen.specs.Lowering.{AlwaysDoes, most_lines}
-use Rattle.rv32_codegen.proofs.Whole.{same_long, always_does, code_fields, code_leads, code_long}
+use Rattle.rv32_codegen.specs.Layout.{all_far, size}
+use Rattle.rv32_codegen.specs.Lowering.{AlwaysDoes, most_lines, most_bytes}
+use Rattle.rv32_codegen.proofs.Whole.{same_long, always_does, code_leads, code_long}
+use Rattle.rv32_codegen.proofs.Ranges.{code_fields}
+use Rattle.rv32_codegen.proofs.Bytes.{code_bytes}
 use Rattle.rv32_codegen.proofs.label_code.code.Goals as goal
 
 pub emit_code-requires : goal.emit_code-requires
@@ -16,13 +19,19 @@ returns-clause-does c =
 
 pub returns-clause-fits : goal.returns-clause-fits
 returns-clause-fits c =
-    IfOk-weaker c.emit_code.result _ _ (λ lines e. subst AreLines (sym e) (code_fields c.args.words.now.procs c.args.homes.now)) c.emit_code.ensures
+    IfOk-weaker c.emit_code.result _ _ (λ lines e. subst AreLines (sym e) (code_fields c.args.words.now.procs c.args.homes.now c.requires)) c.emit_code.ensures
 
 pub returns-clause-leads : goal.returns-clause-leads
-returns-clause-leads c = λ kinds.
-    IfOk-weaker c.emit_code.result _ _ (λ lines e. ap hooks_lead e ∙ code_leads c.args.words.now.procs c.args.homes.now kinds) c.emit_code.ensures
+returns-clause-leads c = λ formed.
+    IfOk-weaker c.emit_code.result _ _ (λ lines e. ap hooks_lead e ∙ code_leads c.args.words.now c.args.homes.now formed) c.emit_code.ensures
 
 pub returns-clause-size : goal.returns-clause-size
 returns-clause-size c =
     IfOk-weaker c.emit_code.result _ _
     (λ lines e. subst (λ x. length x ≤ most_lines c.args.words.now.procs) (sym e) (code_long c.args.words.now.procs c.args.homes.now)) c.emit_code.ensures
+
+pub returns-clause-bytes : goal.returns-clause-bytes
+returns-clause-bytes c =
+    IfOk-weaker c.emit_code.result _ _
+    (λ lines e. subst (λ x. size all_far x ≤ most_bytes c.args.words.now.procs) (sym e) (code_bytes c.args.words.now.procs c.args.homes.now))
+    c.emit_code.ensures

@@ -1,0 +1,221 @@
+-- What returns of word code do, their label code does.
+use Rattle.std.proofs.Common.{◌≡◌, ℕ, ◌+◌, ◌*◌, ◌/◌, ◌%◌, ◌^◌, ◌<◌, ◌≤◌, inl, inr}
+use Rattle.std.proofs.Common.{List, [], ◌∷◌, length, get_or}
+use Rattle.std.proofs.Common.{Some, refl, sym, ap, subst, ◌∙◌, arith}
+use Rattle.arc_base.specs.Stepping.{Goes}
+use Rattle.rv32_isa.specs.declared.instr.Instr.TheVariants.{Lw, Jalr}
+use Rattle.rv32_isa.specs.declared.label.LabelName.TheVariants.{Entry}
+use Rattle.rv32_isa.specs.declared.label.LabelLine.{LabelLine}
+use Rattle.rv32_isa.specs.declared.label.LabelLine.TheVariants.{Do, Jump}
+use Rattle.rv32_isa.specs.Values.{added}
+use Rattle.rv32_isa.specs.Steps.{signed12}
+use Rattle.rv32_isa.specs.Labels.{mark_before, from_mark}
+use Rattle.rv32_isa.specs.LabelsMeaning.{LabelRun, goto, step}
+use Rattle.rv32_logic.specs.Registers.{put}
+use Rattle.rv32_logic.proofs.ForCallers.{put_regs, put_same, plain_address}
+use Rattle.mid_code.specs.declared.word.WordInstr.{WordInstr}
+use Rattle.mid_code.specs.declared.word.WordInstr.TheVariants as word
+use Rattle.mid_code.specs.declared.word.WordProc.{WordProc}
+use Rattle.mid_code.specs.Memory.{Memory}
+use Rattle.reg_scan.specs.Alive.{Alive, read_by}
+use Rattle.reg_scan.specs.Homes.{home_of}
+use Rattle.mid_code.specs.Words.{put as put_var, WordFrame, WordState}
+use Rattle.mid_code.specs.Words.{returned, on}
+use Rattle.rv32_codegen.specs.Code.{does, shift, sum, negative, give, after_call, line_code}
+use Rattle.rv32_codegen.proofs.Runs.{steps_one}
+use Rattle.rv32_codegen.proofs.Machine.{state_of, run_at, Fits, fits_words, word_place, Regs, put_other, Quiet, quiet_does, Goes_in, then_goes}
+use Rattle.rv32_codegen.proofs.PieceRuns.{shift_any, sum_any, lw_at}
+use Rattle.rv32_codegen.proofs.Chunks.{quiet_lines}
+use Rattle.rv32_codegen.proofs.Lookups.{behind, none_some}
+use Rattle.rv32_codegen.proofs.Frames.{size, IsLaid, saved, HasWord, length-saved, saved_outside, Within}
+use Rattle.rv32_codegen.proofs.Frames.{code_here, Waits, Linked, linked_inside, linked_kept, put_held}
+use Rattle.rv32_codegen.proofs.Frames.{Setting, whole, True, Sim}
+use Rattle.rv32_codegen.proofs.HomeRuns.{home_gives, alike_refl}
+use Rattle.rv32_codegen.proofs.LineRuns.{homes, sim_goes, using_sim, laid_of, inside_of, var_moves, Behind, Here}
+use Rattle.rv32_codegen.proofs.LineRuns.{Line_sim}
+use Rattle.rv32_codegen.proofs.Calls.{return_fits, return_whole, returns_to}
+
+-- a jump to an address that is a multiple of 4
+target_is : (x n : ℕ) → x ≡ n → n % 4 ≡ 0 → n < 2 ^ 32 → added x (signed12 0) / 2 * 2 ≡ n
+target_is x n e whole_words fits =
+    ap (λ y. added y (signed12 0) / 2 * 2) e ∙ (let f : (n + 0) % 2 ^ 32 / 2 * 2 ≡ n = omega (arith, whole_words, fits) in f)
+
+module _ (g : Setting) where
+  -- ---- returns
+
+  return_state : WordState → ℕ → WordFrame → List WordFrame → WordState
+  return_state t a c cs = record t { frame = record c { vars = put_var c.vars c.awaits a }; callers = cs }
+
+  returned_sim : (t : WordState) (r : LabelRun) (a : ℕ) (callers : List WordFrame) →
+      ((c : WordFrame) (cs : List WordFrame) → callers ≡ c ∷ cs → Sim g r t (on (return_state t a c cs))) → Sim g r t (returned t a callers)
+  unfolding return_state
+  returned_sim t r a [] h = tt
+  returned_sim t r a (c ∷ cs) h = h c cs refl
+
+  abbrev Waiting : WordState → (ws : List ℕ) → (j : ℕ) → WordFrame → List WordFrame → Type 0
+  Waiting t ws j c cs =
+      Waits g.lay g.procs g.need g.total (whole g) g.at ws (j + size (homes g t)) t.frame.proc.number (get_or ws j 0) t.frame.base c cs
+
+  abbrev Above : WordState → (ws : List ℕ) → (j : ℕ) → WordFrame → List WordFrame → Type 0
+  Above t ws j c cs = Linked g.lay g.procs g.need g.total (whole g) g.at ws (j + size (homes g t)) c.proc c.base cs
+
+  return_true : (t : WordState) (lines : List WordInstr) (regs new ws : List ℕ) (j a : ℕ) (c : WordFrame) (cs : List WordFrame)
+      (f : True g t lines regs ws j) →
+      (x : Waiting t ws j c cs) → Above t ws j c cs → Regs new (word_place t.memory (j + size (homes g t))) c.base →
+      HasWord new (home_of (g.lay c.proc.number) c.awaits) (a % 2 ^ 32) →
+      True g (return_state t a c cs) c.left new (saved ws (j + size (homes g t)) (home_of (g.lay c.proc.number) c.awaits) (a % 2 ^ 32))
+      (j + size (homes g t))
+  unfolding return_state
+  return_true t lines regs new ws j a c cs f x more kept has =
+      let n = j + size (homes g t) in
+      let h = g.lay c.proc.number in
+      let home = home_of h c.awaits in
+      let ws' = saved ws n home (a % 2 ^ 32) in
+      let laid = g.laid c.proc.number c.proc x.sits.tail x.sits.found in
+      let there = laid.there c.awaits x.awaits in
+      let inside = linked_inside g.lay g.procs g.need g.total (whole g) g.at ws n c.proc c.base cs more in
+      let long : length ws' ≡ length ws = length-saved ws n home (a % 2 ^ 32) in
+      record {
+        fits = fits_words t.memory ws ws' long f.fits;
+        kept = kept;
+        base_fits = x.base_fits;
+        sits = x.sits;
+        held = put_held g.lay g.procs new ws n c.proc c.left c.vars c.awaits a laid x.awaits inside
+            (λ v w lives ne e. let y = x.rests v w lives ne e in (y.0, (y.1.0 new, y.1.1))) x.apart has;
+        given = λ i w e. absurd (none_some w (ap (λ v. v i) (sym x.given) ∙ e));
+        linked = linked_kept g.lay g.procs g.need g.total (whole g) g.at ws ws' n c.proc c.base cs long
+            (λ k o. saved_outside ws n (size h) k home (a % 2 ^ 32) there (elim o [ inl e ↦ inl (omega (arith, e)) | inr le ↦ inr le ])) more;
+        deep = x.deep;
+      }
+
+  -- what stands where a call has returned
+  record Left (regs : List ℕ) (frame base a : ℕ) : Type 0 where
+    kept : Regs regs frame base
+    ten : get_or regs 10 0 ≡ a
+
+  -- the end of a procedure: the frame goes, and the mark behind the call is next
+  leaves : (t : WordState) (from : ℕ) (rest : List WordInstr) (regs ws : List ℕ) (j a : ℕ) (f : True g t (word.Return from ∷ rest) regs ws j)
+      (k after : List LabelLine)
+      → t.frame.vars from ≡ Some a → get_or ws j 0 ≡ g.at (mark_before after) → Within (whole g) (Jump 1 (Entry t.frame.proc.number) ∷ after) →
+      Quiet after →
+      (new : List ℕ) × Goes_in g.live (whole g) g.at 4 8
+      (run_at regs t.memory ws t.input (line_code (homes g t) t.frame.proc (word.Return from) k)) (run_at new t.memory ws t.input after)
+      × Left new (word_place t.memory (j + size (homes g t))) t.frame.base a
+  leaves t from rest regs ws j a f k after e returns stands quiet =
+      let h = homes g t in
+      let m = t.memory in
+      let fr = word_place m j in
+      let base = t.frame.base in
+      let n = j + size h in
+      let inside = inside_of g t (word.Return from ∷ rest) regs ws j f in
+      let laid = laid_of g t (word.Return from ∷ rest) f.sits in
+      let some = laid.some in
+      let frame = laid.frame in
+      let most = f.fits.stack_most in
+      let return = g.at (mark_before after) in
+      let small = return_fits g t.frame.proc.number after stands in
+      let fourth = Do (Jalr 0 1 0) ∷ k in
+      let third = does (sum 2 2 h.frame) fourth in
+      let second = Do (Lw 1 2 0) ∷ third in
+      let r = run_at regs m ws t.input (line_code h t.frame.proc (word.Return from) k) in
+      let within : j < length ws = omega (arith, inside, some) in
+      let lives : Alive t.frame.proc.lines from (word.Return from ∷ rest) = read_by (inl refl) in
+      let x = var_moves g t (word.Return from ∷ rest) regs ws j f regs 10 from a second refl (omega arith) (omega arith) lives e f.kept
+      (alike_refl regs) in
+      let one = put x.0 1 return in
+      let y = lw_at g.live (whole g) g.at m ws t.input x.0 1 2 0 j return third (quiet_does (sum 2 2 h.frame) fourth refl)
+      (plain_address (get_or x.0 2 0) fr x.2.kept.frame_is (omega (arith, most, within))) within returns small f.fits in
+      let good = put_regs x.0 1 return x.2.kept.good in
+      let z = sum_any g.live (whole g) g.at m ws t.input one 2 2 h.frame fourth refl (omega arith) (omega arith) (λ e. omega (arith, e)) good in
+      let at2 : get_or z.0 2 0 ≡ word_place m n =
+      z.2.same ∙ ap (λ i. added i h.frame) (put_other x.0 1 2 return (λ e. omega (arith, e)) ∙ x.2.kept.frame_is)
+      ∙ (let w : added fr h.frame ≡ word_place m n = omega (arith, inside, most, frame) in w) in
+      let kept : Regs z.0 (word_place m n) base = record {
+        good = z.2.good;
+        frame_is = at2;
+        base_is = z.2.other 3 (λ e. omega (arith, e)) (λ e. omega (arith, e)) ∙ put_other x.0 1 3 return (λ e. omega (arith, e)) ∙ x.2.kept.base_is;
+        data_is = z.2.other 4 (λ e. omega (arith, e)) (λ e. omega (arith, e)) ∙ put_other x.0 1 4 return (λ e. omega (arith, e)) ∙ x.2.kept.data_is;
+      } in
+      let at1 : get_or z.0 1 0 ≡ return =
+      z.2.other 1 (λ e. omega (arith, e)) (λ e. omega (arith, e)) ∙ put_same x.0 1 return x.2.kept.good (omega arith) (omega arith) in
+      let at10 : get_or z.0 10 0 ≡ a =
+      z.2.other 10 (λ e. omega (arith, e)) (λ e. omega (arith, e)) ∙ put_other x.0 1 10 return (λ e. omega (arith, e)) ∙ x.2.same in
+      let mid = run_at z.0 m ws t.input fourth in
+      let to = run_at z.0 m ws t.input after in
+      let marked : from_mark g.at (added (get_or z.0 1 0) (signed12 0) / 2 * 2) (whole g) ≡ Some after =
+      ap (λ i. from_mark g.at i (whole g)) (target_is (get_or z.0 1 0) return at1 (return_whole g t.frame.proc.number after stands) small)
+      ∙ returns_to g t.frame.proc.number after stands in
+      let back : Goes_in g.live (whole g) g.at 1 1 mid to =
+      steps_one (step g.live (whole g) g.at) mid to [] 1 1 (ap (λ o. goto (state_of z.0 m ws) o t.input) marked
+      ∙ ap (λ es. Goes es 1 to) quiet) (omega arith) in
+      let at_second = run_at x.0 m ws t.input second in
+      let at_third = run_at one m ws t.input third in
+      let to_third : Goes_in g.live (whole g) g.at 2 4 r at_third = then_goes g.live (whole g) g.at 1 1 3 1 r at_second at_third x.1 y in
+      let to_mid : Goes_in g.live (whole g) g.at 3 7 r mid = then_goes g.live (whole g) g.at 2 1 4 3 r at_third mid to_third z.1 in
+      (z.0, then_goes g.live (whole g) g.at 3 1 7 1 r mid to to_mid back, record { kept = kept; ten = at10 })
+
+  -- behind a call: the places of the callee go, and the result comes to its variable's home
+  resumes : (m : Memory) (ws input regs : List ℕ) (n to base a : ℕ) (q : WordProc) (code : List LabelLine) → Fits m ws → IsLaid (g.lay q.number) q →
+      n + size (g.lay q.number) ≤ length ws → to < q.vars → base < 2 ^ 32 → Left regs (word_place m n) (added base q.room) a → Quiet code →
+      (new : List ℕ) × Goes_in g.live (whole g) g.at 1 6 (run_at regs m ws input (after_call (g.lay q.number) q to code))
+      (run_at new m (saved ws n (home_of (g.lay q.number) to) (a % 2 ^ 32)) input code) × Regs new (word_place m n) base
+      × HasWord new (home_of (g.lay q.number) to) (a % 2 ^ 32)
+  resumes m ws input regs n to base a q code fits laid inside lt small left quiet =
+      let h = g.lay q.number in
+      let fr = word_place m n in
+      let old = added base q.room in
+      let home = home_of h to in
+      let second = does (give 10 home) code in
+      let low : old < 2 ^ 32 = omega arith in
+      let x = shift_any g.live (whole g) g.at m ws input regs 3 (negative q.room) second (quiet_does (give 10 home) code quiet) (omega arith)
+      (omega arith)
+      (λ e. omega (arith, e)) (subst (λ i. i < 2 ^ 32) (sym left.kept.base_is) low) left.kept.good in
+      let back : added old (negative q.room) ≡ base = omega (arith, small) in
+      let kept : Regs x.0 fr base = record {
+        good = x.2.good;
+        frame_is = x.2.other 2 (λ e. omega (arith, e)) (λ e. omega (arith, e)) ∙ left.kept.frame_is;
+        base_is = x.2.same ∙ ap (λ i. added i (negative q.room)) left.kept.base_is ∙ back;
+        data_is = x.2.other 4 (λ e. omega (arith, e)) (λ e. omega (arith, e)) ∙ left.kept.data_is;
+      } in
+      let ten : get_or x.0 10 0 ≡ a = x.2.other 10 (λ e. omega (arith, e)) (λ e. omega (arith, e)) ∙ left.ten in
+      let s = home_gives g.live (whole g) g.at m ws input n (size h) base code quiet fits inside x.0 10 a home (laid.there to lt) (omega arith)
+      (λ e. omega (arith, e)) ten kept in
+      (s.0, then_goes g.live (whole g) g.at 0 1 3 3 _ _ _ x.1 s.1, s.2.kept, s.2.has)
+
+  back_sim : (t : WordState) (from : ℕ) (rest : List WordInstr) (regs ws : List ℕ) (j a : ℕ) (f : True g t (word.Return from ∷ rest) regs ws j)
+      (c : WordFrame)
+      (cs : List WordFrame) → t.frame.vars from ≡ Some a → Waiting t ws j c cs → Above t ws j c cs →
+      Sim g (Here g t (word.Return from) rest regs ws j f) t (on (return_state t a c cs))
+  unfolding return_state return_true
+  back_sim t from rest regs ws j a f c cs e wait more =
+      let l = word.Return from in
+      let k = Behind g t l rest regs ws j f in
+      let m = t.memory in
+      let r = Here g t l rest regs ws j f in
+      let n = j + size (homes g t) in
+      let h = g.lay c.proc.number in
+      let home = home_of h c.awaits in
+      let inside = linked_inside g.lay g.procs g.need g.total (whole g) g.at ws n c.proc c.base cs more in
+      let laid = g.laid c.proc.number c.proc wait.sits.tail wait.sits.found in
+      let code = code_here g.lay g.procs c.proc c.left wait.sits in
+      let after = after_call h c.proc c.awaits code in
+      let quiet = quiet_lines h c.proc c.left (behind g.lay wait.sits.tail) refl in
+      let quiet_after = quiet_does (shift 3 (negative c.proc.room)) _ (quiet_does (give 10 home) code quiet) in
+      let x = leaves t from rest regs ws j a f k after e wait.returns wait.behind_call quiet_after in
+      let left : Left x.0 (word_place m n) (added c.base c.proc.room) a =
+      record { kept = subst (Regs x.0 (word_place m n)) wait.base_is x.2.kept; ten = x.2.ten } in
+      let y = resumes m ws t.input x.0 n c.awaits c.base a c.proc code f.fits laid inside wait.awaits wait.base_fits left quiet in
+      let ws' = saved ws n home (a % 2 ^ 32) in
+      let s = run_at y.0 m ws' t.input code in
+      sim_goes g r s t (return_state t a c cs) 5 14 (then_goes g.live (whole g) g.at 4 1 8 6 r (run_at x.0 m ws t.input after) s x.1 y.1) (omega arith)
+      (omega arith)
+      (record { regs = y.0; ws = ws'; j = n; facts = return_true t (l ∷ rest) regs y.0 ws j a c cs f wait more y.2 y.3; is = refl })
+
+  pub return_sim : (from : ℕ) → Line_sim g (word.Return from)
+  return_sim from t rest regs ws j f =
+      let r = Here g t (word.Return from) rest regs ws j f in
+      using_sim g r t rest (t.frame.vars from) _ (λ a e.
+      returned_sim t r a t.callers (λ c cs callers_are.
+      let linked : Linked g.lay g.procs g.need g.total (whole g) g.at ws j t.frame.proc t.frame.base (c ∷ cs) =
+      subst (Linked g.lay g.procs g.need g.total (whole g) g.at ws j t.frame.proc t.frame.base) callers_are f.linked in
+      back_sim t from rest regs ws j a f c cs e linked.0 linked.1))
