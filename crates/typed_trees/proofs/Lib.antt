@@ -1,0 +1,9 @@
+mod Kinding
+mod Finiting
+mod Placing
+mod Labelling
+mod Owning
+mod Walking
+mod Stating
+mod Numbering
+mod Wholes

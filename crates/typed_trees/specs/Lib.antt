@@ -1,0 +1,12 @@
+pub mod Finite
+pub mod Kinds
+pub mod Operations
+pub mod Scopes
+pub mod Exprs
+pub mod Stmts
+pub mod Programs
+pub mod View
+pub mod Entries
+pub mod Parts
+pub mod Marks
+pub mod Numbers
