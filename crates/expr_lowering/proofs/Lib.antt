@@ -1,0 +1,13 @@
+mod TypeRows
+mod TypeNumbers
+mod Adding
+mod StmtAdding
+mod Taking
+mod PlaceAdding
+mod FormRows
+mod Extending
+mod Capping
+mod Listing
+mod Summing
+mod Faults
+mod Bodies

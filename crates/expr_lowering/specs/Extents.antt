@@ -1,0 +1,45 @@
+-- How large types are, as the code counts: what is beyond the most is as one more than it. It serves proofs alone: the promise of
+-- `flatten` doesn't speak of it.
+use Rattle.std.specs.Prelude.{◌≡◌, ℕ, suc, ◌+◌, min, max, List, map}
+use Rattle.nim_types.specs.Types.{Ty, Facts}
+use Rattle.nim_types.specs.Forms.{Form, Forms, size, size_all, levels, most_levels, form_in, forms_in, form_within, form_of}
+use Rattle.nim_types.specs.declared.types.TypeDef.{TypeDef}
+use Rattle.nim_types.specs.Table.{type_at, types_at, types_in, facts_in}
+use Rattle.expr_lowering.specs.declared.extent.Extent.{Extent}
+use Rattle.expr_lowering.specs.declared.frames.TheConstants.{MOST_BYTES, MOST_LEVELS}
+
+-- a number of bytes
+abbrev pub capped : ℕ → ℕ
+capped n = min n (suc MOST_BYTES)
+
+abbrev pub extent_of : Form → Extent
+extent_of f = record { bytes = capped (size f); levels = min (levels f) (suc MOST_LEVELS) }
+
+abbrev pub extents_of : Forms → Extent
+extents_of fs = record { bytes = capped (size_all fs); levels = min (most_levels fs) (suc MOST_LEVELS) }
+
+abbrev pub with_more : Extent → Extent → Extent
+with_more a b = record {
+  bytes = capped (a.bytes + b.bytes);
+  levels = min (max a.levels b.levels) (suc MOST_LEVELS);
+}
+
+-- of types by their numbers, so many declared types looked through
+abbrev pub form_at : ℕ → List TypeDef → ℕ → Form
+form_at n ds i = form_in (form_within n (facts_in ds)) (type_at (types_in ds) i)
+
+abbrev pub forms_at : ℕ → List TypeDef → List ℕ → Forms
+forms_at n ds is = forms_in (form_within n (facts_in ds)) (types_at (types_in ds) is)
+
+abbrev pub extent_at : ℕ → List TypeDef → ℕ → Extent
+extent_at n ds i = extent_of (form_at n ds i)
+
+abbrev pub extents_at : ℕ → List TypeDef → List ℕ → Extent
+extents_at n ds is = extents_of (forms_at n ds is)
+
+-- each type of a table has its own
+abbrev pub extent_in : Facts → Ty → Extent
+extent_in facts ty = extent_of (form_of facts ty)
+
+abbrev pub AreListed : List TypeDef → List Extent → Type 0
+AreListed ds all = all ≡ map (extent_in (facts_in ds)) (types_in ds)

@@ -1,0 +1,13 @@
+pub mod Numbering
+pub mod ExprLines
+pub mod StmtLines
+pub mod Places
+pub mod Frames
+pub mod Flatten
+pub mod Views
+pub mod StmtViews
+pub mod PlaceViews
+pub mod Extents
+pub mod SumViews
+pub mod Programs
+pub mod Examples
