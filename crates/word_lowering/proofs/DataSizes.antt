@@ -1,0 +1,268 @@
+-- The data of word code is whole words, and no more than what block code's takes.
+use Rattle.std.proofs.Common.{nat_le, ◌≡◌, ℕ, zero, suc, ◌+◌, ◌*◌, ◌-◌, ◌%◌, ◌≤◌, List, [], ◌∷◌}
+use Rattle.std.proofs.Common.{◌++◌, length, map, replicate, Bool, true, false}
+use Rattle.std.proofs.Common.{if◌then◌else◌, refl, sym, ap, arith, add-zero, length-append}
+use Rattle.std.proofs.lemmas.Bool.{and_parts, leb-true}
+use Rattle.nim_types.specs.declared.types.TypeDef.{TypeDef}
+use Rattle.nim_types.specs.declared.types.TypeDef.TheVariants as D
+use Rattle.rv32_isa.specs.Words.{word_bytes}
+use Rattle.mid_code.specs.declared.line.Line.{Line}
+use Rattle.mid_code.specs.declared.line.Line.TheVariants as L
+use Rattle.mid_code.specs.declared.place.PlaceKind.{PlaceKind}
+use Rattle.mid_code.specs.declared.place.PlaceKind.TheVariants as K
+use Rattle.mid_code.specs.declared.place.FlatPlace.{FlatPlace}
+use Rattle.mid_code.specs.declared.block.BlockProc.{BlockProc}
+use Rattle.mid_code.specs.declared.block.Blocks.{Blocks}
+use Rattle.mid_code.specs.Codes.{block_plain, block_placed}
+use Rattle.mid_code.specs.Fits.{Placed, no_lines}
+use Rattle.mid_code.specs.Running.{last_of}
+use Rattle.mid_code.specs.Scene.{known_in}
+use Rattle.mid_code.specs.Sizes.{is_line_end, text_bytes, written_bytes, texts_bytes, all_texts_bytes, global_bytes, globals_bytes}
+use Rattle.mid_code.specs.Sizes.{all_bytes, members_bytes, names_bytes, data_bytes}
+use Rattle.word_lowering.specs.declared.homes.Free.{Free}
+use Rattle.word_lowering.specs.declared.homes.Layout.{Layout}
+use Rattle.word_lowering.specs.declared.lowering.TheConstants.{MORE_DATA}
+use Rattle.word_lowering.specs.declared.may_lower.TheConstants.{MOST_DATA}
+use Rattle.word_lowering.specs.declared.texts.TheConstants.{FIXED_BYTES}
+use Rattle.word_lowering.specs.Stored.{bytes_at}
+use Rattle.word_lowering.specs.Layouts.{is_static, free_behind, bytes_by, place_kept, behind, behind_all, roots_in, free_at}
+use Rattle.word_lowering.specs.Layouts.{layouts, layout_of}
+use Rattle.word_lowering.specs.LineCode.{no_layout}
+use Rattle.word_lowering.specs.Lowered.{globals_end, data_of, lowered}
+use Rattle.word_lowering.specs.Texts.{missing, padded, fixed_texts, members_of, all_names, joined_all, starts_from, ends_from, own_text, text_of}
+use Rattle.word_lowering.specs.Texts.{texts_of}
+use Rattle.word_lowering.specs.Texts.{texts_in, data_in}
+use Rattle.word_lowering.specs.MayLower.{defs_may, procs_may, may_lower}
+use Rattle.rv32_isa.proofs.ForCallers.{length-word_bytes}
+use Rattle.word_lowering.proofs.EntryNames.{joined_append}
+
+-- ---- whole words
+
+zeros_length : (n : ℕ) → length {A = ℕ} (replicate n 0) ≡ n
+zeros_length zero = refl
+zeros_length (suc n) = ap (λ m. suc m) (zeros_length n)
+
+whole_by : (n : ℕ) → (n + missing n) % 4 ≡ 0
+whole_by n = omega arith
+
+padded_whole : (bytes : List ℕ) → length (padded bytes) % 4 ≡ 0
+padded_whole bytes =
+    let h = length-append bytes (replicate (missing (length bytes)) 0) in
+    let i = zeros_length (missing (length bytes)) in
+    let j = whole_by (length bytes) in
+    omega (arith, h, i, j)
+
+padded_most : (bytes : List ℕ) → length (padded bytes) ≤ length bytes + 3
+padded_most bytes =
+    let h = length-append bytes (replicate (missing (length bytes)) 0) in
+    let i = zeros_length (missing (length bytes)) in
+    omega (arith, h, i)
+
+-- ---- texts
+
+text_most : (text : List ℕ) → length text + 4 ≤ text_bytes text
+text_most text = omega arith
+
+line_text : (text : List ℕ) → length (own_text text) ≤ written_bytes (L.WriteText text)
+line_text text = by (is_line_end text)
+  where
+    by : (b : Bool) → length (if b then [] else text) ≤ (if b then 0 else text_bytes text)
+    by true = omega arith
+    by false = let h = text_most text in omega (arith, h)
+
+line_most : (line : Line) → length (text_of line) ≤ written_bytes line
+line_most (L.WriteText text) = line_text text
+line_most L.Pass = omega arith
+line_most (L.Ordinal to z) = omega arith
+line_most (L.Constant to pieces) = omega arith
+line_most (L.Default to ty) = omega arith
+line_most (L.Copy to from) = omega arith
+line_most (L.Narrow to from values) = omega arith
+line_most (L.Unary to operator from) = omega arith
+line_most (L.Binary to operator left right) = omega arith
+line_most (L.Compare to c left right) = omega arith
+line_most (L.Make to ts) = omega arith
+line_most (L.Construct to ty fs) = omega arith
+line_most (L.Fetch to p global) = omega arith
+line_most (L.Store p global from) = omega arith
+line_most (L.Fill p from) = omega arith
+line_most (L.Blank p ty) = omega arith
+line_most (L.FillAt p from) = omega arith
+line_most (L.Root to p global) = omega arith
+line_most (L.Fresh to from) = omega arith
+line_most (L.Part to from field) = omega arith
+line_most (L.Item to from index) = omega arith
+line_most (L.Get to from) = omega arith
+line_most (L.Put at from) = omega arith
+line_most (L.MoveOut to at ty) = omega arith
+line_most (L.Swap left right) = omega arith
+line_most (L.Measure to measure from) = omega arith
+line_most (L.Still from len) = omega arith
+line_most (L.Label name) = omega arith
+line_most (L.Jump to) = omega arith
+line_most (L.Unless from to) = omega arith
+line_most (L.Fits from low high to) = omega arith
+line_most (L.Uncovered to) = omega arith
+line_most (L.Count counter last inclusive more) = omega arith
+line_most (L.Argument from) = omega arith
+line_most (L.ArgumentAt from) = omega arith
+line_most (L.Call to proc) = omega arith
+line_most (L.Return result) = omega arith
+line_most (L.Write from ty) = omega arith
+line_most (L.Quit status) = omega arith
+line_most L.QuitZero = omega arith
+
+texts_most : (lines : List Line) → length (texts_of lines) ≤ texts_bytes lines
+texts_most [] = omega arith
+texts_most (line ∷ rest) =
+    let e = length-append (texts_of rest) (text_of line) in
+    let h = texts_most rest in
+    let i = line_most line in
+    omega (arith, e, h, i)
+
+all_texts_most : (procs : List BlockProc) → length (texts_in procs) ≤ all_texts_bytes (map block_placed procs)
+all_texts_most [] = omega arith
+all_texts_most (p ∷ procs) =
+    let e = length-append (texts_in procs) (texts_of (map block_plain p.lines)) in
+    let h = all_texts_most procs in
+    let i = texts_most (map block_plain p.lines) in
+    omega (arith, e, h, i)
+
+-- ---- names of enums
+
+names_most : (names : List (List ℕ)) → length (joined_all names) + 4 * length names ≤ all_bytes names
+names_most [] = omega arith
+names_most (name ∷ names) =
+    let e = length-append name (joined_all names) in
+    let h = names_most names in
+    let i = text_most name in
+    omega (arith, e, h, i)
+
+members_most : (def : TypeDef) → length (joined_all (members_of def)) + 4 * length (members_of def) ≤ members_bytes def
+members_most (D.Enum name at members) = names_most members
+members_most D.Int = omega arith
+members_most D.Bool = omega arith
+members_most D.Char = omega arith
+members_most D.Text = omega arith
+members_most (D.Seq i) = omega arith
+members_most (D.Param n) = omega arith
+members_most (D.Array n i) = omega arith
+members_most (D.Tuple names is) = omega arith
+members_most (D.Object name at is all own_hooks parts) = omega arith
+members_most (D.Distinct name at i) = omega arith
+members_most (D.Ref name i) = omega arith
+members_most (D.Exception name at parent) = omega arith
+
+all_names_most : (table : List TypeDef) → length (joined_all (all_names table)) + 4 * length (all_names table) ≤ names_bytes table
+all_names_most [] = omega arith
+all_names_most (def ∷ table) =
+    let e = length-append (members_of def) (all_names table) in
+    let f = ap length (joined_append (members_of def) (all_names table)) in
+    let g = length-append (joined_all (members_of def)) (joined_all (all_names table)) in
+    let h = all_names_most table in
+    let i = members_most def in
+    omega (arith, e, f, g, h, i)
+
+starts_length : (n : ℕ) (names : List (List ℕ)) (k : List ℕ) → length (starts_from n names k) ≡ 4 * length names + length k
+starts_length n [] k = omega arith
+starts_length n (name ∷ names) k =
+    let e = length-append (word_bytes n) (starts_from (n + length name) names k) in
+    let f = length-word_bytes n in
+    let h = starts_length (n + length name) names k in
+    omega (arith, e, f, h)
+
+ends_length : (n : ℕ) (names : List (List ℕ)) → length (ends_from n names) ≡ 4 * length names + 4
+ends_length n names =
+    let e = starts_length n names (word_bytes (n + length (joined_all names))) in
+    let f = length-word_bytes (n + length (joined_all names)) in
+    omega (arith, e, f)
+
+-- ---- globals
+
+datum_step : (kind : PlaceKind) (kept : Bool) (n : ℕ) (free : Free)
+    → (free_behind (is_static true kind) kept (bytes_by kind n) free).datum ≡ free.datum + global_bytes kind n
+datum_step K.Global kept n free = refl
+datum_step K.Local true n free = sym (add-zero free.datum)
+datum_step K.Local false n free = sym (add-zero free.datum)
+datum_step K.Cursor true n free = sym (add-zero free.datum)
+datum_step K.Cursor false n free = sym (add-zero free.datum)
+datum_step K.Result true n free = sym (add-zero free.datum)
+datum_step K.Result false n free = sym (add-zero free.datum)
+datum_step (K.Param mode) true n free = sym (add-zero free.datum)
+datum_step (K.Param mode) false n free = sym (add-zero free.datum)
+datum_step K.ForVar true n free = sym (add-zero free.datum)
+datum_step K.ForVar false n free = sym (add-zero free.datum)
+datum_step K.Caught true n free = sym (add-zero free.datum)
+datum_step K.Caught false n free = sym (add-zero free.datum)
+datum_step K.Temp true n free = sym (add-zero free.datum)
+datum_step K.Temp false n free = sym (add-zero free.datum)
+datum_step K.Location true n free = sym (add-zero free.datum)
+datum_step K.Location false n free = sym (add-zero free.datum)
+datum_step K.Counter true n free = sym (add-zero free.datum)
+datum_step K.Counter false n free = sym (add-zero free.datum)
+
+module _ (table : List TypeDef) where
+  datum_is : (roots : List ℕ) (free : Free) (ps : List FlatPlace)
+      → (behind_all table true roots free ps).datum ≡ free.datum + globals_bytes (known_in table) ps
+  datum_is roots free [] = sym (add-zero free.datum)
+  datum_is roots free (p ∷ ps) =
+      let e = datum_step p.kind (place_kept table true roots p) (bytes_at table p.ty) free in
+      let h = datum_is roots (behind table true roots free p) ps in
+      omega (arith, e, h)
+
+  last_datum : (datum : ℕ) (none : Layout) (other : Placed) (p : BlockProc) (ps : List BlockProc)
+      → (last_of none (layouts table datum (p ∷ ps))).free.datum
+      ≡ datum + globals_bytes (known_in table) (last_of other (map block_placed (p ∷ ps))).places
+  last_datum datum none other p [] = datum_is (roots_in (map block_plain p.lines)) (free_at datum) p.places
+  last_datum datum none other p (q ∷ ps) = last_datum datum (layout_of table false datum p) (block_placed p) q ps
+
+-- ---- all of it
+
+six_parts : (a b c d e f : List ℕ) → length (a ++ (b ++ (c ++ (d ++ (e ++ f))))) ≡ length a + (length b + (length c + (length d + (length e + length f))))
+six_parts a b c d e f =
+    let h = length-append a (b ++ (c ++ (d ++ (e ++ f)))) in
+    let i = length-append b (c ++ (d ++ (e ++ f))) in
+    let j = length-append c (d ++ (e ++ f)) in
+    let k = length-append d (e ++ f) in
+    let l = length-append e f in
+    omega (arith, h, i, j, k, l)
+
+fixed_length : length fixed_texts ≡ 160
+fixed_length = refl
+
+data_length : (table : List TypeDef) (globals_end : ℕ) (procs : List BlockProc)
+    → length (data_in table globals_end procs) ≤ 180 + (globals_end - FIXED_BYTES) + (names_bytes table + all_texts_bytes (map block_placed procs))
+data_length table globals_end procs =
+    let names : List (List ℕ) = all_names table in
+    let e = six_parts (replicate 16 0) fixed_texts (replicate (globals_end - FIXED_BYTES) 0) (ends_from 0 names) (joined_all names) (texts_in procs) in
+    let f = zeros_length (globals_end - FIXED_BYTES) in
+    let g = ends_length 0 names in
+    let h = all_names_most table in
+    let i = all_texts_most procs in
+    let j = fixed_length in
+    let k = zeros_length 16 in
+    omega (arith, e, f, g, h, i, j, k)
+
+data_by : (table : List TypeDef) (procs : List BlockProc) → length (data_of table procs) ≤ data_bytes table (map block_placed procs) + MORE_DATA
+data_by table [] =
+    let h = data_length table 0 [] in
+    let i = padded_most (data_in table 0 []) in
+    omega (arith, h, i)
+data_by table (p ∷ ps) =
+    let globals_end : ℕ = (last_of no_layout (layouts table FIXED_BYTES (p ∷ ps))).free.datum in
+    let e : globals_end ≡ FIXED_BYTES + globals_bytes (known_in table) (last_of no_lines (map block_placed (p ∷ ps))).places =
+    last_datum table FIXED_BYTES no_layout no_lines p ps in
+    let h = data_length table globals_end (p ∷ ps) in
+    let i = padded_most (data_in table globals_end (p ∷ ps)) in
+    omega (arith, e, h, i)
+
+pub data_whole : (table : List TypeDef) (blocks : Blocks) → length (lowered table blocks).statics % 4 ≡ 0
+data_whole table blocks = padded_whole (data_in table (globals_end table blocks.procs) blocks.procs)
+
+pub data_sized : (table : List TypeDef) (blocks : Blocks)
+    → length (lowered table blocks).statics ≤ data_bytes table (map block_placed blocks.procs) + MORE_DATA
+data_sized table blocks = data_by table blocks.procs
+
+pub data_within : (table : List TypeDef) (blocks : Blocks) → may_lower table blocks ≡ true → length (lowered table blocks).statics ≤ MOST_DATA
+data_within table blocks may = leb-true _ MOST_DATA (and_parts (nat_le (length (data_of table blocks.procs)) MOST_DATA) (defs_may table)
+    (and_parts (procs_may table _ blocks.procs) _ may).1).0

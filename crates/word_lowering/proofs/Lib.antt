@@ -1,0 +1,12 @@
+mod HomesApart
+mod Emits
+mod EntryNames
+mod LayoutBounds
+mod NamedCode
+mod NamedLines
+mod NamedProcs
+mod CodeWeights
+mod SmallProcs
+mod DataSizes
+mod Bounds
+mod WholeCode

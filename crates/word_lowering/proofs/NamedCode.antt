@@ -1,0 +1,253 @@
+-- Word code names variables of its procedure alone.
+use Rattle.std.proofs.Common.{◌≡◌, ℕ, ◌≤◌, ◌<◌, ℤ, List, [], ◌∷◌, Bool, true, false}
+use Rattle.std.proofs.Common.{refl, if◌then◌else◌, arith}
+use Rattle.std.proofs.Common.{int_lt, ◌-ℤ◌, unsigned_abs}
+use Rattle.std.specs.Ordering.{int_eq}
+use Rattle.std.proofs.lemmas.Bool.{and_from, lt-ltb}
+use Rattle.arc_base.specs.declared.outside.Stream.{Stream}
+use Rattle.rv32_isa.specs.declared.micro_op.Size.{Size}
+use Rattle.nim_core.specs.declared.expr.UnaryOperator.{UnaryOperator}
+use Rattle.nim_core.specs.declared.expr.UnaryOperator.TheVariants as unary
+use Rattle.nim_core.specs.declared.expr.Operator.{Operator}
+use Rattle.nim_core.specs.declared.expr.Operator.TheVariants as binary
+use Rattle.nim_core.specs.declared.expr.Comparison.{Comparison}
+use Rattle.nim_core.specs.declared.expr.Comparison.TheVariants as comparison
+use Rattle.mid_code.specs.declared.word.TheConstants.{MOST_ARGUMENTS}
+use Rattle.mid_code.specs.declared.word.Test.{Test}
+use Rattle.mid_code.specs.declared.word.Test.TheVariants as test
+use Rattle.mid_code.specs.declared.word.WordOperation.{WordOperation}
+use Rattle.mid_code.specs.declared.word.WordOperation.TheVariants as operation
+use Rattle.mid_code.specs.declared.word.WordInstr.{WordInstr}
+use Rattle.mid_code.specs.declared.word.WordInstr.TheVariants.{Label, Constant, Copy, Compute, Place, Datum, Load, Store, Jump, Branch, Argument}
+use Rattle.mid_code.specs.declared.word.WordInstr.TheVariants.{Call}
+use Rattle.mid_code.specs.declared.word.WordInstr.TheVariants.{Return, Write, Exit}
+use Rattle.mid_code.specs.Words.{are_named, all_named}
+use Rattle.word_lowering.specs.declared.homes.TheConstants.{LEFT, ONE, NEXT, FIRST, SECOND, THIRD, FOURTH, FIFTH, OWN_FROM}
+use Rattle.word_lowering.specs.declared.homes.Home.{Home}
+use Rattle.word_lowering.specs.declared.homes.Home.TheVariants.{Variable, Placed, Static}
+use Rattle.word_lowering.specs.declared.homes.Housed.{Housed}
+use Rattle.word_lowering.specs.declared.spots.Spot.{Spot}
+use Rattle.word_lowering.specs.declared.spots.Spot.TheVariants.{Held, Lies}
+use Rattle.word_lowering.specs.Layouts.{is_address}
+use Rattle.word_lowering.specs.Spots as code
+use Rattle.word_lowering.specs.Operations as operations
+use Rattle.word_lowering.proofs.LayoutBounds.{IsBelow}
+
+pub data AllNamed (vars : ℕ) : List WordInstr → Type 0 where
+  none_named : AllNamed vars []
+  more_named : {line : WordInstr} {k : List WordInstr} → are_named vars line ≡ true → AllNamed vars k → AllNamed vars (line ∷ k)
+
+pub named_true : {vars : ℕ} {k : List WordInstr} → AllNamed vars k → all_named vars k ≡ true
+named_true none_named = refl
+named_true (more_named e rest) = and_from _ _ e (named_true rest)
+
+-- a home as a spot is below the bound
+abbrev pub IsSpotBelow : ℕ → Spot → Type 0
+IsSpotBelow n (Held v) = v < n
+IsSpotBelow n (Lies home) = IsBelow n home
+
+spot_by_below : (n : ℕ) (address : Bool) (home : Home) → IsBelow n home → IsSpotBelow n (code.spot_by address home)
+spot_by_below n false (Variable v) h = h
+spot_by_below n false (Placed at) h = tt
+spot_by_below n false (Static at) h = tt
+spot_by_below n true (Variable v) h = h
+spot_by_below n true (Placed at) h = tt
+spot_by_below n true (Static at) h = tt
+
+pub spot_below : (n : ℕ) (h : Housed) → IsBelow n h.home → IsSpotBelow n (code.spot_of h)
+spot_below n h i = spot_by_below n (is_address h.kind) h.home i
+
+pub shifted_below : (n bytes : ℕ) (home : Home) → IsBelow n home → IsBelow n (code.shifted bytes home)
+shifted_below n bytes (Variable v) h = h
+shifted_below n bytes (Placed at) h = tt
+shifted_below n bytes (Static at) h = tt
+
+module _ (vars : ℕ) (many : OWN_FROM ≤ vars) where
+  -- ---- the variables that each procedure has
+  pub left_is : LEFT < vars
+  left_is = omega (arith, many)
+
+  pub one_is : ONE < vars
+  one_is = omega (arith, many)
+
+  pub next_is : NEXT < vars
+  next_is = omega (arith, many)
+
+  pub first_is : FIRST < vars
+  first_is = omega (arith, many)
+
+  pub second_is : SECOND < vars
+  second_is = omega (arith, many)
+
+  pub third_is : THIRD < vars
+  third_is = omega (arith, many)
+
+  pub fourth_is : FOURTH < vars
+  fourth_is = omega (arith, many)
+
+  pub fifth_is : FIFTH < vars
+  fifth_is = omega (arith, many)
+
+  -- ---- one line before others
+  pub label : {name : ℕ} {k : List WordInstr} → AllNamed vars k → AllNamed vars (Label name ∷ k)
+  label rest = more_named refl rest
+
+  pub constant : {to value : ℕ} {k : List WordInstr} → to < vars → AllNamed vars k → AllNamed vars (Constant to value ∷ k)
+  constant t rest = more_named (lt-ltb _ vars t) rest
+
+  pub copy : {to from : ℕ} {k : List WordInstr} → to < vars → from < vars → AllNamed vars k → AllNamed vars (Copy to from ∷ k)
+  copy t f rest = more_named (and_from _ _ (lt-ltb _ vars t) (lt-ltb _ vars f)) rest
+
+  pub compute : {to left right : ℕ} {operation : WordOperation} {k : List WordInstr} → to < vars → left < vars → right < vars → AllNamed vars k
+      → AllNamed vars (Compute to operation left right ∷ k)
+  compute t l r rest = more_named (and_from _ _ (lt-ltb _ vars t) (and_from _ _ (lt-ltb _ vars l) (lt-ltb _ vars r))) rest
+
+  pub place : {to at : ℕ} {k : List WordInstr} → to < vars → AllNamed vars k → AllNamed vars (Place to at ∷ k)
+  place t rest = more_named (lt-ltb _ vars t) rest
+
+  pub datum : {to at : ℕ} {k : List WordInstr} → to < vars → AllNamed vars k → AllNamed vars (Datum to at ∷ k)
+  datum t rest = more_named (lt-ltb _ vars t) rest
+
+  pub load : {to address : ℕ} {size : Size} {k : List WordInstr} → to < vars → address < vars → AllNamed vars k
+      → AllNamed vars (Load to address size ∷ k)
+  load t a rest = more_named (and_from _ _ (lt-ltb _ vars t) (lt-ltb _ vars a)) rest
+
+  pub store : {address from : ℕ} {size : Size} {k : List WordInstr} → address < vars → from < vars → AllNamed vars k
+      → AllNamed vars (Store address from size ∷ k)
+  store a f rest = more_named (and_from _ _ (lt-ltb _ vars a) (lt-ltb _ vars f)) rest
+
+  pub jump : {to : ℕ} {k : List WordInstr} → AllNamed vars k → AllNamed vars (Jump to ∷ k)
+  jump rest = more_named refl rest
+
+  pub branch : {test : Test} {left right to : ℕ} {k : List WordInstr} → left < vars → right < vars → AllNamed vars k
+      → AllNamed vars (Branch test left right to ∷ k)
+  branch l r rest = more_named (and_from _ _ (lt-ltb _ vars l) (lt-ltb _ vars r)) rest
+
+  pub argument : {index from : ℕ} {k : List WordInstr} → index < MOST_ARGUMENTS → from < vars → AllNamed vars k
+      → AllNamed vars (Argument index from ∷ k)
+  argument i f rest = more_named (and_from _ _ (lt-ltb _ MOST_ARGUMENTS i) (lt-ltb _ vars f)) rest
+
+  pub call : {to callee : ℕ} {k : List WordInstr} → to < vars → AllNamed vars k → AllNamed vars (Call to callee ∷ k)
+  call t rest = more_named (lt-ltb _ vars t) rest
+
+  pub return : {from : ℕ} {k : List WordInstr} → from < vars → AllNamed vars k → AllNamed vars (Return from ∷ k)
+  return f rest = more_named (lt-ltb _ vars f) rest
+
+  pub write : {stream : Stream} {address len : ℕ} {k : List WordInstr} → address < vars → len < vars → AllNamed vars k
+      → AllNamed vars (Write stream address len ∷ k)
+  write a l rest = more_named (and_from _ _ (lt-ltb _ vars a) (lt-ltb _ vars l)) rest
+
+  pub exit : {status : ℕ} {k : List WordInstr} → status < vars → AllNamed vars k → AllNamed vars (Exit status ∷ k)
+  exit s rest = more_named (lt-ltb _ vars s) rest
+
+  -- ---- moves
+  pub address : (to : ℕ) (home : Home) {k : List WordInstr} → to < vars → IsBelow vars home → AllNamed vars k
+      → AllNamed vars (code.address to home ∷ k)
+  address to (Variable v) t h rest = copy t h rest
+  address to (Placed at) t h rest = place t rest
+  address to (Static at) t h rest = datum t rest
+
+  copied : (word : Bool) (bytes : ℕ) {k : List WordInstr} → AllNamed vars k → AllNamed vars (code.copied word bytes k)
+  copied true bytes rest = load third_is second_is (store first_is third_is rest)
+  copied false bytes rest =
+      constant third_is (argument (omega arith) first_is (argument (omega arith) second_is (argument (omega arith) third_is (call first_is rest))))
+
+  pub moved : (word : Bool) (bytes : ℕ) (to from : Spot) {k : List WordInstr} → IsSpotBelow vars to → IsSpotBelow vars from → AllNamed vars k
+      → AllNamed vars (code.moved word bytes to from k)
+  moved word bytes (Held v) (Held u) t f rest = copy t f rest
+  moved word bytes (Held v) (Lies from) t f rest = address SECOND from second_is f (load t second_is rest)
+  moved word bytes (Lies to) (Held u) t f rest = address FIRST to first_is t (store first_is f rest)
+  moved word bytes (Lies to) (Lies from) t f rest = address FIRST to first_is t (address SECOND from second_is f (copied word bytes rest))
+
+  zeros : (word : Bool) (bytes : ℕ) {k : List WordInstr} → AllNamed vars k → AllNamed vars (code.zeros word bytes k)
+  zeros true bytes rest = constant second_is (store first_is second_is rest)
+  zeros false bytes rest = constant second_is (argument (omega arith) first_is (argument (omega arith) second_is (call first_is rest)))
+
+  pub cleared : (word : Bool) (bytes : ℕ) (to : Spot) {k : List WordInstr} → IsSpotBelow vars to → AllNamed vars k
+      → AllNamed vars (code.cleared word bytes to k)
+  cleared word bytes (Held v) t rest = constant t rest
+  cleared word bytes (Lies to) t rest = address FIRST to first_is t (zeros word bytes rest)
+
+  pub handed : (label_here bytes : ℕ) (from : Spot) {k : List WordInstr} → IsSpotBelow vars from → AllNamed vars k
+      → AllNamed vars (code.handed label_here bytes from k)
+  handed label_here bytes (Held u) f rest = store first_is f rest
+  handed label_here bytes (Lies from) f rest =
+      address SECOND from second_is f
+      (constant third_is (compute third_is second_is third_is (constant fourth_is
+      (label (load fifth_is second_is (store first_is fifth_is
+      (compute first_is first_is fourth_is (compute second_is second_is fourth_is
+      (branch second_is third_is rest)))))))))
+
+  -- ---- operations
+  differ : (to : ℕ) {k : List WordInstr} → to < vars → AllNamed vars k → AllNamed vars (operations.unless_differ to k)
+  differ to t rest = branch second_is third_is (copy t first_is rest)
+
+  divisor : (right : ℕ) {k : List WordInstr} → right < vars → AllNamed vars k → AllNamed vars (operations.divisor_code right k)
+  divisor right r rest = constant first_is (branch r first_is rest)
+
+  pub binary_named : (label_here : ℕ) (operator : Operator) (to left right : ℕ) {k : List WordInstr} → to < vars → left < vars → right < vars
+      → AllNamed vars k → AllNamed vars (operations.binary_code label_here operator to left right k)
+  binary_named n binary.Add to left right t l r rest =
+      compute first_is l r (compute second_is first_is l (constant third_is (compute third_is r third_is (differ to t rest))))
+  binary_named n binary.Subtract to left right t l r rest =
+      compute first_is l r (compute second_is l first_is (constant third_is (compute third_is r third_is (differ to t rest))))
+  binary_named n binary.Multiply to left right t l r rest =
+      compute first_is l r (compute second_is l r (constant third_is (compute third_is first_is third_is (differ to t rest))))
+  binary_named n binary.Divide to left right t l r rest =
+      divisor right r (constant first_is (branch r first_is (constant first_is (branch l first_is (label (compute t l r rest))))))
+  binary_named n binary.Modulo to left right t l r rest = divisor right r (compute t l r rest)
+  binary_named n binary.ShiftLeft to left right t l r rest = compute t l r rest
+  binary_named n binary.ShiftRight to left right t l r rest = compute t l r rest
+  binary_named n binary.BitAnd to left right t l r rest = compute t l r rest
+  binary_named n binary.BitOr to left right t l r rest = compute t l r rest
+  binary_named n binary.BitXor to left right t l r rest = compute t l r rest
+
+  pub unary_named : (operator : UnaryOperator) (to from : ℕ) {k : List WordInstr} → to < vars → from < vars → AllNamed vars k
+      → AllNamed vars (operations.unary_code operator to from k)
+  unary_named unary.Plus to from t f rest = copy t f rest
+  unary_named unary.Negate to from t f rest = constant first_is (branch f first_is (constant first_is (compute t first_is f rest)))
+  unary_named unary.Complement to from t f rest = constant first_is (compute t first_is f rest)
+  unary_named unary.Not to from t f rest = constant first_is (compute t f first_is rest)
+
+  opposite : (to left right : ℕ) {k : List WordInstr} → to < vars → left < vars → right < vars → AllNamed vars k
+      → AllNamed vars (operations.opposite_code to left right k)
+  opposite to left right t l r rest = compute first_is l r (constant second_is (compute t second_is first_is rest))
+
+  pub compare_named : (c : Comparison) (to left right : ℕ) {k : List WordInstr} → to < vars → left < vars → right < vars → AllNamed vars k
+      → AllNamed vars (operations.compare_code c to left right k)
+  compare_named comparison.Equal to left right t l r rest = compute first_is l r (constant second_is (compute t first_is second_is rest))
+  compare_named comparison.Unequal to left right t l r rest = compute first_is l r (constant second_is (compute t second_is first_is rest))
+  compare_named comparison.Less to left right t l r rest = compute t l r rest
+  compare_named comparison.AtMost to left right t l r rest = opposite to right left t r l rest
+  compare_named comparison.Greater to left right t l r rest = compute t r l rest
+  compare_named comparison.AtLeast to left right t l r rest = opposite to left right t l r rest
+
+  pub narrow_named : (to from values : ℕ) {k : List WordInstr} → to < vars → from < vars → AllNamed vars k
+      → AllNamed vars (operations.narrow_code to from values k)
+  narrow_named to from values t f rest = constant first_is (branch f first_is (copy t f rest))
+
+  pub unless_named : (from to : ℕ) {k : List WordInstr} → from < vars → AllNamed vars k → AllNamed vars (operations.unless_code from to k)
+  unless_named from to f rest = constant first_is (branch f first_is rest)
+
+  pub fits_named : (from to : ℕ) (low high : ℤ) {k : List WordInstr} → from < vars → AllNamed vars k
+      → AllNamed vars (operations.fits_code from to low high k)
+  fits_named from to low high {k} f rest = by (int_lt high low) (int_eq low high)
+    where
+      by : (b c : Bool) → AllNamed vars (if b then k else
+          if c then Constant FIRST (operations.word low) ∷ Branch test.Equal from FIRST to ∷ k else
+          Constant FIRST (operations.word low) ∷ Compute FIRST operation.Subtract from FIRST ∷ Constant SECOND (unsigned_abs (high -ℤ low))
+          ∷ Branch test.NotBelow SECOND FIRST to ∷ k)
+      by true c = rest
+      by false true = constant first_is (branch f first_is rest)
+      by false false = constant first_is (compute first_is f first_is (constant second_is (branch second_is first_is rest)))
+
+  below_named : (inclusive : Bool) (counter last : ℕ) {k : List WordInstr} → counter < vars → last < vars → AllNamed vars k
+      → AllNamed vars (operations.below_code inclusive counter last k)
+  below_named true counter last c l rest = compute first_is c l rest
+  below_named false counter last c l rest = compute first_is c l (compute second_is l first_is (compute first_is c second_is rest))
+
+  pub count_named : (label_here counter last : ℕ) (inclusive : Bool) (more : ℕ) {k : List WordInstr} → counter < vars → last < vars → more < vars
+      → AllNamed vars k → AllNamed vars (operations.count_code label_here counter last inclusive more k)
+  count_named n counter last inclusive more c l m rest =
+      below_named inclusive counter last c l
+      (compute c c first_is (constant second_is (branch first_is second_is (constant m (label rest)))))

@@ -1,0 +1,7 @@
+use Rattle.std.proofs.Common.{◌≡◌, drop}
+use Rattle.word_lowering.specs.LineCode.{piece_words, first_word}
+use Rattle.word_lowering.proofs.values.first_word.Given as goal
+
+-- with what is left, it is all
+abbrev pub invariant-loop-piece : goal.invariant-loop-piece
+invariant-loop-piece l = first_word (piece_words (drop l.piece-index l.pieces)) ≡ first_word (piece_words l.pieces)

@@ -1,0 +1,179 @@
+-- Where the places and temporaries of a procedure are in word code. An ordinal is a variable, unless a line needs its address; a
+-- location is one too, with the address to which it leads. All else is in memory: globals in the data, the rest in the places of the
+-- call. No public contract speaks of it.
+use Rattle.std.specs.Prelude.{ℕ, suc, ◌+◌, nat_eq, Bool, true, false, not, ◌&&◌, ◌||◌, if◌then◌else◌, List, [], ◌∷◌, length}
+use Rattle.std.specs.Prelude.{map, Option}
+use Rattle.std.specs.Prelude.{Some, None}
+use Rattle.nim_types.specs.declared.types.TypeDef.{TypeDef}
+use Rattle.nim_types.specs.declared.types.TheConstants.{WORD_BYTES}
+use Rattle.nim_core.specs.declared.program.Mode.TheVariants.{Var}
+use Rattle.mid_code.specs.declared.line.Line.{Line}
+use Rattle.mid_code.specs.declared.line.Line.TheVariants as L
+use Rattle.mid_code.specs.declared.place.PlaceKind.{PlaceKind}
+use Rattle.mid_code.specs.declared.place.PlaceKind.TheVariants as K
+use Rattle.mid_code.specs.declared.place.FlatPlace.{FlatPlace}
+use Rattle.mid_code.specs.declared.block.BlockProc.{BlockProc}
+use Rattle.mid_code.specs.Codes.{block_plain}
+use Rattle.mid_code.specs.Fits.{is_value, is_location, is_own, is_declared, is_global}
+use Rattle.word_lowering.specs.declared.homes.TheConstants.{OWN_FROM, FIRST}
+use Rattle.word_lowering.specs.declared.homes.Home.{Home}
+use Rattle.word_lowering.specs.declared.homes.Home.TheVariants.{Variable, Placed, Static}
+use Rattle.word_lowering.specs.declared.homes.Housed.{Housed}
+use Rattle.word_lowering.specs.declared.homes.Free.{Free}
+use Rattle.word_lowering.specs.declared.homes.Layout.{Layout}
+use Rattle.word_lowering.specs.declared.homes.Sort.{Sort}
+use Rattle.word_lowering.specs.declared.homes.Sort.TheVariants.{Value, Location, Own, Declared, Global}
+use Rattle.word_lowering.specs.Stored.{bytes_at, entry_at, is_word}
+
+-- ---- homes
+
+-- the places of a call whose address a line takes
+abbrev pub and_root : Line → List ℕ → List ℕ
+and_root (L.Root to place false) rest = place ∷ rest
+and_root line rest = rest
+
+abbrev pub roots_in : List Line → List ℕ
+roots_in [] = []
+roots_in (line ∷ lines) = and_root line (roots_in lines)
+
+abbrev pub is_among : ℕ → List ℕ → Bool
+is_among n [] = false
+is_among n (m ∷ ms) = nat_eq m n || is_among n ms
+
+-- what is in a variable: an address, and a word whose own address isn't taken
+abbrev pub is_kept : (rooted word : Bool) → PlaceKind → Bool
+is_kept rooted word K.Location = true
+is_kept rooted word (K.Param Var) = true
+is_kept rooted word K.Counter = true
+is_kept rooted word K.Temp = word
+is_kept rooted word kind = word && not rooted
+
+-- globals are those of the start code
+abbrev pub is_static : (start : Bool) → PlaceKind → Bool
+is_static start K.Global = start
+is_static start kind = false
+
+abbrev pub home_at : (static kept : Bool) → Free → Home
+home_at true kept free = Static free.datum
+home_at false true free = Variable free.variable
+home_at false false free = Placed free.byte
+
+abbrev pub free_behind : (static kept : Bool) → (bytes : ℕ) → Free → Free
+free_behind true kept bytes free = record free { datum = free.datum + bytes }
+free_behind false true bytes free = record free { variable = suc free.variable }
+free_behind false false bytes free = record free { byte = free.byte + bytes }
+
+-- a number that a loop keeps is a word, whatever its type says
+abbrev pub word_by : PlaceKind → Bool → Bool
+word_by K.Counter word = true
+word_by kind word = word
+
+abbrev pub bytes_by : PlaceKind → ℕ → ℕ
+bytes_by K.Counter bytes = WORD_BYTES
+bytes_by kind bytes = bytes
+
+module _ (table : List TypeDef) (start : Bool) (roots : List ℕ) where
+  abbrev pub place_word : FlatPlace → Bool
+  place_word p = word_by p.kind (is_word (entry_at table p.ty))
+
+  abbrev pub place_bytes : FlatPlace → ℕ
+  place_bytes p = bytes_by p.kind (bytes_at table p.ty)
+
+  abbrev pub place_kept : FlatPlace → Bool
+  place_kept p = is_kept (is_among p.number roots) (place_word p) p.kind
+
+  abbrev pub housed : Free → FlatPlace → Housed
+  housed free p = record {
+    number = p.number;
+    kind = p.kind;
+    ty = p.ty;
+    bytes = place_bytes p;
+    is_word = place_word p;
+    home = home_at (is_static start p.kind) (place_kept p) free;
+  }
+
+  abbrev pub behind : Free → FlatPlace → Free
+  behind free p = free_behind (is_static start p.kind) (place_kept p) (place_bytes p) free
+
+  abbrev pub all_housed : Free → List FlatPlace → List Housed
+  all_housed free [] = []
+  all_housed free (p ∷ ps) = housed free p ∷ all_housed (behind free p) ps
+
+  abbrev pub behind_all : Free → List FlatPlace → Free
+  behind_all free [] = free
+  behind_all free (p ∷ ps) = behind_all (behind free p) ps
+
+abbrev pub is_empty : {A : Type 0} → List A → Bool
+is_empty [] = true
+is_empty (x ∷ xs) = false
+
+-- the data of globals begins at a byte
+abbrev pub free_at : ℕ → Free
+free_at datum = record { variable = OWN_FROM; byte = 0; datum = datum }
+
+abbrev pub layout_of : List TypeDef → (start : Bool) → (datum : ℕ) → BlockProc → Layout
+layout_of table start datum p = record {
+  all = all_housed table start (roots_in (map block_plain p.lines)) (free_at datum) p.places;
+  free = behind_all table start (roots_in (map block_plain p.lines)) (free_at datum) p.places;
+  runs = not (is_empty p.lines);
+}
+
+-- the last procedure is the start code
+abbrev pub layouts : List TypeDef → (datum : ℕ) → List BlockProc → List Layout
+layouts table datum [] = []
+layouts table datum (p ∷ ps) = layout_of table (is_empty ps) datum p ∷ layouts table datum ps
+
+-- ---- looking up
+
+-- what isn't there; no line of code that fits names it
+abbrev pub nowhere : Housed
+nowhere = record { number = 0; kind = K.Temp; ty = 0; bytes = WORD_BYTES; is_word = true; home = Variable FIRST }
+
+-- the kinds among which a line seeks a place
+abbrev pub is_sort : Sort → PlaceKind → Bool
+is_sort Value kind = is_value kind
+is_sort Location kind = is_location kind
+is_sort Own kind = is_own kind
+is_sort Declared kind = is_declared kind
+is_sort Global kind = is_global kind
+
+-- the first place of some kind with a number
+abbrev pub found : (PlaceKind → Bool) → ℕ → List Housed → Housed
+found is_kind n [] = nowhere
+found is_kind n (h ∷ hs) = if nat_eq h.number n && is_kind h.kind then h else found is_kind n hs
+
+abbrev pub is_param : PlaceKind → Bool
+is_param (K.Param mode) = true
+is_param kind = false
+
+abbrev pub is_result : PlaceKind → Bool
+is_result K.Result = true
+is_result kind = false
+
+abbrev pub params_in : List Housed → List Housed
+params_in [] = []
+params_in (h ∷ hs) = if is_param h.kind then h ∷ params_in hs else params_in hs
+
+abbrev pub result_in : List Housed → Option Housed
+result_in [] = None
+result_in (h ∷ hs) = if is_result h.kind then Some h else result_in hs
+
+-- the parameter that has so many behind it
+abbrev pub param_before : (behind : ℕ) → List Housed → Housed
+param_before behind [] = nowhere
+param_before behind (h ∷ hs) = if is_param h.kind && nat_eq (length (params_in hs)) behind then h else param_before behind hs
+
+-- a place that holds an address, and not a value
+abbrev pub is_address : PlaceKind → Bool
+is_address K.Location = true
+is_address (K.Param Var) = true
+is_address kind = false
+
+-- how many parameters are in variables
+abbrev pub kept_by : Home → ℕ → ℕ
+kept_by (Variable v) n = suc n
+kept_by home n = n
+
+abbrev pub kept_in : List Housed → ℕ
+kept_in [] = 0
+kept_in (h ∷ hs) = kept_by h.home (kept_in hs)

@@ -1,0 +1,12 @@
+pub mod Stored
+pub mod Layouts
+pub mod Emission
+pub mod Spots
+pub mod Operations
+pub mod Texts
+pub mod Routines
+pub mod LineCode
+pub mod Scope
+pub mod Lowered
+pub mod MayLower
+pub mod Lowers

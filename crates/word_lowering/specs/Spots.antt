@@ -1,0 +1,79 @@
+-- Code that moves values between variables and memory. Each piece of code stands before what follows. No public contract speaks of it.
+use Rattle.std.specs.Prelude.{ℕ, ◌+◌, Bool, true, false, List, ◌∷◌}
+use Rattle.rv32_isa.specs.declared.micro_op.Size.TheVariants.{Word as whole}
+use Rattle.mid_code.specs.declared.word.WordOperation.TheVariants as operation
+use Rattle.mid_code.specs.declared.word.Test.TheVariants as test
+use Rattle.mid_code.specs.declared.word.WordInstr.{WordInstr}
+use Rattle.mid_code.specs.declared.word.WordInstr.TheVariants.{Label, Constant, Copy, Compute, Place, Datum, Load, Store, Branch, Argument, Call}
+use Rattle.word_lowering.specs.declared.homes.TheConstants.{FIRST, SECOND, THIRD, FOURTH, FIFTH}
+use Rattle.word_lowering.specs.declared.homes.Home.{Home}
+use Rattle.word_lowering.specs.declared.homes.Home.TheVariants.{Variable, Placed, Static}
+use Rattle.word_lowering.specs.declared.homes.Housed.{Housed}
+use Rattle.word_lowering.specs.declared.spots.Spot.{Spot}
+use Rattle.word_lowering.specs.declared.spots.Spot.TheVariants.{Held, Lies}
+use Rattle.word_lowering.specs.declared.routines.TheConstants.{COPY, CLEAR}
+use Rattle.word_lowering.specs.Layouts.{is_address}
+
+-- a value is held by a variable, or lies in memory: at an address that a variable has, or where the place is
+abbrev pub spot_by : (address : Bool) → Home → Spot
+spot_by false (Variable v) = Held v
+spot_by address home = Lies home
+
+abbrev pub spot_of : Housed → Spot
+spot_of h = spot_by (is_address h.kind) h.home
+
+-- so many bytes further
+abbrev pub shifted : ℕ → Home → Home
+shifted n (Variable v) = Variable v
+shifted n (Placed at) = Placed (at + n)
+shifted n (Static at) = Static (at + n)
+
+-- a variable gets the address
+abbrev pub address : (to : ℕ) → Home → WordInstr
+address to (Variable v) = Copy to v
+address to (Placed at) = Place to at
+address to (Static at) = Datum to at
+
+-- from the address in SECOND to that in FIRST: a word, or so many bytes by the routine
+abbrev pub copied : (word : Bool) → (bytes : ℕ) → List WordInstr → List WordInstr
+copied true bytes k = Load THIRD SECOND whole ∷ Store FIRST THIRD whole ∷ k
+copied false bytes k = Constant THIRD bytes ∷ Argument 0 FIRST ∷ Argument 1 SECOND ∷ Argument 2 THIRD ∷ Call FIRST COPY ∷ k
+
+abbrev pub moved : (word : Bool) → (bytes : ℕ) → (to from : Spot) → List WordInstr → List WordInstr
+moved word bytes (Held v) (Held u) k = Copy v u ∷ k
+moved word bytes (Held v) (Lies from) k = address SECOND from ∷ Load v SECOND whole ∷ k
+moved word bytes (Lies to) (Held u) k = address FIRST to ∷ Store FIRST u whole ∷ k
+moved word bytes (Lies to) (Lies from) k = address FIRST to ∷ address SECOND from ∷ copied word bytes k
+
+-- one value to another place
+abbrev pub moves : (to from : Housed) → List WordInstr → List WordInstr
+moves to from k = moved from.is_word from.bytes (spot_of to) (spot_of from) k
+
+-- zeros at the address in FIRST
+abbrev pub zeros : (word : Bool) → (bytes : ℕ) → List WordInstr → List WordInstr
+zeros true bytes k = Constant SECOND 0 ∷ Store FIRST SECOND whole ∷ k
+zeros false bytes k = Constant SECOND bytes ∷ Argument 0 FIRST ∷ Argument 1 SECOND ∷ Call FIRST CLEAR ∷ k
+
+abbrev pub cleared : (word : Bool) → (bytes : ℕ) → Spot → List WordInstr → List WordInstr
+cleared word bytes (Held v) k = Constant v 0 ∷ k
+cleared word bytes (Lies to) k = address FIRST to ∷ zeros word bytes k
+
+-- a value becomes that at which its type starts, whose words are all 0
+abbrev pub clears : Housed → List WordInstr → List WordInstr
+clears to k = cleared to.is_word to.bytes (spot_of to) k
+
+-- From an address to that in FIRST, word by word, with a label of its own. No routine is called, since that would lose the arguments
+-- that were given so far.
+abbrev pub copied_here : (label bytes : ℕ) → (from : Home) → List WordInstr → List WordInstr
+copied_here label bytes from k =
+    address SECOND from ∷ Constant THIRD bytes ∷ Compute THIRD operation.Add SECOND THIRD ∷ Constant FOURTH 4
+    ∷ Label label
+    ∷ Load FIFTH SECOND whole ∷ Store FIRST FIFTH whole
+    ∷ Compute FIRST operation.Add FIRST FOURTH ∷ Compute SECOND operation.Add SECOND FOURTH
+    ∷ Branch test.Unequal SECOND THIRD label
+    ∷ k
+
+-- a value to the address in FIRST
+abbrev pub handed : (label bytes : ℕ) → Spot → List WordInstr → List WordInstr
+handed label bytes (Held u) k = Store FIRST u whole ∷ k
+handed label bytes (Lies from) k = copied_here label bytes from k

@@ -1,0 +1,64 @@
+-- Values in memory: how many bytes those of a type have, by its number in the table, and where their parts stand.
+use Rattle.std.specs.Prelude.{◌<◌, ℕ, zero, suc, ◌+◌, Bool, true, false, List, [], ◌∷◌, length, take, Option, Some, slice_get}
+use Rattle.nim_types.specs.declared.types.TypeDef.{TypeDef}
+use Rattle.nim_types.specs.declared.types.TypeDef.TheVariants as D
+use Rattle.nim_types.specs.Table.{type_at, types_in, facts_in}
+use Rattle.nim_types.specs.Forms.{Form, HasForm, size, form_of}
+
+abbrev pub bytes_at : List TypeDef → ℕ → ℕ
+bytes_at table ty = size (form_of (facts_in table) (type_at (types_in table) ty))
+
+-- of types one behind the other
+abbrev pub bytes_all : List TypeDef → List ℕ → ℕ
+bytes_all table [] = 0
+bytes_all table (ty ∷ tys) = bytes_at table ty + bytes_all table tys
+
+-- ---- a distinct type is as its base
+
+abbrev pub base_or : (go : ℕ → ℕ) → ℕ → Option TypeDef → ℕ
+base_or go ty (Some (D.Distinct name at base)) = go base
+base_or go ty _ = ty
+
+-- at most so many distinct types looked through
+abbrev pub base_within : ℕ → List TypeDef → ℕ → ℕ
+base_within zero table ty = ty
+base_within (suc n) table ty = base_or (base_within n table) ty (slice_get table ty)
+
+abbrev pub base_at : List TypeDef → ℕ → ℕ
+base_at table ty = base_within (length table) table ty
+
+abbrev pub entry_at : List TypeDef → ℕ → Option TypeDef
+entry_at table ty = slice_get table (base_at table ty)
+
+-- ---- parts
+
+-- what is one word: no array, no tuple, no object
+abbrev pub is_word : Option TypeDef → Bool
+is_word (Some (D.Array n ty)) = false
+is_word (Some (D.Tuple names tys)) = false
+is_word (Some (D.Object name at arguments fields own_hooks tys)) = false
+is_word _ = true
+
+-- the types of the parts of a tuple or an object
+abbrev pub parts_in : Option TypeDef → List ℕ
+parts_in (Some (D.Tuple names tys)) = tys
+parts_in (Some (D.Object name at arguments fields own_hooks tys)) = tys
+parts_in _ = []
+
+-- how many bytes a part stands behind the whole
+abbrev pub part_at : List TypeDef → ℕ → (field : ℕ) → ℕ
+part_at table ty field = bytes_all table (take field (parts_in (entry_at table ty)))
+
+-- of an array: how many elements it has, and how many bytes each has
+abbrev pub count_in : Option TypeDef → ℕ
+count_in (Some (D.Array n ty)) = n
+count_in _ = 0
+
+abbrev pub element_bytes : List TypeDef → Option TypeDef → ℕ
+element_bytes table (Some (D.Array n ty)) = bytes_at table ty
+element_bytes table _ = 0
+
+-- ---- no type contains itself by value
+
+abbrev pub HaveForms : List TypeDef → Type 0
+HaveForms table = (ty : ℕ) → ty < length table → (f : Form) × HasForm (facts_in table) (type_at (types_in table) ty) f

@@ -1,0 +1,92 @@
+// Where the places and temporaries of a procedure are in word code.
+use arc_base::Items;
+use mid_code::PlaceKind;
+use nim_types::TypeId;
+
+/// The variable of how many calls may still be active behind the running one. It is the first
+/// parameter of each procedure.
+pub const LEFT: u32 = 0;
+
+/// The variable that holds 1 in a procedure that calls others.
+pub const ONE: u32 = 1;
+
+/// The variable of how many calls may still be active behind one that this procedure makes.
+pub const NEXT: u32 = 2;
+
+/// A variable for what comes between; the address to which something goes.
+pub const FIRST: u32 = 3;
+
+/// Another one; the address from which something comes.
+pub const SECOND: u32 = 4;
+
+/// Another one; how many bytes there are.
+pub const THIRD: u32 = 5;
+
+/// Another one.
+pub const FOURTH: u32 = 6;
+
+/// Another one.
+pub const FIFTH: u32 = 7;
+
+/// The first variable that a procedure has for its own places: from here on come its parameters,
+/// and then all others.
+pub const OWN_FROM: u32 = 8;
+
+/// Where something of block code is in word code.
+#[derive(Clone, Copy)]
+pub enum Home {
+    /// In a variable: a word, or the address of what a location leads to.
+    Variable(u32),
+    /// In the places of the call, from this byte on.
+    Placed(u32),
+    /// In the data, from this byte on.
+    Static(u32),
+}
+
+/// A place or a temporary, and where it is.
+#[derive(Clone, Copy)]
+pub struct Housed {
+    /// Its number in block code.
+    pub number: u32,
+    pub kind: PlaceKind,
+    pub ty: TypeId,
+    /// The bytes of its value, or of the value to which it leads.
+    pub bytes: u32,
+    /// Whether that value is one word: an ordinal.
+    pub is_word: bool,
+    pub home: Home,
+}
+
+/// What isn't taken yet: the next variable, the next byte of places, the next byte of data.
+#[derive(Clone, Copy)]
+pub struct Free {
+    pub variable: u32,
+    pub byte: u32,
+    pub datum: u32,
+}
+
+/// The layout of a procedure.
+#[derive(Drop)]
+pub struct Layout {
+    /// Its places and temporaries, in their order.
+    pub all: Items<Housed>,
+    /// What isn't taken behind them.
+    pub free: Free,
+    /// Whether it has lines.
+    pub runs: bool,
+}
+
+/// Among which kinds of places a line seeks one.
+#[derive(Clone, Copy)]
+pub enum Sort {
+    /// Temporaries with values.
+    Value,
+    /// Temporaries with locations.
+    Location,
+    /// Declared places with a value of their own.
+    Own,
+    /// All declared places.
+    Declared,
+    /// Globals.
+    Global,
+}

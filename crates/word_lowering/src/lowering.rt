@@ -1,0 +1,272 @@
+// From block code to word code.
+ghost use Rattle.std.specs.Prelude.{◌≡◌, ◌++◌, map, IfOk, OnOk};
+ghost use Rattle.mid_code.specs.Codes.{block_plain};
+ghost use Rattle.word_lowering.specs.Emission.{Puts};
+ghost use Rattle.word_lowering.specs.LineCode.{proc_number};
+ghost use Rattle.word_lowering.specs.Lowered.{is_call, calls_in, first_code};
+ghost use Rattle.word_lowering.specs.Lowered.{result_cleared, kind_of, kind_in, code_of, word_proc};
+ghost use Rattle.word_lowering.specs.Lowered.{with_own, if_runs, word_procs, around_start, lowered};
+ghost use Rattle.word_lowering.specs.Lowers.{HasBounds};
+ghost use Rattle.word_lowering.specs.Scope.{around_of};
+ghost use Rattle.word_lowering.specs.Stored.{HaveForms};
+
+use crate::calls::proc_number;
+use crate::homes::{FIRST, Housed, LEFT, Layout, NEXT, ONE, OWN_FROM};
+use crate::layouts::{kept_in, layouts, result_in};
+use crate::line_code::emit_lines;
+use crate::may_lower::may_lower;
+use crate::routines::push_routines;
+use crate::scope::Scope;
+use crate::setting::Setting;
+use crate::spots::{compute, constant, emit, emit_clears, sum};
+use crate::tails::emit_last;
+use crate::texts::{FIXED_BYTES, data, literals_at, names_at, text_bytes, texts_bytes};
+use arc_base::{Items, Memory};
+use mid_code::{
+    BlockLine, BlockProc, Blocks, HookOf, Line, ProcKind, WordCode, WordInstr, WordOperation,
+    WordProc,
+};
+use nim_core::ACTIVE_CALLS;
+use nim_types::TypeTable;
+use std::alloc::Global;
+
+/// Word code has at most so many lines carried out for each work of the block code that it is of.
+pub const WORD_PACE: u32 = 16;
+
+/// Word code has at most so many lines and procedures beside what block code weighs: its routines,
+/// and a start code without lines.
+pub const ROUTINES_WEIGHT: u32 = 100;
+
+/// How many variables a routine may have.
+pub const ROUTINE_VARIABLES: u32 = 9;
+
+/// Data has at most so many bytes beside those of globals, of names of enums and of texts.
+pub const MORE_DATA: u32 = 4_092;
+
+/// The greatest heap of a machine.
+pub const MOST_HEAP: u32 = 16_777_216;
+
+fn is_call(line: &BlockLine) -> bool
+    ensures { result ≡ is_call (block_plain line.now) }
+{
+    matches!(line, BlockLine::Plain(Line::Call { .. }))
+}
+
+fn calls_in(lines: &[BlockLine]) -> bool
+    ensures { result ≡ calls_in (map block_plain lines.now) }
+{
+    for line in lines {
+        if is_call(line) {
+            return true;
+        }
+    }
+    false
+}
+
+// What a procedure that calls others has in its variables from the beginning.
+fn emit_first(code: &mut Items<WordInstr>, calls: bool, start: bool) -> Result<(), Memory>
+    ensures { OnOk result (Puts code.old code.new (first_code calls start)) }
+{
+    if !calls {
+        return Ok(());
+    }
+    if start {
+        return emit(
+            code,
+            &[
+                constant(ONE, 1),
+                constant(LEFT, ACTIVE_CALLS),
+                constant(NEXT, ACTIVE_CALLS - 1),
+            ],
+        );
+    }
+    emit(
+        code,
+        &[
+            constant(ONE, 1),
+            compute(NEXT, WordOperation::Subtract, LEFT, ONE),
+        ],
+    )
+}
+
+// The result is at its default.
+fn emit_result(code: &mut Items<WordInstr>, own: Option<Housed>) -> Result<(), Memory>
+    ensures { OnOk result (Puts code.old code.new (result_cleared own)) }
+{
+    match own {
+        None => Ok(()),
+        Some(place) => emit_clears(code, place),
+    }
+}
+
+fn code_of(alloc: Global, x: &Scope, lines: &[BlockLine]) -> Result<Items<WordInstr>, Memory>
+    requires { HaveForms x.now.types.now }
+    ensures { IfOk result (λ code. code ≡ code_of (around_of x.now) (map block_plain lines.now)) }
+{
+    let mut code = Items::new(alloc);
+    emit_first(&mut code, calls_in(lines), x.setting.start)?;
+    emit_result(&mut code, result_in(x.own.all.as_slice()))?;
+    emit_lines(&mut code, x, lines)?;
+    emit_last(&mut code, lines)?;
+    Ok(code)
+}
+
+fn kind_of(hook: Option<HookOf>) -> ProcKind
+    ensures { result ≡ kind_of hook }
+{
+    match hook {
+        None => ProcKind::Counted,
+        Some(hook) => ProcKind::Hook {
+            kind: hook.kind,
+            of: hook.of,
+        },
+    }
+}
+
+fn kind_in(start: bool, hook: Option<HookOf>) -> ProcKind
+    ensures { result ≡ kind_in start hook }
+{
+    if start {
+        ProcKind::Counted
+    } else {
+        kind_of(hook)
+    }
+}
+
+fn word_proc(alloc: Global, x: &Scope, number: u32, proc: &BlockProc) -> Result<WordProc, Memory>
+    requires { HaveForms x.now.types.now }
+    ensures { IfOk result (λ p. p ≡ word_proc (around_of x.now) number proc.now) }
+{
+    let params = sum(OWN_FROM, kept_in(x.own.all.as_slice())?)?;
+    let lines = code_of(alloc, x, proc.lines.as_slice())?;
+    Ok(WordProc {
+        number,
+        kind: kind_in(x.setting.start, proc.hook),
+        params,
+        vars: x.own.free.variable,
+        room: x.own.free.byte,
+        data_from: 0,
+        lines,
+    })
+}
+
+// What is around another procedure than the start code.
+fn with_own<'a>(x: &Scope<'a>, own: &'a Layout, behind: u32) -> Result<Scope<'a>, Memory>
+    ensures { IfOk result (λ y. around_of y ≡ with_own (around_of x.now) own.now behind) }
+{
+    let literals = sum(x.setting.literals, behind)?;
+    let setting = Setting {
+        start: false,
+        literals,
+        ..x.setting
+    };
+    Ok(Scope { own, setting, ..*x })
+}
+
+// A procedure, if it has lines.
+fn push_proc(
+    alloc: Global,
+    all: &mut Items<WordProc>,
+    x: &Scope,
+    index: u32,
+    proc: &BlockProc,
+) -> Result<(), Memory>
+    requires { HaveForms x.now.types.now }
+    ensures { OnOk result (Puts all.old all.new
+        (if_runs x.now.own.now.runs (word_proc (around_of x.now) (proc_number index) proc.now))) }
+{
+    if !x.own.runs {
+        return Ok(());
+    }
+    let number = proc_number(index)?;
+    all.push(word_proc(alloc, x, number, proc)?)
+}
+
+// The procedures but for the start code.
+fn push_procs(
+    alloc: Global,
+    all: &mut Items<WordProc>,
+    x: &Scope,
+    procs: &[BlockProc],
+) -> Result<(), Memory>
+    requires { HaveForms x.now.types.now }
+    ensures { OnOk result (all.new ≡
+        all.old ++ word_procs (around_of x.now) 0 x.now.layouts.now procs.now) }
+{
+    let mut behind = texts_bytes(procs)?;
+    let mut owns = x.layouts;
+    let mut left = procs;
+    let mut index = 0;
+    while let Some((proc, rest)) = left.split_first() {
+        let Some((own, more)) = owns.split_first() else {
+            break;
+        };
+        if rest.is_empty() {
+            break;
+        }
+        behind -= text_bytes(proc.lines.as_slice())?;
+        let y = with_own(x, own, behind)?;
+        push_proc(alloc, all, &y, index, proc)?;
+        index = sum(index, 1)?;
+        owns = more;
+        left = rest;
+    }
+    Ok(())
+}
+
+// What is around the start code.
+fn start_scope<'a>(
+    types: &'a TypeTable,
+    layouts: &'a [Layout],
+    own: &'a Layout,
+) -> Result<Scope<'a>, Memory>
+    ensures { IfOk result (λ x. around_of x ≡ around_start types.now layouts.now own.now) }
+{
+    let ends = own.free.datum;
+    let setting = Setting {
+        start: true,
+        ends,
+        names: names_at(types, ends)?,
+        literals: literals_at(types, ends)?,
+    };
+    Ok(Scope {
+        types,
+        layouts,
+        own,
+        globals: own.all.as_slice(),
+        setting,
+    })
+}
+
+/// The word code of block code.
+///
+/// `Memory` comes too where a procedure takes more places, or all take more data, than the machine
+/// has, and where block code is such as no program makes (specs/MayLower.antt).
+pub fn words(alloc: Global, blocks: &Blocks, types: &TypeTable) -> Result<WordCode, Memory>
+    requires { HaveForms types.now }
+    ensures lowered { IfOk result (λ code. code ≡ lowered types.now blocks.now) }
+    ensures bounds { IfOk result (λ code. HasBounds types.now blocks.now code) }
+{
+    let procs = blocks.procs.as_slice();
+    let all = layouts(alloc, types, FIXED_BYTES, procs)?;
+    let layouts = all.as_slice();
+    let Some(own) = layouts.last() else {
+        return Err(Memory);
+    };
+    let Some(start) = procs.last() else {
+        return Err(Memory);
+    };
+    let statics = data(alloc, types, own.free.datum, procs)?;
+    if !may_lower(types, layouts, procs, statics.as_slice()) {
+        return Err(Memory);
+    }
+    let x = start_scope(types, layouts, own)?;
+    let mut code = Items::new(alloc);
+    code.push(word_proc(alloc, &x, 0, start)?)?;
+    push_routines(alloc, &mut code)?;
+    push_procs(alloc, &mut code, &x, procs)?;
+    Ok(WordCode {
+        procs: code,
+        statics,
+    })
+}

@@ -1,0 +1,266 @@
+// Code that moves values between variables and memory.
+ghost use Rattle.std.specs.Prelude.{◌+◌, ◌≡◌, ◌++◌, IfOk, OnOk};
+ghost use Rattle.word_lowering.specs.Emission.{Puts};
+ghost use Rattle.word_lowering.specs.Layouts.{is_address};
+ghost use Rattle.word_lowering.specs.Spots.{spot_of, shifted, address, moved, moves};
+ghost use Rattle.word_lowering.specs.Spots.{cleared, clears, handed};
+
+use crate::homes::{FIFTH, FIRST, FOURTH, Home, Housed, SECOND, THIRD};
+use crate::routines::{CLEAR, COPY};
+use arc_base::{Items, Memory};
+use mid_code::{PlaceKind, Test, WordInstr, WordOperation};
+use nim_core::Mode;
+use rv32_isa::Size;
+
+/// Where a value is.
+#[derive(Clone, Copy)]
+pub enum Spot {
+    /// In a variable.
+    Held(u32),
+    /// In memory: at an address that a variable has, or where a place is.
+    Lies(Home),
+}
+
+/// The sum of two numbers, if it has 32 bits.
+pub fn sum(a: u32, b: u32) -> Result<u32, Memory>
+    ensures { IfOk result (λ c. c ≡ a + b) }
+{
+    if a > u32::MAX - b {
+        return Err(Memory);
+    }
+    Ok(a + b)
+}
+
+/// Adds lines.
+pub fn emit(code: &mut Items<WordInstr>, lines: &[WordInstr]) -> Result<(), Memory>
+    ensures { OnOk result (Puts code.old code.new (λ k. lines.now ++ k)) }
+{
+    for line in lines {
+        code.push(*line)?;
+    }
+    Ok(())
+}
+
+/// Whether a place holds an address, and not a value.
+pub fn is_address(kind: PlaceKind) -> bool
+    ensures { result ≡ is_address kind }
+{
+    matches!(kind, PlaceKind::Location | PlaceKind::Param(Mode::Var))
+}
+
+/// Where the value of a place is, or the one to which it leads.
+pub fn spot_of(place: Housed) -> Spot
+    ensures { result ≡ spot_of place }
+{
+    match place.home {
+        Home::Variable(v) if !is_address(place.kind) => Spot::Held(v),
+        home => Spot::Lies(home),
+    }
+}
+
+/// So many bytes further.
+pub fn shifted(bytes: u32, home: Home) -> Result<Home, Memory>
+    ensures { IfOk result (λ other. other ≡ shifted bytes home) }
+{
+    match home {
+        Home::Variable(v) => Ok(Home::Variable(v)),
+        Home::Placed(at) => Ok(Home::Placed(sum(at, bytes)?)),
+        Home::Static(at) => Ok(Home::Static(sum(at, bytes)?)),
+    }
+}
+
+/// A variable gets the address.
+pub fn address(to: u32, home: Home) -> WordInstr
+    ensures { result ≡ address to home }
+{
+    match home {
+        Home::Variable(from) => WordInstr::Copy { to, from },
+        Home::Placed(at) => WordInstr::Place { to, at },
+        Home::Static(at) => WordInstr::Datum { to, at },
+    }
+}
+
+pub fn load(to: u32, address: u32) -> WordInstr
+    ensures { result ≡ WordInstr.Load to address Size.Word }
+{
+    WordInstr::Load {
+        to,
+        address,
+        size: Size::Word,
+    }
+}
+
+pub fn store(address: u32, from: u32) -> WordInstr
+    ensures { result ≡ WordInstr.Store address from Size.Word }
+{
+    WordInstr::Store {
+        address,
+        from,
+        size: Size::Word,
+    }
+}
+
+pub fn constant(to: u32, value: u32) -> WordInstr
+    ensures { result ≡ WordInstr.Constant to value }
+{
+    WordInstr::Constant { to, value }
+}
+
+pub fn compute(to: u32, operation: WordOperation, left: u32, right: u32) -> WordInstr
+    ensures { result ≡ WordInstr.Compute to operation left right }
+{
+    WordInstr::Compute {
+        to,
+        operation,
+        left,
+        right,
+    }
+}
+
+pub fn argument(index: u32, from: u32) -> WordInstr
+    ensures { result ≡ WordInstr.Argument index from }
+{
+    WordInstr::Argument { index, from }
+}
+
+pub fn call(to: u32, callee: u32) -> WordInstr
+    ensures { result ≡ WordInstr.Call to callee }
+{
+    WordInstr::Call { to, callee }
+}
+
+pub fn branch(test: Test, left: u32, right: u32, to: u32) -> WordInstr
+    ensures { result ≡ WordInstr.Branch test left right to }
+{
+    WordInstr::Branch {
+        test,
+        left,
+        right,
+        to,
+    }
+}
+
+fn emit_lying(
+    code: &mut Items<WordInstr>,
+    is_word: bool,
+    bytes: u32,
+    to: Home,
+    from: Home,
+) -> Result<(), Memory>
+    ensures { OnOk result (Puts code.old code.new
+        (moved is_word bytes (Spot.Lies to) (Spot.Lies from))) }
+{
+    let onto = address(FIRST, to);
+    let there = address(SECOND, from);
+    if is_word {
+        return emit(
+            code,
+            &[onto, there, load(THIRD, SECOND), store(FIRST, THIRD)],
+        );
+    }
+    emit(
+        code,
+        &[
+            onto,
+            there,
+            constant(THIRD, bytes),
+            argument(0, FIRST),
+            argument(1, SECOND),
+            argument(2, THIRD),
+            call(FIRST, COPY),
+        ],
+    )
+}
+
+/// A value goes from one spot to another.
+pub fn emit_moved(
+    code: &mut Items<WordInstr>,
+    is_word: bool,
+    bytes: u32,
+    to: Spot,
+    from: Spot,
+) -> Result<(), Memory>
+    ensures { OnOk result (Puts code.old code.new (moved is_word bytes to from)) }
+{
+    match (to, from) {
+        (Spot::Held(v), Spot::Held(u)) => emit(code, &[WordInstr::Copy { to: v, from: u }]),
+        (Spot::Held(v), Spot::Lies(from)) => emit(code, &[address(SECOND, from), load(v, SECOND)]),
+        (Spot::Lies(to), Spot::Held(u)) => emit(code, &[address(FIRST, to), store(FIRST, u)]),
+        (Spot::Lies(to), Spot::Lies(from)) => emit_lying(code, is_word, bytes, to, from),
+    }
+}
+
+/// The value of one place goes to another.
+pub fn emit_moves(code: &mut Items<WordInstr>, to: Housed, from: Housed) -> Result<(), Memory>
+    ensures { OnOk result (Puts code.old code.new (moves to from)) }
+{
+    emit_moved(code, from.is_word, from.bytes, spot_of(to), spot_of(from))
+}
+
+/// A value becomes that at which its type starts.
+pub fn emit_cleared(
+    code: &mut Items<WordInstr>,
+    is_word: bool,
+    bytes: u32,
+    to: Spot,
+) -> Result<(), Memory>
+    ensures { OnOk result (Puts code.old code.new (cleared is_word bytes to)) }
+{
+    match to {
+        Spot::Held(v) => emit(code, &[constant(v, 0)]),
+        Spot::Lies(home) if is_word => emit(
+            code,
+            &[
+                address(FIRST, home),
+                constant(SECOND, 0),
+                store(FIRST, SECOND),
+            ],
+        ),
+        Spot::Lies(home) => emit(
+            code,
+            &[
+                address(FIRST, home),
+                constant(SECOND, bytes),
+                argument(0, FIRST),
+                argument(1, SECOND),
+                call(FIRST, CLEAR),
+            ],
+        ),
+    }
+}
+
+/// The same of a place.
+pub fn emit_clears(code: &mut Items<WordInstr>, to: Housed) -> Result<(), Memory>
+    ensures { OnOk result (Puts code.old code.new (clears to)) }
+{
+    emit_cleared(code, to.is_word, to.bytes, spot_of(to))
+}
+
+/// A value goes to the address in the first variable, with a label for a loop.
+pub fn emit_handed(
+    code: &mut Items<WordInstr>,
+    label: u32,
+    bytes: u32,
+    from: Spot,
+) -> Result<(), Memory>
+    ensures { OnOk result (Puts code.old code.new (handed label bytes from)) }
+{
+    match from {
+        Spot::Held(u) => emit(code, &[store(FIRST, u)]),
+        Spot::Lies(home) => emit(
+            code,
+            &[
+                address(SECOND, home),
+                constant(THIRD, bytes),
+                compute(THIRD, WordOperation::Add, SECOND, THIRD),
+                constant(FOURTH, 4),
+                WordInstr::Label { name: label },
+                load(FIFTH, SECOND),
+                store(FIRST, FIFTH),
+                compute(FIRST, WordOperation::Add, FIRST, FOURTH),
+                compute(SECOND, WordOperation::Add, SECOND, FOURTH),
+                branch(Test::Unequal, SECOND, THIRD, label),
+            ],
+        ),
+    }
+}

@@ -1,0 +1,119 @@
+// How many bytes values of the table's types have, and where their parts stand.
+ghost use Rattle.std.specs.Prelude.{◌≡◌, IfOk, option_map, take};
+ghost use Rattle.word_lowering.specs.Stored.{bytes_at, bytes_all, base_within, base_at, entry_at};
+ghost use Rattle.word_lowering.specs.Stored.{is_word, part_at, count_in, element_bytes, HaveForms};
+
+use crate::spots::sum;
+use arc_base::Memory;
+use nim_types::{TypeDef, TypeId, TypeTable, entry, type_forms};
+
+/// The bytes of a type.
+pub fn bytes_at(types: &TypeTable, ty: TypeId) -> Result<u32, Memory>
+    requires { HaveForms types.now }
+    ensures { IfOk result (λ bytes. bytes ≡ bytes_at types.now ty) }
+{
+    type_forms();
+    if ty >= types.count() {
+        return Err(Memory);
+    }
+    let bytes = types.size_of(ty);
+    if bytes == u32::MAX {
+        return Err(Memory);
+    }
+    Ok(bytes)
+}
+
+// The bytes of types one behind the other.
+fn bytes_all(types: &TypeTable, tys: &[TypeId]) -> Result<u32, Memory>
+    requires { HaveForms types.now }
+    ensures { IfOk result (λ bytes. bytes ≡ bytes_all types.now tys.now) }
+{
+    let mut bytes = 0;
+    for ty in tys {
+        bytes = sum(bytes, bytes_at(types, *ty)?)?;
+    }
+    Ok(bytes)
+}
+
+// At most so many distinct types are looked through.
+fn base_within(types: &TypeTable, left: u32, ty: TypeId) -> TypeId
+    ensures { result ≡ base_within left types.now ty }
+{
+    if left == 0 {
+        return ty;
+    }
+    match entry(types, ty) {
+        Some(TypeDef::Distinct { base, .. }) => base_within(types, left - 1, *base),
+        _ => ty,
+    }
+}
+
+/// The type below distinct types.
+pub fn base_at(types: &TypeTable, ty: TypeId) -> TypeId
+    ensures { result ≡ base_at types.now ty }
+{
+    base_within(types, types.count(), ty)
+}
+
+/// Its entry.
+pub fn entry_at(types: &TypeTable, ty: TypeId) -> Option<&TypeDef>
+    ensures { option_map (λ d. d.now) result ≡ entry_at types.now ty }
+{
+    entry(types, base_at(types, ty))
+}
+
+/// Whether a value of the type is one word.
+pub fn is_word(types: &TypeTable, ty: TypeId) -> bool
+    ensures { result ≡ is_word (entry_at types.now ty) }
+{
+    match entry_at(types, ty) {
+        Some(TypeDef::Array { .. } | TypeDef::Tuple { .. } | TypeDef::Object { .. }) => false,
+        _ => true,
+    }
+}
+
+// The first of these types.
+fn front(tys: &[TypeId], count: u32) -> &[TypeId]
+    ensures { result.now ≡ take count tys.now }
+{
+    let count = count as usize;
+    if count < tys.len() {
+        &tys[..count]
+    } else {
+        tys
+    }
+}
+
+/// How many bytes a part stands behind the whole.
+pub fn part_at(types: &TypeTable, ty: TypeId, field: u32) -> Result<u32, Memory>
+    requires { HaveForms types.now }
+    ensures { IfOk result (λ at. at ≡ part_at types.now ty field) }
+{
+    match entry_at(types, ty) {
+        Some(TypeDef::Tuple { parts, .. } | TypeDef::Object { parts, .. }) => {
+            bytes_all(types, front(parts.as_slice(), field))
+        }
+        _ => Ok(0),
+    }
+}
+
+/// How many elements an array has.
+pub fn count_in(types: &TypeTable, ty: TypeId) -> u32
+    ensures { result ≡ count_in (entry_at types.now ty) }
+{
+    match entry_at(types, ty) {
+        Some(TypeDef::Array { len, .. }) => *len,
+        _ => 0,
+    }
+}
+
+/// How many bytes each of them has.
+pub fn element_bytes(types: &TypeTable, ty: TypeId) -> Result<u32, Memory>
+    requires { HaveForms types.now }
+    ensures { IfOk result (λ bytes. bytes ≡ element_bytes types.now (entry_at types.now ty)) }
+{
+    match entry_at(types, ty) {
+        Some(TypeDef::Array { of, .. }) => bytes_at(types, *of),
+        _ => Ok(0),
+    }
+}

@@ -1,0 +1,277 @@
+// The data of word code.
+ghost use Rattle.std.specs.Prelude.{◌≡◌, ◌+◌, ◌++◌, length, map, replicate, IfOk, OnOk};
+ghost use Rattle.mid_code.specs.Codes.{block_plain};
+ghost use Rattle.mid_code.specs.Sizes.{is_line_end};
+ghost use Rattle.rv32_isa.specs.Words.{word_bytes};
+ghost use Rattle.word_lowering.specs.Emission.{Puts};
+ghost use Rattle.word_lowering.specs.Texts.{own_text, text_of, texts_of, texts_in, all_names};
+ghost use Rattle.word_lowering.specs.Texts.{joined_all, starts_from, names_before, members_of};
+ghost use Rattle.word_lowering.specs.Texts.{ends_from, names_at, literals_at, data_in, padded};
+
+use crate::spots::sum;
+use arc_base::{Bytes, Memory};
+use mid_code::{BlockLine, BlockProc, Line};
+use nim_types::{TypeDef, TypeId, TypeTable, WORD_BYTES};
+use std::alloc::Global;
+
+/// Where the line end stands.
+pub const LINE_END_AT: u32 = 16;
+
+/// Where `false` stands.
+pub const FALSE_AT: u32 = 20;
+
+/// Where the line of a trap stands: of an overflow.
+pub const OVERFLOW_AT: u32 = 32;
+
+/// Of a division by zero.
+pub const DIVISION_AT: u32 = 48;
+
+/// Of an index.
+pub const INDEX_AT: u32 = 72;
+
+/// Of a value out of range.
+pub const RANGE_AT: u32 = 100;
+
+/// Of a changed length.
+pub const LENGTH_AT: u32 = 128;
+
+/// Of one call too many.
+pub const DEPTH_AT: u32 = 152;
+
+/// The bytes of what each program has. Globals stand behind them.
+pub const FIXED_BYTES: u32 = 176;
+
+/// The bytes in which the digits of a number are put together.
+const DIGIT_BYTES: usize = 16;
+
+/// The texts that each program has, each up to a whole number of words.
+const FIXED_TEXTS: &[u8] = b"\n\0\0\0false\0\0\0true\
+Error: overflow\nError: division by zero\nError: index out of bounds\n\0\
+Error: value out of range\n\0\0Error: length changed\n\0\0Error: call depth limit\n";
+
+// So many zeros.
+fn push_zeros(bytes: &mut Bytes, count: usize) -> Result<(), Memory>
+    ensures { OnOk result (bytes.new ≡ bytes.old ++ replicate count 0) }
+{
+    let mut left = count;
+    while left > 0 {
+        bytes.push(0)?;
+        left -= 1;
+    }
+    Ok(())
+}
+
+/// Whether a text is a line end.
+pub fn is_line_end(text: &[u8]) -> bool
+    ensures { result ≡ is_line_end text.now }
+{
+    text.len() == 1 && text[0] == b'\n'
+}
+
+// The bytes that a line has of its own: a line end has none.
+fn own_text(text: &[u8]) -> &[u8]
+    ensures { result.now ≡ own_text text.now }
+{
+    if is_line_end(text) { &[] } else { text }
+}
+
+/// The text of a line.
+pub fn text_of(line: &BlockLine) -> &[u8]
+    ensures { result.now ≡ text_of (block_plain line.now) }
+{
+    match line {
+        BlockLine::Plain(Line::WriteText { bytes }) => own_text(bytes.as_slice()),
+        _ => &[],
+    }
+}
+
+// The texts of a procedure, those of the last line first.
+fn push_texts_of(bytes: &mut Bytes, lines: &[BlockLine]) -> Result<(), Memory>
+    ensures { OnOk result (bytes.new ≡ bytes.old ++ texts_of (map block_plain lines.now)) }
+{
+    let mut i = lines.len();
+    while i > 0 {
+        i -= 1;
+        bytes.append(text_of(&lines[i]))?;
+    }
+    Ok(())
+}
+
+// Those of the last procedure come first.
+fn push_texts_in(bytes: &mut Bytes, procs: &[BlockProc]) -> Result<(), Memory>
+    ensures { OnOk result (bytes.new ≡ bytes.old ++ texts_in procs.now) }
+{
+    let mut i = procs.len();
+    while i > 0 {
+        i -= 1;
+        push_texts_of(bytes, procs[i].lines.as_slice())?;
+    }
+    Ok(())
+}
+
+/// How many bytes the texts of a procedure have.
+pub fn text_bytes(lines: &[BlockLine]) -> Result<u32, Memory>
+    ensures { IfOk result (λ n. n ≡ length (texts_of (map block_plain lines.now))) }
+{
+    let mut i = lines.len();
+    let mut n = 0;
+    while i > 0 {
+        i -= 1;
+        n = more(n, text_of(&lines[i]))?;
+    }
+    Ok(n)
+}
+
+/// How many bytes the texts of procedures have.
+pub fn texts_bytes(procs: &[BlockProc]) -> Result<u32, Memory>
+    ensures { IfOk result (λ n. n ≡ length (texts_in procs.now)) }
+{
+    let mut i = procs.len();
+    let mut n = 0;
+    while i > 0 {
+        i -= 1;
+        n = sum(n, text_bytes(procs[i].lines.as_slice())?)?;
+    }
+    Ok(n)
+}
+
+/// A number, and the bytes of a text.
+pub fn more(n: u32, text: &[u8]) -> Result<u32, Memory>
+    ensures { IfOk result (λ m. m ≡ n + length text.now) }
+{
+    let len = text.len();
+    if len > u32::MAX as usize {
+        return Err(Memory);
+    }
+    sum(n, len as u32)
+}
+
+// The names of an entry.
+fn members_of(def: &TypeDef) -> &[Bytes]
+    ensures { result.now ≡ members_of def.now }
+{
+    match def {
+        TypeDef::Enum { members, .. } => members.as_slice(),
+        _ => &[],
+    }
+}
+
+/// How many names stand before those of an enum, by its number.
+pub fn names_before(types: &TypeTable, ty: TypeId) -> Result<u32, Memory>
+    ensures { IfOk result (λ n. n ≡ names_before types.now ty) }
+{
+    let mut n = 0;
+    for id in 0..ty.min(types.count()) {
+        let count = members_of(types.get(id)).len();
+        if count > u32::MAX as usize {
+            return Err(Memory);
+        }
+        n = sum(n, count as u32)?;
+    }
+    Ok(n)
+}
+
+#[tactic(auto, unfolding(rv32_isa::specs::Words::word_bytes))]
+fn push_word(bytes: &mut Bytes, n: u32) -> Result<(), Memory>
+    ensures { OnOk result (bytes.new ≡ bytes.old ++ word_bytes n) }
+{
+    bytes.append(&n.to_le_bytes())
+}
+
+// Where names begin, the first one at n; and where the last one ends.
+fn push_starts(bytes: &mut Bytes, n: u32, names: &[Bytes]) -> Result<u32, Memory>
+    ensures pushed { OnOk result (Puts bytes.old bytes.new (λ k. starts_from n names.now k)) }
+    ensures end { IfOk result (λ end. end ≡ n + length (joined_all names.now)) }
+{
+    let mut at = n;
+    for name in names {
+        push_word(bytes, at)?;
+        at = more(at, name.as_slice())?;
+    }
+    Ok(at)
+}
+
+// The ends of all names.
+fn push_ends(bytes: &mut Bytes, types: &TypeTable) -> Result<(), Memory>
+    ensures { OnOk result (bytes.new ≡ bytes.old ++ ends_from 0 (all_names types.now)) }
+{
+    let mut n = 0;
+    for id in 0..types.count() {
+        n = push_starts(bytes, n, members_of(types.get(id)))?;
+    }
+    push_word(bytes, n)
+}
+
+// Some names, one behind the other.
+fn push_members(bytes: &mut Bytes, names: &[Bytes]) -> Result<(), Memory>
+    ensures { OnOk result (bytes.new ≡ bytes.old ++ joined_all names.now) }
+{
+    for name in names {
+        bytes.append(name.as_slice())?;
+    }
+    Ok(())
+}
+
+// All names.
+fn push_names(bytes: &mut Bytes, types: &TypeTable) -> Result<(), Memory>
+    ensures { OnOk result (bytes.new ≡ bytes.old ++ joined_all (all_names types.now)) }
+{
+    for id in 0..types.count() {
+        push_members(bytes, members_of(types.get(id)))?;
+    }
+    Ok(())
+}
+
+/// Where the names stand, where globals end at a byte.
+pub fn names_at(types: &TypeTable, globals_end: u32) -> Result<u32, Memory>
+    ensures { IfOk result (λ at. at ≡ names_at types.now globals_end) }
+{
+    let count = sum(names_before(types, types.count())?, 1)?;
+    if count > u32::MAX / WORD_BYTES {
+        return Err(Memory);
+    }
+    sum(globals_end, WORD_BYTES * count)
+}
+
+// How many bytes some names have.
+fn name_bytes(n: u32, names: &[Bytes]) -> Result<u32, Memory>
+    ensures { IfOk result (λ m. m ≡ n + length (joined_all names.now)) }
+{
+    let mut n = n;
+    for name in names {
+        n = more(n, name.as_slice())?;
+    }
+    Ok(n)
+}
+
+/// Where the literals stand.
+pub fn literals_at(types: &TypeTable, globals_end: u32) -> Result<u32, Memory>
+    ensures { IfOk result (λ at. at ≡ literals_at types.now globals_end) }
+{
+    let mut at = names_at(types, globals_end)?;
+    for id in 0..types.count() {
+        at = name_bytes(at, members_of(types.get(id)))?;
+    }
+    Ok(at)
+}
+
+/// All data, where globals end at a byte.
+pub fn data(
+    alloc: Global,
+    types: &TypeTable,
+    globals_end: u32,
+    procs: &[BlockProc],
+) -> Result<Bytes, Memory>
+    ensures { IfOk result (λ bytes. bytes ≡ padded (data_in types.now globals_end procs.now)) }
+{
+    let mut bytes = Bytes::new(alloc);
+    push_zeros(&mut bytes, DIGIT_BYTES)?;
+    bytes.append(FIXED_TEXTS)?;
+    push_zeros(&mut bytes, globals_end.saturating_sub(FIXED_BYTES) as usize)?;
+    push_ends(&mut bytes, types)?;
+    push_names(&mut bytes, types)?;
+    push_texts_in(&mut bytes, procs)?;
+    let missing = (4 - bytes.as_slice().len() % 4) % 4;
+    push_zeros(&mut bytes, missing)?;
+    Ok(bytes)
+}

@@ -1,0 +1,150 @@
+// The word code of values with parts.
+ghost use Rattle.std.specs.Prelude.{◌≡◌, OnOk};
+ghost use Rattle.word_lowering.specs.Emission.{Puts};
+ghost use Rattle.word_lowering.specs.LineCode.{unless_zero, pieces_code, piece_words, first_word};
+ghost use Rattle.word_lowering.specs.LineCode.{constant_code, value, parts_code, fields_code};
+ghost use Rattle.word_lowering.specs.Scope.{around_of};
+ghost use Rattle.word_lowering.specs.Spots.{spot_of, clears};
+ghost use Rattle.word_lowering.specs.Stored.{HaveForms};
+
+use crate::homes::{FIRST, Home, Housed, SECOND};
+use crate::scope::Scope;
+use crate::spots::{
+    Spot, address, constant, emit, emit_cleared, emit_clears, emit_moved, shifted, spot_of, store,
+};
+use crate::stored::part_at;
+use arc_base::{Items, Memory};
+use mid_code::{FieldFrom, Piece, WordInstr};
+use nim_types::TypeId;
+
+// A word that isn't 0 to where zeros stand.
+fn emit_unless_zero(code: &mut Items<WordInstr>, to: Home, word: u32) -> Result<(), Memory>
+    ensures { OnOk result (Puts code.old code.new (unless_zero to word)) }
+{
+    if word == 0 {
+        return Ok(());
+    }
+    emit(
+        code,
+        &[
+            address(FIRST, to),
+            constant(SECOND, word),
+            store(FIRST, SECOND),
+        ],
+    )
+}
+
+fn emit_pieces(code: &mut Items<WordInstr>, to: Home, pieces: &[Piece]) -> Result<(), Memory>
+    ensures { OnOk result (Puts code.old code.new (pieces_code to pieces.now)) }
+{
+    let mut to = to;
+    for piece in pieces {
+        match piece {
+            Piece::Ordinal(z) => {
+                emit_unless_zero(code, to, z.cast_unsigned())?;
+                to = shifted(4, to)?;
+            }
+            Piece::Parts(0) => to = shifted(4, to)?,
+            Piece::Parts(_) => {}
+        }
+    }
+    Ok(())
+}
+
+// The first of the words of pieces.
+fn first_word(pieces: &[Piece]) -> u32
+    ensures { result ≡ first_word (piece_words pieces.now) }
+{
+    for piece in pieces {
+        match piece {
+            Piece::Ordinal(z) => return z.cast_unsigned(),
+            Piece::Parts(0) => return 0,
+            Piece::Parts(_) => {}
+        }
+    }
+    0
+}
+
+/// The value of a constant.
+pub fn emit_constant(
+    code: &mut Items<WordInstr>,
+    to: Housed,
+    pieces: &[Piece],
+) -> Result<(), Memory>
+    ensures { OnOk result (Puts code.old code.new (constant_code to (spot_of to) pieces.now)) }
+{
+    match spot_of(to) {
+        Spot::Held(v) => emit(code, &[constant(v, first_word(pieces))]),
+        Spot::Lies(home) => {
+            emit_cleared(code, to.is_word, to.bytes, Spot::Lies(home))?;
+            emit_pieces(code, home, pieces)
+        }
+    }
+}
+
+/// Parts one behind the other.
+pub fn emit_parts(
+    code: &mut Items<WordInstr>,
+    x: &Scope,
+    to: Home,
+    parts: &[u32],
+) -> Result<(), Memory>
+    ensures { OnOk result (Puts code.old code.new (parts_code (around_of x.now) to parts.now)) }
+{
+    let mut to = to;
+    for t in parts {
+        let part = x.value(*t);
+        emit_moved(
+            code,
+            part.is_word,
+            part.bytes,
+            Spot::Lies(to),
+            spot_of(part),
+        )?;
+        to = shifted(part.bytes, to)?;
+    }
+    Ok(())
+}
+
+// Fields of an object of a type.
+fn emit_fields(
+    code: &mut Items<WordInstr>,
+    x: &Scope,
+    to: Home,
+    ty: TypeId,
+    fields: &[FieldFrom],
+) -> Result<(), Memory>
+    requires { HaveForms x.now.types.now }
+    ensures { OnOk result (Puts code.old code.new
+        (fields_code (around_of x.now) to ty fields.now)) }
+{
+    for f in fields {
+        let part = x.value(f.from);
+        let there = shifted(part_at(x.types, ty, f.field)?, to)?;
+        emit_moved(
+            code,
+            part.is_word,
+            part.bytes,
+            Spot::Lies(there),
+            spot_of(part),
+        )?;
+    }
+    Ok(())
+}
+
+/// An object with some fields.
+pub fn emit_construct(
+    code: &mut Items<WordInstr>,
+    x: &Scope,
+    to: u32,
+    ty: TypeId,
+    fields: &[FieldFrom],
+) -> Result<(), Memory>
+    requires { HaveForms x.now.types.now }
+    ensures { OnOk result (Puts code.old code.new (λ k. clears (value (around_of x.now) to)
+        (fields_code (around_of x.now) (value (around_of x.now) to).home ty fields.now k))) }
+{
+    let place = x.value(to);
+    emit_clears(code, place)?;
+    emit_fields(code, x, place.home, ty, fields)
+}
