@@ -12,6 +12,7 @@ use Rattle.rv32_isa.specs.declared.label.LabelLine.{LabelLine}
 use Rattle.rv32_isa.specs.declared.label.LabelLine.TheVariants.{Label, Do, Jump, Branch}
 use Rattle.rv32_isa.specs.Image.{statics_at}
 use Rattle.rv32_isa.specs.Labels.{from_label, hooks_lead}
+use Rattle.rv32_codegen.specs.Layout.{enters_no_hook}
 use Rattle.mid_code.specs.declared.word.WordInstr.{WordInstr}
 use Rattle.mid_code.specs.declared.word.WordInstr.TheVariants as word
 use Rattle.mid_code.specs.declared.word.WordProc.{WordProc}
@@ -379,6 +380,15 @@ leads_own n (Label (Inner other x) (Some hook) ∷ xs) k h g = absurd h.0
 leads_own n (Do i ∷ xs) k h g = leads_own n xs k h.1 g
 leads_own n (Jump rd to ∷ xs) k h g = leads_own n xs k h.1 g
 leads_own n (Branch t left right to ∷ xs) k h g = leads_own n xs k h.1 g
+
+pub unhooked_own : (n : ℕ) (xs k : List LabelLine) → AllOwn n xs → enters_no_hook k ≡ true → enters_no_hook (xs ++ k) ≡ true
+unhooked_own n [] k h g = g
+unhooked_own n (Label (Entry other) hook ∷ xs) k h g = absurd h.0
+unhooked_own n (Label (Inner other x) None ∷ xs) k h g = unhooked_own n xs k h.1 g
+unhooked_own n (Label (Inner other x) (Some hook) ∷ xs) k h g = absurd h.0
+unhooked_own n (Do i ∷ xs) k h g = unhooked_own n xs k h.1 g
+unhooked_own n (Jump rd to ∷ xs) k h g = unhooked_own n xs k h.1 g
+unhooked_own n (Branch t left right to ∷ xs) k h g = unhooked_own n xs k h.1 g
 
 -- behind any line of a procedure no hook begins
 pub quiet_lines : (h : Homes) (p : WordProc) (lines : List WordInstr) (k : List LabelLine) → Quiet k → Quiet (lines_code h p lines k)

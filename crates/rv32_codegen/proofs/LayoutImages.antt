@@ -4,7 +4,7 @@ use Rattle.std.proofs.Common.{true, false, Option, Some, None, inl, inr}
 use Rattle.std.proofs.Common.{refl, sym, ap, subst, ◌∙◌, arith, append_assoc, append-nil, length-append}
 use Rattle.std.specs.List.{slice_index_or}
 use Rattle.std.proofs.lemmas.List.{drop_all, length-drop}
-use Rattle.std.proofs.lemmas.Bool.{cases_Bool, cond-false}
+use Rattle.std.proofs.lemmas.Bool.{and_parts, cases_Bool, cond-false}
 use Rattle.arc_base.specs.Behaviour.{Agrees}
 use Rattle.arc_base.specs.Pace.{Paced}
 use Rattle.rv32_isa.specs.declared.instr.Instr.{Instr}
@@ -24,7 +24,7 @@ use Rattle.rv32_isa.specs.Labels.{AreLines, is_instruction, has_instruction, hoo
 use Rattle.rv32_isa.specs.LabelsMeaning.{OfDataAndHeap, label_meaning}
 use Rattle.rv32_isa.proofs.ForCallers.{length-word_bytes}
 use Rattle.mid_code.specs.Memory.{data_of}
-use Rattle.rv32_codegen.specs.Layout.{Far, size, too_far, code_size, laid_at, laid, instrs, hook_of, entry, hook_table, code_bytes, laid_out}
+use Rattle.rv32_codegen.specs.Layout.{Far, size, too_far, code_size, laid_at, laid, instrs, hook_of, entry, hook_table, code_bytes, laid_out, is_none, enters_no_hook}
 use Rattle.rv32_codegen.specs.Layout.{target, distance, branched, DoesCode}
 use Rattle.rv32_codegen.proofs.LayoutSizes.{line_least, size_four, reach_all}
 use Rattle.rv32_codegen.proofs.LayoutMarks.{mark_at, marks_rise}
@@ -216,3 +216,22 @@ module _ (code lines : List LabelLine) (line : LabelLine) (old new : List ℕ) w
       is ∙ ap (λ x. old ++ code_bytes (branched x t left right from at)) c ∙
       ap (λ n. old ++ code_bytes (branched (far (l ∷ lines)) t left right n at)) h ∙
       ap (λ n. old ++ code_bytes (branched (far (l ∷ lines)) t left right (laid_at far code (l ∷ lines)) n)) g) b f
+
+-- ---- code without hooks
+
+no_entry : (far : Far) (whole : List LabelLine) (o : Option HookLabel) (at : ℕ) (others : List HookAt) → is_none o ≡ true →
+    entry far whole o at others ≡ others
+no_entry far whole None at others h = refl
+no_entry far whole (Some hook) at others h = absurd (false_true h)
+  where
+    false_true : false ≡ true → ⊥
+    false_true e = cc
+
+none_in : (far : Far) (whole lines : List LabelLine) → enters_no_hook lines ≡ true → hook_table far whole lines ≡ []
+none_in far whole [] h = refl
+none_in far whole (line ∷ lines) h =
+    let p = and_parts (is_none (hook_of line)) (enters_no_hook lines) h in
+    no_entry far whole (hook_of line) (laid_at far whole (line ∷ lines)) (hook_table far whole lines) p.0 ∙ none_in far whole lines p.1
+
+pub no_table : (code : List LabelLine) (statics : List ℕ) (heap stack : ℕ) → enters_no_hook code ≡ true → (laid_out code statics heap stack).hooks ≡ []
+no_table code statics heap stack h = none_in (too_far code) code code h

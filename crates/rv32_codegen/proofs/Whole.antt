@@ -21,13 +21,14 @@ use Rattle.mid_code.specs.declared.word.WordProc.{WordProc}
 use Rattle.mid_code.specs.declared.word.WordCode.{WordCode}
 use Rattle.mid_code.specs.Memory.{data_of}
 use Rattle.mid_code.specs.Running.{if_formed}
-use Rattle.mid_code.specs.Words.{from_proc, first_of, is_kind, are_procs, may_start, is_word_code, start, word_meaning}
+use Rattle.mid_code.specs.Words.{from_proc, first_of, is_kind, is_no_hook, have_no_hooks, are_procs, may_start, is_word_code, start, word_meaning}
 use Rattle.mid_code.specs.Words as words
 use Rattle.reg_scan.specs.declared.homes.Homes.{Homes}
 use Rattle.rv32_codegen.specs.Code.{does, sum, negative, lines_code, hook_of, entry_code, homes_code, start_code, code_of}
 use Rattle.rv32_codegen.specs.Stack.{chain, frame_for, longest, most_frame}
+use Rattle.rv32_codegen.specs.Layout.{is_none, enters_no_hook}
 use Rattle.rv32_codegen.specs.Lowering.{AllHomes, CanRun, DoesWords, AlwaysDoes, most_lines}
-use Rattle.rv32_codegen.proofs.Chunks.{line_long, length-does, few_sum, body, body_split, own_body, leads_own}
+use Rattle.rv32_codegen.proofs.Chunks.{line_long, length-does, few_sum, body, body_split, own_body, leads_own, unhooked_own}
 use Rattle.rv32_codegen.proofs.Lookups.{Layout, procs_code, number_is}
 use Rattle.rv32_codegen.proofs.Frames.{IsLaid, Setting}
 use Rattle.rv32_codegen.proofs.Depth.{need, chain_fits, need_most, proc_parts, kind_known, places_whole}
@@ -154,6 +155,25 @@ homes_lead (p ∷ procs) (own ∷ homes) h =
 
 pub code_leads : (code : WordCode) (homes : List Homes) → is_word_code code ≡ true → hooks_lead (code_of code.procs homes) ≡ true
 code_leads code homes h = homes_lead code.procs homes (and_parts (are_procs code.procs) _ h).0
+
+no_hook_of : (k : ProcKind) → is_no_hook k ≡ true → is_none (hook_of k) ≡ true
+no_hook_of kind.Counted h = refl
+no_hook_of (kind.Hook kind of) h = h
+no_hook_of kind.Uncounted h = refl
+
+homes_unhooked : (procs : List WordProc) (homes : List Homes) → have_no_hooks procs ≡ true → enters_no_hook (homes_code procs homes) ≡ true
+homes_unhooked [] homes h = refl
+homes_unhooked (p ∷ procs) [] h = refl
+homes_unhooked (p ∷ procs) (own ∷ homes) h =
+    let parts = and_parts (is_no_hook p.kind) (have_no_hooks procs) h in
+    let rest = entry_code own (lines_code own p p.lines (Do Ebreak ∷ homes_code procs homes)) in
+    and_from (is_none (hook_of p.kind)) (enters_no_hook rest) (no_hook_of p.kind parts.0)
+    (ap enters_no_hook (body_split own p (homes_code procs homes))
+    ∙ unhooked_own p.number (body own p) (homes_code procs homes) (own_body own p) (homes_unhooked procs homes parts.1))
+
+-- where no procedure is a user's hook no label is the entry of one
+pub code_unhooked : (procs : List WordProc) (homes : List Homes) → have_no_hooks procs ≡ true → enters_no_hook (code_of procs homes) ≡ true
+code_unhooked procs homes h = homes_unhooked procs homes h
 
 lines_long : (h : Homes) (p : WordProc) (lines : List WordInstr) (k : List LabelLine) → length (lines_code h p lines k) ≤ 12 * length lines + length k
 lines_long h p [] k = omega arith

@@ -178,6 +178,17 @@ abbrev pub IsFault : (bytes : ℕ) → LayFault → Type 0
 IsFault bytes (TooLarge n) = (n ≡ bytes) × (MOST_CODE_BYTES < n)
 IsFault bytes Memory = Unit {0}
 
+-- ---- code without hooks
+
+abbrev pub is_none : Option HookLabel → Bool
+is_none None = true
+is_none (Some hook) = false
+
+-- no label is the entry of a user's hook
+abbrev pub enters_no_hook : List LabelLine → Bool
+enters_no_hook [] = true
+enters_no_hook (line ∷ lines) = is_none (hook_of line) && enters_no_hook lines
+
 -- ---- near branches
 
 -- where a branch that isn't laid out as too far stands, and where its label does

@@ -2,9 +2,9 @@
 ghost use Rattle.std.specs.Prelude.{◌≡◌, ◌≤◌, ◌++◌, true, List, length, IfOk, OnOk};
 ghost use Rattle.rv32_isa.specs.declared.label.LabelLine.{LabelLine as Line};
 ghost use Rattle.rv32_isa.specs.Labels.{AreLines, has_instruction, hooks_lead};
-ghost use Rattle.mid_code.specs.Words.{is_word_code};
+ghost use Rattle.mid_code.specs.Words.{have_no_hooks, is_word_code};
 ghost use Rattle.rv32_codegen.specs.Code as spec;
-ghost use Rattle.rv32_codegen.specs.Layout.{all_far, size};
+ghost use Rattle.rv32_codegen.specs.Layout.{all_far, enters_no_hook, size};
 ghost use Rattle.rv32_codegen.specs.Lowering.{AllHomes, AlwaysDoes, most_lines, most_bytes};
 
 use crate::lines::emit_lines;
@@ -122,6 +122,8 @@ pub fn code(alloc: Global, words: &WordCode, homes: &[Homes]) -> Result<LabelCod
     ensures leads { is_word_code words.now ≡ true →
         IfOk result (λ lines. hooks_lead lines ≡ true) }
     ensures size { IfOk result (λ lines. length lines ≤ most_lines words.now.procs) }
+    ensures unhooked { have_no_hooks words.now.procs ≡ true →
+        IfOk result (λ lines. enters_no_hook lines ≡ true) }
     ensures bytes { IfOk result (λ lines. size all_far lines ≤ most_bytes words.now.procs) }
 {
     emit_code(alloc, words, homes)

@@ -10,7 +10,7 @@ ghost use Rattle.rv32_isa.specs.Labels.{IsLine, AreLines, has_instruction, hooks
 ghost use Rattle.rv32_isa.specs.LabelsMeaning.{OfDataAndHeap};
 ghost use Rattle.mid_code.specs.Memory.{data_of};
 ghost use Rattle.rv32_codegen.specs.Layout.{all_far, size, too_far, code_size, target, laid_at, distance, branch_of, opposite, branched, laid, instrs, hook_of, hook_table, code_bytes};
-ghost use Rattle.rv32_codegen.specs.Layout.{laid_out, DoesCode, IsFault, AllReach};
+ghost use Rattle.rv32_codegen.specs.Layout.{laid_out, enters_no_hook, DoesCode, IsFault, AllReach};
 ghost use Rattle.rv32_codegen.specs.Places.{IsLayout};
 ghost use Rattle.rv32_codegen.specs.declared.layout.TheConstants.{LINE_BYTES};
 
@@ -61,6 +61,8 @@ impl From<Memory> for LayFault {
 pub fn layouts()
     ensures shorter { (code : List Line) → code_size code ≤ size all_far code }
     ensures bounded { (code : List Line) → code_size code ≤ LINE_BYTES * length code }
+    ensures unhooked { (code : List Line) (statics : List ℕ) (heap stack : ℕ) →
+        enters_no_hook code ≡ true → (laid_out code statics heap stack).hooks ≡ [] }
     ensures reached { (code : List Line) → AllReach (too_far code) code code }
 {}
 

@@ -48,7 +48,7 @@ mutual
 
 more_by : (p q : Ty → Bool) → Implies p q → (o : Option Fact) → is_finite_by p o ≡ true → is_finite_by q o ≡ true
 more_by p q h None e = e
-more_by p q h (Some (members names)) e = refl
+more_by p q h (Some (members names)) e = e
 more_by p q h (Some (fields all own_hooks)) e = more_among p q h (types_of all) e
 more_by p q h (Some (base t)) e = more_in p q h t e
 more_by p q h (Some (below t)) e = e

@@ -1,5 +1,5 @@
 -- Typed expressions: each construct has operands of the types that it is for, a name is one in scope, and so are the parts.
-use Rattle.std.specs.Prelude.{ℕ, suc, Bool, true, false, ◌&&◌, List, Option, Some, slice_get}
+use Rattle.std.specs.Prelude.{ℕ, suc, nat_eq, Bool, true, false, not, ◌&&◌, ◌||◌, List, Option, Some, slice_get}
 use Rattle.nim_types.specs.Types.{Ty}
 use Rattle.nim_core.specs.Program as T
 use Rattle.nim_core.specs.Program.{Literal, Literals, NoLiteral, ALiteral, Expr, Exprs, NoExpr, AnExpr, Path, Variable, Fresh, Field, Element}
@@ -45,6 +45,18 @@ abbrev pub is_fresh : Expr → Bool
 is_fresh (T.Read path) = false
 is_fresh value = true
 
+-- ---- fields that are given
+
+-- a field is named
+abbrev pub names_field : Inits → ℕ → Bool
+names_field NoInit n = false
+names_field (AnInit field a rest) n = nat_eq field n || names_field rest n
+
+-- each field is named once
+abbrev pub fields_once : Inits → Bool
+fields_once NoInit = true
+fields_once (AnInit field a rest) = not (names_field rest field) && fields_once rest
+
 -- ---- counts of parts
 
 abbrev pub count_exprs : Exprs → ℕ
@@ -86,7 +98,8 @@ abbrev mutual
   is_typed_expr here (T.Make node ty parts) =
       (is_made (kind_of here.known ty) && has_parts (kind_of here.known ty) (count_exprs parts)) && are_typed_parts here (kind_of here.known ty) 0 parts
   is_typed_expr here (T.Sequence node ty parts) = is_sequence (kind_of here.known ty) && are_typed_parts here (kind_of here.known ty) 0 parts
-  is_typed_expr here (T.Construct node ty parts) = is_object (kind_of here.known ty) && are_typed_inits here (kind_of here.known ty) parts
+  is_typed_expr here (T.Construct node ty parts) =
+      (is_object (kind_of here.known ty) && fields_once parts) && are_typed_inits here (kind_of here.known ty) parts
   is_typed_expr here (T.Call node gives proc args) =
       is_called here (slice_get here.procs proc) gives (count_args args) && are_typed_args here (params_of (slice_get here.procs proc)) 0 args
   is_typed_expr here (T.If node gives choices a) =

@@ -25,9 +25,14 @@ abbrev mutual
   are_finite_in known no_types = true
   are_finite_in known (types t ts) = is_finite_in known t && are_finite_in known ts
 
+-- an enum has a value
+abbrev pub has_members : List (List ℕ) → Bool
+has_members [] = false
+has_members (name ∷ names) = true
+
 -- of a declared type, by what its declaration says
 abbrev pub is_finite_by : (known : Ty → Bool) → Option Fact → Bool
-is_finite_by known (Some (members names)) = true
+is_finite_by known (Some (members names)) = has_members names
 is_finite_by known (Some (fields all own_hooks)) = are_finite_in known (types_of all)
 is_finite_by known (Some (base t)) = is_finite_in known t
 is_finite_by known _ = false

@@ -4,7 +4,7 @@ use Rattle.std.specs.Prelude.{slice_get}
 use Rattle.nim_types.specs.declared.types.TypeDef.{TypeDef}
 use Rattle.nim_types.specs.declared.types.TypeDef.TheVariants as D
 use Rattle.nim_types.specs.Table.{type_at, types_in, facts_in}
-use Rattle.typed_trees.specs.Finite.{is_finite_in, is_finite_within}
+use Rattle.typed_trees.specs.Finite.{has_members, is_finite_in, is_finite_within}
 
 abbrev pub is_marked : Option Bool → Bool
 is_marked None = false
@@ -23,7 +23,7 @@ abbrev pub entry_is_finite : (first : Bool) → (marks before : List Bool) → T
 entry_is_finite first marks before (D.Seq i) = is_marked (slice_get before i)
 entry_is_finite first marks before (D.Array n i) = is_marked (slice_get before i)
 entry_is_finite first marks before (D.Tuple names is) = are_marked before is
-entry_is_finite first marks before (D.Enum name at all) = not first
+entry_is_finite first marks before (D.Enum name at all) = not first && has_members all
 entry_is_finite first marks before (D.Object name at is all own_hooks parts) =
     not first && (nat_eq (length all) (length parts) && are_marked marks parts)
 entry_is_finite first marks before (D.Distinct name at i) = not first && is_marked (slice_get marks i)

@@ -16,7 +16,7 @@ use Rattle.typed_trees.specs.Kinds.{is_object, is_made, has_length, is_resized, 
 use Rattle.typed_trees.specs.Operations.{unary_fits, binary_fits, comparison_fits, logic_fits, join_fits, show_fits, conversion_fits, is_added}
 use Rattle.typed_trees.specs.Operations.{pick_labels, arm_labels, are_enough}
 use Rattle.typed_trees.specs.Scopes.{Here, with_place, type_in, is_called, takes_value, takes_place}
-use Rattle.typed_trees.specs.Exprs.{is_constant, is_fresh, count_exprs, count_args, kind_in, kind_at, is_typed_expr, is_written, is_typed_path}
+use Rattle.typed_trees.specs.Exprs.{is_constant, is_fresh, fields_once, count_exprs, count_args, kind_in, kind_at, is_typed_expr, is_written, is_typed_path}
 use Rattle.typed_trees.specs.Exprs.{are_typed_choices, are_typed_picks}
 use Rattle.typed_trees.specs.Stmts.{Around, looping, goes_over, is_decided, is_typed_block, are_typed_branches, are_typed_arms}
 
@@ -49,7 +49,7 @@ expr_fits here (T.Join node ty a b) = join_fits here.known ty (type_of a) (type_
 expr_fits here (T.Show node ty a) = show_fits here.known ty (type_of a)
 expr_fits here (T.Make node ty parts) = is_made (kind_of here.known ty) && has_parts (kind_of here.known ty) (count_exprs parts)
 expr_fits here (T.Sequence node ty parts) = is_sequence (kind_of here.known ty)
-expr_fits here (T.Construct node ty parts) = is_object (kind_of here.known ty)
+expr_fits here (T.Construct node ty parts) = is_object (kind_of here.known ty) && fields_once parts
 expr_fits here (T.Call node gives proc args) = is_called here (slice_get here.procs proc) gives (count_args args)
 expr_fits here (T.If node gives choices a) = same_value (type_of a) gives
 expr_fits here (T.Case node gives a picks) = is_shown (kind_in here a) && are_enough (kind_in here a) gives (pick_labels picks)

@@ -1,13 +1,13 @@
 // Types with a form.
 ghost use Rattle.std.specs.Prelude.{◌≡◌, ℕ, slice_get, IfOk};
 ghost use Rattle.nim_types.specs.Table.{types_in, facts_in, IsTable};
-ghost use Rattle.typed_trees.specs.Finite.{are_finite};
+ghost use Rattle.typed_trees.specs.Finite.{are_finite, has_members};
 ghost use Rattle.typed_trees.specs.Marks.{is_marked, are_marked, all_marked, entry_is_finite};
 ghost use Rattle.typed_trees.specs.Marks.{AreMarks, IsBefore};
 
 use crate::known::Known;
 use crate::operations::both;
-use arc_base::Memory;
+use arc_base::{Bytes, Items, Memory};
 use nim_types::{TypeDef, TypeId, TypeTable, says};
 use std::alloc::Global;
 
@@ -42,6 +42,12 @@ fn all_marked(marks: &[bool]) -> bool
     true
 }
 
+fn has_members(members: &Items<Bytes>) -> bool
+    ensures { result ≡ has_members members.now }
+{
+    !members.as_slice().is_empty()
+}
+
 // Whether the type of an entry is finite, with one declared type more inside one another than the
 // marks say, and as many as those of the entries before it say.
 fn is_finite(def: &TypeDef, first: bool, marks: &[bool], before: &[bool]) -> bool
@@ -51,7 +57,7 @@ fn is_finite(def: &TypeDef, first: bool, marks: &[bool], before: &[bool]) -> boo
         TypeDef::Seq(of) => is_marked(before, *of),
         TypeDef::Array { of, .. } => is_marked(before, *of),
         TypeDef::Tuple { parts, .. } => are_marked(before, parts.as_slice()),
-        TypeDef::Enum { .. } => !first,
+        TypeDef::Enum { members, .. } => both(!first, has_members(members)),
         TypeDef::Object { parts, .. } => both(
             !first,
             both(says(def), are_marked(marks, parts.as_slice())),

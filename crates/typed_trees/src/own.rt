@@ -1,11 +1,11 @@
 // What expressions and paths ask for themselves, whatever their parts are.
-ghost use Rattle.std.specs.Prelude.{◌≡◌, List, option_map};
+ghost use Rattle.std.specs.Prelude.{◌≡◌, List, drop, option_map};
 ghost use Rattle.nim_types.specs.Types.{Ty};
 ghost use Rattle.nim_core.specs.Program.{type_of, type_at_path};
-ghost use Rattle.nim_core.specs.View.{expr_of, path_of, picks_of, if_type};
+ghost use Rattle.nim_core.specs.View.{expr_of, path_of, picks_of, inits_of, if_type};
 ghost use Rattle.typed_trees.specs.Kinds.{kind_if};
 ghost use Rattle.typed_trees.specs.Operations.{pick_labels};
-ghost use Rattle.typed_trees.specs.Exprs.{is_fresh, is_rooted};
+ghost use Rattle.typed_trees.specs.Exprs.{is_fresh, is_rooted, names_field, fields_once};
 ghost use Rattle.typed_trees.specs.Parts.{expr_fits, operation_fits, access_fits, path_fits};
 ghost use Rattle.typed_trees.specs.Parts.{is_ended, is_int_if};
 ghost use Rattle.typed_trees.specs.View.{kind_view, known_types, known_in, here_in};
@@ -22,7 +22,7 @@ use crate::operations::{
     is_shown, is_text, is_there, join_fits, logic_fits, same_value, show_fits, unary_fits,
 };
 use crate::places::Places;
-use nim_core::{Expr, Path, Pick, type_at, type_of};
+use nim_core::{Expr, Init, Path, Pick, type_at, type_of};
 use nim_types::TypeId;
 
 /// The kind of what an expression gives.
@@ -161,6 +161,31 @@ fn access_fits(known: &Known<'_>, expr: &Expr) -> bool
     }
 }
 
+// Whether a field is named from a position on.
+fn names_field(inits: &Vec<Init>, from: usize, field: u32) -> bool
+    ensures { (ts : List Ty) → result
+        ≡ names_field (inits_of ts (drop from inits.now.items)) field }
+{
+    for i in from..inits.len() {
+        if inits[i].field == field {
+            return true;
+        }
+    }
+    false
+}
+
+// Whether each field is named once.
+fn fields_once(inits: &Vec<Init>) -> bool
+    ensures { (ts : List Ty) → result ≡ fields_once (inits_of ts inits.now.items) }
+{
+    for i in 0..inits.len() {
+        if names_field(inits, i + 1, inits[i].field) {
+            return false;
+        }
+    }
+    true
+}
+
 /// What an expression asks for itself.
 pub fn expr_fits(here: &Here<'_>, expr: &Expr) -> bool
     ensures { (places : List Placed) → result ≡ expr_fits (here_in here.now places)
@@ -187,7 +212,9 @@ pub fn expr_fits(here: &Here<'_>, expr: &Expr) -> bool
             both(is_made(kind), has_parts(kind, parts.len()))
         }
         Expr::Sequence { ty, .. } => is_sequence(kind_of(known, *ty)),
-        Expr::Construct { ty, .. } => is_object(kind_of(known, *ty)),
+        Expr::Construct { ty, parts, .. } => {
+            both(is_object(kind_of(known, *ty)), fields_once(parts))
+        }
         Expr::Call { ty, proc, args, .. } => is_called(here, proc_at(here, *proc), *ty, args.len()),
         Expr::If { ty, otherwise, .. } => same_value(known, type_of(&**otherwise), *ty),
         Expr::Case {

@@ -1,9 +1,9 @@
 use Rattle.std.proofs.Common.{◌≤◌, length, sym, ap, subst, ◌∙◌}
 use Rattle.std.proofs.lemmas.Result.{IfOk-weaker}
 use Rattle.rv32_isa.specs.Labels.{AreLines, hooks_lead}
-use Rattle.rv32_codegen.specs.Layout.{all_far, size}
+use Rattle.rv32_codegen.specs.Layout.{all_far, enters_no_hook, size}
 use Rattle.rv32_codegen.specs.Lowering.{AlwaysDoes, most_lines, most_bytes}
-use Rattle.rv32_codegen.proofs.Whole.{same_long, always_does, code_leads, code_long}
+use Rattle.rv32_codegen.proofs.Whole.{same_long, always_does, code_leads, code_unhooked, code_long}
 use Rattle.rv32_codegen.proofs.Ranges.{code_fields}
 use Rattle.rv32_codegen.proofs.Bytes.{code_bytes}
 use Rattle.rv32_codegen.proofs.label_code.code.Goals as goal
@@ -35,3 +35,7 @@ returns-clause-bytes c =
     IfOk-weaker c.emit_code.result _ _
     (λ lines e. subst (λ x. size all_far x ≤ most_bytes c.args.words.now.procs) (sym e) (code_bytes c.args.words.now.procs c.args.homes.now))
     c.emit_code.ensures
+
+pub returns-clause-unhooked : goal.returns-clause-unhooked
+returns-clause-unhooked c = λ none.
+    IfOk-weaker c.emit_code.result _ _ (λ lines e. ap enters_no_hook e ∙ code_unhooked c.args.words.now.procs c.args.homes.now none) c.emit_code.ensures

@@ -3,8 +3,8 @@ use Rattle.std.proofs.Common.{◌≡◌, length, ◌∙◌, ap, ap₂, sym}
 use Rattle.std.proofs.lemmas.Option.{slice_get-map}
 use Rattle.std.specs.Prelude.{◌&&◌, option_map}
 use Rattle.nim_core.specs.View.{expr_of, proc_of, if_type, picks_of}
-use Rattle.nim_core.proofs.ForCallers.{made, called}
-use Rattle.typed_trees.specs.Kinds.{is_made, is_shown, has_parts}
+use Rattle.nim_core.proofs.ForCallers.{made, called, constructed}
+use Rattle.typed_trees.specs.Kinds.{is_made, is_shown, is_object, has_parts}
 use Rattle.typed_trees.specs.Operations.{pick_labels}
 use Rattle.typed_trees.specs.Scopes.{is_called}
 use Rattle.typed_trees.specs.Exprs.{kind_in}
@@ -22,6 +22,14 @@ returns-in-Make c = λ places.
     c.both.ensures ∙ ap₂ (λ a b. a && b) (c.is_made.ensures ts ∙ ap is_made c.kind_of-kind.ensures)
     (c.has_parts.ensures ts ∙ ap₂ has_parts c.kind_of-kind.ensures (c.len.ensures ∙ counted ∙ sym (count_parts ts given.parts.items)))
     ∙ sym (ap (expr_fits here) (ap (expr_of ts) given.is ∙ made ts given.node given.ty given.parts))
+
+pub returns-in-Construct : goal.returns-in-Construct
+returns-in-Construct c = λ places.
+    let ts = known_types c.args.here.now.known in
+    let here = here_in c.args.here.now places in
+    let given = c.in-Construct in
+    c.both-in-Construct.ensures ∙ ap₂ (λ a b. a && b) (c.is_object.ensures ts ∙ ap is_object c.kind_of-in-Construct.ensures) (c.fields_once.ensures ts)
+    ∙ sym (ap (expr_fits here) (ap (expr_of ts) given.is ∙ constructed ts given.node given.ty given.parts))
 
 pub returns-in-Call : goal.returns-in-Call
 returns-in-Call c = λ places.
