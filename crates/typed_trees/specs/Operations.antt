@@ -6,6 +6,7 @@ use Rattle.nim_core.specs.declared.expr.UnaryOperator.{UnaryOperator}
 use Rattle.nim_core.specs.declared.expr.UnaryOperator.TheVariants.{Not}
 use Rattle.nim_core.specs.declared.expr.Operator.{Operator}
 use Rattle.nim_core.specs.declared.expr.Operator.TheVariants.{BitAnd, BitOr, BitXor}
+use Rattle.nim_core.specs.Ints.{fits}
 use Rattle.nim_core.specs.Program.{Label, Ordinals, Exactly, Picks, NoPick, APick, Arms, NoArm, AnArm}
 use Rattle.typed_trees.specs.Kinds.{Kind, Known, int, char, text, enum, sequence, distinct, kind_of, kind_if, plain_kind_if, is_int, is_bool, is_text}
 use Rattle.typed_trees.specs.Kinds.{is_joined}
@@ -78,8 +79,9 @@ module _ (known : Known) where
 
 -- ---- labels of a `case`
 
+-- ordinals are ints
 abbrev pub label_fits : Kind → Label → Bool
-label_fits k (Ordinals a b) = is_ordinal k
+label_fits k (Ordinals a b) = is_ordinal k && (fits a && fits b)
 label_fits k (Exactly t) = is_text k
 
 abbrev pub labels_fit : Kind → List Label → Bool

@@ -1,7 +1,7 @@
 // Labels of a `case`, and ordinals.
 ghost use Rattle.std.specs.Prelude.{◌≡◌, ◌&&◌, ◌∷◌, [], List, None, int_le, pos, map};
 ghost use Rattle.nim_types.specs.Types.{Ty};
-ghost use Rattle.nim_core.specs.Ints.{inside};
+ghost use Rattle.nim_core.specs.Ints.{fits, inside};
 ghost use Rattle.nim_core.specs.View.{label_of, picks_of, arms_of, if_type};
 ghost use Rattle.typed_trees.specs.Kinds.{is_value, value_count, first_value, behind_last};
 ghost use Rattle.typed_trees.specs.Operations.{label_fits, labels_fit, pick_labels, arm_labels};
@@ -11,7 +11,7 @@ ghost use Rattle.typed_trees.specs.Parts.{labels_in};
 
 use crate::kinds::Kind;
 use crate::known::Known;
-use crate::operations::{is_ordinal, is_text, is_there};
+use crate::operations::{both, is_ordinal, is_text, is_there};
 use nim_core::{CaseBranch, Label, Pick};
 use nim_types::TypeId;
 
@@ -84,11 +84,18 @@ fn is_behind(kind: Kind<'_>, z: i64) -> bool
 
 // ---- labels
 
+// Numbers of the code are ints.
+fn are_ints(_low: i32, _high: i32) -> bool
+    ensures { result ≡ (fits _low && fits _high) }
+{
+    true
+}
+
 fn label_fits(kind: Kind<'_>, label: &Label) -> bool
     ensures { (ts : List Ty) → result ≡ label_fits (kind_view ts kind.entry) (label_of label.now) }
 {
     match label {
-        Label::Ordinals { .. } => is_ordinal(kind),
+        Label::Ordinals { low, high } => both(is_ordinal(kind), are_ints(*low, *high)),
         Label::Text(_) => is_text(kind),
     }
 }
