@@ -1,0 +1,4 @@
+pub mod Flattens
+pub mod Counted
+pub mod ProgramTexts
+pub mod DataCounted
