@@ -5,6 +5,7 @@ use Rattle.std.proofs.Common.{map, ◌+◌, ◌==◌, ◌&&◌, nat_le, true, fa
 use Rattle.std.proofs.lemmas.Bool.{true≢false}
 use Rattle.std.proofs.lemmas.Option.{none-some, same_Some}
 use Rattle.nim_types.specs.declared.types.TypeDef.{TypeDef}
+use Rattle.nim_types.specs.Table.{IsTable}
 use Rattle.mid_code.specs.declared.block.BlockProc.{BlockProc}
 use Rattle.mid_code.specs.declared.block.Blocks.{Blocks}
 use Rattle.mid_code.specs.declared.word.WordProc.{WordProc}
@@ -21,8 +22,10 @@ use Rattle.word_lowering.specs.declared.may_lower.TheConstants.{MOST_DATA}
 use Rattle.word_lowering.specs.declared.texts.TheConstants.{FIXED_BYTES}
 use Rattle.word_lowering.specs.Layouts.{layouts}
 use Rattle.word_lowering.specs.MayLower.{defs_may, procs_may, may_lower}
-use Rattle.word_lowering.specs.Lowers.{HasBounds}
-use Rattle.word_lowering.proofs.Bounds.{bounds}
+use Rattle.word_lowering.specs.Lowers.{Lowers}
+use Rattle.word_lowering.specs.Stored.{HaveForms}
+use Rattle.word_lowering.proofs.Cells.{MemoryLaw}
+use Rattle.word_lowering.proofs.BlocksFollowed.{lowers}
 
 -- the last item, by its number
 last_at : {A : Type 0} (none : A) (xs : List A) (n : ℕ) (x : A) → suc n ≡ length xs → slice_get xs n ≡ Some x → last_of none xs ≡ x
@@ -106,8 +109,8 @@ module _ (table : List TypeDef) (blocks : Blocks) where
       → x ≡ around_start table slices own → p ≡ word_proc x 0 start → first ≡ [] ++ p ∷ [] → Puts first second and_routines
       → third ≡ second ++ word_procs x 0 x.layouts slice → statics ≡ padded (data_in table own.free.datum slice)
       → bytes ≡ statics → (procs_may table slices slice && (nat_le (length bytes) MOST_DATA && defs_may table)) ≡ true
-      → (◌≡◌ {A = WordCode} (both third statics) (lowered table blocks)) × HasBounds table blocks (both third statics)
-  whole_by slice all slices own start x p first second third statics bytes s a l o f around e g puts h d b may =
+      → IsTable table → HaveForms table → MemoryLaw → Lowers table blocks (both third statics)
+  whole_by slice all slices own start x p first second third statics bytes s a l o f around e g puts h d b may is_table have law =
       let there : slices ≡ all_layouts table blocks.procs = l ∙ a ∙ ap (λ ps. layouts table FIXED_BYTES ps) s in
       let is : ◌≡◌ {A = WordCode} (both third statics) (lowered table blocks) =
       whole slices own start x third statics there (last_is no_layout slices own o)
@@ -119,4 +122,4 @@ module _ (table : List TypeDef) (blocks : Blocks) where
       ∙ ap (λ ps. procs_may table (all_layouts table blocks.procs) ps && (nat_le (length bytes) MOST_DATA && defs_may table)) s
       ∙ ap (λ bs. procs_may table (all_layouts table blocks.procs) blocks.procs && (nat_le (length bs) MOST_DATA && defs_may table))
       (b ∙ ap (λ (code : WordCode). code.statics) is)) ∙ may in
-      (is, subst (λ (code : WordCode). HasBounds table blocks code) (sym is) (bounds table blocks tested))
+      subst (λ (code : WordCode). Lowers table blocks code) (sym is) (lowers table blocks is_table have tested law)

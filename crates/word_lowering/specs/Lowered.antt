@@ -1,5 +1,5 @@
 -- The word code of block code as a whole: the start code first, then the routines, then the procedures in their order. No public contract
--- speaks of it but for its bounds.
+-- speaks of it.
 use Rattle.std.specs.Prelude.{ℕ, suc, nat_eq, ◌+◌, ◌-◌, Bool, true, false, ◌||◌, if◌then◌else◌}
 use Rattle.std.specs.Prelude.{List, [], ◌∷◌, length, map, Option, Some, None}
 use Rattle.nim_types.specs.declared.types.TypeDef.{TypeDef}

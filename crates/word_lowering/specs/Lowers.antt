@@ -18,8 +18,6 @@ use Rattle.mid_code.specs.Words.{is_counted, most_called, have_no_hooks, is_word
 use Rattle.word_lowering.specs.declared.lowering.TheConstants.{WORD_PACE, MOST_HEAP, ROUTINES_WEIGHT, ROUTINE_VARIABLES, MORE_DATA}
 use Rattle.word_lowering.specs.declared.may_lower.TheConstants.{MOST_ROOM, MOST_VARS, MOST_DATA}
 
--- ---- what is said of word code whatever block code does
-
 -- what doesn't count has no places and few variables, and calls nothing
 pub record IsRoutine (p : WordProc) : Type 0 where
   pub room : p.room ≡ 0
@@ -35,22 +33,6 @@ abbrev pub AreSmall : List WordProc → Type 0
 AreSmall [] = Unit {0}
 AreSmall (p ∷ procs) = IsSmall p × AreSmall procs
 
-pub record HasBounds (table : List TypeDef) (blocks : Blocks) (code : WordCode) : Type 0 where
-  -- it is well formed
-  pub formed : is_word_code code ≡ true
-  -- frames and places of 2,001 calls have room in a machine's stack
-  pub no_circle : has_no_circle code.procs ≡ true
-  pub small : AreSmall code.procs
-  -- its lines, and one for each procedure, by what block code weighs
-  pub weight : word_weight code.procs ≤ code_weight (map block_placed blocks.procs) + ROUTINES_WEIGHT
-  -- data is whole words, by what block code's is, and as much as an image has
-  pub whole : length code.statics % 4 ≡ 0
-  pub data_size : length code.statics ≤ data_bytes table (map block_placed blocks.procs) + MORE_DATA
-  pub data_most : length code.statics ≤ MOST_DATA
-  pub hooks : AreNone (block_hooks blocks) → have_no_hooks code.procs ≡ true
-
--- ---- what it means
-
 -- A program has no live objects yet, so there are none in any memory of word code.
 abbrev pub HasNoObjects : Lives → Type 0
 HasNoObjects live = (m : Memory) → live (as_state m) ≡ no_objects
@@ -63,4 +45,16 @@ pub record Lowers (table : List TypeDef) (blocks : Blocks) (code : WordCode) : T
   pub paced : (live : Lives) (heap stack : ℕ) (input : List ℕ) → HasNoObjects live → heap ≤ MOST_HEAP
       → Sound (block_meaning table blocks heap input)
       → Paced WORD_PACE (word_meaning live code heap stack input) (block_meaning table blocks heap input)
-  pub bounds : HasBounds table blocks code
+  -- it is well formed, whatever block code does
+  pub formed : is_word_code code ≡ true
+  -- frames and places of 2,001 calls have room in a machine's stack
+  pub no_circle : has_no_circle code.procs ≡ true
+  pub small : AreSmall code.procs
+  -- its lines, and one for each procedure, by what block code weighs
+  pub weight : word_weight code.procs ≤ code_weight (map block_placed blocks.procs) + ROUTINES_WEIGHT
+  -- data is whole words, by what block code's is, and as much as an image has
+  pub whole : length code.statics % 4 ≡ 0
+  pub data_size : length code.statics ≤ data_bytes table (map block_placed blocks.procs) + MORE_DATA
+  pub data_most : length code.statics ≤ MOST_DATA
+  -- a hook is one of block code
+  pub hooks : AreNone (block_hooks blocks) → have_no_hooks code.procs ≡ true

@@ -5,8 +5,8 @@ ghost use Rattle.word_lowering.specs.Emission.{Puts};
 ghost use Rattle.word_lowering.specs.LineCode.{proc_number};
 ghost use Rattle.word_lowering.specs.Lowered.{is_call, calls_in, first_code};
 ghost use Rattle.word_lowering.specs.Lowered.{result_cleared, kind_of, kind_in, code_of, word_proc};
-ghost use Rattle.word_lowering.specs.Lowered.{with_own, if_runs, word_procs, around_start, lowered};
-ghost use Rattle.word_lowering.specs.Lowers.{HasBounds};
+ghost use Rattle.word_lowering.specs.Lowered.{with_own, if_runs, word_procs, around_start};
+ghost use Rattle.word_lowering.specs.Lowers.{Lowers};
 ghost use Rattle.word_lowering.specs.Scope.{around_of};
 ghost use Rattle.word_lowering.specs.Stored.{HaveForms};
 
@@ -28,6 +28,7 @@ use mid_code::{
 };
 use nim_core::ACTIVE_CALLS;
 use nim_types::TypeTable;
+use rv32_isa::memories;
 use std::alloc::Global;
 
 /// Word code has at most so many lines carried out for each work of the block code that it is of.
@@ -244,9 +245,10 @@ fn start_scope<'a>(
 /// has, and where block code is such as no program makes (specs/MayLower.antt).
 pub fn words(alloc: Global, blocks: &Blocks, types: &TypeTable) -> Result<WordCode, Memory>
     requires { HaveForms types.now }
-    ensures lowered { IfOk result (λ code. code ≡ lowered types.now blocks.now) }
-    ensures bounds { IfOk result (λ code. HasBounds types.now blocks.now code) }
+    ensures { IfOk result (λ code. Lowers types.now blocks.now code) }
 {
+    memories();
+    let _types = types.count();
     let procs = blocks.procs.as_slice();
     let all = layouts(alloc, types, FIXED_BYTES, procs)?;
     let layouts = all.as_slice();

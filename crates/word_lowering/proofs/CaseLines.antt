@@ -1,0 +1,253 @@
+-- Labels of a `case`, and the turns of a loop.
+use Rattle.std.proofs.Common.{◌≡◌, ℕ, ◌+◌, ◌^◌, ◌<◌, ◌≤◌, List, [], ◌∷◌, ◌++◌, map, Some, Bool, true, false, ℤ, refl, sym}
+use Rattle.std.proofs.Common.{ap, ap₂, subst, ◌∙◌, arith}
+use Rattle.std.specs.Prelude.{◌-ℤ◌, int_lt, int_le, unsigned_abs, not, ◌&&◌, ◌==◌, nat_lt, if◌then◌else◌}
+use Rattle.std.specs.Ordering.{int_eq}
+use Rattle.std.proofs.lemmas.Int.{ints}
+use Rattle.std.proofs.lemmas.Bool.{and_parts, ltb-true, ltb-false}
+use Rattle.std.proofs.lemmas.Bool.Decides.{Decides-int_eq}
+use Rattle.rv32_isa.specs.Values.{subtracted}
+use Rattle.nim_core.specs.Ints.{fits as is_int_number}
+use Rattle.nim_core.specs.Values.{Value, number_of}
+use Rattle.mid_code.specs.declared.block.BlockLine.{BlockLine}
+use Rattle.mid_code.specs.declared.block.BlockLine.TheVariants as block_line
+use Rattle.mid_code.specs.declared.line.Line.{Line}
+use Rattle.mid_code.specs.declared.line.Line.TheVariants as L
+use Rattle.mid_code.specs.declared.word.WordOperation.TheVariants as operation
+use Rattle.mid_code.specs.declared.word.Test.TheVariants as test
+use Rattle.mid_code.specs.declared.word.WordInstr.{WordInstr}
+use Rattle.mid_code.specs.declared.word.WordInstr.TheVariants.{Constant, Compute, Branch}
+use Rattle.mid_code.specs.Words.{Vars, put, from_label}
+use Rattle.mid_code.specs.Lines.{leaps_where}
+use Rattle.mid_code.specs.Running.{scene_of}
+use Rattle.mid_code.specs.Codes.{block_plain}
+use Rattle.word_lowering.specs.declared.homes.TheConstants.{FIRST, SECOND}
+use Rattle.word_lowering.specs.Operations.{word}
+use Rattle.word_lowering.specs.LineCode.{own_label, variable_of}
+use Rattle.word_lowering.proofs.ShapeLemmas.{never}
+use Rattle.word_lowering.proofs.Arithmetic.{fits_signed, word_small, equal_is}
+use Rattle.word_lowering.proofs.CopyRuns.{got}
+use Rattle.word_lowering.proofs.OrdinalRuns.{put_low, Leads}
+use Rattle.word_lowering.proofs.OpRuns.{leads_off, leads_past, leads_constant, leads_computed}
+use Rattle.word_lowering.proofs.OperationRuns.{Led}
+use Rattle.word_lowering.proofs.Moves.{all_same}
+use Rattle.word_lowering.proofs.Runs.{none, at}
+use Rattle.word_lowering.proofs.Sites.{word_of, is_ranged, are_ranged}
+use Rattle.word_lowering.proofs.Scenes.{of_value, house}
+use Rattle.word_lowering.proofs.Related.{Both, body_of, procs, within, high as high_state, code_behind, StandAt}
+use Rattle.word_lowering.proofs.Lines.{Basis, fits_here, stands_next, changed, starts, IsGood, lower, Settles, using_settles, stays_on, good_same}
+use Rattle.word_lowering.proofs.ValueFacts.{Operand}
+use Rattle.word_lowering.proofs.ControlLines.{FollowedHere, number_operand, passes_settles, where_settles}
+
+-- ---- tests on numbers
+
+-- a number is one of those from one to another where it isn't further above the first than the last is
+range_is : (low high z : ℤ) → is_int_number low ≡ true → is_int_number high ≡ true → is_int_number z ≡ true → int_lt high low ≡ false
+    → not (nat_lt (unsigned_abs (high -ℤ low)) (subtracted (word z) (word low))) ≡ (int_le low z && int_le z high)
+range_is low high z fl fh fz le =
+    by (nat_lt (unsigned_abs (high -ℤ low)) (subtracted (word z) (word low))) (int_le low z) (int_le z high) refl refl refl
+  where
+    by : (p q r : Bool) → nat_lt (unsigned_abs (high -ℤ low)) (subtracted (word z) (word low)) ≡ p → int_le low z ≡ q → int_le z high ≡ r
+        → not p ≡ (q && r)
+    by false true true e f g = refl
+    by true false r e f g = refl
+    by true true false e f g = refl
+    by true true true e f g =
+        let a = fits_signed low fl in let b = fits_signed high fh in let d = fits_signed z fz in
+        let l = ltb-true (unsigned_abs (high -ℤ low)) (subtracted (word z) (word low)) e in absurd (omega (arith, ints))
+    by false false r e f g =
+        let a = fits_signed low fl in let b = fits_signed high fh in let d = fits_signed z fz in
+        let l = ltb-false (unsigned_abs (high -ℤ low)) (subtracted (word z) (word low)) e in absurd (omega (arith, ints))
+    by false true false e f g =
+        let a = fits_signed low fl in let b = fits_signed high fh in let d = fits_signed z fz in
+        let l = ltb-false (unsigned_abs (high -ℤ low)) (subtracted (word z) (word low)) e in absurd (omega (arith, ints))
+
+one_is : (low z : ℤ) → int_eq z low ≡ (int_le low z && int_le z low)
+one_is low z = by (int_eq z low) (int_le low z) (int_le z low) refl refl refl
+  where
+    by : (p q r : Bool) → int_eq z low ≡ p → int_le low z ≡ q → int_le z low ≡ r → p ≡ (q && r)
+    by true true true e f g = refl
+    by false false r e f g = refl
+    by false true false e f g = refl
+    by true false r e f g = let s = (Decides-int_eq z low).0 e in absurd (omega (arith, ints))
+    by true true false e f g = let s = (Decides-int_eq z low).0 e in absurd (omega (arith, ints))
+    by false true true e f g = never (sym e ∙ (Decides-int_eq z low).1 (omega (arith, ints)))
+
+none_is : (low high z : ℤ) → int_lt high low ≡ true → (int_le low z && int_le z high) ≡ false
+none_is low high z lt = by (int_le low z) (int_le z high) refl refl
+  where
+    by : (q r : Bool) → int_le low z ≡ q → int_le z high ≡ r → (q && r) ≡ false
+    by false r f g = refl
+    by true false f g = refl
+    by true true f g = absurd (omega (arith, ints))
+
+span_small : (low high : ℤ) → is_int_number low ≡ true → is_int_number high ≡ true → int_lt high low ≡ false → unsigned_abs
+    (high -ℤ low) < 2 ^ 32
+span_small low high fl fh le = let a = fits_signed low fl in let b = fits_signed high fh in omega (arith, ints)
+
+-- a line of a procedure whose labels are ints
+ranged_at : (before : List BlockLine) (line : Line) (rest : List BlockLine) → are_ranged (map block_plain (before ++ block_line.Plain line ∷ rest)) ≡ true
+    → is_ranged line ≡ true
+ranged_at [] line rest h = (and_parts _ _ h).0
+ranged_at (p ∷ before) line rest h = ranged_at before line rest (and_parts _ _ h).1
+
+module _ (x : Basis) (g : Both) (rest : List BlockLine) (from name : ℕ) (low high : ℤ) where
+  abbrev line : Line
+  line = L.Fits from low high name
+
+  module _ (y : IsGood x (starts g line rest)) (free : y.passed ≡ []) where
+    abbrev k : List WordInstr
+    k = code_behind x.table x.blocks (body_of g) rest
+
+    abbrev from_variable : ℕ
+    from_variable = variable_of (house g.call.site (of_value from))
+
+    stand : StandAt x.table x.blocks (body_of g) y.passed rest
+    stand = stands_next x.table x.blocks (body_of g) y.passed line rest y.stands
+
+    ranged : is_ranged line ≡ true
+    ranged = ranged_at y.stands.before line rest (subst (λ l. are_ranged (map block_plain l) ≡ true) y.stands.whole y.linked.0.ranged)
+
+    low_fits : is_int_number low ≡ true
+    low_fits = (and_parts (is_int_number low) (is_int_number high) ranged).0
+
+    high_fits : is_int_number high ≡ true
+    high_fits = (and_parts (is_int_number low) (is_int_number high) ranged).1
+
+    -- the code, by the tests on the labels
+    one_code : List WordInstr
+    one_code = Constant FIRST (word low) ∷ Branch test.Equal from_variable FIRST (own_label name) ∷ k
+
+    range_code : List WordInstr
+    range_code = Constant FIRST (word low) ∷ Compute FIRST operation.Subtract from_variable FIRST ∷ Constant SECOND (unsigned_abs (high -ℤ low))
+        ∷ Branch test.NotBelow SECOND FIRST (own_label name) ∷ k
+
+    abbrev Here : List WordInstr → List WordInstr → Type 0
+    Here code there = Led x.live (procs x.table x.blocks) (within x.table x.blocks g) g.memory g.words code g.call.vars there
+
+    abbrev Comes : List WordInstr → Type 0
+    Comes there = Here (code_behind x.table x.blocks (body_of g) (block_line.Plain line ∷ rest)) there
+
+    abbrev Stands : List WordInstr → Type 0
+    Stands there = from_label (own_label name) (word_of x.table x.blocks (body_of g)).lines ≡ Some there
+
+    abbrev Goal : ℤ → Type 0
+    Goal z = Settles x (starts g line rest) rest (leaps_where (int_le low z && int_le z high) name
+        (scene_of (high_state x.table x.blocks (starts g line rest))))
+
+    stays_here : (w : Vars) → Leads x.live (procs x.table x.blocks) (within x.table x.blocks g) g.memory g.words k w k 0
+    stays_here w = record { vars = w; same = all_same w; runs = none (lower x) (at (within x.table x.blocks g) g.memory k w g.words) }
+
+    -- one label
+    module _ (v : Value) (o : Operand x g.call from v) where
+      one_reads : put g.call.vars FIRST (word low) from_variable ≡ Some (word (number_of v))
+      one_reads = put_low g.call.vars FIRST (word low) from_variable (omega arith) o.high ∙ o.word_is
+
+      one_leads : (word (number_of v) == word low) ≡ true → (there : List WordInstr) → Stands there → Here one_code there
+      unfolding one_code
+      one_leads h there stands = record {
+        steps = 1 + 1;
+        some = omega arith;
+        few = omega arith;
+        leads = leads_constant x.live (procs x.table x.blocks) (within x.table x.blocks g) g.memory g.words
+            (Branch test.Equal from_variable FIRST (own_label name) ∷ k) there g.call.vars 1 FIRST
+            (word low) (omega arith) (omega arith)
+            (leads_off x.live (procs x.table x.blocks) (within x.table x.blocks g) g.memory g.words k there
+            (put g.call.vars FIRST (word low)) test.Equal from_variable FIRST (own_label name)
+            (word (number_of v)) (word low) one_reads (got (word low) (word_small low low_fits)) h stands);
+      }
+
+      one_passes : (word (number_of v) == word low) ≡ false → Here one_code k
+      unfolding one_code
+      one_passes h = record {
+        steps = 1 + (1 + 0);
+        some = omega arith;
+        few = omega arith;
+        leads = leads_constant x.live (procs x.table x.blocks) (within x.table x.blocks g) g.memory g.words
+            (Branch test.Equal from_variable FIRST (own_label name) ∷ k) k g.call.vars (1 + 0) FIRST
+            (word low) (omega arith) (omega arith)
+            (leads_past x.live (procs x.table x.blocks) (within x.table x.blocks g) g.memory g.words k k
+            (put g.call.vars FIRST (word low)) 0 test.Equal from_variable FIRST (own_label name)
+            (word (number_of v)) (word low) one_reads (got (word low) (word_small low low_fits)) h (stays_here (put g.call.vars FIRST (word low))));
+      }
+
+      -- a range
+      abbrev far : ℕ
+      far = subtracted (word (number_of v)) (word low)
+
+      abbrev span : ℕ
+      span = unsigned_abs (high -ℤ low)
+
+      abbrev last_vars : Vars
+      last_vars = put (put (put g.call.vars FIRST (word low)) FIRST far) SECOND span
+
+      range_by : (there : List WordInstr) (steps : ℕ) → Leads x.live (procs x.table x.blocks) (within x.table x.blocks g) g.memory g.words
+          (Branch test.NotBelow SECOND FIRST (own_label name) ∷ k) last_vars there steps → 0 < steps → steps ≤ 2 → Here range_code there
+      unfolding range_code
+      range_by there steps l some few = record {
+        steps = 1 + (1 + (1 + steps));
+        some = omega arith;
+        few = omega (arith, few);
+        leads = leads_constant x.live (procs x.table x.blocks) (within x.table x.blocks g) g.memory g.words
+            (Compute FIRST operation.Subtract from_variable FIRST ∷ Constant SECOND span ∷ Branch test.NotBelow SECOND FIRST (own_label name) ∷ k) there
+            g.call.vars (1 + (1 + steps)) FIRST
+            (word low) (omega arith) (omega arith)
+            (leads_computed x.live (procs x.table x.blocks) (within x.table x.blocks g) g.memory g.words
+            (Constant SECOND span ∷ Branch test.NotBelow SECOND FIRST (own_label name) ∷ k) there
+            (put g.call.vars FIRST (word low)) (1 + steps) FIRST operation.Subtract from_variable FIRST (word (number_of v)) (word low) (omega arith)
+            (omega arith) one_reads
+            (got (word low) (word_small low low_fits))
+            (leads_constant x.live (procs x.table x.blocks) (within x.table x.blocks g) g.memory g.words
+            (Branch test.NotBelow SECOND FIRST (own_label name) ∷ k) there
+            (put (put g.call.vars FIRST (word low)) FIRST far) steps SECOND span (omega arith) (omega arith) l));
+      }
+
+      module _ (le : int_lt high low ≡ false) where
+        range_leads : not (nat_lt span far) ≡ true → (there : List WordInstr) → Stands there → Here range_code there
+        range_leads h there stands = range_by there 1
+            (leads_off x.live (procs x.table x.blocks) (within x.table x.blocks g) g.memory g.words k there last_vars test.NotBelow SECOND FIRST
+            (own_label name) span far
+            (got span (span_small low high low_fits high_fits le)) (got far (omega arith)) h stands) (omega arith) (omega arith)
+
+        range_passes : not (nat_lt span far) ≡ false → Here range_code k
+        range_passes h = range_by k (1 + 0)
+            (leads_past x.live (procs x.table x.blocks) (within x.table x.blocks g) g.memory g.words k k last_vars 0 test.NotBelow SECOND FIRST
+            (own_label name) span far
+            (got span (span_small low high low_fits high_fits le)) (got far (omega arith)) h (stays_here last_vars)) (omega arith) (omega arith)
+
+      abbrev chosen : Bool → Bool → List WordInstr
+      chosen p q = if p then k else if q then one_code else range_code
+
+      is_chosen : (p q : Bool) → int_lt high low ≡ p → int_eq low high ≡ q → code_behind x.table x.blocks (body_of g) (block_line.Plain line ∷ rest)
+          ≡ chosen p q
+      unfolding one_code range_code
+      is_chosen p q e f = ap₂ chosen e f
+
+      goal : (p q : Bool) → int_lt high low ≡ p → int_eq low high ≡ q → Goal (number_of v)
+      goal true q e f =
+          let good = good_same x g line rest y free g.call.vars g.awaits rest (all_same g.call.vars)
+          (subst (λ p. StandAt x.table x.blocks (body_of g) p rest) free stand) in
+          where_settles x g rest line y free stand (int_le low (number_of v) && int_le (number_of v) high) name
+          (λ h. never (sym (none_is low high (number_of v) e) ∙ h))
+          (λ h. stays_on x (starts g line rest) (changed g rest g.call.temps g.call.vars g.memory g.words g.awaits g.world g.has) rest good 1
+          (scene_of (high_state x.table x.blocks (starts g line rest)))
+          (ap (λ l. at (within x.table x.blocks g) g.memory l g.call.vars g.words) (sym (is_chosen true q e f))) refl (omega arith))
+      goal false true e f =
+          let same : low ≡ high = (Decides-int_eq low high).0 f in
+          let is : (word (number_of v) == word low) ≡ (int_le low (number_of v) && int_le (number_of v) high)
+          = equal_is (number_of v) low o.fits low_fits ∙ one_is low (number_of v) ∙ ap (λ h. int_le low (number_of v) && int_le (number_of v) h) same in
+          where_settles x g rest line y free stand (int_le low (number_of v) && int_le (number_of v) high) name
+          (λ h there stands. subst (λ l. Here l there) (sym (is_chosen false true e f)) (one_leads (is ∙ h) there stands))
+          (λ h. passes_settles x g rest line y free stand (subst (λ l. Here l k) (sym (is_chosen false true e f)) (one_passes (is ∙ h))))
+      goal false false e f =
+          let is = range_is low high (number_of v) low_fits high_fits o.fits e in
+          where_settles x g rest line y free stand (int_le low (number_of v) && int_le (number_of v) high) name
+          (λ h there stands. subst (λ l. Here l there) (sym (is_chosen false false e f)) (range_leads e (is ∙ h) there stands))
+          (λ h. passes_settles x g rest line y free stand (subst (λ l. Here l k) (sym (is_chosen false false e f)) (range_passes e (is ∙ h))))
+
+  pub fits_line : FollowedHere x g rest (L.Fits from low high name)
+  fits_line y free =
+      using_settles x (starts g line rest) rest (g.call.temps.values from)
+      (λ v. leaps_where (int_le low (number_of v) && int_le (number_of v) high) name (scene_of (high_state x.table x.blocks (starts g line rest))))
+      (λ v e. goal y free v (number_operand x g rest line y from v (and_parts _ _ (fits_here x.table x.blocks (body_of g) y.passed line rest y.stands)).0 e)
+      (int_lt high low) (int_eq low high) refl refl)

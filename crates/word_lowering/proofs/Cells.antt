@@ -1,0 +1,82 @@
+-- Words in the memory of word code: what was put is read back, and other words read as before.
+use Rattle.std.proofs.Common.{◌≡◌, ℕ, ◌+◌, ◌%◌, ◌^◌, ◌<◌, ◌≤◌, ◌⊎◌, List, [], length, Some, Ok, Err, true, refl, sym, ap}
+use Rattle.std.proofs.Common.{subst, ◌∙◌, arith}
+use Rattle.std.specs.Prelude.{◌==◌, ◌&&◌, if◌then◌else◌}
+use Rattle.std.proofs.lemmas.Bool.{and_parts, cond-true}
+use Rattle.rv32_isa.specs.declared.micro_op.Size.TheVariants.{Word}
+use Rattle.rv32_isa.specs.declared.machine.FaultKind.TheVariants.{Misaligned}
+use Rattle.rv32_isa.specs.Words.{little, word_bytes}
+use Rattle.rv32_isa.specs.State.{State, readable, writable, filled}
+use Rattle.rv32_isa.specs.Steps.{number_of, low_bytes}
+use Rattle.rv32_isa.specs.Regions.{HasRegions, KeepsSizes}
+use Rattle.mid_code.specs.Memory.{Memory, as_state, memory_of, number_at, may_put, with_number, bytes_at}
+
+-- what the law of the machine's memory says
+pub record MemoryLaw : Type 0 where
+  pub sizes : (s : State) (at : ℕ) (bytes : List ℕ) → writable s at (length bytes) ≡ true → KeepsSizes s (filled s at bytes)
+  pub regions : (s t : State) → HasRegions s → KeepsSizes s t → HasRegions t
+  pub stores : (s t : State) (at n : ℕ) → KeepsSizes s t → writable t at n ≡ writable s at n
+  pub here : (s : State) (at : ℕ) (bytes : List ℕ) → HasRegions s → writable s at (length bytes) ≡ true
+      → readable (filled s at bytes) at (length bytes) ≡ Some bytes
+  pub elsewhere : (s : State) (at : ℕ) (bytes : List ℕ) (other n : ℕ) → writable s at (length bytes) ≡ true
+      → (other + n ≤ at) ⊎ (at + length bytes ≤ other) → readable (filled s at bytes) other n ≡ readable s other n
+
+-- memory whose regions are as large as the machine's
+abbrev pub Sized : Memory → Type 0
+Sized m = HasRegions (as_state m)
+
+-- a state without registers and code is its memory
+state_with : State → List ℕ → ℕ → List ℕ → State
+state_with t regs pc code = record { regs = regs; pc = pc; code = code; statics = t.statics; heap = t.heap; stack = t.stack }
+
+same_state : (t : State) → t.regs ≡ [] → t.pc ≡ 0 → t.code ≡ [] → as_state (memory_of t) ≡ t
+unfolding state_with
+same_state t r p c =
+    ap (λ x. state_with t x 0 []) (sym r) ∙ ap (λ x. state_with t t.regs x []) (sym p) ∙ ap (λ x. state_with t t.regs t.pc x) (sym c)
+
+length-low : (w : ℕ) → length (low_bytes Word w) ≡ 4
+unfolding word_bytes
+length-low w = refl
+
+little-low : (w : ℕ) → w < 2 ^ 32 → little (low_bytes Word w) ≡ w
+unfolding word_bytes
+little-low w h = omega arith
+
+module _ (law : MemoryLaw) (m : Memory) (a w : ℕ) (sized : Sized m) (may : may_put m a Word ≡ true) where
+  open_range : writable (as_state m) a (length (low_bytes Word w)) ≡ true
+  open_range = ap (λ n. writable (as_state m) a n) (length-low w) ∙ (and_parts _ _ may).1
+
+  kept : KeepsSizes (as_state m) (filled (as_state m) a (low_bytes Word w))
+  kept = law.sizes (as_state m) a (low_bytes Word w) open_range
+
+  -- the memory behind the store, as a state
+  pub put_state : as_state (with_number m a Word w) ≡ filled (as_state m) a (low_bytes Word w)
+  put_state = same_state _ kept.regs kept.pc kept.code
+
+  pub put_sized : Sized (with_number m a Word w)
+  put_sized = subst HasRegions (sym put_state) (law.regions _ _ sized kept)
+
+  -- the same words may be put
+  pub put_may : (b : ℕ) → may_put (with_number m a Word w) b Word ≡ may_put m b Word
+  put_may b = ap (λ x. (b % 4 == 0) && x) (ap (λ s. writable s b 4) put_state ∙ law.stores _ _ b 4 kept)
+
+  pub put_here : w < 2 ^ 32 → number_at (with_number m a Word w) a Word ≡ Ok w
+  put_here small =
+      cond-true (a % 4 == 0) _ (Err Misaligned) (and_parts _ _ may).0
+      ∙ ap number_of (ap (λ s. readable s a 4) put_state
+      ∙ ap (λ n. readable (filled (as_state m) a (low_bytes Word w)) a n) (sym (length-low w))
+      ∙ law.here (as_state m) a (low_bytes Word w) sized open_range)
+      ∙ ap Ok (little-low w small)
+
+  -- a word that doesn't overlap it
+  pub put_elsewhere : (b : ℕ) → (b + 4 ≤ a) ⊎ (a + 4 ≤ b) → number_at (with_number m a Word w) b Word ≡ number_at m b Word
+  put_elsewhere b apart =
+      ap (λ o. if b % 4 == 0 then number_of o else Err Misaligned)
+      (ap (λ s. readable s b 4) put_state
+      ∙ law.elsewhere (as_state m) a (low_bytes Word w) b 4 open_range (subst (λ n. (b + 4 ≤ a) ⊎ (a + n ≤ b)) (sym (length-low w)) apart))
+
+  -- bytes that don't overlap it
+  pub put_beside : (b n : ℕ) → (b + n ≤ a) ⊎ (a + 4 ≤ b) → bytes_at (with_number m a Word w) b n ≡ bytes_at m b n
+  put_beside b n apart =
+      ap (λ s. readable s b n) put_state
+      ∙ law.elsewhere (as_state m) a (low_bytes Word w) b n open_range (subst (λ k. (b + n ≤ a) ⊎ (a + k ≤ b)) (sym (length-low w)) apart)

@@ -1,0 +1,132 @@
+-- What word code does that calls a procedure with lines, up to the first line of that one.
+use Rattle.std.proofs.Common.{◌≡◌, ℕ, suc, ◌+◌, ◌%◌, ◌^◌, ◌≤◌, List, [], ◌∷◌, length, map}
+use Rattle.std.proofs.Common.{Option, Some, None, Bool, true, false}
+use Rattle.std.proofs.Common.{refl, sym, ap, ap₂, subst, ◌∙◌, arith}
+use Rattle.std.specs.Prelude.{nat_le, if◌then◌else◌}
+use Rattle.std.proofs.lemmas.Bool.{and_right, cond-false, lt-leb}
+use Rattle.arc_base.specs.Stepping.{Goes, Faults}
+use Rattle.arc_base.specs.Simulation.{Steps}
+use Rattle.mid_code.specs.declared.block.BlockLine.{BlockLine}
+use Rattle.mid_code.specs.declared.line.Line.TheVariants as L
+use Rattle.mid_code.specs.declared.place.HookOf.{HookOf}
+use Rattle.mid_code.specs.declared.word.WordInstr.{WordInstr}
+use Rattle.mid_code.specs.declared.word.WordInstr.TheVariants.{Argument, Call}
+use Rattle.mid_code.specs.declared.word.WordProc.{WordProc}
+use Rattle.mid_code.specs.Running.{seen_call as block_seen}
+use Rattle.mid_code.specs.Words.{Vars, no_words, put, params_of, WordFrame, WordState, seen_call, is_counted, counted, most_calls, is_full, scene_of, entered}
+use Rattle.word_lowering.specs.declared.homes.TheConstants.{LEFT, NEXT}
+use Rattle.word_lowering.specs.declared.spots.Spot.{Spot}
+use Rattle.word_lowering.specs.declared.spots.Spot.TheVariants.{Held, Lies}
+use Rattle.word_lowering.specs.Spots.{spot_of}
+use Rattle.word_lowering.specs.LineCode.{called_code, given_code, entered_code, value, proc_number}
+use Rattle.word_lowering.specs.Lowered.{kind_of, kind_in}
+use Rattle.word_lowering.proofs.Runs.{Within, at, one, on, run_argument}
+use Rattle.word_lowering.proofs.Sites.{room, around, word_of}
+use Rattle.word_lowering.proofs.Callees.{Callee}
+use Rattle.word_lowering.proofs.Related.{Both, Waits, called_by, body_of, sites_of, procs, within, code_behind, awaits_in, awaits_for, goes_on, left_for}
+use Rattle.word_lowering.proofs.Related.{frame_of}
+use Rattle.word_lowering.proofs.Lines.{Basis, starts, IsGood, lower}
+use Rattle.word_lowering.proofs.OrdinalLines.{TrapsStop}
+use Rattle.word_lowering.proofs.CallLines.{call_fit, callee, code_called}
+
+-- calls that count are calls
+counted_most : (frames : List WordFrame) → counted frames ≤ length frames
+counted_most [] = omega arith
+counted_most (f ∷ frames) = by (is_counted f.proc.kind) (counted_most frames)
+  where
+    by : (b : Bool) → counted frames ≤ length frames → (if b then suc (counted frames) else counted frames) ≤ suc (length frames)
+    by true h = omega (arith, h)
+    by false h = omega (arith, h)
+
+module _ {A B : Type 0} (f : A → B) where
+  map_length : (xs : List A) → length (map f xs) ≡ length xs
+  map_length [] = refl
+  map_length (x ∷ xs) = ap suc (map_length xs)
+
+-- the same is seen of both
+pub seen_same : (hook : Option HookOf) → seen_call (kind_of hook) ≡ block_seen hook
+seen_same None = refl
+seen_same (Some hook) = refl
+
+module _ (x : Basis) (traps : TrapsStop x) (g : Both) (rest : List BlockLine) (to : Option ℕ) (proc : ℕ)
+    (y : IsGood x (starts g (L.Call to proc) rest)) where
+  abbrev c : Callee x.table x.blocks proc (call_fit x traps g rest to proc y).signature
+  c = callee x traps g rest to proc y
+
+  abbrev k : List WordInstr
+  k = code_behind x.table x.blocks (body_of g) rest
+
+  -- the call that waits then
+  abbrev pub waits_then : Waits
+  waits_then = record { call = g.call; rest = rest; to = to; proc = proc }
+
+  given_is : (to : Option ℕ) → given_code (around x.table x.blocks (body_of g)) proc to k
+      ≡ Call (awaits_for x.table x.blocks (body_of g) to) (proc_number proc) ∷ left_for x.table x.blocks (body_of g) to proc k
+  given_is None = refl
+  given_is (Some t) = by (spot_of (value (around x.table x.blocks (body_of g)) t))
+    where
+      by : (s : Spot) → entered_code (around x.table x.blocks (body_of g)) proc (value (around x.table x.blocks (body_of g)) t) s
+          (code_behind x.table x.blocks (body_of g) rest)
+          ≡ Call (awaits_in x.table x.blocks s) (proc_number proc)
+          ∷ goes_on x.table x.blocks (body_of g) (value (around x.table x.blocks (body_of g)) t) s proc (code_behind x.table x.blocks (body_of g) rest)
+      by (Held v) = refl
+      by (Lies home) = refl
+
+  -- the new call
+  abbrev pub within_then : Within
+  within_then = record {
+    input = g.input;
+    proc = word_of x.table x.blocks c.body;
+    base = g.call.site.base + room (body_of g);
+    awaits = 0;
+    callers = frame_of x.table x.blocks waits_then ∷ map (frame_of x.table x.blocks) g.waiting;
+  }
+
+  -- to its first line
+  pub record Entered (left : ℕ) : Type 0 where
+    pub steps : Steps (lower x) 2 (at (within x.table x.blocks g) g.memory (code_called x traps g rest to proc y) g.call.vars g.words)
+        (block_seen c.body.proc.hook) 2
+        (at within_then g.memory (word_of x.table x.blocks c.body).lines
+        (params_of (word_of x.table x.blocks c.body) (put g.words LEFT left)) no_words)
+
+  pub enters : (left : ℕ) → g.call.site.left ≡ suc left → g.call.vars NEXT ≡ Some left → c.body.own.runs ≡ true → Entered left
+  enters left e next runs =
+      let p : WordProc = word_of x.table x.blocks c.body in
+      let to_variable : ℕ = awaits_for x.table x.blocks (body_of g) to in
+      let after : List WordInstr = left_for x.table x.blocks (body_of g) to proc k in
+      let l1 : List WordInstr = Call to_variable (proc_number proc) ∷ after in
+      let code : code_called x traps g rest to proc y ≡ Argument LEFT NEXT ∷ l1
+      = ap (λ b. called_code (around x.table x.blocks (body_of g)) proc to b k) (ap (λ l. l.runs) c.layout ∙ runs)
+      ∙ ap (λ l. Argument LEFT NEXT ∷ l) (given_is to) in
+      let words : Vars = put g.words LEFT left in
+      let s : WordState = at (within x.table x.blocks g) g.memory l1 g.call.vars words in
+      let t : WordState = at within_then g.memory p.lines (params_of p words) no_words in
+      let r1 = run_argument x.live (procs x.table x.blocks) (within x.table x.blocks g) g.memory l1 g.call.vars g.words LEFT NEXT next in
+      let found = c.found runs in
+      let many = map_length (frame_of x.table x.blocks) g.waiting in
+      let levels = sites_many in
+      let least = counted_most (s.frame ∷ s.callers) in
+      let full : is_full p (s.frame ∷ s.callers) ≡ false
+      = and_right (is_counted p.kind) (nat_le most_calls (counted (s.frame ∷ s.callers)))
+      (lt-leb most_calls (counted (s.frame ∷ s.callers)) (omega (arith, many, levels, least, e, y.linked.3))) in
+      let shown : seen_call p.kind ≡ block_seen c.body.proc.hook
+      = ap (λ b. seen_call (kind_in b c.body.proc.hook)) c.start ∙ seen_same c.body.proc.hook in
+      let near = x.places in
+      let enough = x.enough (sites_of g) y.linked in
+      let base : (g.call.site.base + room (body_of g)) % 2 ^ 32 ≡ g.call.site.base + room (body_of g) = omega (arith, near, enough) in
+      let r2 : Steps (lower x) 1 s (block_seen c.body.proc.hook) 1 t
+      = one (lower x) (ap (entered s after (scene_of s) to_variable) found.1
+      ∙ cond-false (is_full p (s.frame ∷ s.callers)) Faults (Goes (seen_call p.kind) 1
+      (record t { frame = record t.frame { base = (g.call.site.base + room (body_of g)) % 2 ^ 32 } })) full
+      ∙ ap₂ (λ es b. Goes es 1 (record t { frame = record t.frame { base = b } })) shown base) in
+      record {
+        steps = subst (λ l. Steps (lower x) 2 (at (within x.table x.blocks g) g.memory l g.call.vars g.words) (block_seen c.body.proc.hook) 2 t) (sym code)
+            (on (lower x) r1 r2);
+      }
+    where
+      sites_many : g.call.site.level ≡ length g.waiting
+      sites_many = y.linked.2 ∙ by g.waiting
+        where
+          by : (ws : List Waits) → length (map (λ d. d.site) (map called_by ws)) ≡ length ws
+          by [] = refl
+          by (w ∷ ws) = ap suc (by ws)

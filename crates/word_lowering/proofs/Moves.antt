@@ -1,0 +1,328 @@
+-- What the code does that moves a value from one place to another.
+use Rattle.std.proofs.Common.{◌≡◌, ℕ, zero, suc, ◌+◌, ◌*◌, ◌%◌, ◌^◌, ◌<◌, ◌≤◌, List, ◌∷◌, Some, ℤ, pos, Bool, true}
+use Rattle.std.proofs.Common.{false, refl, sym, subst, ◌∙◌, arith}
+use Rattle.rv32_isa.specs.declared.micro_op.Size.TheVariants.{Word as whole}
+use Rattle.rv32_isa.specs.Machine.{Lives}
+use Rattle.nim_core.specs.Values.{Value, Number, Parts, Values, bytes, number_of}
+use Rattle.mid_code.specs.declared.word.WordInstr.{WordInstr}
+use Rattle.mid_code.specs.declared.word.WordInstr.TheVariants.{Constant, Place, Datum, Load, Store}
+use Rattle.mid_code.specs.declared.word.WordProc.{WordProc}
+use Rattle.mid_code.specs.Memory.{Memory, with_number}
+use Rattle.mid_code.specs.Words.{Vars, no_words, put, from_proc}
+use Rattle.word_lowering.specs.declared.homes.TheConstants.{OWN_FROM, FIRST, SECOND, THIRD}
+use Rattle.word_lowering.specs.declared.homes.Home.{Home}
+use Rattle.word_lowering.specs.declared.homes.Home.TheVariants.{Variable, Placed, Static}
+use Rattle.word_lowering.specs.declared.spots.Spot.{Spot}
+use Rattle.word_lowering.specs.declared.spots.Spot.TheVariants.{Held, Lies}
+use Rattle.word_lowering.specs.declared.routines.TheConstants.{COPY, CLEAR}
+use Rattle.word_lowering.specs.Spots.{address, copied, moved, zeros, cleared}
+use Rattle.word_lowering.specs.Operations.{word}
+use Rattle.word_lowering.specs.Routines.{routine, copy_lines, clear_lines}
+use Rattle.word_lowering.proofs.Cells.{MemoryLaw, Sized, put_here}
+use Rattle.word_lowering.proofs.Areas.{Cell, Area, with_copied, with_zeros}
+use Rattle.word_lowering.proofs.InMemory.{IsAt, AllZero, bytes_whole, bytes_some, carried, zero_at}
+use Rattle.word_lowering.proofs.Copied.{span, span_is, Changed, Separate, changed_word, copied_to, cleared_at}
+use Rattle.word_lowering.proofs.Runs.{Runs, then_runs, Within, at, run_constant, run_copy, run_place, run_datum, run_load, run_store}
+use Rattle.word_lowering.proofs.CopyRuns.{got}
+use Rattle.word_lowering.proofs.RoutineCalls.{awaiting, copy_called, clear_called}
+use Rattle.word_lowering.proofs.OrdinalRuns.{put_here as var_here, put_low, AllBut, AllSame, but_one}
+use Rattle.word_lowering.proofs.Scenes.{Points}
+
+-- ---- variables
+
+pub all_same : (v : Vars) → AllSame v v
+all_same v = record { others = λ u h. refl; left = refl; one = refl; next = refl }
+
+pub same_more : (u v w : Vars) → AllSame u v → AllSame v w → AllSame u w
+same_more u v w x y = record {
+  others = λ n h. y.others n h ∙ x.others n h;
+  left = y.left ∙ x.left;
+  one = y.one ∙ x.one;
+  next = y.next ∙ x.next;
+}
+
+pub same_first : (v : Vars) (n : ℕ) → AllSame v (put v FIRST n)
+same_first v n = record { others = λ u h. put_low v FIRST n u (omega arith) h; left = refl; one = refl; next = refl }
+
+pub same_second : (v : Vars) (n : ℕ) → AllSame v (put v SECOND n)
+same_second v n = record { others = λ u h. put_low v SECOND n u (omega arith) h; left = refl; one = refl; next = refl }
+
+pub same_third : (v : Vars) (n : ℕ) → AllSame v (put v THIRD n)
+same_third v n = record { others = λ u h. put_low v THIRD n u (omega arith) h; left = refl; one = refl; next = refl }
+
+-- ---- values
+
+-- one word
+abbrev pub is_single : Value → Bool
+is_single (Number z) = true
+is_single (Parts vs) = false
+
+abbrev pub single_word : Value → ℕ
+single_word x = word (number_of x)
+
+-- the variables that spots name are those of places, and a variable holds one word
+abbrev pub IsHigh : Home → Type 0
+IsHigh (Variable v) = OWN_FROM ≤ v
+IsHigh (Placed a) = Unit {0}
+IsHigh (Static a) = Unit {0}
+
+abbrev pub MaySpot : Spot → Value → Type 0
+MaySpot (Held v) (Number z) = OWN_FROM ≤ v
+MaySpot (Held v) (Parts vs) = ⊥
+MaySpot (Lies home) x = IsHigh home
+
+-- words that may be read and written
+abbrev pub IsArea : Memory → (at bytes : ℕ) → Type 0
+IsArea m a bytes = (n : ℕ) → 4 * n ≤ bytes → Area m a n
+
+-- a value that is where a spot says, at an address that is known
+abbrev pub From : Memory → (base : ℕ) → Vars → Spot → Value → Type 0
+From m base v (Held u) x = v u ≡ Some (single_word x)
+From m base v (Lies home) x = (a : ℕ) × Points base v home a × IsAt m a x × (a + bytes x < 2 ^ 32) × IsArea m a (bytes x)
+
+-- whole words, of which there are some
+pub words_of : (n : ℕ) → n % 4 ≡ 0 → 4 ≤ n → (k : ℕ) × (n ≡ 4 * suc k)
+words_of (suc (suc (suc (suc n)))) e h = by n e
+  where
+    by : (n : ℕ) → suc (suc (suc (suc n))) % 4 ≡ 0 → (k : ℕ) × (suc (suc (suc (suc n))) ≡ 4 * suc k)
+    by zero e = (0, refl)
+    by (suc zero) e = absurd (omega (arith, e))
+    by (suc (suc zero)) e = absurd (omega (arith, e))
+    by (suc (suc (suc zero))) e = absurd (omega (arith, e))
+    by (suc (suc (suc (suc n)))) e = let r = by n (omega (arith, e)) in (suc r.0, omega (arith, r.1))
+words_of zero e h = absurd (omega (arith, h))
+words_of (suc zero) e h = absurd (omega (arith, h))
+words_of (suc (suc zero)) e h = absurd (omega (arith, h))
+words_of (suc (suc (suc zero))) e h = absurd (omega (arith, h))
+
+module _ (law : MemoryLaw) (live : Lives) (procs : List WordProc) (c : Within) (from_first : c.proc.data_from ≡ 0) (g : Vars) where
+  -- a variable gets the address of a home
+  pub address_runs : (m : Memory) (k : List WordInstr) (v : Vars) (to : ℕ) (home : Home) (a : ℕ) → Points c.base v home a
+      → Runs live procs 1 (at c m (address to home ∷ k) v g) (at c m k (put v to a) g)
+  address_runs m k v to (Variable u) a p = run_copy live procs c m k v g to u p
+  address_runs m k v to (Placed n) a p =
+      subst (λ x. Runs live procs 1 (at c m (Place to n ∷ k) v g) (at c m k (put v to x) g)) (sym p) (run_place live procs c m k v g to n)
+  address_runs m k v to (Static n) a p =
+      subst (λ x. Runs live procs 1 (at c m (Datum to n ∷ k) v g) (at c m k (put v to x) g)) (omega (arith, p, from_first))
+      (run_datum live procs c m k v g to n)
+
+  -- where variables of places are as before, homes point where they did
+  pub points_same : (v w : Vars) (home : Home) (a : ℕ) → IsHigh home → AllSame v w → Points c.base v home a → Points c.base w home a
+  points_same v w (Variable u) a high same p = same.others u high ∙ p
+  points_same v w (Placed n) a high same p = p
+  points_same v w (Static n) a high same p = p
+
+  -- ---- to a variable
+
+  pub record ToVariable (m : Memory) (lines : List WordInstr) (v : Vars) (t : ℕ) (x : Value) (k : List WordInstr) : Type 0 where
+    pub vars : Vars
+    pub given : vars t ≡ Some (single_word x)
+    pub but : AllBut v t vars
+    pub steps : ℕ
+    pub some : 0 < steps
+    pub few : steps ≤ 2
+    pub runs : Runs live procs steps (at c m lines v g) (at c m k vars g)
+
+  pub number_to_variable : (m : Memory) (k : List WordInstr) (v : Vars) (t : ℕ) → OWN_FROM ≤ t → (z : ℤ) → word z < 2 ^ 32
+      → (is_word : Bool) (n : ℕ) (from : Spot) → MaySpot from (Number z) → From m c.base v from (Number z)
+      → ToVariable m (moved is_word n (Held t) from k) v t (Number z) k
+  number_to_variable m k v t high z small is_word n (Held u) may e = record {
+    vars = put v t (word z);
+    given = var_here v t (word z) small;
+    but = but_one v v t (word z) high (all_same v);
+    steps = 1;
+    some = omega arith;
+    few = omega arith;
+    runs = run_copy live procs c m k v g t u e;
+  }
+  number_to_variable m k v t high z small is_word n (Lies home) may e =
+      let b : ℕ = e.0 in
+      let v1 : Vars = put v SECOND b in
+      let r1 : Runs live procs 1 (at c m (address SECOND home ∷ Load t SECOND whole ∷ k) v g) (at c m (Load t SECOND whole ∷ k) v1 g)
+      = address_runs m (Load t SECOND whole ∷ k) v SECOND home b e.1 in
+      let r2 : Runs live procs 1 (at c m (Load t SECOND whole ∷ k) v1 g) (at c m k (put v1 t (word z)) g)
+      = run_load live procs c m k v1 g t SECOND whole (got b (omega (arith, e.3))) e.2 in
+      record {
+        vars = put v1 t (word z);
+        given = var_here v1 t (word z) small;
+        but = but_one v v1 t (word z) high (same_second v b);
+        steps = 2;
+        some = omega arith;
+        few = omega arith;
+        runs = then_runs live procs r1 r2;
+      }
+
+  -- ---- to memory
+
+  pub record ToMemory (m : Memory) (lines : List WordInstr) (v : Vars) (a : ℕ) (x : Value) (most : ℕ) (k : List WordInstr) : Type 0 where
+    pub memory : Memory
+    pub vars : Vars
+    pub words : Vars
+    pub awaits : ℕ
+    pub same : AllSame v vars
+    pub changed : Changed m memory a (bytes x)
+    pub there : IsAt memory a x
+    pub steps : ℕ
+    pub some : 0 < steps
+    pub few : steps ≤ most
+    pub runs : Runs live procs steps (at c m lines v g) (at (awaiting c awaits) memory k vars words)
+
+  module _ (m : Memory) (sized : Sized m) (k : List WordInstr) (v : Vars) (home : Home) (a : ℕ) (points : Points c.base v home a) where
+    pub number_to_memory : (z : ℤ) → word z < 2 ^ 32 → Cell m a → a < 2 ^ 32 → (n : ℕ) (from : Spot) → MaySpot from (Number z)
+        → From m c.base v from (Number z) → ToMemory m (moved true n (Lies home) from k) v a (Number z) 4 k
+    number_to_memory z small cell near n (Held u) may e =
+        let v1 : Vars = put v FIRST a in
+        let r1 : Runs live procs 1 (at c m (address FIRST home ∷ Store FIRST u whole ∷ k) v g) (at c m (Store FIRST u whole ∷ k) v1 g)
+        = address_runs m (Store FIRST u whole ∷ k) v FIRST home a points in
+        let e1 : v1 u ≡ Some (word z) = put_low v FIRST a u (omega arith) may ∙ e in
+        let r2 : Runs live procs 1 (at c m (Store FIRST u whole ∷ k) v1 g) (at c (with_number m a whole (word z)) k v1 g)
+        = run_store live procs c m k v1 g FIRST u whole (got a near) e1 cell.may in
+        record {
+          memory = with_number m a whole (word z);
+          vars = v1;
+          words = g;
+          awaits = c.awaits;
+          same = same_first v a;
+          changed = changed_word law m a (word z) sized cell small;
+          there = put_here law m a (word z) sized cell.may small;
+          steps = 2;
+          some = omega arith;
+          few = omega arith;
+          runs = then_runs live procs r1 r2;
+        }
+    number_to_memory z small cell near n (Lies other) may e =
+        let b : ℕ = e.0 in
+        let v1 : Vars = put v FIRST a in
+        let v2 : Vars = put v1 SECOND b in
+        let v3 : Vars = put v2 THIRD (word z) in
+        let k3 : List WordInstr = Store FIRST THIRD whole ∷ k in
+        let k2 : List WordInstr = Load THIRD SECOND whole ∷ k3 in
+        let r1 : Runs live procs 1 (at c m (address FIRST home ∷ address SECOND other ∷ k2) v g) (at c m (address SECOND other ∷ k2) v1 g)
+        = address_runs m (address SECOND other ∷ k2) v FIRST home a points in
+        let r2 : Runs live procs 1 (at c m (address SECOND other ∷ k2) v1 g) (at c m k2 v2 g)
+        = address_runs m k2 v1 SECOND other b (points_same v v1 other b may (same_first v a) e.1) in
+        let r3 : Runs live procs 1 (at c m k2 v2 g) (at c m k3 v3 g)
+        = run_load live procs c m k3 v2 g THIRD SECOND whole (got b (omega (arith, e.3))) e.2 in
+        let r4 : Runs live procs 1 (at c m k3 v3 g) (at c (with_number m a whole (word z)) k v3 g)
+        = run_store live procs c m k v3 g FIRST THIRD whole (got a near) (got (word z) small) cell.may in
+        record {
+          memory = with_number m a whole (word z);
+          vars = v3;
+          words = g;
+          awaits = c.awaits;
+          same = same_more v v1 v3 (same_first v a) (same_more v1 v2 v3 (same_second v1 b) (same_third v2 (word z)));
+          changed = changed_word law m a (word z) sized cell small;
+          there = put_here law m a (word z) sized cell.may small;
+          steps = 4;
+          some = omega arith;
+          few = omega arith;
+          runs = then_runs live procs (then_runs live procs r1 r2) (then_runs live procs r3 r4);
+        }
+
+    pub parts_to_memory : (others : List WordProc) → from_proc COPY procs ≡ routine COPY 3 5 copy_lines ∷ others
+        → (vs : Values) → IsArea m a (bytes (Parts vs)) → a + bytes (Parts vs) < 2 ^ 32 → (other : Home) → IsHigh other
+        → (source : From m c.base v (Lies other) (Parts vs)) → Separate law a source.0 (bytes (Parts vs))
+        → ToMemory m (moved false (bytes (Parts vs)) (Lies home) (Lies other) k) v a (Parts vs) (10 + 2 * bytes (Parts vs)) k
+    parts_to_memory others stands vs area near other high source apart = by (bytes (Parts vs)) refl
+        (words_of (bytes (Parts vs)) (bytes_whole (Parts vs)) (bytes_some (Parts vs)))
+      where
+        b : ℕ
+        b = source.0
+
+        by : (n : ℕ) → bytes (Parts vs) ≡ n → (j : ℕ) × (n ≡ 4 * suc j)
+            → ToMemory m (moved false n (Lies home) (Lies other) k) v a (Parts vs) (10 + 2 * bytes (Parts vs)) k
+        by n size (j, is) =
+            let there : Area m a (suc j) = area (suc j) (omega (arith, size, is)) in
+            let here : Area m b (suc j) = source.4 (suc j) (omega (arith, size, is)) in
+            let all : span (suc j) ≡ bytes (Parts vs) = span_is (suc j) ∙ sym is ∙ sym size in
+            let v1 : Vars = put v FIRST a in
+            let v2 : Vars = put v1 SECOND b in
+            let k2 : List WordInstr = copied false n k in
+            let r1 : Runs live procs 1 (at c m (address FIRST home ∷ address SECOND other ∷ k2) v g) (at c m (address SECOND other ∷ k2) v1 g)
+            = address_runs m (address SECOND other ∷ k2) v FIRST home a points in
+            let r2 : Runs live procs 1 (at c m (address SECOND other ∷ k2) v1 g) (at c m k2 v2 g)
+            = address_runs m k2 v1 SECOND other b (points_same v v1 other b high (same_first v a) source.1) in
+            let w : Vars = put (put v2 THIRD (4 * suc j)) FIRST 4 in
+            let r3 : Runs live procs (8 + 6 * suc j) (at c m (copied false (4 * suc j) k) v2 g)
+            (at (awaiting c FIRST) (with_copied (suc j) m a b) k w no_words)
+            = copy_called law live procs c k others stands j m a b v2 g (got a (omega (arith, near))) (got b (omega (arith, source.3)))
+            (omega (arith, near, size, is)) (omega (arith, source.3, size, is)) sized there here in
+            let copy = copied_to law (suc j) m a b sized there here (subst (Separate law a b) (sym all) apart) in
+            record {
+              memory = with_copied (suc j) m a b;
+              vars = w;
+              words = no_words;
+              awaits = FIRST;
+              same = same_more v v1 w (same_first v a) (same_more v1 v2 w (same_second v1 b)
+                  (same_more v2 (put v2 THIRD (4 * suc j)) w (same_third v2 (4 * suc j)) (same_first (put v2 THIRD (4 * suc j)) 4)));
+              changed = subst (Changed m (with_copied (suc j) m a b) a) all copy.changed;
+              there = carried m (with_copied (suc j) m a b) b a (Parts vs)
+                  (λ o within is_whole. copy.same o (omega (arith, within, all)) is_whole) source.2;
+              steps = 2 + (8 + 6 * suc j);
+              some = omega arith;
+              few = omega (arith, size, is);
+              runs = then_runs live procs (then_runs live procs r1 r2)
+                  (subst (λ i. Runs live procs (8 + 6 * suc j) (at c m (copied false i k) v2 g)
+                  (at (awaiting c FIRST) (with_copied (suc j) m a b) k w no_words)) (sym is) r3);
+            }
+
+    -- ---- zeros
+
+    pub zero_to_memory : (n : ℕ) → Cell m a → a < 2 ^ 32 → ToMemory m (cleared true n (Lies home) k) v a (Number (pos 0)) 4 k
+    zero_to_memory n cell near =
+        let v1 : Vars = put v FIRST a in
+        let v2 : Vars = put v1 SECOND 0 in
+        let k2 : List WordInstr = Store FIRST SECOND whole ∷ k in
+        let r1 : Runs live procs 1 (at c m (address FIRST home ∷ Constant SECOND 0 ∷ k2) v g) (at c m (Constant SECOND 0 ∷ k2) v1 g)
+        = address_runs m (Constant SECOND 0 ∷ k2) v FIRST home a points in
+        let r2 : Runs live procs 1 (at c m (Constant SECOND 0 ∷ k2) v1 g) (at c m k2 v2 g) = run_constant live procs c m k2 v1 g SECOND 0 in
+        let r3 : Runs live procs 1 (at c m k2 v2 g) (at c (with_number m a whole 0) k v2 g)
+        = run_store live procs c m k v2 g FIRST SECOND whole (got a near) refl cell.may in
+        record {
+          memory = with_number m a whole 0;
+          vars = v2;
+          words = g;
+          awaits = c.awaits;
+          same = same_more v v1 v2 (same_first v a) (same_second v1 0);
+          changed = changed_word law m a 0 sized cell (omega arith);
+          there = put_here law m a 0 sized cell.may (omega arith);
+          steps = 3;
+          some = omega arith;
+          few = omega arith;
+          runs = then_runs live procs (then_runs live procs r1 r2) r3;
+        }
+
+    pub zeros_to_memory : (others : List WordProc) → from_proc CLEAR procs ≡ routine CLEAR 2 4 clear_lines ∷ others
+        → (vs : Values) → AllZero (Parts vs) → IsArea m a (bytes (Parts vs)) → a + bytes (Parts vs) < 2 ^ 32
+        → ToMemory m (cleared false (bytes (Parts vs)) (Lies home) k) v a (Parts vs) (9 + bytes (Parts vs)) k
+    zeros_to_memory others stands vs blank area near = by (bytes (Parts vs)) refl (words_of (bytes (Parts vs)) (bytes_whole (Parts vs)) (bytes_some (Parts vs)))
+      where
+        by : (n : ℕ) → bytes (Parts vs) ≡ n → (j : ℕ) × (n ≡ 4 * suc j)
+            → ToMemory m (cleared false n (Lies home) k) v a (Parts vs) (9 + bytes (Parts vs)) k
+        by n size (j, is) =
+            let there : Area m a (suc j) = area (suc j) (omega (arith, size, is)) in
+            let all : span (suc j) ≡ bytes (Parts vs) = span_is (suc j) ∙ sym is ∙ sym size in
+            let v1 : Vars = put v FIRST a in
+            let k2 : List WordInstr = zeros false n k in
+            let r1 : Runs live procs 1 (at c m (address FIRST home ∷ k2) v g) (at c m k2 v1 g) = address_runs m k2 v FIRST home a points in
+            let w : Vars = put (put v1 SECOND (4 * suc j)) FIRST 4 in
+            let r2 : Runs live procs (8 + 4 * suc j) (at c m (zeros false (4 * suc j) k) v1 g)
+            (at (awaiting c FIRST) (with_zeros (suc j) m a) k w no_words)
+            = clear_called law live procs c k others stands j m a v1 g (got a (omega (arith, near))) (omega (arith, near, size, is)) sized there in
+            let clear = cleared_at law (suc j) m a sized there in
+            record {
+              memory = with_zeros (suc j) m a;
+              vars = w;
+              words = no_words;
+              awaits = FIRST;
+              same = same_more v v1 w (same_first v a)
+                  (same_more v1 (put v1 SECOND (4 * suc j)) w (same_second v1 (4 * suc j)) (same_first (put v1 SECOND (4 * suc j)) 4));
+              changed = subst (Changed m (with_zeros (suc j) m a) a) all clear.changed;
+              there = zero_at (with_zeros (suc j) m a) a (Parts vs) blank (λ o within is_whole. clear.zeros o (omega (arith, within, all)) is_whole);
+              steps = 1 + (8 + 4 * suc j);
+              some = omega arith;
+              few = omega (arith, size, is);
+              runs = then_runs live procs r1
+                  (subst (λ i. Runs live procs (8 + 4 * suc j) (at c m (zeros false i k) v1 g) (at (awaiting c FIRST) (with_zeros (suc j) m a) k w no_words))
+                  (sym is) r2);
+            }

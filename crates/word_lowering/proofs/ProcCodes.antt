@@ -1,0 +1,471 @@
+-- Procedures of block code that may be lowered: each is tested, and has its word code under its number.
+use Rattle.std.proofs.Common.{◌≡◌, ◌⊎◌, inl, inr, ℕ, zero, suc, ◌+◌, ◌≤◌, List, [], ◌∷◌, ◌++◌, append_assoc, append-nil}
+use Rattle.std.proofs.Common.{length, map, max, Option}
+use Rattle.std.proofs.Common.{Some, Bool, true, false, not, ◌&&◌}
+use Rattle.std.proofs.Common.{refl, sym, ap, subst, ◌∙◌, arith, if◌then◌else◌, ◌==◌, nat_le}
+use Rattle.std.specs.Prelude.{slice_get}
+use Rattle.std.proofs.lemmas.Bool.{and_parts, cases_Bool, eq-eqb, ne_eqb, leb-true, true≢false, false≢true}
+use Rattle.nim_types.specs.declared.types.TypeDef.{TypeDef}
+use Rattle.nim_types.specs.Table.{IsTable}
+use Rattle.nim_core.specs.declared.program.Mode.TheVariants.{Plain, Sink, Var}
+use Rattle.mid_code.specs.declared.word.TheConstants.{SPARE_ROOM}
+use Rattle.mid_code.specs.declared.place.PlaceKind.{PlaceKind}
+use Rattle.mid_code.specs.declared.place.PlaceKind.TheVariants as K
+use Rattle.mid_code.specs.declared.place.FlatPlace.{FlatPlace}
+use Rattle.mid_code.specs.declared.block.BlockLine.{BlockLine}
+use Rattle.mid_code.specs.declared.block.BlockProc.{BlockProc}
+use Rattle.mid_code.specs.declared.block.Blocks.{Blocks}
+use Rattle.mid_code.specs.declared.word.WordProc.{WordProc}
+use Rattle.mid_code.specs.Scene.{known_in}
+use Rattle.mid_code.specs.Shapes.{Shape}
+use Rattle.mid_code.specs.Codes.{block_plain, block_label, block_placed, block_proc, is_blocks}
+use Rattle.mid_code.specs.Running.{last_of, before_last}
+use Rattle.mid_code.specs.Whole.{all_lead, are_whole}
+use Rattle.mid_code.specs.Words.{from_proc, most_room}
+use Rattle.mid_code.specs.Fits.{shape_at, in_order, has_lines_for, Passed, param_of, taken_by, given_by, Signature, signature_of, signatures, all_fit}
+use Rattle.mid_code.specs.Fits.{each_fits, no_lines, is_declared}
+use Rattle.word_lowering.specs.declared.homes.Home.{Home}
+use Rattle.word_lowering.specs.declared.homes.Home.TheVariants.{Placed}
+use Rattle.word_lowering.specs.declared.homes.Housed.{Housed}
+use Rattle.word_lowering.specs.declared.homes.Free.{Free}
+use Rattle.word_lowering.specs.declared.homes.Layout.{Layout}
+use Rattle.word_lowering.specs.declared.texts.TheConstants.{FIXED_BYTES}
+use Rattle.word_lowering.specs.declared.routines.TheConstants.{COPY, CLEAR, SWAP, NUMBER}
+use Rattle.word_lowering.specs.declared.may_lower.TheConstants.{MOST_ROOM}
+use Rattle.word_lowering.specs.Layouts.{is_empty, roots_in, is_static, place_kept, place_bytes, home_at, free_behind, free_at, layout_of, layouts, housed}
+use Rattle.word_lowering.specs.Layouts.{behind}
+use Rattle.word_lowering.specs.Layouts.{all_housed, behind_all, is_param, params_in, is_address}
+use Rattle.word_lowering.specs.Layouts.{found as found_in}
+use Rattle.word_lowering.specs.LineCode.{Around, no_layout, or_none, proc_number}
+use Rattle.word_lowering.specs.Routines.{routine, copy_lines, clear_lines, swap_lines, number_lines, and_traps}
+use Rattle.word_lowering.specs.Texts.{literals_at, texts_of, texts_in}
+use Rattle.word_lowering.specs.Lowered as code
+use Rattle.word_lowering.specs.Lowered.{no_proc, all_layouts, start_layout, start_around, lowered}
+use Rattle.word_lowering.specs.MayLower.{no_params, params_lead, all_plain, hook_may, and_placed, placed_bytes, places_may, sizes_may, proc_may, procs_may}
+use Rattle.word_lowering.specs.MayLower.{may_lower}
+use Rattle.word_lowering.specs.Stored.{HaveForms}
+use Rattle.word_lowering.proofs.Options.{none_some, some_same}
+use Rattle.word_lowering.proofs.NamedProcs.{fits_by}
+use Rattle.word_lowering.proofs.NextCalls.{ParamsAre}
+use Rattle.word_lowering.proofs.Callees.{Callee}
+use Rattle.word_lowering.proofs.Sites.{Body, looks, Among, word_of, data_end, sigs, globals_of, IsBody}
+use Rattle.word_lowering.proofs.LayoutBounds.{params_below}
+use Rattle.word_lowering.proofs.PlaceFacts.{one_found}
+use Rattle.word_lowering.proofs.FirstPlaces.{Orderly}
+use Rattle.word_lowering.proofs.PlacesInOrder.{orderly}
+use Rattle.word_lowering.proofs.Bodies.{IsTested, body_at, is_body}
+
+-- ---- procedures by number
+
+from_this : (p : WordProc) (procs : List WordProc) (n : ℕ) → p.number ≡ n → from_proc n (p ∷ procs) ≡ p ∷ procs
+from_this p procs n e = ap (λ b. if b then p ∷ procs else from_proc n procs) (eq-eqb p.number n e)
+
+from_other : (p : WordProc) (procs : List WordProc) (n : ℕ) → (p.number ≡ n → ⊥) → from_proc n (p ∷ procs) ≡ from_proc n procs
+from_other p procs n e = ap (λ b. if b then p ∷ procs else from_proc n procs) (ne_eqb p.number n e)
+
+from_if : (runs : Bool) (p : WordProc) (procs : List WordProc) (n : ℕ) → (p.number ≡ n → ⊥) → from_proc n (code.if_runs runs p procs)
+    ≡ from_proc n procs
+from_if true p procs n e = from_other p procs n e
+from_if false p procs n e = refl
+
+-- the places of each are within the most that one has
+room_among : (procs : List WordProc) (n : ℕ) (p : WordProc) (others : List WordProc) → from_proc n procs ≡ p ∷ others → p.room ≤ most_room procs
+room_among [] n p others e = absurd (nothing p others e)
+  where
+    nothing : (p : WordProc) (others : List WordProc) → [] ≡ p ∷ others → ⊥
+    nothing p others e = cc
+room_among (q ∷ procs) n p others e = by (q.number == n) e (room_among procs n p others)
+  where
+    first : (p q : WordProc) (xs ys : List WordProc) → q ∷ ys ≡ p ∷ xs → q ≡ p
+    first p q xs ys e = cc
+
+    by : (b : Bool) → (if b then q ∷ procs else from_proc n procs) ≡ p ∷ others → (from_proc n procs ≡ p ∷ others → p.room ≤ most_room procs)
+        → p.room ≤ max q.room (most_room procs)
+    by true e go = let h = ap (λ (z : WordProc). z.room) (first p q others procs e) in omega (arith, h)
+    by false e go = let h = go e in omega (arith, h)
+
+-- ---- parameters
+
+abbrev IsPlaced : Home → Type 0
+IsPlaced (Placed at) = Unit {0}
+IsPlaced home = ⊥
+
+abbrev byte_of : Home → ℕ
+byte_of (Placed at) = at
+byte_of home = 0
+
+-- one that is placed ends before the rest
+first_ends : (static kept : Bool) (bytes at rest : ℕ) (free : Free) → home_at static kept free ≡ Placed at
+    → at + bytes ≤ free.byte + and_placed (home_at static kept free) bytes rest
+first_ends true kept bytes at rest free e = absurd (subst IsPlaced (sym e) tt)
+first_ends false true bytes at rest free e = absurd (subst IsPlaced (sym e) tt)
+first_ends false false bytes at rest free e = let h : free.byte ≡ at = ap byte_of e in omega (arith, h)
+
+next_ends : (static kept : Bool) (bytes rest last : ℕ) (free : Free) → last ≤ (free_behind static kept bytes free).byte + rest
+    → last ≤ free.byte + and_placed (home_at static kept free) bytes rest
+next_ends true kept bytes rest last free h = h
+next_ends false true bytes rest last free h = h
+next_ends false false bytes rest last free h = omega (arith, h)
+
+module _ (table : List TypeDef) where
+  add_param : (kind : PlaceKind) (h : Housed) → h.kind ≡ kind → (s : Option Shape) → s ≡ Some (looks table h) → (hs : List Housed)
+      (ts : List Passed)
+      → ParamsAre table hs ts → ParamsAre table (if is_param kind then h ∷ hs else hs) (param_of kind s ts)
+  add_param K.Local h e s f hs ts r = r
+  add_param K.Cursor h e s f hs ts r = r
+  add_param K.Result h e s f hs ts r = r
+  add_param (K.Param Plain) h e s f hs ts r = ((sym (ap is_address e), f), r)
+  add_param (K.Param Sink) h e s f hs ts r = ((sym (ap is_address e), f), r)
+  add_param (K.Param Var) h e s f hs ts r = ((sym (ap is_address e), f), r)
+  add_param K.ForVar h e s f hs ts r = r
+  add_param K.Caught h e s f hs ts r = r
+  add_param K.Global h e s f hs ts r = r
+  add_param K.Temp h e s f hs ts r = r
+  add_param K.Location h e s f hs ts r = r
+  add_param K.Counter h e s f hs ts r = r
+
+  module _ (start : Bool) (roots : List ℕ) where
+    params_are : (free : Free) (ps : List FlatPlace) → ParamsAre table (params_in (all_housed table start roots free ps)) (taken_by (known_in table) ps)
+    params_are free [] = tt
+    params_are free (p ∷ ps) =
+        add_param p.kind (housed table start roots free p) refl (Some (shape_at (known_in table) p)) refl
+        (params_in (all_housed table start roots (behind table start roots free p) ps)) (taken_by (known_in table) ps)
+        (params_are (behind table start roots free p) ps)
+
+    none_in : (free : Free) (ps : List FlatPlace) (h : Housed) → no_params ps ≡ true → Among h (params_in (all_housed table start roots free ps)) → ⊥
+    none_in free [] h e i = i
+    none_in free (p ∷ ps) h e i =
+        by (is_param p.kind) (and_parts (not (is_param p.kind)) (no_params ps) e).0 i
+        (none_in (behind table start roots free p) ps h (and_parts (not (is_param p.kind)) (no_params ps) e).1)
+      where
+        rest : List Housed
+        rest = params_in (all_housed table start roots (behind table start roots free p) ps)
+
+        by : (b : Bool) → not b ≡ true → Among h (if b then housed table start roots free p ∷ rest else rest) → (Among h rest → ⊥) → ⊥
+        by true e i go = false≢true e
+        by false e i go = go i
+
+    param_ends : (free : Free) (ps : List FlatPlace) → params_lead ps ≡ true → (h : Housed) (at : ℕ)
+        → Among h (params_in (all_housed table start roots free ps)) → h.home ≡ Placed at
+        → at + h.bytes ≤ free.byte + placed_bytes (params_in (all_housed table start roots free ps))
+    param_ends free [] l h at i f = absurd i
+    param_ends free (p ∷ ps) l h at i f =
+        by (is_param p.kind) l i (λ m j. param_ends (behind table start roots free p) ps m h at j f)
+      where
+        one : Housed
+        one = housed table start roots free p
+
+        rest : List Housed
+        rest = params_in (all_housed table start roots (behind table start roots free p) ps)
+
+        by : (b : Bool) → (if b then params_lead ps else no_params ps) ≡ true → Among h (if b then one ∷ rest else rest)
+            → (params_lead ps ≡ true → Among h rest → at + h.bytes ≤ (behind table start roots free p).byte + placed_bytes rest)
+            → at + h.bytes ≤ free.byte + placed_bytes (if b then one ∷ rest else rest)
+        by true l (inl s) go =
+            subst (λ (z : Housed). at + z.bytes ≤ free.byte + placed_bytes (one ∷ rest)) s
+            (first_ends (is_static start p.kind) (place_kept table start roots p) (place_bytes table start roots p) at (placed_bytes rest) free
+            (ap (λ (z : Housed). z.home) s ∙ f))
+        by true l (inr j) go =
+            next_ends (is_static start p.kind) (place_kept table start roots p) (place_bytes table start roots p) (placed_bytes rest) (at + h.bytes) free
+            (go l j)
+        by false l i go = absurd (none_in (behind table start roots free p) ps h l i)
+
+among_params : (hs : List Housed) (h : Housed) → Among h (params_in hs) → Among h hs
+among_params [] h i = i
+among_params (k ∷ hs) h i = by (is_param k.kind) i (among_params hs h)
+  where
+    by : (b : Bool) → Among h (if b then k ∷ params_in hs else params_in hs) → (Among h (params_in hs) → Among h hs) → (k ≡ h) ⊎ Among h hs
+    by true (inl s) go = inl s
+    by true (inr j) go = inr (go j)
+    by false i go = inr (go i)
+
+some_lines : (line : BlockLine) (lines : List BlockLine) → line ∷ lines ≡ [] → ⊥
+some_lines line lines e = cc
+
+no_places : (places : List FlatPlace) (lines : List BlockLine) → has_lines_for places (map block_plain lines) ≡ true → lines ≡ [] → places ≡ []
+no_places [] lines h e = refl
+no_places (p ∷ ps) [] h e = absurd (false≢true h)
+no_places (p ∷ ps) (line ∷ lines) h e = absurd (some_lines line lines e)
+
+empty_is : (lines : List BlockLine) → not (is_empty lines) ≡ false → lines ≡ []
+empty_is [] h = refl
+empty_is (line ∷ lines) h = absurd (true≢false h)
+
+-- ---- what tests say
+
+module _ (table : List TypeDef) (blocks : Blocks) where
+  one_tested : (start : Bool) (p : BlockProc)
+      → (has_lines_for p.places (map block_plain p.lines) && (in_order (block_placed p)
+      && all_fit (known_in table) (sigs table blocks) (globals_of table blocks) p.places [] (map block_plain p.lines))) ≡ true
+      → all_lead block_label block_plain p.lines p.lines ≡ true → proc_may table (layout_of table start FIXED_BYTES p) p ≡ true
+      → IsTested table blocks start p
+  one_tested start p fit lead may =
+      let a = and_parts _ _ (and_parts _ _ fit).1 in
+      let places = and_parts (params_lead p.places) (all_plain table p.places && hook_may p.hook) (and_parts (places_may table p) _ may).0 in
+      record {
+        order = (and_parts _ _ (and_parts _ _ a.0).1).1;
+        first = (and_parts _ _ (and_parts _ _ a.0).1).0;
+        fits = a.1;
+        leads = lead;
+        plain = (and_parts (all_plain table p.places) (hook_may p.hook) places.1).0;
+        room = (fits_by table (layout_of table start FIXED_BYTES p) p may).room;
+      }
+
+  abbrev AllFit : List BlockProc → Type 0
+  AllFit ps = each_fits (known_in table) (sigs table blocks) (globals_of table blocks) (map block_placed ps) ≡ true
+
+  abbrev AllLead : List BlockProc → Type 0
+  AllLead ps = are_whole block_label block_plain (map (block_proc (known_in table)) ps) ≡ true
+
+  abbrev AllMay : List BlockProc → Type 0
+  AllMay ps = procs_may table (layouts table FIXED_BYTES ps) ps ≡ true
+
+  abbrev own_of : BlockProc → Layout
+  own_of p = layout_of table false FIXED_BYTES p
+
+  abbrev fit_one : BlockProc → Bool
+  fit_one p = has_lines_for p.places (map block_plain p.lines) && (in_order (block_placed p)
+      && all_fit (known_in table) (sigs table blocks) (globals_of table blocks) p.places [] (map block_plain p.lines))
+
+  record Called (x : Around) (ps : List BlockProc) (index i : ℕ) (s : Signature) : Type 0 where
+    proc : BlockProc
+    behind_it : List ℕ
+    others : List ℕ
+    texts : texts_in ps ≡ behind_it ++ (texts_of (map block_plain proc.lines) ++ others)
+    sign : signature_of (known_in table) proc.places ≡ s
+    block : slice_get (before_last (map (block_proc (known_in table)) ps)) i ≡ Some (block_proc (known_in table) proc)
+    layout : slice_get (layouts table FIXED_BYTES ps) i ≡ Some (own_of proc)
+    lines : has_lines_for proc.places (map block_plain proc.lines) ≡ true
+    tested : IsTested table blocks false proc
+    may : proc_may table (own_of proc) proc ≡ true
+    found : not (is_empty proc.lines) ≡ true → (n : ℕ) → n ≡ index + i → (others : List WordProc)
+        × (from_proc (proc_number n) (code.word_procs x index (layouts table FIXED_BYTES ps) ps)
+        ≡ code.word_proc (code.with_own x (own_of proc) (length behind_it)) (proc_number n) proc ∷ others)
+
+  call_at : (x : Around) (ps : List BlockProc) (index i : ℕ) (s : Signature)
+      → slice_get (signatures (known_in table) (before_last (map block_placed ps))) i ≡ Some s → AllFit ps → AllLead ps → AllMay ps
+      → Called x ps index i s
+  call_at x [] index i s h e w m = absurd (none_some s h)
+  call_at x (p ∷ []) index i s h e w m = absurd (none_some s h)
+  call_at x (p ∷ q ∷ ps) index zero s h e w m =
+      let here = and_parts (fit_one p) _ e in
+      let lead = and_parts (all_lead block_label block_plain p.lines p.lines) _ w in
+      let may = and_parts (proc_may table (own_of p) p) _ m in
+      let literals : ℕ = length (texts_in (q ∷ ps)) in
+      let rest : List WordProc = code.word_procs x (suc index) (layouts table FIXED_BYTES (q ∷ ps)) (q ∷ ps) in
+      record {
+        proc = p;
+        behind_it = texts_in (q ∷ ps);
+        others = [];
+        texts = ap (λ z. texts_in (q ∷ ps) ++ z) (sym (append-nil (texts_of (map block_plain p.lines))));
+        sign = some_same (signature_of (known_in table) p.places) s h;
+        block = refl;
+        layout = refl;
+        lines = (and_parts _ _ here.0).0;
+        tested = one_tested false p here.0 lead.0 may.0;
+        may = may.0;
+        found = λ some n same. (
+          rest,
+          let e : index ≡ n = omega (arith, same) in
+              let one : ℕ → WordProc = λ (k : ℕ). code.word_proc (code.with_own x (own_of p) literals) (proc_number k) p in
+              subst (λ k. from_proc (proc_number k) (code.if_runs (not (is_empty p.lines)) (one index) rest) ≡ one k ∷ rest) e
+              (ap (λ b. from_proc (proc_number index) (code.if_runs b (one index) rest)) some ∙ from_this (one index) rest (proc_number index) refl),
+        );
+      }
+  call_at x (p ∷ q ∷ ps) index (suc i) s h e w m =
+      let here = and_parts (fit_one p) _ e in
+      let lead = and_parts (all_lead block_label block_plain p.lines p.lines) _ w in
+      let may = and_parts (proc_may table (own_of p) p) _ m in
+      let literals : ℕ = length (texts_in (q ∷ ps)) in
+      let rest : List WordProc = code.word_procs x (suc index) (layouts table FIXED_BYTES (q ∷ ps)) (q ∷ ps) in
+      let one : WordProc = code.word_proc (code.with_own x (own_of p) literals) (proc_number index) p in
+      let r = call_at x (q ∷ ps) (suc index) i s h here.1 lead.1 may.1 in
+      record {
+        proc = r.proc;
+        behind_it = r.behind_it;
+        others = r.others ++ texts_of (map block_plain p.lines);
+        texts = ap (λ z. z ++ texts_of (map block_plain p.lines)) r.texts
+            ∙ append_assoc r.behind_it (texts_of (map block_plain r.proc.lines) ++ r.others) (texts_of (map block_plain p.lines))
+            ∙ ap (λ z. r.behind_it ++ z) (append_assoc (texts_of (map block_plain r.proc.lines)) r.others (texts_of (map block_plain p.lines)));
+        sign = r.sign;
+        block = r.block;
+        layout = r.layout;
+        lines = r.lines;
+        tested = r.tested;
+        may = r.may;
+        found = λ some n same. let f = r.found some n (omega (arith, same)) in (
+          f.0,
+          from_if (not (is_empty p.lines)) one rest (proc_number n) (λ (z : proc_number index ≡ proc_number n). absurd (omega (arith, z, same))) ∙ f.1,
+        );
+      }
+
+  -- the start code is the last one
+  last_tested : (none p : BlockProc) (ps : List BlockProc) → AllFit (p ∷ ps) → AllLead (p ∷ ps) → AllMay (p ∷ ps)
+      → IsTested table blocks true (last_of none (p ∷ ps))
+  last_tested none p [] e w m =
+      one_tested true p (and_parts (fit_one p) _ e).0 (and_parts (all_lead block_label block_plain p.lines p.lines) _ w).0
+      (and_parts (proc_may table (layout_of table true FIXED_BYTES p) p) _ m).0
+  last_tested none p (q ∷ ps) e w m =
+      last_tested p q ps (and_parts (fit_one p) _ e).1 (and_parts (all_lead block_label block_plain p.lines p.lines) _ w).1
+      (and_parts (proc_may table (own_of p) p) _ m).1
+
+  last_layout : (none : Layout) (other p : BlockProc) (ps : List BlockProc)
+      → last_of none (layouts table FIXED_BYTES (p ∷ ps)) ≡ layout_of table true FIXED_BYTES (last_of other (p ∷ ps))
+  last_layout none other p [] = refl
+  last_layout none other p (q ∷ ps) = last_layout (own_of p) p q ps
+
+  last_places : (other p : BlockProc) (ps : List BlockProc) → (last_of (block_placed other) (map block_placed (p ∷ ps))).places
+      ≡ (last_of other (p ∷ ps)).places
+  last_places other p [] = refl
+  last_places other p (q ∷ ps) = last_places p q ps
+
+  -- its texts come last
+  last_texts : (none p : BlockProc) (ps : List BlockProc) → (others : List ℕ)
+      × (texts_in (p ∷ ps) ≡ texts_of (map block_plain (last_of none (p ∷ ps)).lines) ++ others)
+  last_texts none p [] = ([], sym (append-nil (texts_of (map block_plain p.lines))))
+  last_texts none p (q ∷ ps) =
+      let r = last_texts p q ps in
+      let own : List ℕ = texts_of (map block_plain p.lines) in
+      (r.0 ++ own, ap (λ z. z ++ own) r.1 ∙ append_assoc (texts_of (map block_plain (last_of p (q ∷ ps)).lines)) r.0 own)
+
+  pub start_laid : (p : BlockProc) (ps : List BlockProc) → blocks.procs ≡ p ∷ ps
+      → start_layout table blocks.procs ≡ layout_of table true FIXED_BYTES (last_of no_proc blocks.procs)
+  start_laid p ps e =
+      subst (λ qs. last_of no_layout (layouts table FIXED_BYTES qs) ≡ layout_of table true FIXED_BYTES (last_of no_proc qs)) (sym e)
+      (last_layout no_layout no_proc p ps)
+
+  pub start_places : (p : BlockProc) (ps : List BlockProc) → blocks.procs ≡ p ∷ ps → globals_of table blocks ≡ (last_of no_proc blocks.procs).places
+  start_places p ps e =
+      subst (λ qs. (last_of no_lines (map block_placed qs)).places ≡ (last_of no_proc qs).places) (sym e) (last_places no_proc p ps)
+
+  -- ---- the whole
+
+  module _ (is_table : IsTable table) (have : HaveForms table) (formed : is_blocks (known_in table) blocks ≡ true)
+      (may : may_lower table blocks ≡ true) where
+    all_fits : AllFit blocks.procs
+    all_fits = (and_parts _ _ (and_parts _ _ formed).1).1
+
+    all_leads : AllLead blocks.procs
+    all_leads = (and_parts _ _ formed).0
+
+    all_mays : AllMay blocks.procs
+    all_mays = (and_parts (procs_may table (all_layouts table blocks.procs) blocks.procs) _ may).0
+
+    abbrev x : Around
+    x = start_around table blocks.procs
+
+    abbrev rest_procs : List WordProc
+    rest_procs = code.word_procs x 0 (all_layouts table blocks.procs) blocks.procs
+
+    -- routines have smaller numbers
+    from_rest : (n : ℕ) → from_proc (proc_number n) (lowered table blocks).procs ≡ from_proc (proc_number n) rest_procs
+    from_rest n =
+        from_other _ _ (proc_number n) (λ (z : 0 ≡ proc_number n). omega (arith, z))
+        ∙ from_other _ _ (proc_number n) (λ (z : 1 ≡ proc_number n). omega (arith, z))
+        ∙ from_other _ _ (proc_number n) (λ (z : 2 ≡ proc_number n). omega (arith, z))
+        ∙ from_other _ _ (proc_number n) (λ (z : 3 ≡ proc_number n). omega (arith, z))
+        ∙ from_other _ _ (proc_number n) (λ (z : 4 ≡ proc_number n). omega (arith, z))
+        ∙ from_other _ _ (proc_number n) (λ (z : 5 ≡ proc_number n). omega (arith, z))
+        ∙ from_other _ _ (proc_number n) (λ (z : 6 ≡ proc_number n). omega (arith, z))
+        ∙ from_other _ _ (proc_number n) (λ (z : 7 ≡ proc_number n). omega (arith, z))
+        ∙ from_other _ _ (proc_number n) (λ (z : 8 ≡ proc_number n). omega (arith, z))
+        ∙ from_other _ _ (proc_number n) (λ (z : 9 ≡ proc_number n). omega (arith, z))
+        ∙ from_other _ _ (proc_number n) (λ (z : 10 ≡ proc_number n). omega (arith, z))
+
+    pub routine_copy : (others : List WordProc) × (from_proc COPY (lowered table blocks).procs ≡ routine COPY 3 5 copy_lines ∷ others)
+    routine_copy = (routine CLEAR 2 4 clear_lines ∷ routine SWAP 3 6 swap_lines ∷ routine NUMBER 1 9 number_lines ∷ and_traps rest_procs, refl)
+
+    pub routine_clear : (others : List WordProc) × (from_proc CLEAR (lowered table blocks).procs ≡ routine CLEAR 2 4 clear_lines ∷ others)
+    routine_clear = (routine SWAP 3 6 swap_lines ∷ routine NUMBER 1 9 number_lines ∷ and_traps rest_procs, refl)
+
+    -- a procedure that may be called
+    pub callee : (proc : ℕ) (s : Signature) → slice_get (sigs table blocks) proc ≡ Some s → Callee table blocks proc s
+    callee proc s h = record {
+      body = body;
+      is = is_called;
+      number = refl;
+      start = refl;
+      block = c.block;
+      layout = ap or_none c.layout;
+      params = subst (λ (z : Signature). ParamsAre table (params_in body.own.all) z.takes) c.sign
+          (params_are table false roots (free_at FIXED_BYTES) c.proc.places);
+      among = among_params body.own.all;
+      orderly = subst (λ (z : Signature). Orderly table body z) c.sign (orderly table false c.proc literals (proc_number proc) once
+          (is_called.inside) c.tested.first (params_below table false roots (free_at FIXED_BYTES) c.proc.places lead));
+      spare = λ k at i e.
+          let ends = param_ends table false roots (free_at FIXED_BYTES) c.proc.places lead k at i e in
+          let sizes = and_parts (nat_le (own_of c.proc).free.byte MOST_ROOM) _ (and_parts (places_may table c.proc) (sizes_may (own_of c.proc)) c.may).1 in
+          let most = leb-true (placed_bytes (params_in (own_of c.proc).all)) SPARE_ROOM (and_parts _ _ sizes.1).0 in
+          omega (arith, ends, most);
+      quiet = λ e.
+          let none = no_places c.proc.places c.proc.lines c.lines e in (
+            sym (ap (λ (z : Signature). z.takes) c.sign) ∙ ap (taken_by (known_in table)) none,
+            sym (ap (λ (z : Signature). z.gives) c.sign) ∙ ap (given_by (known_in table)) none,
+          );
+      runs = refl;
+      found = found;
+    }
+      where
+        c : Called x blocks.procs 0 proc s
+        c = call_at x blocks.procs 0 proc s h all_fits all_leads all_mays
+
+        roots : List ℕ
+        roots = roots_in (map block_plain c.proc.lines)
+
+        literals : ℕ
+        literals = literals_at table (data_end table blocks) + length c.behind_it
+
+        body : Body
+        body = body_at table blocks false c.proc literals (proc_number proc)
+
+        lead : params_lead c.proc.places ≡ true
+        lead = (fits_by table (own_of c.proc) c.proc c.may).lead
+
+        once : (n : ℕ) (h : Housed) → Among h body.own.all → h.number ≡ n → is_declared h.kind ≡ true → found_in is_declared n body.own.all ≡ h
+        once n h i e d =
+            one_found table false roots is_declared (λ kind k. k) c.proc.first (c.proc.first + c.proc.span) (free_at FIXED_BYTES) c.proc.places n h
+            c.tested.order i e d
+
+        found : not (is_empty c.proc.lines) ≡ true → (others : List WordProc)
+            × (from_proc (proc_number proc) (lowered table blocks).procs ≡ word_of table blocks body ∷ others)
+        found some = let f = c.found some proc (omega arith) in (f.0, from_rest proc ∙ f.1)
+
+        within : (not (is_empty c.proc.lines) ≡ true) ⊎ (not (is_empty c.proc.lines) ≡ false) → (own_of c.proc).free.byte ≤ most_room
+            (lowered table blocks).procs
+        within (inl some) =
+            let f = found some in room_among (lowered table blocks).procs (proc_number proc) (word_of table blocks body) f.0 f.1
+        within (inr none) =
+            let e = no_places c.proc.places c.proc.lines c.lines (empty_is c.proc.lines none) in
+            let z : (own_of c.proc).free.byte ≡ 0 = ap (λ ps. (behind_all table false roots (free_at FIXED_BYTES) ps).byte) e in
+            omega (arith, z)
+
+        is_called : IsBody table blocks body
+        is_called = is_body table blocks is_table have false c.proc literals (proc_number proc) c.tested (record {
+          globals = λ e. absurd (false≢true e);
+          layout = λ e. absurd (false≢true e);
+          within = within (cases_Bool (not (is_empty c.proc.lines)));
+        }) (record { behind = c.behind_it; others = c.others; whole = c.texts; at = refl })
+
+    -- the start code, where there is one
+    pub start_is_body : (p : BlockProc) (ps : List BlockProc) → blocks.procs ≡ p ∷ ps → (number : ℕ)
+        → IsBody table blocks (body_at table blocks true (last_of no_proc blocks.procs) (literals_at table (data_end table blocks)) number)
+    start_is_body p ps e number =
+        is_body table blocks is_table have true (last_of no_proc blocks.procs) (literals_at table (data_end table blocks)) number tested (record {
+          globals = λ s. start_places p ps e;
+          layout = λ s. start_laid p ps e;
+          within = let h = ap (λ (l : Layout). l.free.byte) (start_laid p ps e) in omega (arith, h);
+        }) (record {
+          behind = [];
+          others = texts.0;
+          whole = texts.1;
+          at = omega arith;
+        })
+      where
+        tested : IsTested table blocks true (last_of no_proc blocks.procs)
+        tested =
+            subst (λ qs. IsTested table blocks true (last_of no_proc qs)) (sym e)
+            (last_tested no_proc p ps (subst AllFit e all_fits) (subst AllLead e all_leads) (subst AllMay e all_mays))
+
+        texts : (others : List ℕ) × (texts_in blocks.procs ≡ texts_of (map block_plain (last_of no_proc blocks.procs).lines) ++ others)
+        texts = subst (λ qs. (others : List ℕ) × (texts_in qs ≡ texts_of (map block_plain (last_of no_proc qs).lines) ++ others)) (sym e)
+            (last_texts no_proc p ps)

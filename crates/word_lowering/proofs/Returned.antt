@@ -1,0 +1,126 @@
+-- What is true where a caller goes on.
+use Rattle.std.proofs.Common.{◌≡◌, ◌≢◌, inl, inr, ℕ, zero, suc, ◌<◌, ◌≤◌, List, [], ◌∷◌, length, map, refl, ap, ◌∙◌, arith}
+use Rattle.std.specs.Prelude.{take, slice_get}
+use Rattle.nim_core.specs.State.{World, down_to, slot_at, slot_of, frame_in}
+use Rattle.mid_code.specs.declared.block.BlockLine.{BlockLine}
+use Rattle.mid_code.specs.declared.line.Line.{Line}
+use Rattle.mid_code.specs.Memory.{Memory}
+use Rattle.mid_code.specs.Words.{Vars}
+use Rattle.mid_code.specs.Scene.{Temps}
+use Rattle.word_lowering.proofs.Frames.{IsFrame}
+use Rattle.word_lowering.proofs.Sites.{Site, AmongSites, Linked}
+use Rattle.word_lowering.proofs.SitesApart.{site_at}
+use Rattle.word_lowering.proofs.Scenes.{Call, Name, site_of}
+use Rattle.word_lowering.proofs.Keeping.{AmongCalls, call, Edit, Worlds, Kept, New, holding_kept, all_kept}
+use Rattle.word_lowering.proofs.Related.{Both, Waits, called_by, MemoryGood, AllFrames}
+use Rattle.word_lowering.proofs.Lines.{Basis, starts, IsGood}
+
+module _ {A : Type 0} where
+  get_take : (n : ℕ) (xs : List A) (i : ℕ) → i < n → slice_get (take n xs) i ≡ slice_get xs i
+  get_take zero xs i h = absurd (omega (arith, h))
+  get_take (suc n) [] i h = refl
+  get_take (suc n) (x ∷ xs) zero h = refl
+  get_take (suc n) (x ∷ xs) (suc i) h = get_take n xs i (omega (arith, h))
+
+  take_length : (n : ℕ) (xs : List A) → n ≤ length xs → length (take n xs) ≡ n
+  take_length zero xs h = refl
+  take_length (suc n) [] h = absurd (omega (arith, h))
+  take_length (suc n) (x ∷ xs) h = ap suc (take_length n xs (omega (arith, h)))
+
+-- frames below a level stay
+frame_down : (w : World) (n level first span : ℕ) → level < n → IsFrame w level first span → IsFrame (down_to n w) level first span
+frame_down w n level first span low f = record {
+  frame = f.frame;
+  there = get_take n w.frames level low ∙ f.there;
+  begins = f.begins;
+  slots = f.slots;
+}
+
+slot_down : (w : World) (n level place : ℕ) → level < n → slot_at (down_to n w) level place ≡ slot_at w level place
+slot_down w n level place low = ap (λ f. slot_of (frame_in f) place) (get_take n w.frames level low)
+
+module _ (x : Basis) (h : Both) (w : Waits) (ws : List Waits) (line : Line) (rest : List BlockLine) where
+  -- the call that waits first
+  abbrev pub called : Both
+  called = record h { waiting = w ∷ ws }
+
+  module _ (y : IsGood x (starts called line rest)) where
+    -- the calls that are left
+    abbrev pub sites_left : List Site
+    sites_left = map site_of (w.call ∷ map called_by ws)
+
+    abbrev pub linked_left : Linked x.table x.blocks sites_left
+    linked_left = y.linked.5
+
+    abbrev pub world_left : World
+    world_left = down_to h.call.site.level h.world
+
+    below : (s : Site) → AmongSites s sites_left → s.level < h.call.site.level
+    below s i = let z = site_at x.table x.blocks sites_left s linked_left i in omega (arith, z.level, y.linked.2)
+
+    frames_down : (some : List Site) → ((s : Site) → AmongSites s some → s.level < h.call.site.level) → AllFrames x.table x.blocks h.world some
+        → AllFrames x.table x.blocks world_left some
+    frames_down [] low f = tt
+    frames_down (s ∷ some) low f = (
+      frame_down h.world h.call.site.level s.level s.body.proc.first s.body.proc.span (low s (inl refl)) f.0,
+      frames_down some (λ t i. low t (inr i)) f.1,
+    )
+
+    pub worlds_down : (lo : Site) (e : Name) → Worlds x.table x.blocks x.small sites_left linked_left lo e h.world world_left h.has h.has
+    worlds_down lo e = record {
+      slots = λ s n i there away. slot_down h.world h.call.site.level s.level n (below s i);
+      filled = λ s n i away. refl;
+      more = λ s n i k. k;
+    }
+
+    -- the caller goes on
+    abbrev pub back : Temps → Vars → Memory → (words : Vars) → (awaits : ℕ) → Both
+    back temps vars m words awaits = record {
+      memory = m;
+      input = h.input;
+      world = world_left;
+      has = h.has;
+      call = call w.call.site temps vars;
+      rest = w.rest;
+      given = [];
+      words = words;
+      awaits = awaits;
+      waiting = ws;
+    }
+
+    pub good_back : (lo : Site) (e : Name) (temps : Temps) (vars : Vars) (m : Memory) (words : Vars) (awaits : ℕ)
+        → MemoryGood x.table x.blocks x.first m → Edit x.table x.blocks x.small sites_left linked_left lo e h.memory m
+        → Kept x.table x.blocks x.small sites_left linked_left lo e w.call.site w.call.temps temps w.call.vars vars
+        → (w.call.site.level ≡ lo.level → New x.table x.blocks x.small sites_left linked_left lo e m world_left h.has sites_left
+        (call w.call.site temps vars))
+        → ((c : Call) → AmongCalls c (map called_by ws) → c.site.level ≢ lo.level)
+        → IsGood x (back temps vars m words awaits)
+    good_back lo e temps vars m words awaits memory edit kept new others = record {
+      linked = linked_left;
+      memory = memory;
+      hold = (
+        holding_kept x.table x.blocks x.small sites_left linked_left lo e h.memory m edit h.world world_left h.has h.has
+            (worlds_down lo e) sites_left w.call.site
+            w.call.temps temps w.call.vars vars (inl refl) (λ r j. j) kept new y.hold.1.0,
+        all_kept x.table x.blocks x.small sites_left linked_left lo e h.memory m edit h.world world_left h.has h.has (worlds_down lo e) (map called_by ws)
+            (λ s i. inr i) (λ c from i k. absurd (others c i k)) y.hold.1.1,
+      );
+      frames = frames_down sites_left below y.frames.1;
+      levels = take_length h.call.site.level h.world.frames (let l = y.levels in let k = y.linked.2 in omega (arith, l, k)) ∙ y.linked.2;
+      passed = [];
+      stands = y.waits.0;
+      gave = tt;
+      waits = y.waits.1;
+      answers = y.answers.1;
+    }
+
+    -- a call below the caller
+    pub waits_lower : (c : Call) → AmongCalls c (map called_by ws) → c.site.level < w.call.site.level
+    waits_lower c i =
+        let z = site_at x.table x.blocks (map site_of (map called_by ws)) c.site linked_left.5 (sites_among (map called_by ws) c i) in
+        omega (arith, z.level, linked_left.2)
+      where
+        sites_among : (cs : List Call) (c : Call) → AmongCalls c cs → AmongSites c.site (map site_of cs)
+        sites_among [] c i = absurd i
+        sites_among (d ∷ cs) c (inl e) = inl (ap site_of e)
+        sites_among (d ∷ cs) c (inr i) = inr (sites_among cs c i)

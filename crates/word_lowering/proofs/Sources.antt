@@ -1,0 +1,292 @@
+-- Where values are that lines move: in a variable, or in memory within the place of a call.
+use Rattle.std.proofs.Common.{◌≡◌, ◌≢◌, ◌⊎◌, inl, inr, ℕ, zero, suc, ◌+◌, ◌*◌, ◌%◌, ◌^◌, ◌<◌, ◌≤◌, List, Some}
+use Rattle.std.proofs.Common.{ℤ, Bool, true, false, refl, sym, ap₂, subst, ◌∙◌, arith}
+use Rattle.nim_core.specs.Values.{Value, Number, Parts, bytes, number_of}
+use Rattle.mid_code.specs.Memory.{Memory}
+use Rattle.mid_code.specs.Words.{Vars}
+use Rattle.mid_code.specs.declared.word.WordInstr.{WordInstr}
+use Rattle.mid_code.specs.Shapes.{has_shape}
+use Rattle.word_lowering.specs.declared.homes.TheConstants.{OWN_FROM}
+use Rattle.word_lowering.specs.declared.homes.Home.{Home}
+use Rattle.word_lowering.specs.declared.homes.Home.TheVariants.{Variable, Placed, Static}
+use Rattle.word_lowering.specs.declared.homes.Housed.{Housed}
+use Rattle.word_lowering.specs.declared.spots.Spot.{Spot}
+use Rattle.word_lowering.specs.declared.spots.Spot.TheVariants.{Held, Lies}
+use Rattle.word_lowering.specs.declared.texts.TheConstants.{FIXED_BYTES}
+use Rattle.word_lowering.specs.Layouts.{is_address}
+use Rattle.word_lowering.specs.Spots.{spot_of, moved, moves}
+use Rattle.word_lowering.proofs.ShapeLemmas.{never, bytes_is}
+use Rattle.word_lowering.proofs.Areas.{Cell, Area}
+use Rattle.word_lowering.proofs.InMemory.{IsAt}
+use Rattle.word_lowering.proofs.Copied.{Separate}
+use Rattle.word_lowering.proofs.Runs.{Within}
+use Rattle.word_lowering.proofs.Arithmetic.{word_small}
+use Rattle.word_lowering.proofs.Moves.{is_single, single_word, IsHigh, MaySpot, IsArea, From, ToVariable, ToMemory, number_to_variable, number_to_memory}
+use Rattle.word_lowering.proofs.Moves.{parts_to_memory}
+use Rattle.word_lowering.proofs.LineFits.{single_is, number_fits}
+use Rattle.word_lowering.proofs.Sites.{room, Housing, in_variable, by_address, in_places, in_data, InMemory, Site, AmongSites, data_end, IsHoused, Linked}
+use Rattle.word_lowering.proofs.Scenes.{address_of, Points, At, Name, Call, house, IsThere, looked, IsItem}
+use Rattle.word_lowering.proofs.SitesApart.{Beside, InRange, in_range, houses, SiteAt, site_at, one_level, ranges_apart}
+use Rattle.word_lowering.proofs.Keeping.{name_cases, number_cases, spot_memory, spot_held, points_there, from_memory}
+use Rattle.word_lowering.proofs.Related.{procs, IsOpen, MemoryGood}
+use Rattle.word_lowering.proofs.Lines.{Basis}
+
+-- so many words, each of which may be read and written
+pub area_by : (m : Memory) (n a : ℕ) → a % 4 ≡ 0 → ((b : ℕ) → a ≤ b → b + 4 ≤ a + 4 * n → b % 4 ≡ 0 → Cell m b) → Area m a n
+area_by m zero a whole cells = tt
+area_by m (suc n) a whole cells = (
+  cells a (omega arith) (omega arith) whole,
+  area_by m n (a + 4) (omega (arith, whole)) (λ b low high is. cells b (omega (arith, low)) (omega (arith, high)) is),
+)
+
+module _ (x : Basis) (sites : List Site) (linked : Linked x.table x.blocks sites) where
+  -- so many bytes from an address on lie within the place of a call
+  pub record Lying (a n : ℕ) : Type 0 where
+    pub site : Site
+    pub name : Name
+    pub among : AmongSites site sites
+    pub there : IsThere x.table x.blocks site name
+    pub home : InMemory (house site name).home
+    pub low : address_of site.base (house site name).home ≤ a
+    pub high : a + n ≤ address_of site.base (house site name).home + (house site name).bytes
+    pub whole : a % 4 ≡ 0
+
+  pub lying_range : (a n : ℕ) (l : Lying a n) → InRange x.table x.blocks l.site a n
+  lying_range a n l = by (in_range x.table x.blocks l.site (house l.site l.name)
+      (houses x.table x.blocks l.site l.name (site_at x.table x.blocks sites l.site linked l.among).body l.there) l.home)
+    where
+      by : InRange x.table x.blocks l.site (address_of l.site.base (house l.site l.name).home) (house l.site l.name).bytes
+          → InRange x.table x.blocks l.site a n
+      by (inl r) = inl (r.0, omega (arith, r.1, l.low), omega (arith, r.2, l.high))
+      by (inr r) = inr (omega (arith, r.0, l.low), omega (arith, r.1, l.high))
+
+  lying_open : (a n : ℕ) → Lying a n → (b : ℕ) → a ≤ b → b + 4 ≤ a + n → IsOpen x.table x.blocks b
+  lying_open a n l b low high = by (lying_range a n l)
+    where
+      s : SiteAt x.table x.blocks sites l.site
+      s = site_at x.table x.blocks sites l.site linked l.among
+
+      by : InRange x.table x.blocks l.site a n → IsOpen x.table x.blocks b
+      by (inl r) = inr (inl (omega (arith, r.1, low), omega (arith, r.2, high)))
+      by (inr r) = let e = x.enough sites linked in inr (inr (omega (arith, s.least, r.0, low), omega (arith, s.most, r.1, high, e)))
+
+  pub lying_area : (m : Memory) (a n : ℕ) → MemoryGood x.table x.blocks x.first m → Lying a n → IsArea m a n
+  lying_area m a n good l k le = area_by m k a l.whole (λ b low high is. good.cells b is (lying_open a n l b low (omega (arith, high, le))))
+
+  pub lying_near : (a n : ℕ) → Lying a n → a + n < 2 ^ 32
+  lying_near a n l = by (lying_range a n l)
+    where
+      s : SiteAt x.table x.blocks sites l.site
+      s = site_at x.table x.blocks sites l.site linked l.among
+
+      by : InRange x.table x.blocks l.site a n → a + n < 2 ^ 32
+      by (inl r) = let d = x.small in omega (arith, r.2, d)
+      by (inr r) = let e = x.enough sites linked in let p = x.places in omega (arith, r.1, s.most, e, p)
+
+  -- two ranges of one size, one of which is all of a place, are the same or apart
+  pub whole_separate : (a b n : ℕ) (t : Lying a n) (s : Lying b n) → (house t.site t.name).bytes ≡ n → Separate x.law a b n
+  whole_separate a b n t s size = by (number_cases t.site.level s.site.level) (name_cases t.name s.name)
+    where
+      apart : (t.site.level ≢ s.site.level) ⊎ (t.name ≢ s.name) → Separate x.law a b n
+      apart d = inr (narrow (ranges_apart x.table x.blocks x.small sites t.site s.site t.name s.name linked t.among s.among t.there s.there t.home s.home d))
+        where
+          narrow : Beside (address_of t.site.base (house t.site t.name).home) (house t.site t.name).bytes
+              (address_of s.site.base (house s.site s.name).home) (house s.site s.name).bytes → (a + n ≤ b) ⊎ (b + n ≤ a)
+          narrow (inl h) = inl (omega (arith, h, t.low, t.high, s.low, s.high, size))
+          narrow (inr h) = inr (omega (arith, h, t.low, t.high, s.low, s.high, size))
+
+      same : t.site ≡ s.site → t.name ≡ s.name → Separate x.law a b n
+      same e f =
+          let address : address_of s.site.base (house s.site s.name).home ≡ address_of t.site.base (house t.site t.name).home
+          = sym (ap₂ (λ u w. address_of u.base (house u w).home) e f) in
+          let size' : (house s.site s.name).bytes ≡ n = sym (ap₂ (λ u w. (house u w).bytes) e f) ∙ size in
+          inl (omega (arith, t.low, t.high, s.low, s.high, size, size', address))
+
+      by : (t.site.level ≡ s.site.level) ⊎ (t.site.level ≢ s.site.level) → (t.name ≡ s.name) ⊎ (t.name ≢ s.name) → Separate x.law a b n
+      by (inr ne) f = apart (inl ne)
+      by (inl e) (inr ne) = apart (inr ne)
+      by (inl e) (inl f) = same (one_level x.table x.blocks sites t.site s.site linked t.among s.among e) f
+
+  pub separate_turned : (a b n : ℕ) → Separate x.law a b n → Separate x.law b a n
+  separate_turned a b n (inl e) = inl (sym e)
+  separate_turned a b n (inr (inl h)) = inr (inr h)
+  separate_turned a b n (inr (inr h)) = inr (inl h)
+
+  abbrev pub IsAll : (a n : ℕ) → Lying a n → Type 0
+  IsAll a n l = (house l.site l.name).bytes ≡ n
+
+  -- ---- sources and targets, in the running call, whose places begin at an address
+
+  module _ (m : Memory) (base : ℕ) (vars : Vars) where
+    -- all of a place, or a part of one
+    pub data Source (all : Bool) (h : Housed) (v : Value) : Type 0 where
+      held_in : (u : ℕ) → spot_of h ≡ Held u → MaySpot (Held u) v → vars u ≡ Some (single_word v) → Source all h v
+      lies_at : (home : Home) → spot_of h ≡ Lies home → IsHigh home → (a : ℕ) → Points base vars home a → IsAt m a v → (l : Lying a (bytes v))
+          → (all ≡ true → IsAll a (bytes v) l) → Source all h v
+
+  -- ---- of places
+
+  high_memory : (home : Home) → InMemory home → IsHigh home
+  high_memory (Variable v) i = absurd i
+  high_memory (Placed at) i = tt
+  high_memory (Static at) i = tt
+
+  may_held : (u : ℕ) (v : Value) → is_single v ≡ true → OWN_FROM ≤ u → MaySpot (Held u) v
+  may_held u (Number z) h high = high
+  may_held u (Parts vs) h high = never h
+
+  pub address_whole : (s : Site) (f : Name) → AmongSites s sites → IsThere x.table x.blocks s f → InMemory (house s f).home
+      → address_of s.base (house s f).home % 4 ≡ 0
+  address_whole s f i there inside = by (houses x.table x.blocks s f a.body there).where_is
+    where
+      a : SiteAt x.table x.blocks sites s
+      a = site_at x.table x.blocks sites s linked i
+
+      by : Housing (room s.body) FIXED_BYTES (data_end x.table x.blocks) s.body.start (house s f) → address_of s.base (house s f).home % 4 ≡ 0
+      by (in_variable v e plain low is_word) = absurd (subst InMemory e inside)
+      by (by_address v e address low) = absurd (subst InMemory e inside)
+      by (in_places n e plain whole within) = subst (λ h. address_of s.base h % 4 ≡ 0) (sym e) (let w = a.whole in omega (arith, whole, w))
+      by (in_data n e plain whole low within start) = subst (λ h. address_of s.base h % 4 ≡ 0) (sym e) (omega (arith, whole))
+
+  -- all of a place
+  abbrev pub lying_all : (s : Site) (f : Name) (n : ℕ) → AmongSites s sites → IsThere x.table x.blocks s f → InMemory (house s f).home
+      → (house s f).bytes ≡ n
+      → Lying (address_of s.base (house s f).home) n
+  lying_all s f n i there inside size = record {
+    site = s;
+    name = f;
+    among = i;
+    there = there;
+    home = inside;
+    low = omega arith;
+    high = omega (arith, size);
+    whole = address_whole s f i there inside;
+  }
+
+  module _ (c : Call) (i : AmongSites c.site sites) (f : Name) (there : IsThere x.table x.blocks c.site f) (plain : is_address (house c.site f).kind ≡ false)
+      (v : Value) (shaped : has_shape v (looked x.table x.blocks c.site f) ≡ true) where
+    place : IsHoused x.table x.blocks c.site.body (house c.site f)
+    place = houses x.table x.blocks c.site f (site_at x.table x.blocks sites c.site linked i).body there
+
+    pub size_is : (house c.site f).bytes ≡ bytes v
+    size_is = sym (bytes_is v (looked x.table x.blocks c.site f) shaped ∙ place.bytes)
+
+    pub word_is : (house c.site f).is_word ≡ is_single v
+    word_is = sym (single_is v (looked x.table x.blocks c.site f) shaped ∙ place.word)
+
+    pub small_word : single_word v < 2 ^ 32
+    small_word = word_small (number_of v) (number_fits v (looked x.table x.blocks c.site f) shaped)
+
+    pub place_source : (m : Memory) → At m c.site.base c.vars (spot_of (house c.site f)) v → Source m c.site.base c.vars true (house c.site f) v
+    place_source m at = by place.where_is
+      where
+        inside : InMemory (house c.site f).home → Source m c.site.base c.vars true (house c.site f) v
+        inside h = lies_at (house c.site f).home (spot_memory (house c.site f) plain h) (high_memory (house c.site f).home h)
+            (address_of c.site.base (house c.site f).home)
+            (points_there c.site.base c.vars (house c.site f).home h) (from_memory m c.site.base c.vars (house c.site f) v plain h at)
+            (lying_all c.site f (bytes v) i there h size_is) (λ e. size_is)
+
+        by : Housing (room c.site.body) FIXED_BYTES (data_end x.table x.blocks) c.site.body.start (house c.site f) → Source m c.site.base c.vars true
+            (house c.site f) v
+        by (in_variable u e p low is_word) =
+            let spot : spot_of (house c.site f) ≡ Held u = spot_held (house c.site f) u p e in
+            held_in u spot (may_held u v (sym word_is ∙ is_word) low) (subst (λ q. At m c.site.base c.vars q v) spot at)
+        by (by_address u e address low) = never (sym plain ∙ address)
+        by (in_places n e p whole within) = inside (subst InMemory (sym e) tt)
+        by (in_data n e p whole low within start) = inside (subst InMemory (sym e) tt)
+
+  pub item_source : (m : Memory) (c : Call) (f : Name) (v : Value) → AmongSites c.site sites → IsItem x.table x.blocks m c f v
+      → Source m c.site.base c.vars true (house c.site f) v
+  item_source m c f v i item = place_source c i f item.there item.plain v item.shaped m item.at
+
+  -- ---- moves
+
+  module _ (c : Within) (from_first : c.proc.data_from ≡ 0) (g : Vars) (m : Memory) (good : MemoryGood x.table x.blocks x.first m) (k : List WordInstr)
+      (vars : Vars) where
+    abbrev IntoMemory : List WordInstr → ℕ → Value → ℕ → Type 0
+    IntoMemory lines a v most = ToMemory x.law x.live (procs x.table x.blocks) c from_first g m lines vars a v most k
+
+    pub more_steps : (lines : List WordInstr) (a most most' : ℕ) (v : Value) → most ≤ most' → IntoMemory lines a v most → IntoMemory lines a v most'
+    more_steps lines a most most' v le r = record {
+      memory = r.memory;
+      vars = r.vars;
+      words = r.words;
+      awaits = r.awaits;
+      same = r.same;
+      changed = r.changed;
+      there = r.there;
+      steps = r.steps;
+      some = r.some;
+      few = omega (arith, r.few, le);
+      runs = r.runs;
+    }
+
+    module _ (home : Home) (a : ℕ) (points : Points c.base vars home a) where
+      held_to_memory : (v : Value) → single_word v < 2 ^ 32 → Lying a (bytes v) → (u : ℕ) → MaySpot (Held u) v → vars u ≡ Some (single_word v)
+          → IntoMemory (moved (is_single v) (bytes v) (Lies home) (Held u) k) a v (10 + 2 * bytes v)
+      held_to_memory (Parts vs) small lying u may is = absurd may
+      held_to_memory (Number z) small lying u may is =
+          let area = lying_area m a 4 good lying 1 (omega arith) in
+          let near = lying_near a 4 lying in
+          more_steps (moved true 4 (Lies home) (Held u) k) a 4 18 (Number z) (omega arith)
+          (number_to_memory x.law x.live (procs x.table x.blocks) c from_first g m good.sized k vars home a points z small area.0 (omega (arith, near)) 4
+          (Held u) may is)
+
+      lies_to_memory : (v : Value) → single_word v < 2 ^ 32 → Lying a (bytes v) → (other : Home) → IsHigh other → (b : ℕ)
+          → Points c.base vars other b → IsAt m b v
+          → Lying b (bytes v) → Separate x.law a b (bytes v) → IntoMemory (moved (is_single v) (bytes v) (Lies home) (Lies other) k) a v
+          (10 + 2 * bytes v)
+      lies_to_memory (Number z) small lying other high b points' at lying' apart =
+          let area = lying_area m a 4 good lying 1 (omega arith) in
+          let near = lying_near a 4 lying in
+          more_steps (moved true 4 (Lies home) (Lies other) k) a 4 18 (Number z) (omega arith)
+          (number_to_memory x.law x.live (procs x.table x.blocks) c from_first g m good.sized k vars home a points z small area.0 (omega (arith, near)) 4
+          (Lies other) high
+          (b, points', at, lying_near b 4 lying', lying_area m b 4 good lying'))
+      lies_to_memory (Parts vs) small lying other high b points' at lying' apart =
+          parts_to_memory x.law x.live (procs x.table x.blocks) c from_first g m good.sized k vars home a points x.copies.0 x.copies.1 vs
+          (lying_area m a (bytes (Parts vs)) good lying) (lying_near a (bytes (Parts vs)) lying) other high
+          (b, points', at, lying_near b (bytes (Parts vs)) lying', lying_area m b (bytes (Parts vs)) good lying') apart
+
+    module _ (to from : Housed) (v : Value) (word_from : from.is_word ≡ is_single v) (size_from : from.bytes ≡ bytes v)
+        (small : single_word v < 2 ^ 32) where
+      -- the code, by where both are
+      code_is : (p q : Spot) → spot_of to ≡ p → spot_of from ≡ q → moves to from k ≡ moved (is_single v) (bytes v) p q k
+      code_is p q e f = ap₂ (λ a b. moved a b (spot_of to) (spot_of from) k) word_from size_from ∙ ap₂ (λ a b. moved (is_single v) (bytes v) a b k) e f
+
+      pub source_from : {all : Bool} → Source m c.base vars all from v → (q : Spot) → spot_of from ≡ q → From m c.base vars q v
+      source_from (held_in u e may is) q f = subst (λ p. From m c.base vars p v) (sym e ∙ f) is
+      source_from (lies_at home e high a points at lying is_all) q f =
+          subst (λ p. From m c.base vars p v) (sym e ∙ f) (a, points, at, lying_near a (bytes v) lying, lying_area m a (bytes v) good lying)
+
+      source_may : {all : Bool} → Source m c.base vars all from v → (q : Spot) → spot_of from ≡ q → MaySpot q v
+      source_may (held_in u e may is) q f = subst (λ p. MaySpot p v) (sym e ∙ f) may
+      source_may (lies_at home e high a points at lying is_all) q f = subst (λ p. MaySpot p v) (sym e ∙ f) high
+
+      pub to_word_by : (t : ℕ) → spot_of to ≡ Held t → OWN_FROM ≤ t → (z : ℤ) → v ≡ Number z → (all : Bool)
+          → Source m c.base vars all from v
+          → ToVariable x.law x.live (procs x.table x.blocks) c from_first g m (moves to from k) vars t v k
+      to_word_by t e high z is all source =
+          let w = number_to_variable x.law x.live (procs x.table x.blocks) c from_first g m k vars t high z (subst (λ y. single_word y < 2 ^ 32) is small)
+          (is_single v) (bytes v) (spot_of from)
+          (subst (MaySpot (spot_of from)) is (source_may source (spot_of from) refl))
+          (subst (From m c.base vars (spot_of from)) is (source_from source (spot_of from) refl)) in
+          subst (λ l. ToVariable x.law x.live (procs x.table x.blocks) c from_first g m l vars t v k) (sym (code_is (Held t) (spot_of from) e refl))
+          (subst (λ y. ToVariable x.law x.live (procs x.table x.blocks) c from_first g m (moved (is_single v) (bytes v) (Held t) (spot_of from) k) vars t y k)
+          (sym is) w)
+
+      pub to_bytes_by : (home : Home) → spot_of to ≡ Lies home → (a : ℕ) → Points c.base vars home a → (lying : Lying a (bytes v)) → (all : Bool)
+          → Source m c.base vars all from v → (IsAll a (bytes v) lying ⊎ (all ≡ true)) → IntoMemory (moves to from k) a v (10 + 2 * bytes v)
+      to_bytes_by home e a points lying all (held_in u f may is) apart =
+          subst (λ l. IntoMemory l a v (10 + 2 * bytes v)) (sym (code_is (Lies home) (Held u) e f)) (held_to_memory home a points v small lying u may is)
+      to_bytes_by home e a points lying all (lies_at other f high b points' at lying' is_all) apart =
+          subst (λ l. IntoMemory l a v (10 + 2 * bytes v)) (sym (code_is (Lies home) (Lies other) e f))
+          (lies_to_memory home a points v small lying other high b points' at lying' (by apart))
+        where
+          by : (IsAll a (bytes v) lying ⊎ (all ≡ true)) → Separate x.law a b (bytes v)
+          by (inl h) = whole_separate a b (bytes v) lying lying' h
+          by (inr h) = separate_turned b a (bytes v) (whole_separate b a (bytes v) lying' lying (is_all h))
+
+      pub number_of_single : (w : Value) → is_single w ≡ true → (z : ℤ) × (w ≡ Number z)
+      number_of_single (Number z) h = (z, refl)
+      number_of_single (Parts vs) h = never h

@@ -1,0 +1,106 @@
+-- The start of word code: by at most three lines it comes to the first one of block code, and both states belong together there.
+use Rattle.std.proofs.Common.{◌≡◌, ℕ, ◌≤◌, List, [], ◌∷◌, ◌++◌, map, None, true, false, refl, sym, ap, subst}
+use Rattle.std.proofs.Common.{◌∙◌}
+use Rattle.std.proofs.lemmas.Bool.{and_parts, false≢true}
+use Rattle.rv32_isa.specs.Machine.{Lives}
+use Rattle.nim_types.specs.declared.types.TypeDef.{TypeDef}
+use Rattle.nim_types.specs.Table.{IsTable}
+use Rattle.nim_core.specs.declared.program.TheConstants.{ACTIVE_CALLS}
+use Rattle.mid_code.specs.declared.block.BlockLine.{BlockLine}
+use Rattle.mid_code.specs.declared.block.BlockProc.{BlockProc}
+use Rattle.mid_code.specs.declared.block.Blocks.{Blocks}
+use Rattle.mid_code.specs.Memory.{Memory}
+use Rattle.mid_code.specs.Scene.{known_in}
+use Rattle.mid_code.specs.Words.{no_words, start as word_start}
+use Rattle.mid_code.specs.Codes.{block_label, block_does, block_proc, block_procs, is_blocks, result_in as slots_of}
+use Rattle.mid_code.specs.Fits.{result_at, params_at, results_at, are_none}
+use Rattle.mid_code.specs.Running.{Proc, no_proc as no_run_proc, last_of, start_of, frame_of, has_first, beginning, at_first}
+use Rattle.word_lowering.specs.declared.homes.Layout.{Layout}
+use Rattle.word_lowering.specs.Layouts.{result_in}
+use Rattle.word_lowering.specs.Texts.{literals_at}
+use Rattle.word_lowering.specs.Lowered.{no_proc, start_layout, calls_in, lowered}
+use Rattle.word_lowering.specs.MayLower.{may_lower}
+use Rattle.word_lowering.specs.Stored.{HaveForms}
+use Rattle.word_lowering.proofs.Runs.{Runs}
+use Rattle.word_lowering.proofs.Sites.{Body, lines_of, data_end, globals_of, ResultIs, IsBody}
+use Rattle.word_lowering.proofs.Related.{Both, procs, code_behind, within, low, high, MemoryGood, Good}
+use Rattle.word_lowering.proofs.FirstMemory.{first_memory}
+use Rattle.word_lowering.proofs.ProcCodes.{start_laid, start_places, start_is_body}
+use Rattle.word_lowering.proofs.StartPair.{starts_up, no_results, first_pair, first_good, first_runs}
+
+none_behind : (xs ys : List ℕ) → are_none (xs ++ ys) ≡ true → ys ≡ []
+none_behind [] [] h = refl
+none_behind [] (y ∷ ys) h = absurd (false≢true h)
+none_behind (x ∷ xs) ys h = absurd (false≢true h)
+
+last_map : {A B : Type 0} (f : A → B) (none : A) (other : B) (x : A) (xs : List A) → last_of other (map f (x ∷ xs)) ≡ f (last_of none (x ∷ xs))
+last_map f none other x [] = refl
+last_map f none other x (y ∷ xs) = last_map f x (f x) y xs
+
+module _ (table : List TypeDef) (blocks : Blocks) (heap stack : ℕ) (input : List ℕ) where
+  abbrev first : Memory
+  first = first_memory (lowered table blocks) heap stack
+
+  abbrev pub start_body : Body
+  start_body = record {
+    own = start_layout table blocks.procs;
+    start = true;
+    literals = literals_at table (data_end table blocks);
+    number = 0;
+    proc = last_of no_proc blocks.procs;
+  }
+
+  -- what is shown of the start
+  pub record Begins (live : Lives) : Type 0 where
+    pub both : Both
+    pub good : Good table blocks first both
+    pub steps : ℕ
+    pub few : steps ≤ 3
+    pub runs : Runs live (procs table blocks) steps (word_start (lowered table blocks) heap stack input) (low table blocks both)
+    pub same : high table blocks both ≡ at_first block_label (block_does (known_in table)) (block_procs (known_in table) blocks)
+
+  module _ (is_table : IsTable table) (have : HaveForms table) (formed : is_blocks (known_in table) blocks ≡ true) (may : may_lower table blocks ≡ true)
+      (p : BlockProc) (ps : List BlockProc) (some : blocks.procs ≡ p ∷ ps) (memory : MemoryGood table blocks first first) where
+    start_is : IsBody table blocks start_body
+    start_is =
+        subst (λ (own : Layout). IsBody table blocks (record {
+          own = own;
+          start = true;
+          literals = literals_at table (data_end table blocks);
+          number = 0;
+          proc = last_of no_proc blocks.procs;
+        })) (sym (start_laid table blocks p ps some))
+        (start_is_body table blocks is_table have formed may p ps some 0)
+
+    no_result : (result_at (known_in table) start_body.proc.places ≡ None) × (slots_of (known_in table) start_body.proc.places ≡ [])
+    no_result =
+        no_results (known_in table) start_body.proc.places
+        (ap results_at (sym (start_places table blocks p ps some))
+        ∙ none_behind (params_at (globals_of table blocks)) (results_at (globals_of table blocks)) (and_parts _ _ (and_parts _ _ formed).1).0)
+
+    no_place : result_in start_body.own.all ≡ None
+    no_place = subst (λ o. ResultIs table blocks start_body.own.all o (result_in start_body.own.all)) no_result.0 start_is.result
+
+    pub begins : (live : Lives) → Begins live
+    unfolding word_start
+    begins live =
+        let g : Both = first_pair table blocks start_body start_is refl input first memory no_words in
+        let s = starts_up live (procs table blocks) (within table blocks g) first no_words
+        (code_behind table blocks start_body start_body.proc.lines) (calls_in (lines_of start_body)) in
+        record {
+          both = first_pair table blocks start_body start_is refl input first memory s.vars;
+          good = first_good table blocks start_body start_is refl input first memory s.vars s.counts no_result.1;
+          steps = s.steps;
+          few = s.few;
+          runs = first_runs table blocks start_body start_is refl input first memory s.vars s.counts no_result.1 live s.steps no_place s.runs;
+          same = ap (λ (q : Proc BlockLine). record {
+            now = beginning q 0 ACTIVE_CALLS;
+            waiting = [];
+            world = record { frames = frame_of q [] ∷ [] };
+            has = has_first q [] (λ level place. false) 0;
+          }) (sym last_is);
+        }
+      where
+        last_is : start_of (block_procs (known_in table) blocks) ≡ block_proc (known_in table) (last_of no_proc blocks.procs)
+        last_is = subst (λ qs. last_of no_run_proc (map (block_proc (known_in table)) qs) ≡ block_proc (known_in table) (last_of no_proc qs)) (sym some)
+            (last_map (block_proc (known_in table)) no_proc no_run_proc p ps)
