@@ -24,9 +24,10 @@ class Row(NamedTuple):
         return '%s:%d' % (self.path.name, self.line)
 
 
-def files_of(folder: str) -> List[Path]:
-    """The files of rows in a folder of the data, in order of their names."""
-    return sorted((DATA / folder).glob('*.rows'))
+def files_of(name: str) -> List[Path]:
+    """The file of rows of that name, or those in the folder of that name, in order of their names."""
+    file = DATA / (name + '.rows')
+    return [file] if file.exists() else sorted((DATA / name).glob('*.rows'))
 
 
 def read(path: Path) -> List[Row]:

@@ -1,7 +1,7 @@
-"""Compares this reader's answers with all rows of crates/rows/data/typing, crates/rows/data/plain and
-crates/rows/data/texts, and with the examples of docs/TYPING.md.
+"""Compares this reader's answers with all rows of crates/rows/data/typing, crates/rows/data/plain, crates/rows/data/texts and
+crates/rows/data/frames.rows, and with the examples of docs/TYPING.md.
 
-    python3 tools/reader/run_rows.py [--only typing|plain|texts|examples]
+    python3 tools/reader/run_rows.py [--only typing|plain|texts|frames|examples]
 
 Says what differs, and the number of rows; ends with status 1 where something does.
 """
@@ -12,6 +12,7 @@ import re
 import sys
 from typing import List, NamedTuple, Optional
 
+import frames
 from check import answer, check
 from interp import run, with_deep_stack
 from rows import REPOSITORY, Row, files_of, read
@@ -35,16 +36,25 @@ class Written(NamedTuple):
     err: str
 
 
-def wanted_answer(row: Row) -> str:
+def wanted_answer(row: Row, part: str) -> str:
     """The row has status and line, as `65 t.nim:1:5: E8 NotTyped`; the answer is `1:5: E8`."""
-    given = row.parts['check'].strip()
+    given = row.parts[part].strip()
     return given if given == '0' else given.split(SOURCE_FILE)[1].rsplit(' ', 1)[0]
 
 
 def typing_difference(row: Row) -> Optional[str]:
     """What differs in a row of the typing rules."""
-    wanted = wanted_answer(row)
+    wanted = wanted_answer(row, 'check')
     got = answer(row.parts['source'])
+    return None if wanted == got else 'wanted %s, got %s' % (wanted, got)
+
+
+def frames_difference(row: Row) -> Optional[str]:
+    """What differs in a row of procedures that are too large."""
+    if 'answer' not in row.parts:
+        return plain_difference(row)
+    wanted = wanted_answer(row, 'answer')
+    got = frames.answer(row.parts['source'])
     return None if wanted == got else 'wanted %s, got %s' % (wanted, got)
 
 
@@ -69,6 +79,8 @@ def plain_difference(row: Row) -> Optional[str]:
         program = check(row.parts['source'])
     except Refusal as refusal:
         return 'wanted a program, got %s' % refusal
+    if frames.frame_fault(program) is not None:
+        return 'wanted a program, got one that is too large'
     outcome = run(program, units_of(row), row.parts.get('input', '').encode('latin-1'))
     err = outcome.err.decode('latin-1') + (SPENT_LINE if outcome.status is None else '')
     got = Written(outcome.status, outcome.out.decode('latin-1'), err)
@@ -90,19 +102,20 @@ def examples() -> List[Row]:
     return rows
 
 
-DIFFERENCES = {'typing': typing_difference, 'plain': plain_difference, 'texts': plain_difference, 'examples': typing_difference}
+DIFFERENCES = {'typing': typing_difference, 'plain': plain_difference, 'texts': plain_difference, 'frames': frames_difference,
+               'examples': typing_difference}
 
 
-def differing_rows(folder: str) -> int:
-    """Prints what differs in a folder; gives the number of rows that do."""
-    rows = examples() if folder == 'examples' else [row for path in files_of(folder) for row in read(path)]
+def differing_rows(name: str) -> int:
+    """Prints what differs in a folder or a file; gives the number of rows that do."""
+    rows = examples() if name == 'examples' else [row for path in files_of(name) for row in read(path)]
     differing = 0
     for row in rows:
-        difference = DIFFERENCES[folder](row)
+        difference = DIFFERENCES[name](row)
         if difference is not None:
             differing += 1
             print('%s: %s' % (row, difference))
-    print('%s: %d rows, %d differ' % (folder, len(rows), differing))
+    print('%s: %d rows, %d differ' % (name, len(rows), differing))
     return differing
 
 
@@ -110,8 +123,8 @@ def main() -> None:
     parser = argparse.ArgumentParser(description='Compares rows of the repository with the answers of this reader.')
     parser.add_argument('--only', choices=list(DIFFERENCES), help='all of them, if it is not there')
     only = parser.parse_args().only
-    folders = list(DIFFERENCES) if only is None else [only]
-    sys.exit(1 if with_deep_stack(lambda: sum(differing_rows(folder) for folder in folders)) else 0)
+    names = list(DIFFERENCES) if only is None else [only]
+    sys.exit(1 if with_deep_stack(lambda: sum(differing_rows(name) for name in names)) else 0)
 
 
 if __name__ == '__main__':

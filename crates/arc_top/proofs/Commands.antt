@@ -1,7 +1,7 @@
 -- From the stages of a command to what is said of its answer.
 use Rattle.std.proofs.Common.{◌≡◌, ℕ, List, [], ◌∷◌, ◌++◌, Some, None, Ok, inl, inr, refl, sym, ap, subst, ◌∙◌, append_assoc}
 use Rattle.arc_base.specs.FileCalls.{load, store}
-use Rattle.arc_base.specs.Outside.{KeepsOthers, Stores}
+use Rattle.arc_base.specs.Outside.{Rose, KeepsOthers, Stores}
 use Rattle.arc_base.specs.declared.outside.Loaded.TheVariants as loaded
 use Rattle.arc_base.specs.declared.outside.Stream.TheVariants.{Out, Err}
 use Rattle.arc_base.specs.declared.place.Place.{Place}
@@ -11,7 +11,6 @@ use Rattle.elf32.specs.Elf.{File}
 use Rattle.nim_core.specs.Program.{Program}
 use Rattle.nim_core.specs.LeftOut.{first_left_out}
 use Rattle.nim_core.specs.Meaning.{meaning}
-use Rattle.int_bridge.specs.Lacks.{answer_of as unless_some}
 use Rattle.core_runner.specs.declared.mean.MeanEnd.{MeanEnd}
 use Rattle.core_runner.specs.declared.mean.MeanEnd.TheVariants as mean_end
 use Rattle.core_runner.specs.Mean.{Means}
@@ -23,9 +22,10 @@ use Rattle.rv32_runner.specs.Streams.{Streams}
 use Rattle.rv32_runner.specs.Runs.{Ran}
 use Rattle.source_compiler.specs.declared.compiler.NotCompiled.{NotCompiled}
 use Rattle.source_compiler.specs.declared.compiler.NotCompiled.TheVariants as why
-use Rattle.source_compiler.specs.Objects.{live_objects}
+use Rattle.core_compiler.specs.Compile.{live_objects}
 use Rattle.source_compiler.specs.Source.{alone, Reads}
-use Rattle.source_compiler.specs.Limits.{Limits, plain_limits, int_limits}
+use Rattle.core_compiler.specs.Limits.{unless_left_out}
+use Rattle.source_compiler.specs.Limits.{plain_limits}
 use Rattle.source_compiler.specs.Compile.{Compiled, IsProgram, IsNoProgram, by_limits, source_most, empty_plan, OnRefused}
 use Rattle.arc_top.specs.declared.answer.Answer.{Answer}
 use Rattle.arc_top.specs.declared.answer.Answer.TheVariants.{Done, Ended, Usage, NoFile, TooLong, Refused, BadElf, MachineFault, StepsSpent, ReadFault}
@@ -34,29 +34,35 @@ use Rattle.arc_top.specs.Answer.{OnQuiet}
 use Rattle.arc_top.specs.Loads.{FilesState, Gives, Wants}
 use Rattle.arc_top.specs.Runs.{HasRun, Does, answer_of}
 use Rattle.arc_top.specs.Stages.{StopsReading, IsRefusal, RunsOrWants, IsMeant}
-use Rattle.arc_top.specs.Top.{IsFileOf, HandsOver, Builds, world, RunsProgram, Runs, told, meant, MeansProgram, RunsMeaning}
+use Rattle.arc_top.specs.Top.{Taking, IsFileOf, HandsOver, Builds, world, RunsProgram, Runs, told, meant, MeansProgram, RunsMeaning}
 use Rattle.arc_top.proofs.Meaning.{Shows, Sees, exited, spent, no_fault, read_failed, out_failed, err_failed}
 
 -- ---- stores
 
-pub built : (main out source bytes : List ℕ) (heap : ℕ) (old mid new : FilesState) → Gives old mid main source_most source
-    → IsProgram int_limits main source
-    → IsFileOf (alone main source) heap bytes → new.calls ≡ mid.calls ++ store out bytes ∷ [] → KeepsOthers mid.held new.held out
-    → new.load_faults ≡ mid.load_faults → Stores new.held out bytes → new.store_faults ≡ mid.store_faults → Builds main out heap Done old new
-built main out source bytes heap old mid new gives program file calls others loads stores faults =
-    let kept = gives.asked.kept in
-    let over : HandsOver main out heap old new = record {
-      source = source;
-      bytes = bytes;
-      calls = calls ∙ ap (λ l. l ++ store out bytes ∷ []) gives.asked.calls
-          ∙ append_assoc old.calls (load main loaded.Whole source ∷ []) (store out bytes ∷ []);
-      told = gives.told;
-      program = program;
-      file = file;
-      others = subst (λ held. KeepsOthers held new.held out) kept.held others;
-      loads = loads ∙ kept.loads;
-    } in
-    (over, (stores, faults ∙ kept.stores))
+module _ (main out source bytes : List ℕ) (heap : ℕ) (old mid new : FilesState) (gives : Gives old mid main source_most source)
+    (file : IsFileOf (alone main source) heap bytes) (calls : new.calls ≡ mid.calls ++ store out bytes ∷ [])
+    (others : KeepsOthers mid.held new.held out) (loads : new.load_faults ≡ mid.load_faults) where
+  abbrev handed : HandsOver main out heap old new
+  handed = record {
+    source = source;
+    bytes = bytes;
+    calls = calls ∙ ap (λ l. l ++ store out bytes ∷ []) gives.asked.calls
+        ∙ append_assoc old.calls (load main loaded.Whole source ∷ []) (store out bytes ∷ []);
+    told = gives.told;
+    file = file;
+    program = record { within = gives.within; program = file.compiled.program; reads = file.compiled.reads; taken = file.compiled.built };
+    others = subst (λ held. KeepsOthers held new.held out) gives.asked.kept.held others;
+    loads = loads ∙ gives.asked.kept.loads;
+  }
+
+  pub built : Stores new.held out bytes → new.store_faults ≡ mid.store_faults → Builds main out heap Done old new
+  built stores faults = (handed, (stores, faults ∙ gives.asked.kept.stores))
+
+  pub not_stored : Rose mid.store_faults new.store_faults → Builds main out heap StoreFault old new
+  not_stored rose = (handed, subst (λ n. Rose n new.store_faults) gives.asked.kept.stores rose)
+
+  pub wants_store : new.store_faults ≡ mid.store_faults → Builds main out heap Memory old new
+  wants_store faults = inr (handed, faults ∙ gives.asked.kept.stores)
 
 -- ---- want of memory
 
@@ -67,8 +73,8 @@ wants_behind name bytes most old new gives = record { kept = gives.asked.kept; c
 -- ---- sources that aren't taken
 
 -- what was said of a refusal says that this command doesn't take the source
-pub turned_away : (limits : Limits) (main source : List ℕ) (P : Code → Place → Type 0)
-    → ((code : Code) (at : Place) → P code at → IsNoProgram limits main source code at) → (e : NotCompiled) (answer : Answer) (old new : FilesState)
+pub turned_away : (limits : Taking) (main source : List ℕ) (P : Code → Place → Type 0)
+    → ((code : Code) (at : Place) → P code at → (bytes : ℕ) × IsNoProgram (limits bytes) main source code at) → (e : NotCompiled) (answer : Answer) (old new : FilesState)
     → Gives old new main source_most source → IsRefusal e answer → OnRefused e P → StopsReading limits main answer old new
 turned_away limits main source P so why.TooLong answer old new gives is said = absurd is
 turned_away limits main source P so (why.Refused code at) answer old new gives is said =
@@ -119,10 +125,10 @@ module _ (sees : Sees) (shows : Shows) (main source : List ℕ) (heap steps : �
 pub left_down : (main source : List ℕ) (old new : FilesState) (program : Program) (at : Place) → Gives old new main source_most source
     → Reads (alone main source) program → first_left_out program ≡ Some at → IsNoProgram plain_limits main source LeftOut at
 left_down main source old new program at gives reads e =
-    record { within = gives.within; refused = by_limits program reads (ap (λ o. unless_some {A = Unit {0}} o tt) e) }
+    record { within = gives.within; refused = by_limits program reads (ap unless_left_out e) }
 
 pub none_left_out : (program : Program) → first_left_out program ≡ None → plain_limits program ≡ Ok tt
-none_left_out program e = ap (λ o. unless_some {A = Unit {0}} o tt) e
+none_left_out program e = ap unless_left_out e
 
 module _ (main source : List ℕ) (heap steps : ℕ) (program : Program) (old new : FilesState) (before after : Streams)
     (gives : Gives old new main source_most source) (reads : Reads (alone main source) program) (built : plain_limits program ≡ Ok tt)

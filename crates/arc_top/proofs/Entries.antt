@@ -7,7 +7,7 @@ use Rattle.core_runner.specs.declared.mean.MeanEnd.{MeanEnd}
 use Rattle.core_runner.specs.declared.mean.MeanEnd.TheVariants as mean_end
 use Rattle.core_runner.specs.Mean.{Means}
 use Rattle.nim_core.specs.Meaning.{meaning}
-use Rattle.source_compiler.specs.Limits.{int_limits}
+use Rattle.core_compiler.specs.Limits.{build_limits}
 use Rattle.source_compiler.specs.Compile.{IsProgram, source_most, empty_plan}
 use Rattle.rv32_isa.specs.State.{State, first_state}
 use Rattle.rv32_runner.specs.declared.runner.RunEnd.{RunEnd}
@@ -112,8 +112,8 @@ module _ (entry : Option (List ℕ)) (old new : FilesState) where
   due_stop command compiles most told fine (TooLong name) stops =
       let is = on_entry old.held (file_of command) entry (λ e. (bytes : List ℕ) × (e ≡ Some bytes) × (source_most < length bytes)) told stops.1.told in
       subst (λ n. IsDue command entry (TooLong n)) (sym stops.0) (long is.0 is.1 (subst (λ n. n < length is.0) (sym most) is.2))
-  due_stop command compiles most told fine (Refused code at) stops = refused stops.0 code at compiles
-      (given (file_of command) source_most stops.0 told stops.1) stops.2
+  due_stop command compiles most told fine (Refused code at) stops = refused stops.0 code at stops.2.0 compiles
+      (given (file_of command) source_most stops.0 told stops.1) stops.2.1
   due_stop command compiles most told fine (BadElf fault) stops = absurd stops
   due_stop command compiles most told fine (MachineFault kind pc word) stops = absurd stops
   due_stop command compiles most told fine (StepsSpent n) stops = absurd stops
@@ -124,7 +124,7 @@ module _ (entry : Option (List ℕ)) (old new : FilesState) where
   due_stop command compiles most told fine Memory stops = absurd stops
 
 is_program : (main : List ℕ) (heap steps : ℕ) (answer : Answer) (old new : World) (ran : RunsProgram main heap steps answer old new)
-    → IsProgram int_limits main ran.source
+    → IsProgram (build_limits (length ran.file.image.code)) main ran.source
 is_program main heap steps answer old new ran =
     record { within = ran.gives.within; program = ran.compiled.program; reads = ran.compiled.reads; taken = ran.compiled.built }
 
@@ -132,13 +132,13 @@ module _ (causes : CausesLaw) (entry : Option (List ℕ)) (old new : World) (fin
   due_program : (main : List ℕ) (heap steps : ℕ) (answer : Answer) → TellsEntry old.files.held main entry → IsCarriedOut (run main heap steps) answer
       → RunsProgram main heap steps answer old new → IsDue (run main heap steps) entry answer
   due_program main heap steps answer told done ran =
-      accepted ran.source answer tt (given entry old.files new.files main source_most ran.source told ran.gives)
+      accepted ran.source answer (length ran.file.image.code) tt (given entry old.files new.files main source_most ran.source told ran.gives)
       (is_program main heap steps answer old new ran) done
 
   due_meaning : (main : List ℕ) (heap steps : ℕ) (answer : Answer) → TellsEntry old.files.held main entry → IsCarriedOut (mean main heap steps) answer
       → MeansProgram main heap steps answer old new → IsDue (mean main heap steps) entry answer
   due_meaning main heap steps answer told done m =
-      accepted m.source answer tt (given entry old.files new.files main source_most m.source told m.gives)
+      accepted m.source answer 0 tt (given entry old.files new.files main source_most m.source told m.gives)
       (record { within = m.gives.within; program = m.program; reads = m.reads; taken = m.built }) done
 
   due_file : (name : List ℕ) (steps : ℕ) (answer : Answer) → TellsEntry old.files.held name entry → IsCarriedOut (exec name steps) answer
@@ -156,7 +156,7 @@ module _ (causes : CausesLaw) (entry : Option (List ℕ)) (old new : World) (fin
 
   pub due : (command : Command) (answer : Answer) → TellsEntry old.files.held (file_of command) entry → Answered command answer old new
       → IsDue command entry answer
-  due (check main) Done told is = accepted is.0.0 Done tt (given entry old.files new.files main source_most is.0.0 told is.0.1) is.0.2 tt
+  due (check main) Done told is = accepted is.0.0 Done 0 tt (given entry old.files new.files main source_most is.0.0 told is.0.1) is.0.2 tt
   due (check main) (Ended status) told is = due_stop entry old.files new.files (check main) tt refl told fine.loads (Ended status) is.0
   due (check main) Usage told is = due_stop entry old.files new.files (check main) tt refl told fine.loads Usage is.0
   due (check main) (NoFile name) told is = due_stop entry old.files new.files (check main) tt refl told fine.loads (NoFile name) is.0
@@ -171,7 +171,7 @@ module _ (causes : CausesLaw) (entry : Option (List ℕ)) (old new : World) (fin
   due (check main) (WriteFault Err) told is = due_stop entry old.files new.files (check main) tt refl told fine.loads (WriteFault Err) is.0
   due (check main) StoreFault told is = due_stop entry old.files new.files (check main) tt refl told fine.loads StoreFault is.0
   due (check main) Memory told is = wanting
-  due (build main out heap) Done told is = accepted is.0.0.source Done tt
+  due (build main out heap) Done told is = accepted is.0.0.source Done (length is.0.0.file.file.image.code) tt
       (on_entry old.files.held main entry (λ e. e ≡ Some is.0.0.source) told is.0.0.told) is.0.0.program tt
   due (build main out heap) (Ended status) told is = due_stop entry old.files new.files (build main out heap) tt refl told fine.loads (Ended status) is.0
   due (build main out heap) Usage told is = due_stop entry old.files new.files (build main out heap) tt refl told fine.loads Usage is.0

@@ -1,6 +1,8 @@
 -- Which answer is due where the outside tells what it holds, and no count of faults rose: by what stands under the name that the
 -- command reads, and by where the machine stands.
 use Rattle.std.specs.Prelude.{◌≡◌, ◌<◌, ◌≤◌, ℕ, List, length, ⊤, Option, Some, None}
+use Rattle.arc_base.specs.Event.{Event}
+use Rattle.arc_base.specs.Behaviour.{Behaviour, Live, Ended as HasEnded}
 use Rattle.arc_base.specs.Outside.{Held, Rose}
 use Rattle.arc_base.specs.declared.outside.Stream.TheVariants.{Out, Err}
 use Rattle.arc_base.specs.declared.place.Place.{Place}
@@ -11,6 +13,7 @@ use Rattle.elf32.specs.Faults.{HasFault}
 use Rattle.rv32_isa.specs.Machine.{Standing, Runs, HasExited, HasFaulted, shown_by}
 use Rattle.rv32_runner.specs.Streams.{Streams, Got, bytes_on}
 use Rattle.command_words.specs.Command.{Command, check, build, run, mean, exec, file_of}
+use Rattle.core_compiler.specs.Compile.{time_for}
 use Rattle.source_compiler.specs.Compile.{IsProgram, IsNoProgram, source_most}
 use Rattle.arc_top.specs.declared.answer.Answer.{Answer}
 use Rattle.arc_top.specs.declared.answer.Answer.TheVariants.{Done, Ended, NoFile, TooLong, Refused, BadElf, MachineFault, StepsSpent, Memory}
@@ -82,14 +85,14 @@ IsCarriedOut (exec name steps) (MachineFault kind pc word) = ⊤
 IsCarriedOut _ _ = ⊥
 
 -- The answers that are due. No two of the first six fit one entry, since a source is a program or is refused, and bytes are a
--- file or have a fault.
+-- file or have a fault: where the code of a program may be too large, by how many bytes it has.
 pub data IsDue (command : Command) (entry : Option (List ℕ)) : Answer → Type 0 where
   lacks : entry ≡ None → IsDue command entry (NoFile (file_of command))
   long : (bytes : List ℕ) → entry ≡ Some bytes → most_of command < length bytes → IsDue command entry (TooLong (file_of command))
-  refused : (source : List ℕ) (code : Code) (at : Place) → ReadsSource command → entry ≡ Some source →
-      IsNoProgram (limits_of command) (file_of command) source code at → IsDue command entry (Refused code at)
-  accepted : (source : List ℕ) (answer : Answer) → ReadsSource command → entry ≡ Some source →
-      IsProgram (limits_of command) (file_of command) source → IsCarriedOut command answer → IsDue command entry answer
+  refused : (source : List ℕ) (code : Code) (at : Place) (bytes : ℕ) → ReadsSource command → entry ≡ Some source →
+      IsNoProgram (limits_of command bytes) (file_of command) source code at → IsDue command entry (Refused code at)
+  accepted : (source : List ℕ) (answer : Answer) (bytes : ℕ) → ReadsSource command → entry ≡ Some source →
+      IsProgram (limits_of command bytes) (file_of command) source → IsCarriedOut command answer → IsDue command entry answer
   bad : (bytes : List ℕ) (fault : ElfFault) → Executes command → entry ≡ Some bytes → length bytes ≤ file_most → HasFault bytes fault →
       IsDue command entry (BadElf fault)
   executed : (bytes : List ℕ) (file : File) (answer : Answer) → Executes command → entry ≡ Some bytes → length bytes ≤ file_most →
@@ -114,3 +117,9 @@ pub record IsAnswerAt (steps : ℕ) (stands : Standing) (answer : Answer) (old n
   pub answers : answer ≡ answer_at steps stands
   pub out : Got old.out new.out (bytes_on Out (shown_by stands))
   pub err : Got old.err new.err (bytes_on Err (shown_by stands))
+
+-- ---- by how long a meaning takes
+
+-- where the meaning ends, it takes more instructions than these
+abbrev pub IsCutShort : (steps : ℕ) → (meaning : Behaviour Event) → Type 0
+IsCutShort steps meaning = (units status : ℕ) (live : Live) → (meaning units).phase ≡ HasEnded status live → steps < time_for (meaning units).work

@@ -2,7 +2,6 @@
 use Rattle.std.specs.Prelude.{◌≡◌, ◌⊎◌, ℕ, List}
 use Rattle.source_compiler.specs.declared.compiler.NotCompiled.{NotCompiled}
 use Rattle.source_compiler.specs.declared.compiler.NotCompiled.TheVariants as why
-use Rattle.source_compiler.specs.Limits.{Limits}
 use Rattle.source_compiler.specs.Compile.{empty_plan}
 use Rattle.nim_core.specs.Program.{Program}
 use Rattle.nim_core.specs.Meaning.{meaning}
@@ -14,7 +13,7 @@ use Rattle.arc_top.specs.declared.answer.Answer.{Answer}
 use Rattle.arc_top.specs.declared.answer.Answer.TheVariants.{NoFile, TooLong, Refused, ReadFault, Memory}
 use Rattle.arc_top.specs.Loads.{FilesState, Lacks, IsLong, LoadFails, Wants}
 use Rattle.arc_top.specs.Runs.{HasRun}
-use Rattle.arc_top.specs.Top.{Stops, told, meant}
+use Rattle.arc_top.specs.Top.{Taking, Stops, told, meant}
 
 -- a file can't be loaded
 abbrev pub StopsLoad : (name : List ℕ) (most : ℕ) → Answer → (old new : FilesState) → Type 0
@@ -25,7 +24,7 @@ StopsLoad name most Memory old new = Wants old new name
 StopsLoad name most _ old new = ⊥
 
 -- a main module can't be loaded, or isn't taken
-abbrev pub StopsReading : Limits → (main : List ℕ) → Answer → (old new : FilesState) → Type 0
+abbrev pub StopsReading : Taking → (main : List ℕ) → Answer → (old new : FilesState) → Type 0
 StopsReading limits main answer old new = ((answer ≡ Memory) × Wants old new main) ⊎ Stops limits main answer old new
 
 -- the answer for a source that was not compiled

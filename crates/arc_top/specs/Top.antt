@@ -4,7 +4,7 @@
 --                       └── Reads: a program ─┐   └─ Elf ─┘
 --                                  meaning  ──┼── Agrees ── the machine on the file's image
 --                                             └── Means ─── `mean`
-use Rattle.std.specs.Prelude.{◌≡◌, ℕ, List, [], ◌∷◌, ◌++◌, ⊤, ◌⊎◌, Some, Ok}
+use Rattle.std.specs.Prelude.{◌≡◌, ℕ, List, [], ◌∷◌, ◌++◌, length, ⊤, ◌⊎◌, Some, Ok}
 use Rattle.arc_base.specs.FileCalls.{load, store}
 use Rattle.arc_base.specs.Outside.{Rose, KeepsOthers, Stores, Writes}
 use Rattle.arc_base.specs.declared.outside.Loaded.TheVariants as loaded
@@ -19,7 +19,8 @@ use Rattle.core_runner.specs.declared.mean.MeanEnd.TheVariants as end
 use Rattle.core_runner.specs.Mean.{Means, Told}
 use Rattle.command_words.specs.Command.{Command, check, build, run, mean, exec}
 use Rattle.source_compiler.specs.Source.{Module, alone, Reads}
-use Rattle.source_compiler.specs.Limits.{Limits, no_limits, plain_limits, int_limits}
+use Rattle.core_compiler.specs.Limits.{build_limits}
+use Rattle.source_compiler.specs.Limits.{Limits, no_limits, plain_limits}
 use Rattle.source_compiler.specs.Compile.{Compiled, IsProgram, IsNoProgram, source_most, empty_plan}
 use Rattle.arc_top.specs.declared.answer.Answer.{Answer}
 use Rattle.arc_top.specs.declared.answer.Answer.TheVariants.{Done, Ended, NoFile, TooLong, Refused, BadElf, MachineFault, StepsSpent, ReadFault, WriteFault}
@@ -43,11 +44,20 @@ file_most = 4194304
 
 -- ---- what stops a command that reads a source
 
+-- which typed programs a command takes, by how many bytes their code has
+abbrev pub Taking : Type 0
+Taking = (code : ℕ) → Limits
+
+-- whatever their code
+abbrev pub always : Limits → Taking
+always limits code = limits
+
 -- the main module can't be loaded, or is no program that the command takes
-abbrev pub Stops : Limits → (main : List ℕ) → Answer → (old new : FilesState) → Type 0
+abbrev pub Stops : Taking → (main : List ℕ) → Answer → (old new : FilesState) → Type 0
 Stops limits main (NoFile name) old new = (name ≡ main) × Lacks old new main
 Stops limits main (TooLong name) old new = (name ≡ main) × IsLong old new main source_most
-Stops limits main (Refused code at) old new = (source : List ℕ) × Gives old new main source_most source × IsNoProgram limits main source code at
+Stops limits main (Refused code at) old new =
+    (source : List ℕ) × Gives old new main source_most source × ((bytes : ℕ) × IsNoProgram (limits bytes) main source code at)
 Stops limits main ReadFault old new = LoadFails old new
 Stops limits main _ old new = ⊥
 
@@ -56,7 +66,7 @@ Stops limits main _ old new = ⊥
 abbrev pub Checks : (main : List ℕ) → Answer → (old new : FilesState) → Type 0
 Checks main Done old new = (source : List ℕ) × Gives old new main source_most source × IsProgram no_limits main source
 Checks main Memory old new = Wants old new main
-Checks main answer old new = Stops no_limits main answer old new
+Checks main answer old new = Stops (always no_limits) main answer old new
 
 -- ---- `build MAIN OUT`
 
@@ -67,8 +77,8 @@ pub record HandsOver (main out : List ℕ) (heap : ℕ) (old new : FilesState) :
   pub bytes : List ℕ
   pub calls : new.calls ≡ old.calls ++ load main loaded.Whole source ∷ store out bytes ∷ []
   pub told : OnEntry old.held main (λ entry. entry ≡ Some source)
-  pub program : IsProgram int_limits main source
   pub file : IsFileOf (alone main source) heap bytes
+  pub program : IsProgram (build_limits (length file.file.image.code)) main source
   pub others : KeepsOthers old.held new.held out
   pub loads : new.load_faults ≡ old.load_faults
 
@@ -81,7 +91,7 @@ Builds main out heap Done old new = (over : HandsOver main out heap old new) × 
 Builds main out heap StoreFault old new = HandsOver main out heap old new × Rose old.store_faults new.store_faults
 -- (before the store, or in it)
 Builds main out heap Memory old new = Wants old new main ⊎ (HandsOver main out heap old new × (new.store_faults ≡ old.store_faults))
-Builds main out heap answer old new = Stops int_limits main answer old new
+Builds main out heap answer old new = Stops build_limits main answer old new
 
 -- ---- what the outside tells
 
@@ -114,7 +124,7 @@ Runs main heap steps (StepsSpent n) old new = RunsProgram main heap steps (Steps
 Runs main heap steps (WriteFault stream) old new = RunsProgram main heap steps (WriteFault stream) old new
 Runs main heap steps ReadFault old new = OfFiles LoadFails old new ⊎ RunsProgram main heap steps ReadFault old new
 Runs main heap steps Memory old new = OfFiles (λ before after. Wants before after main) old new
-Runs main heap steps answer old new = OfFiles (Stops int_limits main answer) old new
+Runs main heap steps answer old new = OfFiles (Stops build_limits main answer) old new
 
 -- ---- `mean MAIN`
 
@@ -153,7 +163,7 @@ RunsMeaning main heap steps (WriteFault stream) old new = MeansProgram main heap
 -- (before the run, or in it)
 RunsMeaning main heap steps Memory old new =
     OfFiles (λ before after. Wants before after main) old new ⊎ MeansProgram main heap steps Memory old new
-RunsMeaning main heap steps answer old new = OfFiles (Stops plain_limits main answer) old new
+RunsMeaning main heap steps answer old new = OfFiles (Stops (always plain_limits) main answer) old new
 
 -- ---- `exec ELF`
 
@@ -192,12 +202,12 @@ modules_of (mean main heap steps) = main ∷ []
 modules_of (exec name steps) = []
 
 -- which typed programs the command takes
-abbrev pub limits_of : Command → Limits
-limits_of (check main) = no_limits
-limits_of (build main out heap) = int_limits
-limits_of (run main heap steps) = int_limits
-limits_of (mean main heap steps) = plain_limits
-limits_of (exec name steps) = no_limits
+abbrev pub limits_of : Command → Taking
+limits_of (check main) = always no_limits
+limits_of (build main out heap) = build_limits
+limits_of (run main heap steps) = build_limits
+limits_of (mean main heap steps) = always plain_limits
+limits_of (exec name steps) = always no_limits
 
 -- what an answer to a command says of the outside before the command, and after it but for the line of the answer
 abbrev pub Answered : Command → Answer → (old new : World) → Type 0

@@ -7,6 +7,6 @@ mod report;
 mod top;
 
 pub use answer::{Answer, FileName};
-pub use laws::complete;
+pub use laws::{complete, in_time};
 pub use report::put_report;
 pub use top::nimarc;

@@ -7,14 +7,15 @@ ghost use Rattle.rv32_runner.specs.Streams.{feed, tally, streams};
 ghost use Rattle.command_words.specs.Command.{Command as TheCommand, command_of, IsCommand, IsNoCommand, IsInRange};
 ghost use Rattle.check_decls.specs.Modules.{program_in};
 ghost use Rattle.source_compiler.specs.Source.{alone, Reads};
-ghost use Rattle.source_compiler.specs.Limits.{no_limits, plain_limits, int_limits};
+ghost use Rattle.core_compiler.specs.Limits.{build_limits};
+ghost use Rattle.source_compiler.specs.Limits.{no_limits, plain_limits};
 ghost use Rattle.source_compiler.specs.Compile.{Compiled, IsProgram, source_most, OnTooLong};
 ghost use Rattle.arc_top.specs.Answer.{OnQuiet, OnUsage, OnCommand};
 ghost use Rattle.arc_top.specs.Loads.{Kept, Gives, files_state};
 ghost use Rattle.arc_top.specs.Report.{report_of};
 ghost use Rattle.arc_top.specs.Stages.{StopsLoad, StopsReading, IsRefusal, RunsOrWants, IsMeant};
 ghost use Rattle.arc_top.specs.Top.{IsFileOf, Checks, Builds, Runs, RunsMeaning, Executes, Answered, Carries, modules_of, WithoutStreams};
-ghost use Rattle.arc_top.specs.Top.{world, file_most, meant};
+ghost use Rattle.arc_top.specs.Top.{always, world, file_most, meant};
 
 use crate::answer::{Answer, FileName};
 use crate::report::put_report;
@@ -73,10 +74,10 @@ fn read_main<F: Files>(alloc: Global, main: &str, files: &mut F) -> Result<Progr
         (files_state (F.held files.old) (F.load_faults files.old) (F.store_faults files.old) (F.calls files.old))
         (files_state (F.held files.new) (F.load_faults files.new) (F.store_faults files.new) (F.calls files.new)) main.now source_most source
         × Reads (alone main.now source) (program_in program)) }
-    ensures stops_check { IfErr result (λ answer. StopsReading no_limits main.now answer
+    ensures stops_check { IfErr result (λ answer. StopsReading (always no_limits) main.now answer
         (files_state (F.held files.old) (F.load_faults files.old) (F.store_faults files.old) (F.calls files.old))
         (files_state (F.held files.new) (F.load_faults files.new) (F.store_faults files.new) (F.calls files.new))) }
-    ensures stops_mean { IfErr result (λ answer. StopsReading plain_limits main.now answer
+    ensures stops_mean { IfErr result (λ answer. StopsReading (always plain_limits) main.now answer
         (files_state (F.held files.old) (F.load_faults files.old) (F.store_faults files.old) (F.calls files.old))
         (files_state (F.held files.new) (F.load_faults files.new) (F.store_faults files.new) (F.calls files.new))) }
 {
@@ -100,8 +101,8 @@ fn compile_main<F: Files>(
         × Gives
         (files_state (F.held files.old) (F.load_faults files.old) (F.store_faults files.old) (F.calls files.old))
         (files_state (F.held files.new) (F.load_faults files.new) (F.store_faults files.new) (F.calls files.new)) main.now source_most source
-        × IsProgram int_limits main.now source × Compiled (alone main.now source) heap (file_of file)) }
-    ensures stops { IfErr result (λ answer. StopsReading int_limits main.now answer
+        × Compiled (alone main.now source) heap (file_of file)) }
+    ensures stops { IfErr result (λ answer. StopsReading build_limits main.now answer
         (files_state (F.held files.old) (F.load_faults files.old) (F.store_faults files.old) (F.calls files.old))
         (files_state (F.held files.new) (F.load_faults files.new) (F.store_faults files.new) (F.calls files.new))) }
 {
@@ -125,8 +126,8 @@ fn file_bytes<F: Files>(
         × Gives
         (files_state (F.held files.old) (F.load_faults files.old) (F.store_faults files.old) (F.calls files.old))
         (files_state (F.held files.new) (F.load_faults files.new) (F.store_faults files.new) (F.calls files.new)) main.now source_most source
-        × IsProgram int_limits main.now source × IsFileOf (alone main.now source) heap bytes) }
-    ensures stops { IfErr result (λ answer. StopsReading int_limits main.now answer
+        × IsFileOf (alone main.now source) heap bytes) }
+    ensures stops { IfErr result (λ answer. StopsReading build_limits main.now answer
         (files_state (F.held files.old) (F.load_faults files.old) (F.store_faults files.old) (F.calls files.old))
         (files_state (F.held files.new) (F.load_faults files.new) (F.store_faults files.new) (F.calls files.new))) }
 {

@@ -1,5 +1,5 @@
 // Rows against what the calls give.
-use crate::commands::show_command;
+use crate::commands::{built_file, show_command};
 use crate::given::{is_of_files, text_in};
 use crate::machine::{show_decoded, show_step};
 use crate::parsed::{is_of_source, show_characters, show_source, show_text};
@@ -7,6 +7,7 @@ use crate::report::Report;
 use crate::rows::{Part, Row};
 use crate::runs::{check_call, check_program, is_of_run};
 use crate::text::Text;
+use crate::visits::{most_of, show_visits};
 use std::alloc::Global;
 
 /// The most bytes of a source that is scanned.
@@ -69,6 +70,9 @@ fn check_part(alloc: Global, row: &Row, part: &Part, report: &mut Report) {
     let mut found = Text::new(alloc, name.starts_with(PLACED) || name == "imports");
     if matches!(name, "answer" | "check") || name.starts_with("bytes ") {
         show_command(alloc, row, name, &mut found);
+    } else if let Some(most) = most_of(name) {
+        let file = built_file(alloc, row.bytes("source"));
+        show_visits(alloc, file.as_slice(), most, &mut found);
     } else {
         show(
             alloc,

@@ -15,6 +15,7 @@ mod rows;
 mod runs;
 mod text;
 mod trees;
+mod visits;
 
 use crate::report::Report;
 use crate::rows::run_rows;
@@ -23,9 +24,6 @@ use arc_base::{HostSink, put_all};
 use std::alloc::Global;
 use std::process::ExitCode;
 use std::{env, fs, io};
-
-/// The folder of programs that are run by their meaning.
-const MEANT: &str = "plain/";
 
 /// A file or a stream failed, or there was no memory for what is said.
 struct Failed;
@@ -49,7 +47,6 @@ fn report_of<'a>(alloc: Global, file: &'a str, text: &str) -> Report<'a> {
         lines: Text::new(alloc, false),
         count: 0,
         differs: false,
-        is_meant: file.contains(MEANT),
     };
     run_rows(alloc, text, &mut report);
     report.end();

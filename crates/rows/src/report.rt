@@ -11,8 +11,6 @@ pub struct Report<'a> {
     /// How many rows it has.
     pub count: i64,
     pub differs: bool,
-    /// Whether programs of the file are run by their meaning.
-    pub is_meant: bool,
 }
 
 impl Report<'_> {

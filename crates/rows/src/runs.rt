@@ -8,7 +8,7 @@ use arc_base::{MemFiles, Memory, Stream};
 use std::alloc::Global;
 
 /// The most instructions of a run, and units of a meaning, where a row says nothing of them.
-const STEPS: u32 = 1_000_000;
+const STEPS: u32 = 100_000_000;
 
 const UNITS: u32 = 5_000_000;
 
@@ -115,14 +115,13 @@ fn files_with_built(alloc: Global, row: &Row) -> MemFiles {
     files
 }
 
-/// Compares what a program does with what a row says. It writes nothing and ends with status 0
-/// where the row says nothing of it.
+/// Compares what a program means, and what it does as it is run and as its file is executed, with what a row says. It writes
+/// nothing and ends with status 0 where the row says nothing of it.
 pub fn check_program(alloc: Global, row: &Row, report: &mut Report) {
     if row.part("words").is_some() {
         report.say(row.line, "words of a program", "");
-    } else if report.is_meant {
-        check_by(alloc, row, "mean", files_of(alloc, row), UNITS, report);
     } else {
+        check_by(alloc, row, "mean", files_of(alloc, row), UNITS, report);
         check_by(alloc, row, "run", files_of(alloc, row), STEPS, report);
         check_by(
             alloc,

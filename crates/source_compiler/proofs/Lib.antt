@@ -1,21 +1,6 @@
 mod Reading
 mod Taking
-mod Ready
-mod Arithmetic
-mod Contents
-mod Moves
-mod Operations
-mod Digits
-mod Numbers
-mod PieceRuns
-mod Flow
-mod InRange
-mod Agreement
-mod Emits
-mod Sizes
-mod Images
 mod Deciding
 mod Stages
-mod Small
 mod PlainFiles
 pub mod ForCallers

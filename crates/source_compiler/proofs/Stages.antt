@@ -1,10 +1,10 @@
 -- What the stages of the compiler give one another.
-use Rattle.std.proofs.Common.{◌≡◌, ℕ, List, Result, Ok, Err, ap}
+use Rattle.std.proofs.Common.{ℕ, List, Result, Ok, Err}
 use Rattle.std.specs.Prelude.{IfOk, IfErr}
 use Rattle.arc_base.specs.Stops.{OnRefusal}
 use Rattle.arc_base.specs.declared.place.Stop.{Stop}
 use Rattle.arc_base.specs.declared.place.Stop.TheVariants.{Refused, Memory}
-use Rattle.arc_base.specs.Refusal.{and_then, Answers}
+use Rattle.arc_base.specs.Refusal.{Answers}
 use Rattle.indent_scanner.specs.declared.token.Token.{Token}
 use Rattle.indent_scanner.specs.Tokens.{Tokens}
 use Rattle.indent_scanner.specs.Tokens.{IsRefused as IsRefusedByBytes}
@@ -14,10 +14,9 @@ use Rattle.nim_core.specs.Program.{Program}
 use Rattle.parse_stmts.specs.Parsed.{IsRefused}
 use Rattle.decl_rules.specs.Elaborated.{elaborated}
 use Rattle.decl_rules.specs.Laws.{ProgramsComputed, ReasonsComputed}
-use Rattle.int_core.specs.Program as S
 use Rattle.check_decls.specs.Modules.{program_in}
 use Rattle.source_compiler.specs.Source.{main_module, IsTree, lone, ReadsAlone, RefusesAlone, by_bytes, by_tokens, by_rules, alone, Reads}
-use Rattle.source_compiler.specs.Limits.{int_answer, int_limits}
+use Rattle.source_compiler.specs.Limits.{Limits}
 use Rattle.source_compiler.specs.Compile.{AreTurnedDown, by_limits}
 
 -- ---- what each step says of its refusal
@@ -48,8 +47,8 @@ module _ (source : List ℕ) (tokens : List Token) (tree : Statements) (is : IsT
 
 -- ---- what can't be compiled
 
-pub int_down : (program : Program) (source : List ℕ) → ((name : List ℕ) → Reads (alone name source) program) → (stop : Stop)
-    → Answers S.program_of (int_answer program) (Err stop)
-    → OnRefusal stop (λ code at. (name : List ℕ) → AreTurnedDown int_limits (alone name source) code at)
-int_down program source reads (Refused code at) said = λ name. by_limits program (reads name) (ap (λ r. and_then r (λ small. Ok tt)) said)
-int_down program source reads Memory said = tt
+pub limits_down : (T : Type 0) (limits : Limits) (program : Program) (source : List ℕ) → ((name : List ℕ) → Reads (alone name source) program) →
+    (of : T → Unit {0}) (stop : Stop) → Answers of (limits program) (Err stop)
+    → OnRefusal stop (λ code at. (name : List ℕ) → AreTurnedDown limits (alone name source) code at)
+limits_down T limits program source reads of (Refused code at) said = λ name. by_limits program (reads name) said
+limits_down T limits program source reads of Memory said = tt

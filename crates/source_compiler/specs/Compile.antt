@@ -3,8 +3,9 @@
 --     source ──Reads──> program ──meaning──> behaviour
 --       │                                       │
 --       └─────compile────> file ──machine──> behaviour that agrees
-use Rattle.std.specs.Prelude.{◌≡◌, ◌≤◌, ℕ, List, [], length, ⊤, Result, Ok, Err}
+use Rattle.std.specs.Prelude.{◌≡◌, ◌≤◌, ℕ, List, [], length, ⊤, Result, Ok, Err, IfErr}
 use Rattle.arc_base.specs.Behaviour.{Agrees}
+use Rattle.arc_base.specs.Pace.{PacedFrom}
 use Rattle.arc_base.specs.Refusal.{IsRefusal}
 use Rattle.arc_base.specs.declared.place.Place.{Place}
 use Rattle.arc_base.specs.declared.place.Code.{Code}
@@ -19,26 +20,29 @@ use Rattle.source_compiler.specs.declared.compiler.NotCompiled.{NotCompiled}
 use Rattle.source_compiler.specs.declared.compiler.NotCompiled.TheVariants.{TooLong, Refused, Memory}
 use Rattle.source_compiler.specs.declared.source.TheConstants.{SOURCE_MOST}
 use Rattle.source_compiler.specs.Source.{Module, alone, Reads, Refuses}
-use Rattle.source_compiler.specs.Limits.{Limits, int_limits}
-use Rattle.source_compiler.specs.Objects.{live_objects}
+use Rattle.core_compiler.specs.declared.program.TheConstants.{IMAGE_PACE, IMAGE_LATE}
+use Rattle.core_compiler.specs.Limits.{build_limits}
+use Rattle.core_compiler.specs.Compile.{live_objects, EndsInTime}
+use Rattle.source_compiler.specs.Limits.{Limits}
 
 -- the plan of a program without sites
 abbrev pub empty_plan : Plan
 empty_plan = record { sites = []; sinks = []; skips = [] }
 
--- THE HEADLINE. The modules are one typed program. For every input and every number of steps the machine on the file's image
--- agrees with the meaning of the program under the file's plan and this heap, in bytes. The file is one that can be written,
--- its plan is empty, and there are no hooks.
+-- THE HEADLINE. The modules are one typed program, which can be compiled. For every input and every number of steps the machine on the
+-- file's image agrees with the meaning of the program under the file's plan and this heap, in bytes; its work is in proportion, and where
+-- the meaning ends the machine has ended in time. The file is one that can be written, its plan is empty, and there are no hooks.
 pub record Compiled (modules : List Module) (heap : ℕ) (file : File) : Type 0 where
   pub program : Program
   pub reads : Reads modules program
   pub reads_only : (other : Program) → Reads modules other → other ≡ program
-  pub built : int_limits program ≡ Ok tt
+  pub built : build_limits (length file.image.code) program ≡ Ok tt
   pub allowed : IsFile file
   pub agrees : (input : List ℕ) → Agrees (machine live_objects file.image input) (meaning program file.plan heap input)
+  pub paced : (input : List ℕ) → PacedFrom IMAGE_PACE IMAGE_LATE (machine live_objects file.image input) (meaning program file.plan heap input)
+  pub in_time : (input : List ℕ) → EndsInTime (machine live_objects file.image input) (meaning program file.plan heap input)
   pub plan : file.plan ≡ empty_plan
   pub heap_is : file.image.heap ≡ heap
-  pub stack : file.image.stack ≡ 65536
   pub hooks : file.image.hooks ≡ []
 
 -- the longest source
@@ -80,6 +84,11 @@ IsOkOrMemory (Ok x) = ⊤
 IsOkOrMemory (Err TooLong) = ⊥
 IsOkOrMemory (Err (Refused code at)) = ⊥
 IsOkOrMemory (Err Memory) = ⊤
+
+-- a source is taken under these limits, or refused as they say
+pub record DecidedBy (limits : Limits) (source : List ℕ) {T : Type 0} (result : Result T NotCompiled) : Type 0 where
+  pub refused : IfErr result (λ e. OnRefused e (λ code at. (name : List ℕ) → IsNoProgram limits name source code at))
+  pub complete : (name : List ℕ) → IsProgram limits name source → IsOkOrMemory result
 
 -- what a front-end call said, said of the source
 abbrev pub IsStop : Stop → NotCompiled → Type 0

@@ -2,11 +2,8 @@
 //! and its plan.
 #![tactic(auto)]
 
-mod code;
 mod compiler;
 mod source;
-mod within;
-mod words;
 
 pub use compiler::{NotCompiled, compile};
 pub use source::{SOURCE_MOST, one_answer, typed};

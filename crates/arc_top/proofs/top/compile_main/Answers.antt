@@ -1,6 +1,6 @@
 use Rattle.std.proofs.Common.{ℕ, List}
-use Rattle.source_compiler.specs.Limits.{int_limits}
-use Rattle.source_compiler.specs.Compile.{IsProgram, IsNoProgram}
+use Rattle.core_compiler.specs.Limits.{build_limits}
+use Rattle.source_compiler.specs.Compile.{IsNoProgram}
 use Rattle.arc_top.specs.Loads.{files_state}
 use Rattle.arc_top.proofs.Commands.{turned_away}
 use Rattle.arc_top.proofs.top.compile_main.Goals as goal
@@ -8,9 +8,7 @@ use Rattle.arc_top.proofs.top.compile_main.Goals as goal
 pub returns-in-Ok-clause-compiled : goal.returns-in-Ok-clause-compiled
 returns-in-Ok-clause-compiled g c =
     let compiled = c.in-Ok.ensures.compiled c.args.main.now in
-    let program : IsProgram int_limits c.args.main.now c.as_slice.result.now =
-    record { within = c.in-Ok.ensures.within; program = compiled.program; reads = compiled.reads; taken = compiled.built } in
-    (c.as_slice.result.now, rw c.as_slice.ensures c.in_ok-source.ensures.gives, program, compiled)
+    (c.as_slice.result.now, rw c.as_slice.ensures c.in_ok-source.ensures.gives, compiled)
 
 pub returns-clause-stops : goal.returns-clause-stops
 returns-clause-stops g c =
@@ -18,8 +16,9 @@ returns-clause-stops g c =
     let old = c.args.files.now in
     let new = c.load_file.new.files in
     let source = c.as_slice.result.now in
-    turned_away int_limits c.args.main.now source (λ code at. (name : List ℕ) → IsNoProgram int_limits name source code at)
-    (λ code at h. h c.args.main.now) c.in-Err.why c.refuse.result
+    turned_away build_limits c.args.main.now source
+    (λ code at. (name : List ℕ) → IsNoProgram (build_limits c.in-Err.ensures.decided.0) name source code at)
+    (λ code at h. (c.in-Err.ensures.decided.0, h c.args.main.now)) c.in-Err.why c.refuse.result
     (files_state (F.held old) (F.load_faults old) (F.store_faults old) (F.calls old))
     (files_state (F.held new) (F.load_faults new) (F.store_faults new) (F.calls new))
-    (rw c.as_slice.ensures c.in_ok-source.ensures.gives) c.refuse.ensures c.in-Err.ensures.refused
+    (rw c.as_slice.ensures c.in_ok-source.ensures.gives) c.refuse.ensures c.in-Err.ensures.decided.1.refused

@@ -16,7 +16,7 @@ returns-in-Some g c =
     (files_state (F.held old) (F.load_faults old) (F.store_faults old) (F.calls old))
     (files_state (F.held new) (F.load_faults new) (F.store_faults new) (F.calls new))
     program c.in-Some.at given.1 given.2 (sym c.left_out.ensures ∙ c.in-Some.is) in
-    record { means = ((given.0, given.1, down), refl) }
+    record { means = ((given.0, given.1, (0, down)), refl) }
 
 pub returns : goal.returns
 returns g c =

@@ -25,5 +25,5 @@ returns-in-Ok g c =
           (tally (O.written out) (O.faults out)) (tally (E.written err) (E.faults err)))
           (streams (feed (I.left after.input) (I.ended after.input) (I.faults after.input) (I.gave after.input))
           (tally (O.written after.out) (O.faults after.out)) (tally (E.written after.err) (E.faults after.err)))
-          given.1 given.3 c.run_image.result c.run_image.ensures.ran;
+          given.1 given.2 c.run_image.result c.run_image.ensures.ran;
     }

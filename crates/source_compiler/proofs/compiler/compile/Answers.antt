@@ -1,98 +1,86 @@
-use Rattle.std.proofs.Common.{◌≡◌, refl, sym, ap, arith, Ok}
+use Rattle.std.proofs.Common.{◌≡◌, refl, sym, ap, subst, arith, Ok, length}
 use Rattle.std.proofs.lemmas.Result.{err_from_is_err_and}
-use Rattle.arc_base.specs.Refusal.{and_then}
-use Rattle.int_core.specs.Program.{program_of}
-use Rattle.int_core.specs.Meaning.{meaning as small_meaning}
-use Rattle.nim_core.specs.Meaning.{meaning}
+use Rattle.rv32_isa.specs.declared.image.Image.{Image as RustImage}
 use Rattle.rv32_isa.specs.Image.{image_of}
-use Rattle.rv32_isa.specs.Machine.{machine}
 use Rattle.elf32.specs.Elf.{file_of}
-use Rattle.source_compiler.specs.Objects.{live_objects}
 use Rattle.check_decls.specs.Modules.{program_in}
+use Rattle.core_compiler.specs.Limits.{build_limits}
 use Rattle.source_compiler.specs.Source.{alone}
-use Rattle.source_compiler.specs.Limits.{int_limits}
 use Rattle.source_compiler.proofs.PlainFiles.{plain_file, plan_is, image_is}
 use Rattle.source_compiler.proofs.Taking.{never_refused, down_by_limits, no_long, for_limits}
-use Rattle.source_compiler.proofs.Stages.{int_down}
-use Rattle.source_compiler.proofs.Small.{can_lower, taken_is}
+use Rattle.source_compiler.proofs.Stages.{limits_down}
 use Rattle.source_compiler.proofs.compiler.compile.Goals as goal
 
 -- ---- no typed program
 
-pub returns-in_err-program-clause-refused : goal.returns-in_err-program-clause-refused
-returns-in_err-program-clause-refused c =
-    let p = err_from_is_err_and c.from_residual.result c.from_residual.ensures.1 in
-    rw (p.1, p.2) (for_limits int_limits c.args.source.now _ c.in_err-program.ensures.refused)
-
-pub returns-in_err-program-clause-complete : goal.returns-in_err-program-clause-complete
-returns-in_err-program-clause-complete c =
+pub returns-in_err-program-clause-decided : goal.returns-in_err-program-clause-decided
+returns-in_err-program-clause-decided c =
     let source = c.args.source.now in
     let p = err_from_is_err_and c.from_residual.result c.from_residual.ensures.1 in
-    let said = for_limits int_limits source _ c.in_err-program.ensures.refused in
-    λ name is. never_refused c.from_residual.result int_limits name source c.one_answer.ensures.not_both
-    (rw (p.1, p.2) c.in_err-program.ensures.too_long) (rw (p.1, p.2) said) is
+    let said = for_limits (build_limits 0) source _ c.in_err-program.ensures.refused in (
+      0,
+      record {
+        refused = rw (p.1, p.2) said;
+        complete = λ name is. never_refused c.from_residual.result (build_limits 0) name source c.one_answer.ensures.not_both
+            (rw (p.1, p.2) c.in_err-program.ensures.too_long) (rw (p.1, p.2) said) is;
+      },
+    )
 
 -- ---- none that can be compiled
 
-pub returns-in_err-small-clause-too_long : goal.returns-in_err-small-clause-too_long
-returns-in_err-small-clause-too_long c =
-    let p = err_from_is_err_and c.from_residual-in_err-small.result c.from_residual-in_err-small.ensures.1 in
+pub returns-in_err-image-clause-too_long : goal.returns-in_err-image-clause-too_long
+returns-in_err-image-clause-too_long c =
+    let p = err_from_is_err_and c.from_residual-in_err-image.result c.from_residual-in_err-image.ensures.1 in
     rw p.1 (no_long c.args.source.now p.0 _ p.2)
 
-pub returns-in_err-small-clause-refused : goal.returns-in_err-small-clause-refused
-returns-in_err-small-clause-refused c =
+pub returns-in_err-image-clause-decided : goal.returns-in_err-image-clause-decided
+returns-in_err-image-clause-decided c =
     let source = c.args.source.now in
-    let p = err_from_is_err_and c.from_residual-in_err-small.result c.from_residual-in_err-small.ensures.1 in
-    let down = int_down (program_in c.in_ok-program.program) source c.in_ok-program.ensures.reads _ c.in_err-small.ensures in
-    rw p.1 (down_by_limits int_limits source p.0 _ c.in_ok-program.ensures.within p.2 down)
+    let p = err_from_is_err_and c.from_residual-in_err-image.result c.from_residual-in_err-image.ensures.1 in
+    let answer = c.in_err-image.ensures.answers in
+    let limits = build_limits answer.0 in
+    let down = limits_down RustImage limits (program_in c.in_ok-program.program) source c.in_ok-program.ensures.reads _ _ answer.1 in
+    let said = down_by_limits limits source p.0 _ c.in_ok-program.ensures.within p.2 down in (
+      answer.0,
+      record {
+        refused = rw p.1 said;
+        complete = λ name is. never_refused c.from_residual-in_err-image.result limits name source c.one_answer.ensures.not_both
+            (rw p.1 (no_long source p.0 _ p.2)) (rw p.1 said) is;
+      },
+    )
 
-pub returns-in_err-small-clause-complete : goal.returns-in_err-small-clause-complete
-returns-in_err-small-clause-complete c =
-    let source = c.args.source.now in
-    let p = err_from_is_err_and c.from_residual-in_err-small.result c.from_residual-in_err-small.ensures.1 in
-    let down = int_down (program_in c.in_ok-program.program) source c.in_ok-program.ensures.reads _ c.in_err-small.ensures in
-    let said = down_by_limits int_limits source p.0 _ c.in_ok-program.ensures.within p.2 down in
-    λ name is. never_refused c.from_residual-in_err-small.result int_limits name source c.one_answer.ensures.not_both
-    (rw p.1 (no_long source p.0 _ p.2)) (rw p.1 said) is
+-- ---- the file
 
--- ---- code and file
-
-pub lower-requires : goal.lower-requires
-lower-requires c =
-    let is = taken_is (program_in c.in_ok-program.program) (program_of c.in_ok-small.small) c.in_ok-small.ensures in
-    let can = can_lower (program_of c.in_ok-small.small) is.within in
-    record { plain = can.plain; small = can.small; places = can.places; heap = omega (arith, c.requires.heap_most); stack = refl }
+pub returns-clause-decided : goal.returns-clause-decided
+returns-clause-decided c = (0, record { refused = tt; complete = λ name is. tt })
 
 pub returns-clause-compiled : goal.returns-clause-compiled
 returns-clause-compiled c =
     let source = c.args.source.now in
     let made = c.new.ensures in
-    let low = c.in_ok-image.ensures in
+    let image = c.in_ok-image.image in
+    let does = c.in_ok-image.ensures.does in
+    let answer = c.in_ok-image.ensures.answers in
     let program = program_in c.in_ok-program.program in
-    let small = program_of c.in_ok-small.small in
     let reads = c.in_ok-program.ensures.reads in
-    let is = taken_is program small c.in_ok-small.ensures in
-    let same = c.lacking.ensures.small program small is.answer in
-    let image = image_of c.in_ok-image.image in
-    let file = file_of (record { image = c.in_ok-image.image; version = 1; plan = c.new.result }) in
+    let file = file_of (record { image = image; version = 1; plan = c.new.result }) in
     let plan = plan_is c.new.result made.sites made.sinks made.skips in
     λ name. record {
       program = program;
       reads = reads name;
       reads_only = λ other r. c.one_answer.ensures.program (alone name source) other program r (reads name);
-      built = ap (λ r. and_then r (λ s. Ok tt)) c.in_ok-small.ensures;
+      built = subst (λ n. build_limits n program ≡ Ok tt) (sym answer.2) answer.1;
       allowed = plain_file file (record {
         version = refl;
-        image = image_is c.in_ok-image.image;
-        heap_least = omega (arith, low.sizes.0, c.requires.heap_least);
-        hooks = low.hooks;
+        image = image_is image;
+        heap_least = omega (arith, does.heap_is, c.requires.heap_least);
+        hooks = does.hooks;
         plan = plan;
       });
-      agrees = λ input. c.agreement.ensures.law (machine live_objects image input) (small_meaning small c.new.result c.args.heap input)
-          (meaning program c.new.result c.args.heap input) (low.agrees c.new.result input)
-          (c.bridged.ensures.agree program small same c.new.result c.args.heap input);
+      agrees = λ input. does.agrees c.new.result input;
+      paced = λ input. does.paced c.new.result input;
+      in_time = λ input. does.in_time c.new.result input;
       plan = plan;
-      heap_is = low.sizes.0;
-      stack = low.sizes.1;
-      hooks = low.hooks;
+      heap_is = does.heap_is;
+      hooks = does.hooks;
     }

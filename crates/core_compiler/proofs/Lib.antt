@@ -1,0 +1,12 @@
+mod StackSize
+mod Homes
+mod InTime
+mod Composing
+mod Framing
+mod Capping
+mod TextSums
+mod TextsAlike
+mod TypeNames
+mod Globals
+mod Limiting
+mod Refusals

@@ -1,0 +1,18 @@
+use Rattle.std.proofs.Common.{◌≡◌, refl, ap, ◌∙◌, map}
+use Rattle.nim_types.specs.Table.{types_in, facts_in}
+use Rattle.nim_core.specs.View.{declared_of, program_under}
+use Rattle.flat_laws.specs.DataCounted.{globals_size, data_counted}
+use Rattle.core_compiler.specs.DataViews.{capped}
+use Rattle.core_compiler.proofs.Capping.{sum_two, fits_capped}
+use Rattle.core_compiler.proofs.data.data_fits.Goals as goal
+
+pub returns : goal.returns
+returns c =
+    let table = c.args.program.now.types in
+    let whole = data_counted (program_under (types_in table) (facts_in table) c.args.program.now) in
+    let globals = c.globals_size-globals.ensures ∙
+    ap (λ xs. capped (globals_size (facts_in table) (map (declared_of (types_in table)) xs))) c.as_slice.ensures in
+    let sum : c.plus-sum.result ≡ capped whole =
+    sum_two _ _ _ _ _ _ c.plus-sum.ensures globals
+    (sum_two _ _ _ _ _ _ c.plus.ensures c.names_size-names.ensures c.program_texts.ensures refl) refl in
+    fits_capped c.plus-sum.result whole sum

@@ -1,0 +1,33 @@
+-- What the image of a typed program does.
+use Rattle.std.specs.Prelude.{◌≡◌, ◌≤◌, ℕ, ◌+◌, ◌*◌, List, [], length}
+use Rattle.arc_base.specs.Event.{Event}
+use Rattle.arc_base.specs.Behaviour.{Live, Ended, Behaviour, Agrees, no_objects}
+use Rattle.arc_base.specs.Pace.{PacedFrom}
+use Rattle.nim_plan.specs.declared.plan.Plan.{Plan}
+use Rattle.nim_core.specs.Program.{Program}
+use Rattle.nim_core.specs.Meaning.{meaning}
+use Rattle.rv32_isa.specs.Image.{Image}
+use Rattle.rv32_isa.specs.Machine.{Lives, machine}
+use Rattle.core_compiler.specs.declared.program.TheConstants.{IMAGE_PACE, IMAGE_LATE, TIME_PACE, TIME_LATE}
+
+-- a program has no objects yet
+abbrev pub live_objects : Lives
+live_objects state = no_objects
+
+-- the instructions after which a machine has exited whose program ends with so much work
+abbrev pub time_for : (work : ℕ) → ℕ
+time_for work = TIME_PACE * (work + TIME_LATE)
+
+-- where high ends, low has ended with the same status in the time that this takes
+abbrev pub EndsInTime : (low high : Behaviour Event) → Type 0
+EndsInTime low high = (n status : ℕ) (live : Live) → (high n).phase ≡ Ended status live →
+    (other : Live) × ((low (time_for (high n).work)).phase ≡ Ended status other)
+
+-- For every input the machine on the image does what the program means, under each plan, with the heap that the image has; its work is
+-- in proportion, and it ends in time.
+pub record DoesProgram (program : Program) (heap : ℕ) (image : Image) : Type 0 where
+  pub agrees : (plan : Plan) (input : List ℕ) → Agrees (machine live_objects image input) (meaning program plan heap input)
+  pub paced : (plan : Plan) (input : List ℕ) → PacedFrom IMAGE_PACE IMAGE_LATE (machine live_objects image input) (meaning program plan heap input)
+  pub in_time : (plan : Plan) (input : List ℕ) → EndsInTime (machine live_objects image input) (meaning program plan heap input)
+  pub heap_is : image.heap ≡ heap
+  pub hooks : image.hooks ≡ []

@@ -1,0 +1,6 @@
+pub mod Frames
+pub mod Limits
+pub mod Compile
+pub mod Stages
+pub mod DataViews
+pub mod Examples

@@ -1,9 +1,0 @@
-mod Twins
-mod Frames
-mod Evaluations
-mod CallTwins
-mod Statements
-mod Whole
-mod NoneLacking
-mod LackRows
-mod BuildRows

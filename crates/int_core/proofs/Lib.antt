@@ -1,5 +1,0 @@
-pub mod ForCallers
-mod Steadiness
-mod Idle
-mod Ranges
-mod Rows
