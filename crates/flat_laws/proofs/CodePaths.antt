@@ -25,7 +25,7 @@ use Rattle.expr_lowering.specs.ExprLines.{inner, at, passes, label_line, root_fi
 use Rattle.expr_lowering.specs.ExprLines.{written, find_lines, alter_lines, pieces_of}
 use Rattle.typed_trees.specs.Kinds.{Kind, Known, is_known, kind_of, plain_kind, kind_if, plain_kind_if, is_int, is_bool, is_ordinal, is_shown, has_length}
 use Rattle.typed_trees.specs.Kinds.{element_of, field_at, is_of, same_value}
-use Rattle.typed_trees.specs.Operations.{label_fits, labels_fit}
+use Rattle.typed_trees.specs.Operations.{label_fits, labels_fit, has_label}
 use Rattle.typed_trees.specs.Scopes.{Here, type_in}
 use Rattle.typed_trees.specs.Exprs.{kind_in, kind_at, is_constant, are_typed_picks}
 use Rattle.flat_laws.proofs.Ground.{Code}
@@ -219,7 +219,7 @@ module _ (setting : Setting) where
   pick_tests_fit node selector k gives T.NoPick t h = fits_none t0 procs globals places
   pick_tests_fit node selector k gives (T.APick labels value rest) t h =
       let u = and_parts _ _ t in
-      let own_labels = (and_parts _ _ (and_parts _ _ u.0).0).0 in
+      let own_labels = (and_parts (has_label labels) (labels_fit k labels) (and_parts _ _ (and_parts _ _ u.0).0).0).1 in
       ◌then◌ (tests node selector (label_of setting.origin (number_of value) Arm) k labels own_labels h) (pick_tests_fit node selector k gives rest u.1 h)
 
   pub uncovered_fits : (gives : Option Ty) (node : Node) → Ns (value_if known.types node gives) → Fs (uncovered known.types gives node)

@@ -21,7 +21,7 @@ use Rattle.expr_lowering.specs.Numbering.{type_number, label_of, counter_of, len
 use Rattle.expr_lowering.specs.Places.{counter, value, expr_places, path_places, altered_places, assigned_places}
 use Rattle.expr_lowering.specs.ExprLines.{inner, passes, label_line, number_at, label_lines, expr_lines, index_lines}
 use Rattle.typed_trees.specs.Kinds.{Kind, is_known, kind_of, kind_if, is_int, is_bool, is_shown, has_length, element_of, is_of}
-use Rattle.typed_trees.specs.Operations.{label_fits, labels_fit}
+use Rattle.typed_trees.specs.Operations.{label_fits, labels_fit, has_label}
 use Rattle.typed_trees.specs.Scopes.{Here}
 use Rattle.typed_trees.specs.Exprs.{is_rooted, kind_at, is_typed_expr, is_typed_path}
 use Rattle.typed_trees.specs.Stmts.{Around as Position, are_typed_arms}
@@ -216,7 +216,7 @@ module _ (setting : BodySetting) where
       arm_tests_fit node selector stood k T.NoArm t h = nothing
       arm_tests_fit node selector stood k (T.AnArm labels body rest) t h =
           let u = and_parts _ _ t in
-          let own_labels = (and_parts _ _ (and_parts _ _ u.0).0).0 in
+          let own_labels = (and_parts (has_label labels) (labels_fit k labels) (and_parts _ _ (and_parts _ _ u.0).0).0).1 in
           ◌then◌ (tests node selector (label_of origin (first_of body) Arm) k labels own_labels h) (arm_tests_fit node selector stood k rest u.1 h)
 
       pub selects : (x : Expr) → FitExpr here s.tabled procs globals places origin x → is_shown (kind_if here.known (type_of x)) ≡ true →

@@ -17,7 +17,7 @@ use Rattle.nim_core.specs.Program.{Stmt, Stmts, Empty, Then, Declare, DeclareAs,
 use Rattle.nim_core.specs.View.{label_of, stmt_before, stmts_of, arms_of, declared_of}
 use Rattle.typed_trees.specs.declared.here.Here.{Here as RustHere}
 use Rattle.typed_trees.specs.declared.places.Placed.{Placed as RustPlaced}
-use Rattle.typed_trees.specs.Operations.{labels_fit}
+use Rattle.typed_trees.specs.Operations.{are_labels}
 use Rattle.typed_trees.specs.Scopes.{placed, Here, with_place}
 use Rattle.typed_trees.specs.Kinds.{Kind, is_of, is_there}
 use Rattle.typed_trees.specs.Exprs.{is_typed_expr}
@@ -158,7 +158,7 @@ with_else ts xs k arms h = decided_by (stmts_of ts xs) k arms (sym (empty_is ts 
 
 pub arm_next : (ts : List Ty) (here : Here) (around : Around) (k : Kind) (xs : List RustArm) (i : ℕ) (x : RustArm) (b : Bool)
     → i < length xs → x ≡ get_or xs i x
-    → b ≡ ((labels_fit k (map label_of x.labels) && not (is_empty (stmts_of ts x.body.items))) && is_typed_block here around (stmts_of ts x.body.items))
+    → b ≡ ((are_labels k (map label_of x.labels) && not (is_empty (stmts_of ts x.body.items))) && is_typed_block here around (stmts_of ts x.body.items))
     → are_typed_arms here around k (arms_of ts (drop i xs)) ≡ (b && are_typed_arms here around k (arms_of ts (drop (i + 1) xs)))
 arm_next ts here around k xs i x b l e h =
     ap (λ zs. are_typed_arms here around k (arms_of ts zs)) (next_at xs i x l e)

@@ -27,7 +27,7 @@ use Rattle.nim_core.specs.View.{param_of}
 use Rattle.nim_core.specs.View.{if_type}
 use Rattle.nim_core.proofs.ForCallers.{picked, picked_else}
 use Rattle.typed_trees.specs.Kinds.{Kind, Known, plain_kind_if, is_bool, is_shown, is_of, same_value, field_at, part_at, for_some}
-use Rattle.typed_trees.specs.Operations.{labels_fit}
+use Rattle.typed_trees.specs.Operations.{are_labels}
 use Rattle.typed_trees.specs.Scopes.{Here}
 use Rattle.typed_trees.specs.Exprs.{kind_in, count_literals, is_constant, are_constants, is_typed_expr, is_written, are_typed_parts}
 use Rattle.typed_trees.specs.Exprs.{are_typed_texts, are_typed_inits, are_typed_args, are_typed_choices, are_typed_picks}
@@ -175,7 +175,7 @@ module _ (ts : List Ty) (here : Here) where
       ∙ ap (λ c. c && are_typed_choices here gives (choices_of ts (drop (j + 1) xs))) (sym h)
 
   pub pick_next : (k : Kind) (gives : Option Ty) (xs : List RustPick) (j : ℕ) (x : RustPick) (b : Bool) → j < length xs → x ≡ get_or xs j x
-      → b ≡ ((labels_fit k (map label_of x.labels) && same_value (type_of (expr_of ts x.value)) gives) && is_typed_expr here (expr_of ts x.value))
+      → b ≡ ((are_labels k (map label_of x.labels) && same_value (type_of (expr_of ts x.value)) gives) && is_typed_expr here (expr_of ts x.value))
       → are_typed_picks here k gives (picks_of ts (drop j xs)) ≡ (b && are_typed_picks here k gives (picks_of ts (drop (j + 1) xs)))
   pick_next k gives xs j x b l e h =
       ap (λ zs. are_typed_picks here k gives (picks_of ts zs)) (next_at xs j x l e)

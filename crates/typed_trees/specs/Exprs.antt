@@ -9,7 +9,7 @@ use Rattle.typed_trees.specs.Kinds.{Kind, Known, is_known, kind_of, plain_kind, 
 use Rattle.typed_trees.specs.Kinds.{is_object, is_made}
 use Rattle.typed_trees.specs.Kinds.{has_length, is_resized, field_at, element_of, part_at, has_parts, is_value, for_some, is_of, same_value, is_there}
 use Rattle.typed_trees.specs.Operations.{unary_fits, binary_fits, comparison_fits, logic_fits, join_fits, show_fits, conversion_fits, is_added}
-use Rattle.typed_trees.specs.Operations.{labels_fit, pick_labels, are_enough}
+use Rattle.typed_trees.specs.Operations.{are_labels, pick_labels, are_enough}
 use Rattle.typed_trees.specs.Scopes.{Here, type_in, is_called, params_of, takes_value, takes_place}
 
 -- ---- constants
@@ -177,7 +177,7 @@ abbrev mutual
   pub are_typed_picks : Here → Kind → (gives : Option Ty) → Picks → Bool
   are_typed_picks here k gives NoPick = true
   are_typed_picks here k gives (APick labels a rest) =
-      ((labels_fit k labels && same_value (type_of a) gives) && is_typed_expr here a) && are_typed_picks here k gives rest
+      ((are_labels k labels && same_value (type_of a) gives) && is_typed_expr here a) && are_typed_picks here k gives rest
 
 -- a path that can be written
 abbrev pub is_written : Here → Path → Bool

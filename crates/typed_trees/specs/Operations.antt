@@ -88,6 +88,14 @@ abbrev pub labels_fit : Kind → List Label → Bool
 labels_fit k [] = true
 labels_fit k (label ∷ labels) = label_fits k label && labels_fit k labels
 
+abbrev pub has_label : List Label → Bool
+has_label [] = false
+has_label (label ∷ labels) = true
+
+-- those of a branch: one at least, as nothing else leads to it
+abbrev pub are_labels : Kind → List Label → Bool
+are_labels k labels = has_label labels && labels_fit k labels
+
 -- those of all branches
 abbrev pub pick_labels : Picks → List Label
 pick_labels NoPick = []

@@ -6,7 +6,7 @@ use Rattle.nim_core.specs.Program.{Expr, Path, Variable, Fresh, Field, Element, 
 use Rattle.nim_core.specs.Program.{Branches, NoBranch, ABranch, Arms, NoArm, AnArm, type_of, type_at_path}
 use Rattle.typed_trees.specs.declared.stmts.TheConstants.{MOST_STEPS}
 use Rattle.typed_trees.specs.Kinds.{Kind, is_known, kind_of, is_int, is_bool, is_text, is_joined, is_shown, has_length, element_of, is_of, is_there}
-use Rattle.typed_trees.specs.Operations.{labels_fit, arm_labels, are_enough}
+use Rattle.typed_trees.specs.Operations.{are_labels, arm_labels, are_enough}
 use Rattle.typed_trees.specs.Scopes.{Placed, placed, Here, with_place, with_global}
 use Rattle.typed_trees.specs.Exprs.{kind_in, kind_at, is_typed_expr, is_typed_path, is_written}
 
@@ -91,7 +91,7 @@ abbrev mutual
   pub are_typed_arms : Here → Around → Kind → Arms → Bool
   are_typed_arms here around k NoArm = true
   are_typed_arms here around k (AnArm labels body rest) =
-      ((labels_fit k labels && not (is_empty body)) && is_typed_block here around body) && are_typed_arms here around k rest
+      ((are_labels k labels && not (is_empty body)) && is_typed_block here around body) && are_typed_arms here around k rest
 
 -- ---- the code of modules: what it declares itself are the globals, in their order
 

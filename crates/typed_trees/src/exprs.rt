@@ -12,7 +12,7 @@ ghost use Rattle.typed_trees.specs.View.{kind_view, known_types, here_in};
 
 use crate::here::{Here, params_of, proc_at, takes_place, takes_value};
 use crate::kinds::{Kind, kind_of, plain_kind_if};
-use crate::labels::labels_fit;
+use crate::labels::are_labels;
 use crate::operations::{both, field_at, is_bool, is_of, is_shown, part_at, same_value};
 use crate::own::{expr_fits, is_rooted, kind_in, path_fits};
 use crate::places::Places;
@@ -331,7 +331,7 @@ fn are_typed_picks(
 {
     for pick in picks {
         let own = both(
-            labels_fit(kind, pick.labels.as_slice()),
+            are_labels(kind, pick.labels.as_slice()),
             same_value(&here.known, type_of(&pick.value), gives),
         );
         if !both(own, is_typed_expr(here, places, &pick.value)) {

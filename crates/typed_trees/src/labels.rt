@@ -4,7 +4,8 @@ ghost use Rattle.nim_types.specs.Types.{Ty};
 ghost use Rattle.nim_core.specs.Ints.{fits, inside};
 ghost use Rattle.nim_core.specs.View.{label_of, picks_of, arms_of, if_type};
 ghost use Rattle.typed_trees.specs.Kinds.{is_value, value_count, first_value, behind_last};
-ghost use Rattle.typed_trees.specs.Operations.{label_fits, labels_fit, pick_labels, arm_labels};
+ghost use Rattle.typed_trees.specs.Operations.{label_fits, labels_fit, has_label, are_labels};
+ghost use Rattle.typed_trees.specs.Operations.{pick_labels, arm_labels};
 ghost use Rattle.typed_trees.specs.Operations.{last_if, last_with, cover, are_enough};
 ghost use Rattle.typed_trees.specs.View.{kind_view, known_types};
 ghost use Rattle.typed_trees.specs.Parts.{labels_in};
@@ -100,8 +101,7 @@ fn label_fits(kind: Kind<'_>, label: &Label) -> bool
     }
 }
 
-/// Whether labels are of a kind.
-pub fn labels_fit(kind: Kind<'_>, labels: &[Label]) -> bool
+fn labels_fit(kind: Kind<'_>, labels: &[Label]) -> bool
     ensures { (ts : List Ty) → result
         ≡ labels_fit (kind_view ts kind.entry) (map label_of labels.now) }
 {
@@ -111,6 +111,20 @@ pub fn labels_fit(kind: Kind<'_>, labels: &[Label]) -> bool
         }
     }
     true
+}
+
+fn has_label(labels: &[Label]) -> bool
+    ensures { result ≡ has_label (map label_of labels.now) }
+{
+    !labels.is_empty()
+}
+
+/// Whether labels are of a kind, and there is one.
+pub fn are_labels(kind: Kind<'_>, labels: &[Label]) -> bool
+    ensures { (ts : List Ty) → result
+        ≡ are_labels (kind_view ts kind.entry) (map label_of labels.now) }
+{
+    both(has_label(labels), labels_fit(kind, labels))
 }
 
 fn last_if(above: bool, below: bool, last: i32) -> Option<i32>

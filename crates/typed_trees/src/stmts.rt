@@ -19,7 +19,7 @@ use crate::exprs::{is_typed_expr, is_typed_path, is_written};
 use crate::here::Here;
 use crate::kinds::{Kind, is_known, kind_of};
 use crate::known::Known;
-use crate::labels::{Arms, are_enough, labels_fit};
+use crate::labels::{Arms, are_enough, are_labels};
 use crate::operations::{
     both, has_element, has_length, is_bool, is_int, is_joined, is_of, is_shown, is_text, is_there,
 };
@@ -427,7 +427,7 @@ fn are_typed_arms(
     let mut typed = true;
     for arm in arms {
         let own = both(
-            labels_fit(kind, arm.labels.as_slice()),
+            are_labels(kind, arm.labels.as_slice()),
             !arm.body.is_empty(),
         );
         let last = is_typed_block(here, places, around, &arm.body)?;

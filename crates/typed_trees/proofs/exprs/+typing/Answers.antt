@@ -4,7 +4,7 @@ use Rattle.std.specs.Prelude.{◌&&◌, option_map}
 use Rattle.nim_core.specs.View.{label_of, expr_of, exprs_of, inits_of, args_of, choices_of, picks_of, param_of, proc_of, if_type}
 use Rattle.nim_core.proofs.ForCallers.{made, sequenced, constructed, called, chosen_by, echoed}
 use Rattle.typed_trees.specs.Kinds.{plain_kind_if, is_bool, is_shown, is_of, same_value}
-use Rattle.typed_trees.specs.Operations.{labels_fit}
+use Rattle.typed_trees.specs.Operations.{are_labels}
 use Rattle.typed_trees.specs.Scopes.{params_of}
 use Rattle.typed_trees.specs.Exprs.{kind_in, is_typed_expr, are_typed_parts, are_typed_texts, are_typed_inits, are_typed_args, are_typed_choices}
 use Rattle.typed_trees.specs.Exprs.{are_typed_picks}
@@ -540,7 +540,7 @@ are_typed_picks-returns-then-not-both t c =
     ∙ pick_next ts here k gives xs at.pick-index x c.both.result (omega (arith, c.loop-pick-test.true))
     (c.pick-item.is ∙ ap (λ l. get_or l at.pick-index x) c.deref-pick-items.ensures.value)
     (c.both.ensures ∙ ap₂ (λ a b. a && b) (c.both-own.ensures ∙ ap₂ (λ a b. a && b)
-    (c.labels_fit.ensures ts ∙ ap (λ ls. labels_fit k (map label_of ls)) c.as_slice.ensures)
+    (c.are_labels.ensures ts ∙ ap (λ ls. are_labels k (map label_of ls)) c.as_slice.ensures)
     (c.same_value.ensures ∙ ap (λ o. same_value o gives) (c.type_of.ensures ts))) c.is_typed_expr.ensures)
     ∙ ap (λ b. b && are_typed_picks here k gives (picks_of ts (drop (at.pick-index + 1) xs))) c.if-not-both.true)
 
@@ -557,6 +557,6 @@ are_typed_picks-loop-pick-preserved t c =
     ∙ pick_next ts here k gives xs at.pick-index x c.both.result (omega (arith, c.loop-pick-test.true))
     (c.pick-item.is ∙ ap (λ l. get_or l at.pick-index x) c.deref-pick-items.ensures.value)
     (c.both.ensures ∙ ap₂ (λ a b. a && b) (c.both-own.ensures ∙ ap₂ (λ a b. a && b)
-    (c.labels_fit.ensures ts ∙ ap (λ ls. labels_fit k (map label_of ls)) c.as_slice.ensures)
+    (c.are_labels.ensures ts ∙ ap (λ ls. are_labels k (map label_of ls)) c.as_slice.ensures)
     (c.same_value.ensures ∙ ap (λ o. same_value o gives) (c.type_of.ensures ts))) c.is_typed_expr.ensures)
     ∙ ap (λ b. b && are_typed_picks here k gives (picks_of ts (drop (at.pick-index + 1) xs))) c.if-not-both.false

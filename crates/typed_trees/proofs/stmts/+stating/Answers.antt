@@ -4,7 +4,7 @@ use Rattle.std.specs.Prelude.{◌&&◌, not, nat_eq, map}
 use Rattle.nim_core.specs.Program.{Empty}
 use Rattle.nim_core.specs.View.{label_of, stmt_before, stmts_of, arms_of}
 use Rattle.nim_core.proofs.ForCallers.{decided, selected, repeated, counted, gone_over}
-use Rattle.typed_trees.specs.Operations.{labels_fit}
+use Rattle.typed_trees.specs.Operations.{are_labels}
 use Rattle.typed_trees.specs.Stmts.{is_typed_block, are_typed_arms}
 use Rattle.typed_trees.specs.Parts.{stmt_fits, is_typed_inside}
 use Rattle.typed_trees.specs.View.{kind_view, known_types, here_in, around_in}
@@ -163,7 +163,7 @@ are_typed_arms-loop-arm-preserved t c =
     let at = c.loop-arm in
     let x = c.arm-item.result in
     let counted : vec_len x.body ≡ length x.body.items = search in
-    let own = c.both-own.ensures ∙ ap₂ (λ a b. a && b) (c.labels_fit.ensures ts ∙ ap (λ ls. labels_fit k (map label_of ls)) c.as_slice.ensures)
+    let own = c.both-own.ensures ∙ ap₂ (λ a b. a && b) (c.are_labels.ensures ts ∙ ap (λ ls. are_labels k (map label_of ls)) c.as_slice.ensures)
     (ap not (c.is_empty.ensures ∙ ap (λ n. nat_eq n 0) counted ∙ empty_is ts x.body.items)) in
     let last = c.in_ok-last.ensures.typed ∙ ap (λ ps. is_typed_block (here_in c.args.here.now ps) around (stmts_of ts x.body.items)) at.invariant.same in
     record {
