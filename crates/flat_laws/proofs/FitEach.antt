@@ -21,7 +21,6 @@ use Rattle.mid_code.specs.Fits.{may_get, Passed, Signature, value, location, any
 use Rattle.mid_code.specs.Fits.{fits, given_behind, given_by, result_at, alike, is_number, is_int, is_there, field_shape, item_shape}
 use Rattle.mid_code.specs.Fits.{fields_of, same_place}
 use Rattle.flat_laws.proofs.Options.{none_some}
-use Rattle.flat_laws.proofs.ShapeLemmas.{never}
 use Rattle.flat_laws.proofs.Shaped.{Step, row_length}
 use Rattle.flat_laws.proofs.FitRules.{have_value, get_value, alike_both, get_there, number_there, int_there, some_there, field_there, item_there}
 use Rattle.flat_laws.proofs.FitGives.{have_some, get_some, alike_some, int_some, unary_some, binary_some}
@@ -39,6 +38,7 @@ use Rattle.nim_core.specs.declared.program.Mode.TheVariants.{Plain, Sink, Var}
 use Rattle.mid_code.specs.Fits.{shape_at, result_number, result_shape}
 use Rattle.mid_code.specs.Lines.{leaps_where}
 use Rattle.mid_code.specs.Fits.{may_stand, gives_more}
+use Rattle.mid_code.proofs.ForCallers.{never}
 use Rattle.nim_core.specs.Ints.{low_byte}
 use Rattle.flat_laws.proofs.FitLines.{Operations, HasGlobals, DidOk, as_shape, deeper_ok, did_branch, did_checked, did_fields, did_located, did_made}
 use Rattle.flat_laws.proofs.FitLines.{did_number, did_place, did_reading, did_using, fields_put, filled_ok, given_more, here_at, holds}

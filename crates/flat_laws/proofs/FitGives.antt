@@ -8,7 +8,7 @@ use Rattle.nim_core.specs.declared.expr.Operator.TheVariants as O
 use Rattle.nim_core.specs.Values.{Value}
 use Rattle.mid_code.specs.Shapes.{Shape, number}
 use Rattle.mid_code.specs.Fits.{may_have, may_get, alike, is_int, unary_fits, binary_fits, bitwise_fits}
-use Rattle.flat_laws.proofs.ShapeLemmas.{never}
+use Rattle.mid_code.proofs.ForCallers.{never}
 use Rattle.flat_laws.proofs.FitRules.{int_there}
 
 abbrev pub IsSome : Option Shape → Type 0

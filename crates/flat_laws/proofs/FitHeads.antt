@@ -16,8 +16,8 @@ use Rattle.mid_code.specs.Shapes.{Shape, has_shape, shape_of}
 use Rattle.mid_code.specs.Codes.{flat_placed, is_result, result_in}
 use Rattle.mid_code.specs.Fits.{is_declared, is_own, shape_at, shape_named, are_within, in_order, Passed, param_of, taken_by, all_pass, and_param, params_at}
 use Rattle.mid_code.specs.Fits.{shape_by_kind, may_get, alike, passes, passes_by, and_result, results_at, follow}
+use Rattle.mid_code.proofs.ForCallers.{never}
 use Rattle.flat_laws.proofs.Options.{none_some, some_same}
-use Rattle.flat_laws.proofs.ShapeLemmas.{never}
 use Rattle.flat_laws.proofs.FitRules.{get_value, alike_both}
 use Rattle.flat_laws.proofs.FitState.{LocOk, GaveOk, GivenOk}
 use Rattle.flat_laws.proofs.FitSites.{within, of_kind, own_declared}

@@ -24,7 +24,6 @@ use Rattle.mid_code.specs.Fits.{given_by, has_length, field_shape, row_of}
 use Rattle.mid_code.specs.Fits.{parts_of, made_of, fields_of}
 use Rattle.flat_laws.proofs.Temps.{put_same, put_other}
 use Rattle.flat_laws.proofs.Options.{none_some, some_same}
-use Rattle.flat_laws.proofs.ShapeLemmas.{never}
 use Rattle.flat_laws.proofs.Shaped.{Step, path_in, path_on, step_put}
 use Rattle.flat_laws.proofs.FitRules.{get_value, get_there, field_there}
 use Rattle.flat_laws.proofs.FitRules.{less_one}
@@ -37,6 +36,7 @@ use Rattle.nim_core.specs.Meaning.{measured, Part as FieldValue, with_parts}
 use Rattle.mid_code.specs.declared.line.FieldFrom.{FieldFrom}
 use Rattle.flat_laws.proofs.BlockKept.{place_grows}
 use Rattle.mid_code.specs.Fits.{call_fits}
+use Rattle.mid_code.proofs.ForCallers.{never}
 use Rattle.std.specs.Prelude.{slice_get}
 
 -- what operations give, and defaults

@@ -21,9 +21,9 @@ use Rattle.mid_code.specs.Shapes.{Shape, has_shape}
 use Rattle.mid_code.specs.Fits.{Passed, Signature, signatures, signature_of, in_order, all_fit, given_by, gives_to, given_behind, may_stand, gives_more}
 use Rattle.mid_code.specs.Fits.{has_lines_for, call_fits}
 use Rattle.mid_code.specs.Fits.{value}
+use Rattle.mid_code.proofs.ForCallers.{never}
 use Rattle.flat_laws.proofs.Ground.{Code, M}
 use Rattle.flat_laws.proofs.Options.{none_some, some_same}
-use Rattle.flat_laws.proofs.ShapeLemmas.{never}
 use Rattle.flat_laws.proofs.SlotFrames.{IsFrame}
 use Rattle.flat_laws.proofs.FitRules.{get_there, get_value}
 use Rattle.flat_laws.proofs.FitGives.{get_some}

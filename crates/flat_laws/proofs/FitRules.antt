@@ -10,8 +10,8 @@ use Rattle.nim_core.specs.Meaning.{limit}
 use Rattle.nim_core.specs.Values.{Value, Number, Parts, number_of}
 use Rattle.mid_code.specs.Shapes.{Shape, number, reference, block, elements, row, parts, has_shape, is_ordinal}
 use Rattle.mid_code.specs.Fits.{may_have, may_get, alike, is_number, is_int, is_there, field_shape, item_shape}
+use Rattle.mid_code.proofs.ForCallers.{never, same_is, value_wider}
 use Rattle.flat_laws.proofs.Options.{none_some, some_same}
-use Rattle.flat_laws.proofs.ShapeLemmas.{never, same_is, value_wider}
 use Rattle.flat_laws.proofs.Shaped.{Step}
 
 pub have_value : (o : Option Shape) (v : Value) (s : Shape) → may_have o v ≡ true → o ≡ Some s → has_shape v s ≡ true

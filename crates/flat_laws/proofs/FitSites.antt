@@ -12,8 +12,8 @@ use Rattle.mid_code.specs.Scene.{Known}
 use Rattle.mid_code.specs.Shapes.{Shape}
 use Rattle.mid_code.specs.Codes.{flat_placed}
 use Rattle.mid_code.specs.Fits.{is_declared, is_own, is_global, shape_at, shape_named, are_within, in_order, result_at, given_by, result_number, result_shape}
+use Rattle.mid_code.proofs.ForCallers.{never}
 use Rattle.flat_laws.proofs.Options.{none_some, some_same}
-use Rattle.flat_laws.proofs.ShapeLemmas.{never}
 use Rattle.flat_laws.proofs.FitState.{IsSite}
 
 -- a place of a result, or one that has nothing to do with it

@@ -15,7 +15,6 @@ use Rattle.mid_code.specs.Fits.{Passed, taken_by, all_pass, call_fits, each_fits
 use Rattle.flat_laws.proofs.Lists.{last_behind, before_behind, map_behind}
 use Rattle.flat_laws.proofs.Ground.{Code, M, lined}
 use Rattle.flat_laws.proofs.Options.{none_some, some_same}
-use Rattle.flat_laws.proofs.ShapeLemmas.{never}
 use Rattle.flat_laws.proofs.FitState.{GivenOk, value_shape}
 use Rattle.flat_laws.proofs.FitLines.{Operations}
 use Rattle.flat_laws.proofs.FitMachine.{Sites, sigs, globals, fit_lines, FitsProc, IsFit, fits, leaves, listed}
@@ -26,6 +25,7 @@ use Rattle.mid_code.specs.Running as running
 use Rattle.nim_core.specs.declared.program.TheConstants.{ACTIVE_CALLS}
 use Rattle.mid_code.specs.Codes.{flat_label, flat_does}
 use Rattle.mid_code.specs.Fits.{no_lines, signatures}
+use Rattle.mid_code.proofs.ForCallers.{never}
 use Rattle.nim_core.specs.State.{World}
 use Rattle.flat_laws.proofs.FitState.{WorldOk, TempsOk}
 use Rattle.flat_laws.proofs.Calls.{Fixed, known_of, Fitting}

@@ -26,7 +26,6 @@ mod BlockEach
 mod Blocks
 mod Calls
 mod Levels
-mod Paces
 mod Whole
 mod Typed
 mod Holds
@@ -50,7 +49,6 @@ mod Operating
 mod Defaults
 mod Options
 mod Lists
-mod ShapeLemmas
 mod SlotFrames
 mod Shaped
 mod FitSites

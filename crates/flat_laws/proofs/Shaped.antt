@@ -4,8 +4,8 @@ use Rattle.std.proofs.lemmas.Bool.{and_parts, and_from}
 use Rattle.nim_core.specs.Values.{Value, Number, Parts, Values, Nil, More, count, parts_of, length_of, nth, with_nth, with_part, part, put_part}
 use Rattle.mid_code.specs.Shapes.{Shape, number, reference, block, elements, row, parts, Shapes, no_shapes, shapes, has_shape, are_rows, have_shapes}
 use Rattle.mid_code.specs.Fits.{nth_shape}
+use Rattle.mid_code.proofs.ForCallers.{never}
 use Rattle.flat_laws.proofs.Options.{none_some, some_same}
-use Rattle.flat_laws.proofs.ShapeLemmas.{never}
 
 -- from a shape to that of a part
 abbrev pub Step : Shape → ℕ → Shape → Type 0

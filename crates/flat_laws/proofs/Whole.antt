@@ -6,7 +6,7 @@ use Rattle.arc_base.specs.Behaviour.{Agrees, Sound}
 use Rattle.arc_base.specs.Pace.{Paced}
 use Rattle.arc_base.specs.BigStep.{charged}
 use Rattle.arc_base.specs.Simulation.{Halts, WillEnd, FollowsAll}
-use Rattle.arc_base.proofs.ForCallers.{line_halts, agrees_by_units}
+use Rattle.arc_base.proofs.ForCallers.{line_halts, agrees_by_units, paced_by_units}
 use Rattle.nim_core.specs.declared.program.TheConstants.{ACTIVE_CALLS}
 use Rattle.nim_core.specs.Program.{Declared, Body}
 use Rattle.nim_core.specs.Sums.{start_sum}
@@ -31,7 +31,6 @@ use Rattle.flat_laws.proofs.Marks.{Finds, finds_none}
 use Rattle.flat_laws.proofs.BlockLabels.{finds_body}
 use Rattle.flat_laws.proofs.Calls.{Fixed, known_of, spot, Fitting, ground, Related, body_follows}
 use Rattle.flat_laws.proofs.Levels.{does_return, calls_follow}
-use Rattle.flat_laws.proofs.Paces.{paced_by_following}
 
 abbrev pub nowhere : Bool → ℕ → Type 0
 nowhere global place = ⊥
@@ -128,5 +127,5 @@ module _ (x : Fixed) (fitting : Fitting x) (Globals : Named) (start : IsStart x 
   pub runs_paced : (heap : ℕ) (input : List ℕ) → Sound (meaning x.program x.plan heap input) →
       Paced 12 (runs flat_label (flat_does (known_of x) x.plan) x.procs) (meaning x.program x.plan heap input)
   runs_paced heap input sound =
-      paced_by_following (step c) (λ (s : State). s.meter) status (λ (s : State). live s.world)
+      paced_by_units (step c) 11 0 1 (λ (s : State). s.meter) status (λ (s : State). live s.world)
       (running.at_first flat_label (flat_does (known_of x) x.plan) x.procs) (λ n. goes_through x.program (at_first x.program n)) sound program_follows

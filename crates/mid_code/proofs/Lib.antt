@@ -7,4 +7,5 @@ mod Marked
 mod WaysByLists
 mod Same
 mod Weighing
+mod ShapeLemmas
 pub mod ForCallers

@@ -2,7 +2,7 @@
 
 -- ---- types and their forms
 pub use Rattle.nim_types.proofs.Equality.{same_sound, same_refl}
-pub use Rattle.nim_types.proofs.Forming.{the_form}
+pub use Rattle.nim_types.proofs.Forming.{the_form, object_weight, without, others_stay, still_among, fewer, smaller, all_smaller}
 -- ---- tables
 pub use Rattle.nim_types.proofs.Numbering.{count, front, meant_front, said_front, at_entry, entry_inside, interned, said_number}
 pub use Rattle.nim_types.proofs.Numbering.{one_more, all_more, within_more, get_front}

@@ -134,7 +134,7 @@ abbrev unless_same : Bool → Declared → Facts → Facts
 unless_same true d rest = rest
 unless_same false d rest = d ∷ rest
 
-abbrev without : Ty → Facts → Facts
+abbrev pub without : Ty → Facts → Facts
 without t [] = []
 without t (d ∷ ds) = unless_same (same d.of t) d (without t ds)
 
@@ -148,7 +148,7 @@ unless_false b d rest h = ap (λ z. unless_same z d rest) h
 not_same : (a b : Ty) → (a ≡ b → ⊥) → same a b ≡ false
 not_same a b h = ⊎_elim (λ t. absurd (h (same_sound a b t))) (λ f. f) (cases_Bool (same a b))
 
-others_stay : (t u : Ty) (facts : Facts) → (u ≡ t → ⊥) → fact_of (without t facts) u ≡ fact_of facts u
+pub others_stay : (t u : Ty) (facts : Facts) → (u ≡ t → ⊥) → fact_of (without t facts) u ≡ fact_of facts u
 others_stay t u [] n = refl
 others_stay t u (d ∷ ds) n = ⊎_elim
     (λ s. let e : d.of ≡ t = same_sound d.of t s in
@@ -169,8 +169,7 @@ pub by_all_said : {w : Bool} {t : Ty} {f : Form} (old new : Facts) → ((ty : Ty
 unfolding Among
 by_all_said old new m h = by_more m h
 
-still_among : (t : Ty) (facts : Facts) → Among (without t facts) facts
-unfolding Among
+pub still_among : (t : Ty) (facts : Facts) (u : Ty) (fact : Fact) → fact_of (without t facts) u ≡ Some fact → fact_of facts u ≡ Some fact
 still_among t facts u fact h = ⊎_elim
     (λ s. absurd (none-some fact (sym (gone t facts) ∙ ap (fact_of (without t facts)) (sym (same_sound u t s)) ∙ h)))
     (λ s. sym (others_stay t u facts (λ e. both_ways (same u t) s (ap (λ z. same z t) e ∙ same_refl t))) ∙ h)
@@ -187,7 +186,7 @@ no_more t (d ∷ ds) = ⊎_elim
     (λ s. omega (arith, ap length (unless_false (same d.of t) d (without t ds) s), no_more t ds))
     (cases_Bool (same d.of t))
 
-fewer : (t : Ty) (facts : Facts) (fact : Fact) → fact_of facts t ≡ Some fact → length (without t facts) < length facts
+pub fewer : (t : Ty) (facts : Facts) (fact : Fact) → fact_of facts t ≡ Some fact → length (without t facts) < length facts
 fewer t [] fact h = absurd (none-some fact h)
 fewer t (d ∷ ds) fact h = ⊎_elim
     (λ s. omega (arith, ap length (unless_true (same d.of t) d (without t ds) s), no_more t ds))
@@ -200,7 +199,8 @@ lighter : {w : Bool} {facts : Facts} {t u : Ty} {f g : Form} → IsForm w facts 
 lighter {w} {facts} {f = f} p q h e = let same_form = one_form (subst (λ (z : Ty). IsForm w facts z f) e q) p in omega (arith, h, ap weight same_form)
 
 mutual
-  smaller : {w : Bool} {facts : Facts} {t u : Ty} {f g : Form} → IsForm w facts t g → IsForm w facts u f → weight f < weight g → IsForm w (without t facts) u f
+  pub smaller : {w : Bool} {facts : Facts} {t u : Ty} {f g : Form} → IsForm w facts t g → IsForm w facts u f → weight f < weight g →
+      IsForm w (without t facts) u f
   smaller p of_int h = of_int
   smaller p of_bool h = of_bool
   smaller p of_char h = of_char
@@ -218,7 +218,8 @@ mutual
   smaller p of_ref h = of_ref
   smaller p of_exception h = of_exception
 
-  all_smaller : {w : Bool} {facts : Facts} {t : Ty} {g : Form} {us : Tys} {fs : Forms} → IsForm w facts t g → AreForms w facts us fs → weights fs < weight g →
+  pub all_smaller : {w : Bool} {facts : Facts} {t : Ty} {g : Form} {us : Tys} {fs : Forms} → IsForm w facts t g → AreForms w facts us fs →
+      weights fs < weight g →
       AreForms w (without t facts) us fs
   all_smaller p none_of h = none_of
   all_smaller p (more_of a s) h = more_of (smaller p a (omega (arith, h))) (all_smaller p s (omega (arith, h)))

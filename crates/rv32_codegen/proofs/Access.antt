@@ -10,6 +10,7 @@ use Rattle.arc_base.specs.Event.{Event, writes as write_events}
 use Rattle.arc_base.specs.Behaviour.{Live, Ended}
 use Rattle.arc_base.specs.Stepping.{Next, Goes, Ends, seen}
 use Rattle.arc_base.specs.Simulation.{Stops}
+use Rattle.arc_base.proofs.ForCallers.{steps_one, steps_on, stops_one}
 use Rattle.rv32_isa.specs.declared.instr.Instr.TheVariants.{Addi, Ecall}
 use Rattle.rv32_isa.specs.declared.micro_op.Size.{Size}
 use Rattle.rv32_isa.specs.declared.micro_op.Size.TheVariants.{Byte, Half, Word}
@@ -35,7 +36,6 @@ use Rattle.reg_scan.specs.Alive.{Alive, read_by}
 use Rattle.reg_scan.specs.Homes.{home_of}
 use Rattle.mid_code.specs.Words.{put as put_var, WordState, scene_of, loads, shows, on}
 use Rattle.rv32_codegen.specs.Code.{does, save, fetch, store, stream_number, move, give, left_of, right_of, argument_at, move_range}
-use Rattle.rv32_codegen.proofs.Runs.{steps_one, steps_on, stops_one}
 use Rattle.rv32_codegen.proofs.Machine.{state_of, run_at, Fits, fits_words, word_place, Regs, Quiet, quiet_does, Goes_in, then_goes}
 use Rattle.rv32_codegen.proofs.Machine.{instr_goes, writes}
 use Rattle.rv32_codegen.proofs.PieceRuns.{Gets, put_gets, save_goes}

@@ -8,6 +8,7 @@ use Rattle.std.proofs.lemmas.List.{get_or-set_same, get_or-set_other}
 use Rattle.arc_base.specs.Event.{Event}
 use Rattle.arc_base.specs.Stepping.{Next, Goes}
 use Rattle.arc_base.specs.Simulation.{Steps}
+use Rattle.arc_base.proofs.ForCallers.{steps_one, steps_on}
 use Rattle.rv32_isa.specs.declared.instr.Instr.TheVariants.{Sw}
 use Rattle.rv32_isa.specs.declared.label.LabelName.TheVariants.{Entry}
 use Rattle.rv32_isa.specs.declared.label.LabelLine.{LabelLine}
@@ -33,7 +34,6 @@ use Rattle.mid_code.specs.Words.{Vars, no_words, WordState, most_calls, is_count
 use Rattle.mid_code.specs.Words.{params_of}
 use Rattle.mid_code.specs.Words.{scene_of, entered}
 use Rattle.rv32_codegen.specs.Code.{does, shift, sum, negative, after_call, lines_code, hook_of, proc_code, start_code}
-use Rattle.rv32_codegen.proofs.Runs.{steps_one, steps_on}
 use Rattle.rv32_codegen.proofs.Machine.{state_of, run_at, Fits, fits_words, word_place, Regs, put_other, quiet_does, Goes_in, then_goes}
 use Rattle.rv32_codegen.proofs.PieceRuns.{shift_any, sum_any, sw_at}
 use Rattle.rv32_codegen.proofs.Chunks.{call_split, quiet_lines}

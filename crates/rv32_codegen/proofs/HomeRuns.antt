@@ -1,5 +1,6 @@
 -- What the pieces of label code do that bring words from their homes and put them there.
 use Rattle.std.proofs.Common.{◌≡◌, ◌≢◌, ℕ, ◌+◌, ◌*◌, ◌/◌, ◌%◌, ◌^◌, ◌<◌, ◌≤◌, List, length, get_or, refl, ap, subst, ◌∙◌, arith}
+use Rattle.arc_base.proofs.ForCallers.{steps_none}
 use Rattle.rv32_isa.specs.declared.instr.Instr.TheVariants.{Addi}
 use Rattle.rv32_isa.specs.declared.label.LabelLine.{LabelLine}
 use Rattle.rv32_isa.specs.Values.{added}
@@ -13,7 +14,6 @@ use Rattle.mid_code.specs.Memory.{Memory}
 use Rattle.reg_scan.specs.declared.homes.Home.{Home}
 use Rattle.reg_scan.specs.declared.homes.Home.TheVariants.{Reg, Frame}
 use Rattle.rv32_codegen.specs.Code.{does, seat, bring, move, settle, give}
-use Rattle.rv32_codegen.proofs.Runs.{steps_none}
 use Rattle.rv32_codegen.proofs.Machine.{run_at, Fits, word_place, Regs, put_other, put_kept, Quiet, Goes_in, goes_within, writes}
 use Rattle.rv32_codegen.proofs.PieceRuns.{Gets, put_gets, Leads, load_goes, save_goes}
 use Rattle.rv32_codegen.proofs.Frees.{free_small, free_above, free_apart}

@@ -6,6 +6,7 @@ use Rattle.std.specs.Prelude.{if◌then◌else◌}
 use Rattle.std.proofs.lemmas.Bool.{cond-true, cond-false}
 use Rattle.arc_base.specs.Event.{Event}
 use Rattle.arc_base.specs.Stepping.{Next, Goes}
+use Rattle.arc_base.proofs.ForCallers.{steps_one}
 use Rattle.rv32_isa.specs.declared.label.LabelName.TheVariants.{Inner}
 use Rattle.rv32_isa.specs.declared.label.LabelLine.{LabelLine}
 use Rattle.rv32_isa.specs.declared.label.LabelLine.TheVariants.{Branch}
@@ -19,7 +20,6 @@ use Rattle.mid_code.specs.Words.{WordState, holds, scene_of, on, jumped}
 use Rattle.mid_code.specs.Words.{from_label}
 use Rattle.reg_scan.specs.Alive.{Alive, read_by, led_by}
 use Rattle.rv32_codegen.specs.Code.{compare, left_of, right_of, lines_code}
-use Rattle.rv32_codegen.proofs.Runs.{steps_one}
 use Rattle.rv32_codegen.proofs.Machine.{state_of, run_at, Regs, Goes_in, then_goes}
 use Rattle.rv32_codegen.proofs.HomeRuns.{alike_refl}
 use Rattle.rv32_codegen.proofs.Chunks.{quiet_lines}

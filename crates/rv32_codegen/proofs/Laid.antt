@@ -9,6 +9,7 @@ use Rattle.arc_base.specs.Behaviour.{Agrees, Sound}
 use Rattle.arc_base.specs.Pace.{Paced}
 use Rattle.arc_base.specs.Stepping.{Next, Goes, Ends}
 use Rattle.arc_base.specs.Simulation.{Does}
+use Rattle.arc_base.proofs.ForCallers.{steps_one, steps_on, steps_none, stops_one, agrees_by_simulation, paced_by_simulation}
 use Rattle.rv32_isa.specs.declared.image.HookAt.{HookAt}
 use Rattle.rv32_isa.specs.declared.instr.Instr.{Instr}
 use Rattle.rv32_isa.specs.declared.instr.Instr.TheVariants.{Jal, Jalr}
@@ -34,7 +35,6 @@ use Rattle.rv32_logic.specs.Jumps.{placed, branches_to}
 use Rattle.rv32_logic.proofs.ForCallers.{stands_all, stands_back, all_in_range-append, obeyed, branch_goes}
 use Rattle.rv32_codegen.specs.Layout.{Far, line_size, size, laid_at, place_of, target, distance, branch_of, opposite, branched, laid, instrs, hook_table}
 use Rattle.rv32_codegen.specs.Layout.{code_bytes, Reaches, LineReaches, AllReach}
-use Rattle.rv32_codegen.proofs.Runs.{steps_one, steps_on, steps_none, stops_one, agrees_by_simulation, paced_by_simulation}
 use Rattle.rv32_codegen.proofs.LayoutUp.{up, Up, UpReply, kind_of, plain_up, call_up}
 use Rattle.rv32_codegen.proofs.LayoutSizes.{Within, within_next, fits_in, label_within, at_whole, at_low, at_high, place_whole}
 use Rattle.rv32_codegen.proofs.LayoutMarks.{mark_at, mark_laid, mark_is}

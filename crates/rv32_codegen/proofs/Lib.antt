@@ -1,4 +1,3 @@
-mod Runs
 mod Area
 mod Machine
 mod PieceRuns

@@ -4,6 +4,7 @@ use Rattle.std.proofs.Common.{◌∷◌, length, get_or, Bool, true, false}
 use Rattle.std.proofs.Common.{Option, Some, None, refl, ap, subst, ◌∙◌, arith}
 use Rattle.std.specs.Prelude.{◌&&◌, nat_lt, if◌then◌else◌}
 use Rattle.std.proofs.lemmas.Bool.{and_parts, ltb-true}
+use Rattle.arc_base.proofs.ForCallers.{steps_one}
 use Rattle.rv32_isa.specs.declared.label.LabelLine.{LabelLine}
 use Rattle.rv32_isa.specs.declared.label.LabelLine.TheVariants.{Do}
 use Rattle.rv32_isa.specs.Values.{added}
@@ -24,7 +25,6 @@ use Rattle.reg_scan.specs.declared.homes.Homes.{Homes}
 use Rattle.reg_scan.specs.Alive.{effect_of, IsOne, Alive, read_by, kept_by}
 use Rattle.reg_scan.specs.Homes.{home_of}
 use Rattle.rv32_codegen.specs.Code.{does, operate, datum_at, seat, bring, move, settle, give, target, left_of, right_of, bring_both, keep}
-use Rattle.rv32_codegen.proofs.Runs.{steps_one}
 use Rattle.rv32_codegen.proofs.Machine.{state_of, run_at, fits_words, word_place, Regs, Quiet, quiet_does, Goes_in, then_goes, goes_within}
 use Rattle.rv32_codegen.proofs.Machine.{writes}
 use Rattle.rv32_codegen.proofs.PieceRuns.{Gets, put_gets, Leads, constant_any, datum_any, sum_any}

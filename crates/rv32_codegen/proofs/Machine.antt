@@ -5,6 +5,7 @@ use Rattle.std.proofs.Common.{length-append}
 use Rattle.std.proofs.lemmas.List.{get_or-set_other}
 use Rattle.arc_base.specs.Stepping.{Goes}
 use Rattle.arc_base.specs.Simulation.{Steps}
+use Rattle.arc_base.proofs.ForCallers.{steps_one, steps_on}
 use Rattle.rv32_isa.specs.declared.instr.Instr.{Instr}
 use Rattle.rv32_isa.specs.declared.label.LabelLine.{LabelLine}
 use Rattle.rv32_isa.specs.declared.label.LabelLine.TheVariants.{Do}
@@ -20,7 +21,6 @@ use Rattle.rv32_logic.proofs.ForCallers.{put_regs}
 use Rattle.mid_code.specs.Memory.{Memory}
 use Rattle.rv32_codegen.specs.Code.{does}
 use Rattle.rv32_codegen.proofs.Area.{area, length-area}
-use Rattle.rv32_codegen.proofs.Runs.{steps_one, steps_on}
 
 -- ---- states
 

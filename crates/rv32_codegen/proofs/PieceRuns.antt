@@ -5,6 +5,7 @@ use Rattle.std.proofs.Common.{length-append}
 use Rattle.std.specs.Prelude.{Bool, nat_lt, ◌==◌, if◌then◌else◌}
 use Rattle.std.proofs.lemmas.Bool.{ltb-true, ltb-false, eqb-true, cond_both}
 use Rattle.arc_base.specs.Stepping.{Goes}
+use Rattle.arc_base.proofs.ForCallers.{steps_none}
 use Rattle.rv32_isa.specs.declared.instr.Instr.{Instr}
 use Rattle.rv32_isa.specs.declared.instr.Instr.TheVariants.{Lui, Lw, Sw, Addi, Add}
 use Rattle.rv32_isa.specs.declared.label.LabelLine.{LabelLine}
@@ -23,7 +24,6 @@ use Rattle.rv32_logic.proofs.ForCallers.{put_regs, put_same, constant_is, stack_
 use Rattle.mid_code.specs.Memory.{Memory}
 use Rattle.rv32_codegen.specs.Code.{does, is_near, lower, upper, negative, constant, datum, sum, shift, load, save}
 use Rattle.rv32_codegen.proofs.Area.{area, length-area, area_read, area_put, word_bytes-low}
-use Rattle.rv32_codegen.proofs.Runs.{steps_none}
 use Rattle.rv32_codegen.proofs.Machine.{state_of, run_at, Fits, regions, word_place, Regs, put_other, put_kept, Quiet}
 use Rattle.rv32_codegen.proofs.Machine.{Goes_in, then_goes, goes_within, instr_goes, writes}
 

@@ -3,6 +3,7 @@ use Rattle.std.proofs.Common.{◌≡◌, ℕ, ◌+◌, ◌*◌, ◌/◌, ◌%◌
 use Rattle.std.proofs.Common.{List, [], ◌∷◌, length, get_or}
 use Rattle.std.proofs.Common.{Some, refl, sym, ap, subst, ◌∙◌, arith}
 use Rattle.arc_base.specs.Stepping.{Goes}
+use Rattle.arc_base.proofs.ForCallers.{steps_one}
 use Rattle.rv32_isa.specs.declared.instr.Instr.TheVariants.{Lw, Jalr}
 use Rattle.rv32_isa.specs.declared.label.LabelName.TheVariants.{Entry}
 use Rattle.rv32_isa.specs.declared.label.LabelLine.{LabelLine}
@@ -22,7 +23,6 @@ use Rattle.reg_scan.specs.Homes.{home_of}
 use Rattle.mid_code.specs.Words.{put as put_var, WordFrame, WordState}
 use Rattle.mid_code.specs.Words.{returned, on}
 use Rattle.rv32_codegen.specs.Code.{does, shift, sum, negative, give, after_call, line_code}
-use Rattle.rv32_codegen.proofs.Runs.{steps_one}
 use Rattle.rv32_codegen.proofs.Machine.{state_of, run_at, Fits, fits_words, word_place, Regs, put_other, Quiet, quiet_does, Goes_in, then_goes}
 use Rattle.rv32_codegen.proofs.PieceRuns.{shift_any, sum_any, lw_at}
 use Rattle.rv32_codegen.proofs.Chunks.{quiet_lines}

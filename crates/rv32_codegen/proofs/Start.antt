@@ -9,6 +9,7 @@ use Rattle.arc_base.specs.Behaviour.{Live, Ended, Faulted, Agrees, Sound}
 use Rattle.arc_base.specs.Pace.{Paced}
 use Rattle.arc_base.specs.Stepping.{Next, Goes, Ends, Faults, Errs, run, seen, behaviour}
 use Rattle.arc_base.specs.Simulation.{Steps, Stops, Does}
+use Rattle.arc_base.proofs.ForCallers.{steps_one, steps_on, steps_none, agrees_by_simulation, paced_by_simulation}
 use Rattle.rv32_isa.specs.declared.instr.Instr.TheVariants.{Lui, Lw, Sw, Add}
 use Rattle.rv32_isa.specs.declared.label.LabelName.TheVariants.{Entry}
 use Rattle.rv32_isa.specs.declared.label.LabelLine.{LabelLine}
@@ -39,7 +40,6 @@ use Rattle.mid_code.specs.Words.{settled}
 use Rattle.mid_code.specs.Words.{step_lines}
 use Rattle.mid_code.specs.Words as words
 use Rattle.rv32_codegen.specs.Code.{sum, negative, lines_code, proc_code}
-use Rattle.rv32_codegen.proofs.Runs.{steps_one, steps_on, steps_none, agrees_by_simulation, paced_by_simulation}
 use Rattle.rv32_codegen.proofs.Area.{area}
 use Rattle.rv32_codegen.proofs.Machine.{state_of, run_at, Fits, word_place, put_other, quiet_does, Goes_in, then_goes, instr_goes, writes}
 use Rattle.rv32_codegen.proofs.Lookups.{procs_code, behind, none_some, number_is, code_from, entry_is}

@@ -5,6 +5,7 @@ use Rattle.arc_base.specs.Behaviour.{Behaviour, Agrees, Sound}
 use Rattle.arc_base.specs.Pace.{Paced}
 use Rattle.arc_base.specs.Stepping.{Next, behaviour}
 use Rattle.arc_base.specs.Simulation.{Steps, Does, AreOf}
+use Rattle.arc_base.proofs.ForCallers.{agrees_by_pairs, paced_by_pairs}
 use Rattle.rv32_isa.specs.Machine.{Lives}
 use Rattle.nim_types.specs.declared.types.TypeDef.{TypeDef}
 use Rattle.nim_types.specs.Table.{IsTable}
@@ -38,7 +39,6 @@ use Rattle.word_lowering.proofs.WritesFollowed.{write_followed, literals_there}
 use Rattle.word_lowering.proofs.OrdinalLines.{TrapsStop}
 use Rattle.word_lowering.proofs.EachLine.{step_follows}
 use Rattle.word_lowering.proofs.StartState.{Begins, begins}
-use Rattle.word_lowering.proofs.Stepwise.{agrees_by_pairs, paced_by_pairs}
 
 -- ---- code that is never at a fault
 
@@ -114,14 +114,14 @@ module _ (live : Lives) (none : HasNoObjects live) (table : List TypeDef) (block
     agrees_run : Sound (behaviour high_step high_first) → Agrees (behaviour low_step low_first) (behaviour high_step high_first)
     agrees_run ok =
         subst (λ t. Agrees (behaviour low_step low_first) (behaviour high_step t)) first_lines.same
-        (agrees_by_pairs low_step high_step (pairs x) (lines_left x) WORD_PACE 3 follows low_first (first_lines.both, first_lines.good) first_lines.steps
-        first_steps (subst (λ t. Sound (behaviour high_step t)) (sym first_lines.same) ok))
+        (agrees_by_pairs low_step high_step (pairs x) (lines_left x) WORD_PACE 3 follows (omega arith) low_first (first_lines.both, first_lines.good)
+        first_lines.steps first_steps (subst (λ t. Sound (behaviour high_step t)) (sym first_lines.same) ok))
 
     paced_run : Sound (behaviour high_step high_first) → Paced WORD_PACE (behaviour low_step low_first) (behaviour high_step high_first)
     paced_run ok =
         subst (λ t. Paced WORD_PACE (behaviour low_step low_first) (behaviour high_step t)) first_lines.same
-        (paced_by_pairs low_step high_step (pairs x) (lines_left x) WORD_PACE 3 follows low_first (first_lines.both, first_lines.good) first_lines.steps
-        first_steps (subst (λ t. Sound (behaviour high_step t)) (sym first_lines.same) ok) (omega arith))
+        (paced_by_pairs low_step high_step (pairs x) (lines_left x) WORD_PACE 3 follows (omega arith) low_first (first_lines.both, first_lines.good)
+        first_lines.steps first_steps (subst (λ t. Sound (behaviour high_step t)) (sym first_lines.same) ok))
 
   -- the same of code that is well formed
   if_sound : (P : Behaviour Event → Behaviour Event → Type 0)

@@ -15,13 +15,13 @@ use Rattle.mid_code.specs.Codes.{block_plain, block_proc, block_procs}
 use Rattle.mid_code.specs.Scene.{Calls, Traps}
 use Rattle.mid_code.specs.Fits.{Passed, Signature, all_pass, call_fits, gives_to, value as fits_value}
 use Rattle.mid_code.specs.Running.{scene_of, callable, called, found, entered, gives_nothing}
+use Rattle.mid_code.proofs.ForCallers.{never}
 use Rattle.word_lowering.specs.declared.homes.TheConstants.{LEFT, ONE}
 use Rattle.word_lowering.specs.Layouts.{is_empty}
 use Rattle.word_lowering.specs.Operations.{trap_label}
 use Rattle.word_lowering.specs.LineCode.{called_code, callee_behind, layout_at}
 use Rattle.word_lowering.specs.Lowered.{is_call, calls_in}
 use Rattle.word_lowering.proofs.Options.{none_some}
-use Rattle.word_lowering.proofs.ShapeLemmas.{never}
 use Rattle.word_lowering.proofs.LineFits.{may_get_some}
 use Rattle.word_lowering.proofs.Runs.{Runs, at, run_past, run_off}
 use Rattle.word_lowering.proofs.Moves.{all_same}

@@ -21,10 +21,10 @@ use Rattle.mid_code.specs.Words.{Vars, put, from_label}
 use Rattle.mid_code.specs.Lines.{leaps_where}
 use Rattle.mid_code.specs.Running.{scene_of}
 use Rattle.mid_code.specs.Codes.{block_plain}
+use Rattle.mid_code.proofs.ForCallers.{never}
 use Rattle.word_lowering.specs.declared.homes.TheConstants.{FIRST, SECOND}
 use Rattle.word_lowering.specs.Operations.{word}
 use Rattle.word_lowering.specs.LineCode.{own_label, variable_of}
-use Rattle.word_lowering.proofs.ShapeLemmas.{never}
 use Rattle.word_lowering.proofs.Arithmetic.{fits_signed, word_small, equal_is}
 use Rattle.word_lowering.proofs.CopyRuns.{got}
 use Rattle.word_lowering.proofs.OrdinalRuns.{put_low, Leads}

@@ -10,13 +10,13 @@ use Rattle.mid_code.specs.declared.word.WordInstr.{WordInstr}
 use Rattle.mid_code.specs.Words.{put}
 use Rattle.mid_code.specs.Shapes.{Shape, has_shape, shape_of}
 use Rattle.mid_code.specs.Fits.{is_value, is_own, shape_named}
+use Rattle.mid_code.proofs.ForCallers.{never}
 use Rattle.word_lowering.specs.declared.spots.Spot.TheVariants.{Lies}
 use Rattle.word_lowering.specs.declared.texts.TheConstants.{FIXED_BYTES}
 use Rattle.word_lowering.specs.Layouts.{is_address}
 use Rattle.word_lowering.specs.Spots.{spot_of, cleared, clears}
 use Rattle.word_lowering.specs.Operations.{word}
 use Rattle.word_lowering.proofs.Options.{some_same}
-use Rattle.word_lowering.proofs.ShapeLemmas.{never}
 use Rattle.word_lowering.proofs.InMemory.{AllZero, blank_zero}
 use Rattle.word_lowering.proofs.Runs.{run_constant}
 use Rattle.word_lowering.proofs.OrdinalRuns.{put_here, but_one}

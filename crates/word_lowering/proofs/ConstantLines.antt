@@ -18,6 +18,7 @@ use Rattle.mid_code.specs.Words.{Vars, put}
 use Rattle.mid_code.specs.Pieces.{value_of, are_one}
 use Rattle.mid_code.specs.Shapes.{Shape, number, reference, block, elements, row, parts, Shapes, no_shapes, shapes, has_shape, are_rows, have_shapes}
 use Rattle.mid_code.specs.Fits.{may_have}
+use Rattle.mid_code.proofs.ForCallers.{never}
 use Rattle.word_lowering.specs.declared.homes.TheConstants.{FIRST, SECOND}
 use Rattle.word_lowering.specs.declared.homes.Home.{Home}
 use Rattle.word_lowering.specs.declared.homes.Housed.{Housed}
@@ -26,7 +27,6 @@ use Rattle.word_lowering.specs.Layouts.{is_address}
 use Rattle.word_lowering.specs.Spots.{spot_of, shifted, cleared}
 use Rattle.word_lowering.specs.Operations.{word}
 use Rattle.word_lowering.specs.LineCode.{unless_zero, pieces_code, piece_words, first_word, constant_code}
-use Rattle.word_lowering.proofs.ShapeLemmas.{never}
 use Rattle.word_lowering.proofs.Cells.{put_here}
 use Rattle.word_lowering.proofs.InMemory.{AreAt, AreZero, all_carried, bytes_some}
 use Rattle.word_lowering.proofs.Copied.{Changed, changed_word}

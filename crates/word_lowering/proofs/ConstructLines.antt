@@ -22,6 +22,7 @@ use Rattle.mid_code.specs.Lines.{using_fields, gives_whole}
 use Rattle.mid_code.specs.Shapes.{Shape, number, reference, block, elements, row, parts, Shapes, no_shapes, shapes, has_shape, shape_of}
 use Rattle.mid_code.specs.Fits.{shape_by_kind, alike, may_get, nth_shape, fields_of, names_field, each_once}
 use Rattle.mid_code.specs.Running.{scene_of}
+use Rattle.mid_code.proofs.ForCallers.{never, shape_bytes, shapes_bytes, bytes_is, value_wider}
 use Rattle.word_lowering.specs.declared.homes.Housed.{Housed}
 use Rattle.word_lowering.specs.declared.spots.Spot.TheVariants.{Lies}
 use Rattle.word_lowering.specs.Layouts.{is_address}
@@ -29,7 +30,6 @@ use Rattle.word_lowering.specs.Spots.{spot_of, shifted, cleared, clears}
 use Rattle.word_lowering.specs.Stored.{part_at}
 use Rattle.word_lowering.specs.LineCode.{fields_code}
 use Rattle.word_lowering.proofs.Options.{none_some, some_same}
-use Rattle.word_lowering.proofs.ShapeLemmas.{never, shape_bytes, shapes_bytes, bytes_is, value_wider}
 use Rattle.word_lowering.proofs.ShapePaths.{shapes_before, PathTo, path_in, path_put}
 use Rattle.word_lowering.proofs.InMemory.{IsAt, AllZero, blank_zero, bytes_some}
 use Rattle.word_lowering.proofs.Copied.{Apart, Changed}

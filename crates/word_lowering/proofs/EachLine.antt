@@ -10,7 +10,7 @@ use Rattle.mid_code.specs.Codes.{block_plain, block_label, block_does, block_pro
 use Rattle.mid_code.specs.Fits.{Passed, gives_more, may_stand, fits, given_behind, all_fit}
 use Rattle.mid_code.specs.Lines.{does}
 use Rattle.mid_code.specs.Running.{scene_of, step as block_step}
-use Rattle.word_lowering.proofs.ShapeLemmas.{never}
+use Rattle.mid_code.proofs.ForCallers.{never}
 use Rattle.word_lowering.proofs.Sites.{sigs, globals_of}
 use Rattle.word_lowering.proofs.Related.{Both, body_of, with_rest, high}
 use Rattle.word_lowering.proofs.Lines.{Basis, starts, IsGood, known, Settles, Follows}

@@ -13,11 +13,11 @@ use Rattle.mid_code.specs.Scene.{Filled, known_in}
 use Rattle.mid_code.specs.Shapes.{Shape, shape_of}
 use Rattle.mid_code.specs.Fits.{Passed, Signature, passes, all_pass, is_declared, is_own}
 use Rattle.mid_code.specs.Codes.{block_proc}
+use Rattle.mid_code.proofs.ForCallers.{never}
 use Rattle.word_lowering.specs.declared.homes.TheConstants.{OWN_FROM}
 use Rattle.word_lowering.specs.declared.homes.Home.TheVariants.{Variable}
 use Rattle.word_lowering.specs.declared.homes.Housed.{Housed}
 use Rattle.word_lowering.specs.Layouts.{found, params_in, result_in, is_address, kept_in}
-use Rattle.word_lowering.proofs.ShapeLemmas.{never}
 use Rattle.word_lowering.proofs.Sites.{Body, looks, There, Site}
 use Rattle.word_lowering.proofs.NextCalls.{ParamsAre}
 use Rattle.word_lowering.proofs.Related.{GaveSlot, Gave}

@@ -16,6 +16,7 @@ use Rattle.mid_code.specs.Lines.{gives_whole, fills}
 use Rattle.mid_code.specs.Shapes.{has_shape}
 use Rattle.mid_code.specs.Fits.{is_own}
 use Rattle.mid_code.specs.Running.{scene_of}
+use Rattle.mid_code.proofs.ForCallers.{never}
 use Rattle.word_lowering.specs.declared.homes.TheConstants.{OWN_FROM, LEFT, ONE, NEXT}
 use Rattle.word_lowering.specs.declared.homes.Home.TheVariants.{Variable}
 use Rattle.word_lowering.specs.declared.homes.Housed.{Housed}
@@ -23,7 +24,6 @@ use Rattle.word_lowering.specs.declared.texts.TheConstants.{FIXED_BYTES}
 use Rattle.word_lowering.specs.Layouts.{is_address}
 use Rattle.word_lowering.specs.Spots.{spot_of, moves}
 use Rattle.word_lowering.specs.LineCode.{variable_in}
-use Rattle.word_lowering.proofs.ShapeLemmas.{never}
 use Rattle.word_lowering.proofs.Copied.{Changed}
 use Rattle.word_lowering.proofs.Runs.{Runs, at}
 use Rattle.word_lowering.proofs.RoutineCalls.{awaiting}

@@ -17,13 +17,13 @@ use Rattle.mid_code.specs.Shapes.{Shape, has_shape}
 use Rattle.mid_code.specs.Fits.{Passed, Signature, is_value, is_location, shape_named, all_pass, passes_by, may_get, alike, is_there}
 use Rattle.mid_code.specs.Running.{scene_of}
 use Rattle.mid_code.specs.Whole.{is_followed, all_lead}
+use Rattle.mid_code.proofs.ForCallers.{never, bytes_is, value_wider}
 use Rattle.word_lowering.specs.declared.homes.Home.{Home}
 use Rattle.word_lowering.specs.declared.homes.Home.TheVariants.{Variable, Placed}
 use Rattle.word_lowering.specs.declared.homes.Housed.{Housed}
 use Rattle.word_lowering.specs.declared.texts.TheConstants.{FIXED_BYTES}
 use Rattle.word_lowering.specs.Layouts.{params_in, is_address, param_before}
 use Rattle.word_lowering.specs.LineCode.{callee_behind, arguments_behind, param_for, argument_code, variable_of, label_before}
-use Rattle.word_lowering.proofs.ShapeLemmas.{never, bytes_is, value_wider}
 use Rattle.word_lowering.proofs.LineFits.{single_is}
 use Rattle.word_lowering.proofs.InMemory.{IsAt}
 use Rattle.word_lowering.proofs.Copied.{Changed}

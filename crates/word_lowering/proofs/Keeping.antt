@@ -15,6 +15,7 @@ use Rattle.mid_code.specs.Memory.{Memory, number_at, own_data_at}
 use Rattle.mid_code.specs.Words.{Vars}
 use Rattle.mid_code.specs.Scene.{Where, Located, Within, Temps, Filled}
 use Rattle.mid_code.specs.Shapes.{Shape}
+use Rattle.mid_code.proofs.ForCallers.{never, bytes_is}
 use Rattle.word_lowering.specs.declared.homes.TheConstants.{LEFT, ONE, NEXT}
 use Rattle.word_lowering.specs.declared.homes.Home.{Home}
 use Rattle.word_lowering.specs.declared.homes.Home.TheVariants.{Variable, Placed, Static}
@@ -25,7 +26,6 @@ use Rattle.word_lowering.specs.declared.may_lower.TheConstants.{MOST_DATA}
 use Rattle.word_lowering.specs.Layouts.{is_address}
 use Rattle.word_lowering.specs.Spots.{spot_by, spot_of}
 use Rattle.word_lowering.specs.LineCode.{variable_in, variable_of}
-use Rattle.word_lowering.proofs.ShapeLemmas.{never, bytes_is}
 use Rattle.word_lowering.proofs.InMemory.{IsAt, carried}
 use Rattle.word_lowering.proofs.Copied.{Apart, SameOutside, Changed}
 use Rattle.word_lowering.proofs.Sites.{room, Housing, in_variable, by_address, in_places, in_data, InMemory, Site, next_base, AmongSites, data_end, Linked}

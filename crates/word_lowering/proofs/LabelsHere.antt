@@ -16,6 +16,7 @@ use Rattle.mid_code.specs.Fits.{Passed, all_fit, given_behind}
 use Rattle.mid_code.specs.Running.{is_name, from_label as line_from}
 use Rattle.mid_code.specs.Codes.{block_label, block_plain, label_in}
 use Rattle.mid_code.specs.Whole.{all_lead}
+use Rattle.mid_code.proofs.ForCallers.{never}
 use Rattle.word_lowering.specs.declared.homes.Housed.{Housed}
 use Rattle.word_lowering.specs.Layouts.{result_in}
 use Rattle.word_lowering.specs.Spots.{spot_of}
@@ -23,7 +24,6 @@ use Rattle.word_lowering.specs.LineCode as code
 use Rattle.word_lowering.specs.LineCode.{Around, label_before}
 use Rattle.word_lowering.specs.Lowered.{calls_in, first_code, result_cleared, code_of, last_code}
 use Rattle.word_lowering.proofs.Options.{none_some, some_same}
-use Rattle.word_lowering.proofs.ShapeLemmas.{never}
 use Rattle.word_lowering.proofs.Labels.{Quiet, quiet_cleared, code_from, label_found, own_found, trap_found}
 use Rattle.word_lowering.proofs.Sites.{Body, lines_of, around, word_of, IsBody, sigs, globals_of}
 use Rattle.word_lowering.proofs.Related.{code_behind, StandAt}

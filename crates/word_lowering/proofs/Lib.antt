@@ -8,7 +8,6 @@ mod NamedProcs
 mod CodeWeights
 mod SmallProcs
 mod DataSizes
-mod Stepwise
 mod BlocksFollowed
 mod WholeCode
 mod Cells
@@ -18,7 +17,6 @@ mod Copied
 mod Traded
 mod Options
 mod PartsInMemory
-mod ShapeLemmas
 mod ShapePaths
 mod Sites
 mod Scenes

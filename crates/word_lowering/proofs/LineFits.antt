@@ -6,7 +6,7 @@ use Rattle.nim_core.specs.Ints.{fits as is_int_number}
 use Rattle.nim_core.specs.Values.{Value, Number, Parts, number_of}
 use Rattle.mid_code.specs.Shapes.{Shape, number, reference, block, elements, row, parts, takes, has_shape, is_ordinal}
 use Rattle.mid_code.specs.Fits.{may_have, may_get, alike, is_number, is_int}
-use Rattle.word_lowering.proofs.ShapeLemmas.{never, same_is}
+use Rattle.mid_code.proofs.ForCallers.{never, same_is}
 use Rattle.word_lowering.proofs.Sites.{is_one_word}
 use Rattle.word_lowering.proofs.Moves.{is_single}
 

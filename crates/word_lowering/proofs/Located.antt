@@ -10,10 +10,10 @@ use Rattle.mid_code.specs.Scene.{Where, Located, Within, Temps, Filled, Scene}
 use Rattle.mid_code.specs.Lines.{value_at}
 use Rattle.mid_code.specs.Shapes.{Shape, has_shape}
 use Rattle.mid_code.specs.Fits.{is_own}
+use Rattle.mid_code.proofs.ForCallers.{never, bytes_is}
 use Rattle.word_lowering.specs.declared.texts.TheConstants.{FIXED_BYTES}
 use Rattle.word_lowering.specs.Layouts.{is_address}
 use Rattle.word_lowering.proofs.Options.{some_same}
-use Rattle.word_lowering.proofs.ShapeLemmas.{never, bytes_is}
 use Rattle.word_lowering.proofs.InMemory.{IsAt}
 use Rattle.word_lowering.proofs.PartsInMemory.{offset, part_within, offset_whole, part_at}
 use Rattle.word_lowering.proofs.ShapePaths.{PathTo, path_in}

@@ -10,13 +10,13 @@ use Rattle.mid_code.specs.Scene.{Where, with_location, put}
 use Rattle.mid_code.specs.Lines.{leads}
 use Rattle.mid_code.specs.Running.{scene_of}
 use Rattle.mid_code.specs.Codes.{block_plain}
+use Rattle.mid_code.proofs.ForCallers.{never}
 use Rattle.word_lowering.specs.declared.homes.Home.TheVariants.{Variable}
 use Rattle.word_lowering.specs.declared.homes.Housed.{Housed}
 use Rattle.word_lowering.specs.declared.texts.TheConstants.{FIXED_BYTES}
 use Rattle.word_lowering.specs.Layouts.{is_address}
 use Rattle.word_lowering.specs.LineCode.{callee_behind, variable_in, variable_of}
 use Rattle.word_lowering.proofs.Options.{some_same}
-use Rattle.word_lowering.proofs.ShapeLemmas.{never}
 use Rattle.word_lowering.proofs.OrdinalRuns.{AllBut}
 use Rattle.word_lowering.proofs.OperationRuns.{Given}
 use Rattle.word_lowering.proofs.Sites.{room, Housing, in_variable, by_address, in_places, in_data, Site, data_end}

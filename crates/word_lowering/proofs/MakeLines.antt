@@ -16,11 +16,11 @@ use Rattle.mid_code.specs.Lines.{using_all, gives_whole}
 use Rattle.mid_code.specs.Shapes.{Shape, number, reference, block, elements, row, parts, Shapes, no_shapes, shapes, takes, has_shape, are_rows, have_shapes}
 use Rattle.mid_code.specs.Fits.{is_value, shape_named, may_get, row_of, parts_of, made_of}
 use Rattle.mid_code.specs.Running.{scene_of}
+use Rattle.mid_code.proofs.ForCallers.{never, same_is, value_wider}
 use Rattle.word_lowering.specs.declared.homes.Housed.{Housed}
 use Rattle.word_lowering.specs.declared.texts.TheConstants.{FIXED_BYTES}
 use Rattle.word_lowering.specs.Layouts.{is_address}
 use Rattle.word_lowering.proofs.Options.{some_same}
-use Rattle.word_lowering.proofs.ShapeLemmas.{never, same_is, value_wider}
 use Rattle.word_lowering.proofs.InMemory.{bytes_some, parts_bytes}
 use Rattle.word_lowering.proofs.Copied.{Changed}
 use Rattle.word_lowering.proofs.Runs.{none as no_run, run_label}

@@ -24,11 +24,11 @@ use Rattle.mid_code.specs.Lines.{using, using_number, value_at, gives}
 use Rattle.mid_code.specs.Shapes.{Shape, number, reference, block, elements, row, parts, has_shape}
 use Rattle.mid_code.specs.Fits.{is_value, is_location, shape_named, is_int, is_number, has_length}
 use Rattle.mid_code.specs.Running.{scene_of}
+use Rattle.mid_code.proofs.ForCallers.{never}
 use Rattle.word_lowering.specs.declared.homes.TheConstants.{FIRST, OWN_FROM}
 use Rattle.word_lowering.specs.Stored.{entry_at, count_in}
 use Rattle.word_lowering.specs.Operations.{word, trap_label}
 use Rattle.word_lowering.specs.LineCode.{variable_of, measure_word}
-use Rattle.word_lowering.proofs.ShapeLemmas.{never}
 use Rattle.word_lowering.proofs.Arithmetic.{fits_signed, signed_fits, word_small, equal_is}
 use Rattle.word_lowering.proofs.Runs.{none, at}
 use Rattle.word_lowering.proofs.CopyRuns.{got}

@@ -15,13 +15,13 @@ use Rattle.mid_code.specs.Lines.{gives_whole, fills, value_at, using}
 use Rattle.mid_code.specs.Shapes.{Shape, has_shape}
 use Rattle.mid_code.specs.Fits.{is_value, is_location, is_own, is_declared, shape_named}
 use Rattle.mid_code.specs.Running.{scene_of}
+use Rattle.mid_code.proofs.ForCallers.{never, bytes_is, value_wider}
 use Rattle.word_lowering.specs.declared.homes.Home.TheVariants.{Variable}
 use Rattle.word_lowering.specs.declared.homes.Housed.{Housed}
 use Rattle.word_lowering.specs.declared.texts.TheConstants.{FIXED_BYTES}
 use Rattle.word_lowering.specs.Layouts.{found, is_address}
 use Rattle.word_lowering.specs.Spots.{moves}
 use Rattle.word_lowering.specs.LineCode.{variable_in, variable_of}
-use Rattle.word_lowering.proofs.ShapeLemmas.{never, bytes_is, value_wider}
 use Rattle.word_lowering.proofs.Arithmetic.{word_small}
 use Rattle.word_lowering.proofs.Moves.{is_single, single_word}
 use Rattle.word_lowering.proofs.LineFits.{may_get_some, single_is, number_fits}

@@ -16,6 +16,7 @@ use Rattle.mid_code.specs.Scene.{no_temps, Filled}
 use Rattle.mid_code.specs.Shapes.{Shape}
 use Rattle.mid_code.specs.Fits.{passes_by, may_get, alike}
 use Rattle.mid_code.specs.Running.{Proc, frame_of, has_first}
+use Rattle.mid_code.proofs.ForCallers.{never, value_wider}
 use Rattle.rv32_isa.specs.Values.{subtracted}
 use Rattle.word_lowering.specs.declared.homes.TheConstants.{LEFT, ONE, NEXT, OWN_FROM}
 use Rattle.word_lowering.specs.declared.homes.Home.TheVariants.{Variable}
@@ -26,7 +27,6 @@ use Rattle.word_lowering.specs.Spots.{spot_of}
 use Rattle.word_lowering.specs.LineCode.{variable_in, variable_of}
 use Rattle.word_lowering.specs.Lowered.{calls_in}
 use Rattle.word_lowering.proofs.Options.{none_some, some_same}
-use Rattle.word_lowering.proofs.ShapeLemmas.{never, value_wider}
 use Rattle.word_lowering.proofs.LineFits.{alike_some}
 use Rattle.word_lowering.proofs.InMemory.{IsAt}
 use Rattle.word_lowering.proofs.Sites.{Body, lines_of, room, Housing, in_variable, by_address, in_places, in_data, data_end, Site, Linked}

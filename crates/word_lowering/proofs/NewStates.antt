@@ -19,12 +19,12 @@ use Rattle.mid_code.specs.Scene.{no_temps, Filled}
 use Rattle.mid_code.specs.Shapes.{has_shape, takes}
 use Rattle.mid_code.specs.Fits.{is_own, may_get, gives_to, value as fits_value}
 use Rattle.mid_code.specs.Running.{has_first, slot_bytes, frame_of}
+use Rattle.mid_code.proofs.ForCallers.{never}
 use Rattle.word_lowering.specs.declared.homes.Home.TheVariants.{Variable}
 use Rattle.word_lowering.specs.declared.homes.Housed.{Housed}
 use Rattle.word_lowering.specs.Layouts.{params_in, result_in, is_address}
 use Rattle.word_lowering.specs.Spots.{clears}
 use Rattle.word_lowering.specs.Lowered.{result_cleared}
-use Rattle.word_lowering.proofs.ShapeLemmas.{never}
 use Rattle.word_lowering.proofs.LineFits.{may_get_some}
 use Rattle.word_lowering.proofs.InMemory.{AllZero, blank_zero}
 use Rattle.word_lowering.proofs.Runs.{Runs, at, none as no_run}

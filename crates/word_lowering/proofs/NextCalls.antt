@@ -14,10 +14,10 @@ use Rattle.mid_code.specs.Fits.{Passed, Signature, passes, all_pass, call_fits, 
 use Rattle.mid_code.specs.Fits.{location as fits_location}
 use Rattle.mid_code.specs.Codes.{block_label, block_plain}
 use Rattle.mid_code.specs.Whole.{all_lead, is_followed}
+use Rattle.mid_code.proofs.ForCallers.{never}
 use Rattle.word_lowering.specs.declared.homes.Housed.{Housed}
 use Rattle.word_lowering.specs.Layouts.{is_param, params_in, param_before, is_address}
 use Rattle.word_lowering.specs.LineCode.{callee_behind, arguments_behind}
-use Rattle.word_lowering.proofs.ShapeLemmas.{never}
 use Rattle.word_lowering.proofs.Sites.{looks}
 
 module _ (known : Known) (sigs : List Signature) (globals places : List FlatPlace) where

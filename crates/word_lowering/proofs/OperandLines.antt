@@ -24,11 +24,11 @@ use Rattle.mid_code.specs.Shapes.{Shape, number, reference, block, elements, row
 use Rattle.mid_code.specs.Fits.{is_value, shape_named, is_number, is_int, is_truth, may_get, bitwise_fits}
 use Rattle.mid_code.specs.Running.{scene_of}
 use Rattle.mid_code.specs.Codes.{block_plain}
+use Rattle.mid_code.proofs.ForCallers.{never, value_wider}
 use Rattle.word_lowering.specs.declared.homes.TheConstants.{OWN_FROM}
 use Rattle.word_lowering.specs.LineCode.{variable_of, label_before}
 use Rattle.word_lowering.specs.Lowered.{line_leads}
 use Rattle.word_lowering.proofs.Options.{some_same}
-use Rattle.word_lowering.proofs.ShapeLemmas.{never, value_wider}
 use Rattle.word_lowering.proofs.OperationRuns.{Checks}
 use Rattle.word_lowering.proofs.OrdinalChecks.{unary_checks, narrow_checks, binary_checks, compare_given}
 use Rattle.word_lowering.proofs.LineFits.{MayGet, may_get_some, is_int_some}

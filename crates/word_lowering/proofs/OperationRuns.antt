@@ -14,9 +14,9 @@ use Rattle.mid_code.specs.declared.word.WordInstr.TheVariants.{Label, Constant, 
 use Rattle.mid_code.specs.declared.word.WordProc.{WordProc}
 use Rattle.mid_code.specs.Memory.{Memory}
 use Rattle.mid_code.specs.Words.{Vars, put, from_label}
+use Rattle.mid_code.proofs.ForCallers.{never}
 use Rattle.word_lowering.specs.declared.homes.TheConstants.{FIRST, OWN_FROM}
 use Rattle.word_lowering.specs.Operations.{word, trap_label, minus_one, least, divided_code, quotient_code, divisor_code, binary_code}
-use Rattle.word_lowering.proofs.ShapeLemmas.{never}
 use Rattle.word_lowering.proofs.Arithmetic.{word_small, word_same, word_apart, not_zero, quotient_fits, rem_fits, quotient_is}
 use Rattle.word_lowering.proofs.Arithmetic.{remainder_is, is_least}
 use Rattle.word_lowering.proofs.Runs.{Within}

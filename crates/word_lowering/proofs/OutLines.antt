@@ -19,6 +19,7 @@ use Rattle.mid_code.specs.Lines.{using, located, moves_out}
 use Rattle.mid_code.specs.Shapes.{Shape, has_shape, shape_of}
 use Rattle.mid_code.specs.Fits.{is_value, is_location, shape_named, may_get, alike}
 use Rattle.mid_code.specs.Running.{scene_of}
+use Rattle.mid_code.proofs.ForCallers.{bytes_is, value_wider}
 use Rattle.word_lowering.specs.declared.homes.Home.{Home}
 use Rattle.word_lowering.specs.declared.homes.Home.TheVariants.{Variable}
 use Rattle.word_lowering.specs.declared.homes.Housed.{Housed}
@@ -26,7 +27,6 @@ use Rattle.word_lowering.specs.declared.spots.Spot.TheVariants.{Lies}
 use Rattle.word_lowering.specs.Spots.{spot_of, cleared, clears, moves}
 use Rattle.word_lowering.specs.LineCode.{callee_behind}
 use Rattle.word_lowering.proofs.Options.{some_same}
-use Rattle.word_lowering.proofs.ShapeLemmas.{bytes_is, value_wider}
 use Rattle.word_lowering.proofs.InMemory.{AllZero, blank_zero, bytes_some}
 use Rattle.word_lowering.proofs.Runs.{Runs, at as run_at, then_runs}
 use Rattle.word_lowering.proofs.RoutineCalls.{awaiting}

@@ -23,6 +23,7 @@ use Rattle.mid_code.specs.Lines.{leads, using, using_number, value_at, item}
 use Rattle.mid_code.specs.Shapes.{Shape, number, reference, block, elements, row, parts, Shapes, has_shape, are_rows}
 use Rattle.mid_code.specs.Fits.{is_value, is_location, shape_named, alike, field_shape, item_shape, nth_shape, is_number}
 use Rattle.mid_code.specs.Running.{scene_of}
+use Rattle.mid_code.proofs.ForCallers.{never, shape_bytes}
 use Rattle.word_lowering.specs.declared.homes.TheConstants.{FIRST, OWN_FROM}
 use Rattle.word_lowering.specs.declared.texts.TheConstants.{FIXED_BYTES}
 use Rattle.word_lowering.specs.Layouts.{is_address}
@@ -30,7 +31,6 @@ use Rattle.word_lowering.specs.Stored.{part_at, entry_at, count_in, element_byte
 use Rattle.word_lowering.specs.Operations.{word, trap_label}
 use Rattle.word_lowering.specs.LineCode.{variable_in, variable_of, part_code, item_code}
 use Rattle.word_lowering.proofs.Options.{none_some, some_same}
-use Rattle.word_lowering.proofs.ShapeLemmas.{never, shape_bytes}
 use Rattle.word_lowering.proofs.ShapePaths.{Step, path_on, shapes_before, step_within, shape_some}
 use Rattle.word_lowering.proofs.Arithmetic.{fits_signed}
 use Rattle.word_lowering.proofs.CopyRuns.{got}

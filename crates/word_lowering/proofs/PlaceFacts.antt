@@ -15,6 +15,7 @@ use Rattle.mid_code.specs.declared.place.FlatPlace.{FlatPlace}
 use Rattle.mid_code.specs.Scene.{known_in}
 use Rattle.mid_code.specs.Shapes.{Shape, number, row, parts, Shapes, shape_of}
 use Rattle.mid_code.specs.Fits.{is_value, is_declared, is_global, is_own, shape_by_kind, shape_at, shape_named, nth_shape, are_within, result_number, result_at}
+use Rattle.mid_code.proofs.ForCallers.{shape_bytes}
 use Rattle.word_lowering.specs.declared.homes.TheConstants.{OWN_FROM}
 use Rattle.word_lowering.specs.declared.homes.Home.{Home}
 use Rattle.word_lowering.specs.declared.homes.Home.TheVariants.{Variable, Placed, Static}
@@ -26,7 +27,6 @@ use Rattle.word_lowering.specs.Layouts.{behind}
 use Rattle.word_lowering.specs.Layouts.{all_housed, found, is_result, result_in, is_address}
 use Rattle.word_lowering.specs.MayLower.{is_plain, all_plain}
 use Rattle.word_lowering.proofs.Options.{none_some, some_same}
-use Rattle.word_lowering.proofs.ShapeLemmas.{shape_bytes}
 use Rattle.word_lowering.proofs.ShapePaths.{shapes_before}
 use Rattle.word_lowering.proofs.HomesApart.{Each, IsBetween}
 use Rattle.word_lowering.proofs.LayoutBounds.{place_whole}

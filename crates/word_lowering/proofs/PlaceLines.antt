@@ -19,6 +19,7 @@ use Rattle.mid_code.specs.Shapes.{Shape, number, reference, block, elements, row
 use Rattle.mid_code.specs.Fits.{is_value, is_location, is_own, is_declared, is_global, shape_named, may_have_parts, alike}
 use Rattle.mid_code.specs.Running.{scene_of}
 use Rattle.mid_code.specs.Codes.{block_plain}
+use Rattle.mid_code.proofs.ForCallers.{never, value_wider}
 use Rattle.word_lowering.specs.declared.homes.TheConstants.{OWN_FROM}
 use Rattle.word_lowering.specs.declared.homes.Home.{Home}
 use Rattle.word_lowering.specs.declared.texts.TheConstants.{FIXED_BYTES}
@@ -26,7 +27,6 @@ use Rattle.word_lowering.specs.Layouts.{is_address, is_among, and_root, roots_in
 use Rattle.word_lowering.specs.Spots.{address}
 use Rattle.word_lowering.specs.LineCode.{place, variable_in, variable_of}
 use Rattle.word_lowering.proofs.Options.{some_same}
-use Rattle.word_lowering.proofs.ShapeLemmas.{never, value_wider}
 use Rattle.word_lowering.proofs.OrdinalRuns.{put_here, but_one}
 use Rattle.word_lowering.proofs.OperationRuns.{Given}
 use Rattle.word_lowering.proofs.Moves.{address_runs, all_same}

@@ -12,11 +12,11 @@ use Rattle.nim_types.specs.declared.types.TypeDef.{TypeDef}
 use Rattle.mid_code.specs.declared.block.Blocks.{Blocks}
 use Rattle.mid_code.specs.Shapes.{Shape, has_shape}
 use Rattle.mid_code.specs.Fits.{is_own, is_declared, is_global, shape_named}
+use Rattle.mid_code.proofs.ForCallers.{shape_bytes}
 use Rattle.word_lowering.specs.declared.homes.Home.TheVariants.{Static}
 use Rattle.word_lowering.specs.declared.spots.Spot.TheVariants.{Lies}
 use Rattle.word_lowering.proofs.InMemory.{IsAt}
 use Rattle.word_lowering.specs.LineCode.{place}
-use Rattle.word_lowering.proofs.ShapeLemmas.{shape_bytes}
 use Rattle.word_lowering.proofs.ShapePaths.{path_within}
 use Rattle.word_lowering.proofs.Sites.{around, InMemory, Site, AmongSites, Linked, IsBody, IsGlobal, globals_of}
 use Rattle.word_lowering.proofs.Scenes.{address_of, of_value, of_place, site_of, IsFilled, Call, house, IsThere, looked, FromPlace, FromValue}

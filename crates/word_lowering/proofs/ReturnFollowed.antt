@@ -12,6 +12,7 @@ use Rattle.mid_code.specs.Memory.{Memory}
 use Rattle.mid_code.specs.Words.{Vars, no_words, put, WordState}
 use Rattle.mid_code.specs.Scene.{Returns, with_value}
 use Rattle.mid_code.specs.Shapes.{has_shape, takes}
+use Rattle.mid_code.proofs.ForCallers.{never, value_wider}
 use Rattle.word_lowering.specs.declared.homes.Home.{Home}
 use Rattle.word_lowering.specs.declared.homes.Home.TheVariants.{Variable, Placed, Static}
 use Rattle.word_lowering.specs.declared.homes.Housed.{Housed}
@@ -23,7 +24,6 @@ use Rattle.word_lowering.specs.Layouts.{result_in, is_address}
 use Rattle.word_lowering.specs.Spots.{spot_of, moved, moves}
 use Rattle.word_lowering.specs.LineCode.{return_code, result_code, left_at}
 use Rattle.word_lowering.proofs.Options.{some_same}
-use Rattle.word_lowering.proofs.ShapeLemmas.{never, value_wider}
 use Rattle.word_lowering.proofs.InMemory.{IsAt}
 use Rattle.word_lowering.proofs.Copied.{Changed}
 use Rattle.word_lowering.proofs.Runs.{Runs, Within, at, then_runs}

@@ -16,12 +16,12 @@ use Rattle.mid_code.specs.Scene.{Returns, Fails}
 use Rattle.mid_code.specs.Lines.{hands}
 use Rattle.mid_code.specs.Fits.{result_at, same_place}
 use Rattle.mid_code.specs.Running.{scene_of}
+use Rattle.mid_code.proofs.ForCallers.{never}
 use Rattle.word_lowering.specs.declared.homes.Housed.{Housed}
 use Rattle.word_lowering.specs.Layouts.{result_in}
 use Rattle.word_lowering.specs.Spots.{spot_of}
 use Rattle.word_lowering.specs.LineCode.{back_code, return_code}
 use Rattle.word_lowering.proofs.Options.{none_some}
-use Rattle.word_lowering.proofs.ShapeLemmas.{never}
 use Rattle.word_lowering.proofs.Sites.{around, ResultIs, sigs, globals_of}
 use Rattle.word_lowering.proofs.Scenes.{of_place, house, IsItem}
 use Rattle.word_lowering.proofs.Related.{Both, Waits, low, high, code_behind}

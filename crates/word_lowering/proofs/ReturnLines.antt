@@ -8,6 +8,7 @@ use Rattle.mid_code.specs.declared.line.Line.{Line}
 use Rattle.mid_code.specs.declared.word.WordInstr.{WordInstr}
 use Rattle.mid_code.specs.declared.word.WordInstr.TheVariants.{Return, Load}
 use Rattle.mid_code.specs.Words.{Vars, no_words, put, WordState, settled, using, Returns, step}
+use Rattle.mid_code.proofs.ForCallers.{never}
 use Rattle.word_lowering.specs.declared.homes.Home.{Home}
 use Rattle.word_lowering.specs.declared.homes.Home.TheVariants.{Variable}
 use Rattle.word_lowering.specs.declared.homes.Housed.{Housed}
@@ -15,7 +16,6 @@ use Rattle.word_lowering.specs.declared.homes.TheConstants.{FIRST, LEFT, OWN_FRO
 use Rattle.word_lowering.specs.declared.texts.TheConstants.{FIXED_BYTES}
 use Rattle.word_lowering.specs.Spots.{spot_of, address}
 use Rattle.word_lowering.specs.LineCode.{back_code, word_back, variable_in}
-use Rattle.word_lowering.proofs.ShapeLemmas.{never}
 use Rattle.word_lowering.proofs.CopyRuns.{got}
 use Rattle.word_lowering.proofs.InMemory.{IsAt}
 use Rattle.word_lowering.proofs.Runs.{Runs, Within, at, one, run_load, then_runs}

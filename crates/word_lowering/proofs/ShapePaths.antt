@@ -6,8 +6,8 @@ use Rattle.nim_types.specs.Forms.{or_word}
 use Rattle.nim_core.specs.Values.{Value, Number, Parts, Values, Nil, More, bytes, count, parts_of, nth, with_nth, with_part, part, put_part}
 use Rattle.mid_code.specs.Shapes.{Shape, number, reference, block, elements, row, parts, Shapes, no_shapes, shapes, has_shape, are_rows, have_shapes}
 use Rattle.mid_code.specs.Fits.{nth_shape}
+use Rattle.mid_code.proofs.ForCallers.{never, shape_bytes, shapes_bytes, bytes_is}
 use Rattle.word_lowering.proofs.Options.{none_some, some_same}
-use Rattle.word_lowering.proofs.ShapeLemmas.{never, shape_bytes, shapes_bytes, bytes_is}
 use Rattle.word_lowering.proofs.PartsInMemory.{before, offset, InPath}
 
 -- the bytes before a part

@@ -4,8 +4,8 @@ use Rattle.std.proofs.Common.{sym, ap, subst, ◌∙◌, arith}
 use Rattle.std.proofs.lemmas.Bool.{cases_order}
 use Rattle.mid_code.specs.Shapes.{Shape, number, reference, block, elements, row, parts, Shapes, no_shapes, shapes}
 use Rattle.mid_code.specs.Fits.{nth_shape}
+use Rattle.mid_code.proofs.ForCallers.{shape_bytes}
 use Rattle.word_lowering.proofs.Options.{none_some, some_same}
-use Rattle.word_lowering.proofs.ShapeLemmas.{shape_bytes}
 use Rattle.word_lowering.proofs.ShapePaths.{shapes_before, Step, PathTo, rows_within, path_within}
 use Rattle.word_lowering.proofs.MakeLines.{depth}
 use Rattle.word_lowering.proofs.ConstructLines.{nth_depth}

@@ -24,6 +24,7 @@ use Rattle.mid_code.specs.Fits.{result_at}
 use Rattle.mid_code.specs.Running.{last_of, before_last}
 use Rattle.mid_code.specs.Whole.{all_lead}
 use Rattle.mid_code.specs.Codes.{block_plain, block_label, block_placed}
+use Rattle.mid_code.proofs.ForCallers.{shape_bytes}
 use Rattle.word_lowering.specs.declared.homes.TheConstants.{OWN_FROM}
 use Rattle.word_lowering.specs.declared.homes.Home.{Home}
 use Rattle.word_lowering.specs.declared.homes.Home.TheVariants.{Variable, Placed, Static}
@@ -36,7 +37,6 @@ use Rattle.word_lowering.specs.Layouts.{result_in, is_empty, is_among, roots_in,
 use Rattle.word_lowering.specs.Texts.{names_at, literals_at, texts_of, texts_in}
 use Rattle.word_lowering.specs.LineCode.{Around}
 use Rattle.word_lowering.specs.Lowered.{all_layouts, start_layout, globals_end, word_proc, lowered}
-use Rattle.word_lowering.proofs.ShapeLemmas.{shape_bytes}
 use Rattle.word_lowering.proofs.ShapePaths.{shapes_before}
 use Rattle.word_lowering.proofs.HomesApart.{AllApart}
 

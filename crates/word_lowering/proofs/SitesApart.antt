@@ -9,13 +9,13 @@ use Rattle.mid_code.specs.declared.place.PlaceKind.TheVariants as K
 use Rattle.mid_code.specs.declared.block.Blocks.{Blocks}
 use Rattle.mid_code.specs.Memory.{own_data_at}
 use Rattle.mid_code.specs.Fits.{is_value, is_location, is_declared}
+use Rattle.mid_code.proofs.ForCallers.{never}
 use Rattle.word_lowering.specs.declared.homes.Home.{Home}
 use Rattle.word_lowering.specs.declared.homes.Home.TheVariants.{Variable, Placed, Static}
 use Rattle.word_lowering.specs.declared.homes.Housed.{Housed}
 use Rattle.word_lowering.specs.declared.texts.TheConstants.{FIXED_BYTES}
 use Rattle.word_lowering.specs.declared.may_lower.TheConstants.{MOST_DATA}
 use Rattle.word_lowering.specs.Layouts.{is_empty}
-use Rattle.word_lowering.proofs.ShapeLemmas.{never}
 use Rattle.word_lowering.proofs.HomesApart.{Apart, Each, AllApart}
 use Rattle.word_lowering.proofs.Sites.{room, Among, Housing, in_variable, by_address, in_places, in_data, InMemory, Site, next_base, AmongSites}
 use Rattle.word_lowering.proofs.Sites.{data_end, IsHoused, IsBody, Linked}

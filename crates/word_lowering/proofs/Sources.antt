@@ -6,6 +6,7 @@ use Rattle.mid_code.specs.Memory.{Memory}
 use Rattle.mid_code.specs.Words.{Vars}
 use Rattle.mid_code.specs.declared.word.WordInstr.{WordInstr}
 use Rattle.mid_code.specs.Shapes.{has_shape}
+use Rattle.mid_code.proofs.ForCallers.{never, bytes_is}
 use Rattle.word_lowering.specs.declared.homes.TheConstants.{OWN_FROM}
 use Rattle.word_lowering.specs.declared.homes.Home.{Home}
 use Rattle.word_lowering.specs.declared.homes.Home.TheVariants.{Variable, Placed, Static}
@@ -15,7 +16,6 @@ use Rattle.word_lowering.specs.declared.spots.Spot.TheVariants.{Held, Lies}
 use Rattle.word_lowering.specs.declared.texts.TheConstants.{FIXED_BYTES}
 use Rattle.word_lowering.specs.Layouts.{is_address}
 use Rattle.word_lowering.specs.Spots.{spot_of, moved, moves}
-use Rattle.word_lowering.proofs.ShapeLemmas.{never, bytes_is}
 use Rattle.word_lowering.proofs.Areas.{Cell, Area}
 use Rattle.word_lowering.proofs.InMemory.{IsAt}
 use Rattle.word_lowering.proofs.Copied.{Separate}

@@ -15,13 +15,13 @@ use Rattle.mid_code.specs.Lines.{puts, using, located, at_place}
 use Rattle.mid_code.specs.Shapes.{Shape, has_shape}
 use Rattle.mid_code.specs.Fits.{is_value, is_location, is_own, is_declared, is_global, shape_named}
 use Rattle.mid_code.specs.Running.{scene_of}
+use Rattle.mid_code.proofs.ForCallers.{never, value_wider}
 use Rattle.word_lowering.specs.declared.homes.Home.TheVariants.{Variable, Static}
 use Rattle.word_lowering.specs.declared.spots.Spot.TheVariants.{Lies}
 use Rattle.word_lowering.specs.declared.texts.TheConstants.{FIXED_BYTES}
 use Rattle.word_lowering.specs.Layouts.{is_address}
 use Rattle.word_lowering.specs.Spots.{spot_of}
 use Rattle.word_lowering.specs.LineCode.{place, variable_in, variable_of}
-use Rattle.word_lowering.proofs.ShapeLemmas.{never, value_wider}
 use Rattle.word_lowering.proofs.LineFits.{MayGet, may_get_some}
 use Rattle.word_lowering.proofs.Sites.{room, around, Housing, in_variable, by_address, in_places, in_data, data_end, globals_of}
 use Rattle.word_lowering.proofs.Scenes.{address_of, Name, of_value, of_location, of_place, house, IsThere, looked, FromPlace}

@@ -11,11 +11,11 @@ use Rattle.mid_code.specs.Words.{Vars}
 use Rattle.mid_code.specs.Lines.{puts}
 use Rattle.mid_code.specs.Shapes.{Shape, has_shape}
 use Rattle.mid_code.specs.Running.{scene_of}
+use Rattle.mid_code.proofs.ForCallers.{never, bytes_is}
 use Rattle.word_lowering.specs.declared.homes.Home.{Home}
 use Rattle.word_lowering.specs.declared.homes.Housed.{Housed}
 use Rattle.word_lowering.specs.declared.spots.Spot.TheVariants.{Lies}
 use Rattle.word_lowering.specs.Spots.{spot_of, moves}
-use Rattle.word_lowering.proofs.ShapeLemmas.{never, bytes_is}
 use Rattle.word_lowering.proofs.InMemory.{IsAt}
 use Rattle.word_lowering.proofs.Copied.{Apart, SameOutside, Changed}
 use Rattle.word_lowering.proofs.PartsInMemory.{offset, InPath, put_at, part_within}

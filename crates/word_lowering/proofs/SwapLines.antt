@@ -14,9 +14,9 @@ use Rattle.mid_code.specs.Lines.{using, located, swaps}
 use Rattle.mid_code.specs.Shapes.{Shape}
 use Rattle.mid_code.specs.Fits.{is_location, shape_named}
 use Rattle.mid_code.specs.Running.{scene_of}
+use Rattle.mid_code.proofs.ForCallers.{shape_bytes, bytes_is}
 use Rattle.word_lowering.specs.declared.homes.TheConstants.{FIRST, THIRD, OWN_FROM}
 use Rattle.word_lowering.specs.LineCode.{variable_of, swap_code}
-use Rattle.word_lowering.proofs.ShapeLemmas.{shape_bytes, bytes_is}
 use Rattle.word_lowering.proofs.Areas.{Area, with_copied}
 use Rattle.word_lowering.proofs.InMemory.{IsAt, bytes_whole, bytes_some, carried}
 use Rattle.word_lowering.proofs.Copied.{span, span_is, SameOutside, Changed, CopiedTo, Separate, copied_to}

@@ -17,11 +17,11 @@ use Rattle.mid_code.specs.Sizes.{is_line_end}
 use Rattle.mid_code.specs.Words.{Vars, put, WordState, scene_of as word_scene, settled, using, shows}
 use Rattle.mid_code.specs.Lines.{writes_text}
 use Rattle.mid_code.specs.Running.{scene_of}
+use Rattle.mid_code.proofs.ForCallers.{never}
 use Rattle.word_lowering.specs.declared.homes.TheConstants.{FIRST, SECOND}
 use Rattle.word_lowering.specs.declared.texts.TheConstants.{LINE_END_AT}
 use Rattle.word_lowering.specs.LineCode.{text_code}
 use Rattle.word_lowering.specs.Texts.{texts_of}
-use Rattle.word_lowering.proofs.ShapeLemmas.{never}
 use Rattle.word_lowering.proofs.CopyRuns.{got}
 use Rattle.word_lowering.proofs.Runs.{at, one, on, then_runs, run_datum, run_constant}
 use Rattle.word_lowering.proofs.OrdinalRuns.{AllSame}

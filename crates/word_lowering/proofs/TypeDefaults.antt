@@ -1,20 +1,21 @@
 -- What a type starts at has its shape: no declared type occurs inside itself, so there are as many levels as are needed.
-use Rattle.std.proofs.Common.{◌≡◌, ◌⊎◌, inl, inr, ℕ, zero, suc, ◌+◌, ◌<◌, ◌≤◌, List, [], ◌∷◌, length, refl, sym, ap, ap₂}
-use Rattle.std.proofs.Common.{◌∙◌, Option, Some, None, subst, arith, ⊎_elim}
+use Rattle.std.proofs.Common.{◌≡◌, ◌⊎◌, inl, inr, ℕ, zero, suc, ◌+◌, ◌<◌, ◌≤◌, List, [], ◌∷◌, length, refl, sym, ap}
+use Rattle.std.proofs.Common.{◌∙◌, Option, Some, None, subst, arith}
 use Rattle.std.specs.Prelude.{Bool, true, false, not, slice_get, pos}
 use Rattle.std.proofs.lemmas.Option.{none-some}
-use Rattle.std.proofs.lemmas.Bool.{both_ways, cases_Bool, cases_lt, lt-ltb, and_parts, and_from, false≢true}
+use Rattle.std.proofs.lemmas.Bool.{both_ways, cases_lt, lt-ltb, and_parts, and_from, false≢true}
 use Rattle.nim_types.specs.declared.types.TypeDef.{TypeDef}
 use Rattle.nim_types.specs.declared.types.TypeDef.TheVariants as D
 use Rattle.nim_types.specs.Types.{Ty, int, bool, char, text, sequence, array, tuple, parameter, enum, object, distinct, ref, exception, Tys, no_types, types}
-use Rattle.nim_types.specs.Types.{Key, Field, Fact, members, fields, base, below, Declared, Facts, fact_of, if_same, same}
-use Rattle.nim_types.specs.Forms.{Form, elements, row, parts, resource, wrapped, Forms, no_forms, forms}
+use Rattle.nim_types.specs.Types.{Key, Field, Fact, members, fields, base, below, Facts, fact_of, if_same, same}
+use Rattle.nim_types.specs.Forms.{Form, parts, wrapped, Forms}
 use Rattle.nim_types.specs.Forms.{IsForm, of_int, of_bool, of_char, of_text, of_sequence, of_any_sequence, of_array, of_tuple, of_parameter, of_enum, of_object}
 use Rattle.nim_types.specs.Forms.{of_distinct, of_ref, of_exception, AreForms, none_of, more_of, object_form, types_of}
 use Rattle.nim_types.specs.Table.{type_at, types_at, meant, types_in, fields_with, fields_fact, said_of, and_said, facts_over, facts_in, AllBelow}
 use Rattle.nim_types.specs.Table.{IsWithin, WithinOnto, IsTable}
 use Rattle.nim_types.specs.Entries.{meant_at, said_at}
-use Rattle.nim_types.proofs.ForCallers.{same_sound, same_refl, the_form, entry_type, entry_said, fields_types}
+use Rattle.nim_types.proofs.ForCallers.{the_form, object_weight, without, others_stay, still_among, fewer, smaller, all_smaller, entry_type, entry_said}
+use Rattle.nim_types.proofs.ForCallers.{fields_types}
 use Rattle.nim_core.specs.Values.{Value, Number, Parts, repeated, blank, blanks, default_of}
 use Rattle.mid_code.specs.Shapes.{Shape, shape_in, shapes_in, shape_by, shape_within, shape_of, has_shape, are_rows, have_shapes}
 use Rattle.mid_code.specs.Shapes as look
@@ -23,147 +24,13 @@ use Rattle.word_lowering.specs.Layouts.{is_empty}
 use Rattle.word_lowering.specs.MayLower.{def_may, defs_may}
 use Rattle.word_lowering.proofs.Options.{none_some, some_same}
 
--- ---- one form at most
-
-same_fields : (a b : List Field) (x y : Bool) → Some (fields a x) ≡ Some (fields b y) → (a ≡ b) × (x ≡ y)
-same_fields a b x y h = (cc, cc)
-
-mutual
-  one_form : {w : Bool} {facts : Facts} {t : Ty} {f g : Form} → IsForm w facts t f → IsForm w facts t g → f ≡ g
-  one_form of_int of_int = refl
-  one_form of_bool of_bool = refl
-  one_form of_char of_char = refl
-  one_form of_text of_text = refl
-  one_form (of_sequence d a) (of_sequence e b) = ap elements (one_form a b)
-  one_form {w} (of_sequence d a) (of_any_sequence e) = absurd (both_ways w e d)
-  one_form {w} (of_any_sequence d) (of_sequence e b) = absurd (both_ways w d e)
-  one_form (of_any_sequence d) (of_any_sequence e) = refl
-  one_form (of_array {n} a) (of_array b) = ap (row n) (one_form a b)
-  one_form (of_tuple a) (of_tuple b) = ap parts (one_forms a b)
-  one_form of_parameter of_parameter = refl
-  one_form of_enum of_enum = refl
-  one_form {w} {facts} (of_object {all = xs} {own_hooks = x} {fs = fs} d a) (of_object {all = ys} {own_hooks = y} {fs = gs} e b) =
-      let s = same_fields xs ys x y (sym d ∙ e) in
-      ap (λ z. object_form z fs) s.1 ∙ ap (object_form y) (one_forms a (subst (λ (z : List Field). AreForms w facts (types_of z) gs) (sym s.0) b))
-  one_form {w} {facts} (of_distinct {t = t} {f = f} d a) (of_distinct {t = u} {f = g} e b) =
-      let s : t ≡ u = cc in ap wrapped (one_form a (subst (λ (z : Ty). IsForm w facts z g) (sym s) b))
-  one_form of_ref of_ref = refl
-  one_form of_exception of_exception = refl
-
-  one_forms : {w : Bool} {facts : Facts} {ts : Tys} {xs ys : Forms} → AreForms w facts ts xs → AreForms w facts ts ys → xs ≡ ys
-  one_forms none_of none_of = refl
-  one_forms (more_of a s) (more_of b t) = ap₂ (λ x y. forms x y) (one_form a b) (one_forms s t)
-
--- ---- facts without those of one type
+-- ---- facts
 
 abbrev Among : Facts → Facts → Type 0
 Among old new = (ty : Ty) (fact : Fact) → fact_of old ty ≡ Some fact → fact_of new ty ≡ Some fact
 
-abbrev mutual
-  weight : Form → ℕ
-  weight (elements f) = suc (weight f)
-  weight (row n f) = suc (weight f)
-  weight (parts fs) = suc (weights fs)
-  weight (resource fs) = suc (weights fs)
-  weight (wrapped f) = suc (weight f)
-  weight _ = 1
-
-  weights : Forms → ℕ
-  weights no_forms = 0
-  weights (forms f fs) = weight f + weights fs
-
-object_weight : (own_hooks : Bool) (fs : Forms) → weight (object_form own_hooks fs) ≡ suc (weights fs)
-object_weight true fs = refl
-object_weight false fs = refl
-
-abbrev unless_same : Bool → Declared → Facts → Facts
-unless_same true d rest = rest
-unless_same false d rest = d ∷ rest
-
-abbrev without : Ty → Facts → Facts
-without t [] = []
-without t (d ∷ ds) = unless_same (same d.of t) d (without t ds)
-
--- the first declaration is of t, or isn't
-unless_true : (b : Bool) (d : Declared) (rest : Facts) → b ≡ true → unless_same b d rest ≡ rest
-unless_true b d rest h = ap (λ z. unless_same z d rest) h
-
-unless_false : (b : Bool) (d : Declared) (rest : Facts) → b ≡ false → unless_same b d rest ≡ d ∷ rest
-unless_false b d rest h = ap (λ z. unless_same z d rest) h
-
-not_same : (a b : Ty) → (a ≡ b → ⊥) → same a b ≡ false
-not_same a b h = ⊎_elim (λ t. absurd (h (same_sound a b t))) (λ f. f) (cases_Bool (same a b))
-
-others_stay : (t u : Ty) (facts : Facts) → (u ≡ t → ⊥) → fact_of (without t facts) u ≡ fact_of facts u
-others_stay t u [] n = refl
-others_stay t u (d ∷ ds) n = ⊎_elim
-    (λ s. let e : d.of ≡ t = same_sound d.of t s in
-    let f : same d.of u ≡ false = not_same d.of u (λ h. n (sym h ∙ e)) in
-    ap (λ z. fact_of z u) (unless_true (same d.of t) d (without t ds) s) ∙ others_stay t u ds n ∙ sym (ap (λ z. if_same z d.fact (fact_of ds u)) f))
-    (λ s. ap (λ z. fact_of z u) (unless_false (same d.of t) d (without t ds) s) ∙ ap (if_same (same d.of u) d.fact) (others_stay t u ds n))
-    (cases_Bool (same d.of t))
-
-gone : (t : Ty) (facts : Facts) → fact_of (without t facts) t ≡ None
-gone t [] = refl
-gone t (d ∷ ds) = ⊎_elim
-    (λ s. ap (λ z. fact_of z t) (unless_true (same d.of t) d (without t ds) s) ∙ gone t ds)
-    (λ s. ap (λ z. fact_of z t) (unless_false (same d.of t) d (without t ds) s) ∙ ap (λ z. if_same z d.fact (fact_of (without t ds) t)) s ∙ gone t ds)
-    (cases_Bool (same d.of t))
-
-still_among : (t : Ty) (facts : Facts) → Among (without t facts) facts
-still_among t facts u fact h = ⊎_elim
-    (λ s. absurd (none-some fact (sym (gone t facts) ∙ ap (fact_of (without t facts)) (sym (same_sound u t s)) ∙ h)))
-    (λ s. sym (others_stay t u facts (λ e. both_ways (same u t) s (ap (λ z. same z t) e ∙ same_refl t))) ∙ h)
-    (cases_Bool (same u t))
-
 among_trans : (a b c : Facts) → Among a b → Among b c → Among a c
 among_trans a b c p q ty fact h = q ty fact (p ty fact h)
-
-no_more : (t : Ty) (facts : Facts) → length (without t facts) ≤ length facts
-no_more t [] = omega arith
-no_more t (d ∷ ds) = ⊎_elim
-    (λ s. omega (arith, ap length (unless_true (same d.of t) d (without t ds) s), no_more t ds))
-    (λ s. omega (arith, ap length (unless_false (same d.of t) d (without t ds) s), no_more t ds))
-    (cases_Bool (same d.of t))
-
-fewer : (t : Ty) (facts : Facts) (fact : Fact) → fact_of facts t ≡ Some fact → length (without t facts) < length facts
-fewer t [] fact h = absurd (none-some fact h)
-fewer t (d ∷ ds) fact h = ⊎_elim
-    (λ s. omega (arith, ap length (unless_true (same d.of t) d (without t ds) s), no_more t ds))
-    (λ s. let r = fewer t ds fact (sym (ap (λ z. if_same z d.fact (fact_of ds t)) s) ∙ h) in
-    omega (arith, ap length (unless_false (same d.of t) d (without t ds) s), r))
-    (cases_Bool (same d.of t))
-
--- what weighs less than the form of t has no t inside
-lighter : {w : Bool} {facts : Facts} {t u : Ty} {f g : Form} → IsForm w facts t g → IsForm w facts u f → weight f < weight g → u ≡ t → ⊥
-lighter {w} {facts} {f = f} p q h e = let same_form = one_form (subst (λ (z : Ty). IsForm w facts z f) e q) p in omega (arith, h, ap weight same_form)
-
-mutual
-  smaller : {w : Bool} {facts : Facts} {t u : Ty} {f g : Form} → IsForm w facts t g → IsForm w facts u f → weight f < weight g → IsForm w
-      (without t facts) u f
-  smaller p of_int h = of_int
-  smaller p of_bool h = of_bool
-  smaller p of_char h = of_char
-  smaller p of_text h = of_text
-  smaller p (of_sequence d a) h = of_sequence d (smaller p a (omega (arith, h)))
-  smaller p (of_any_sequence d) h = of_any_sequence d
-  smaller p (of_array a) h = of_array (smaller p a (omega (arith, h)))
-  smaller p (of_tuple a) h = of_tuple (all_smaller p a (omega (arith, h)))
-  smaller p of_parameter h = of_parameter
-  smaller p of_enum h = of_enum
-  smaller {facts = facts} {t = t} p (of_object {key} {arguments} {all} {own_hooks} {fs} d a) h =
-      of_object (others_stay t (object key arguments) facts (lighter p (of_object d a) h) ∙ d)
-      (all_smaller p a (omega (arith, h, object_weight own_hooks fs)))
-  smaller {facts = facts} {t = t} p (of_distinct {key} d a) h =
-      of_distinct (others_stay t (distinct key) facts (lighter p (of_distinct d a) h) ∙ d) (smaller p a (omega (arith, h)))
-  smaller p of_ref h = of_ref
-  smaller p of_exception h = of_exception
-
-  all_smaller : {w : Bool} {facts : Facts} {t : Ty} {g : Form} {us : Tys} {fs : Forms} → IsForm w facts t g → AreForms w facts us fs
-      → weights fs < weight g →
-      AreForms w (without t facts) us fs
-  all_smaller p none_of h = none_of
-  all_smaller p (more_of a s) h = more_of (smaller p a (omega (arith, h))) (all_smaller p s (omega (arith, h)))
 
 -- ---- what is known of the types inside
 

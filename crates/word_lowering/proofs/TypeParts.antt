@@ -18,9 +18,9 @@ use Rattle.mid_code.specs.Shapes.{Shape, number, reference, block, elements, row
 use Rattle.mid_code.specs.Shapes.{shape_of}
 use Rattle.mid_code.specs.Shapes as look
 use Rattle.mid_code.specs.Fits.{nth_shape}
+use Rattle.mid_code.proofs.ForCallers.{shape_bytes}
 use Rattle.word_lowering.specs.Stored.{bytes_at, bytes_all, entry_at, parts_in, part_at, HaveForms}
 use Rattle.word_lowering.proofs.Options.{none_some}
-use Rattle.word_lowering.proofs.ShapeLemmas.{shape_bytes}
 use Rattle.word_lowering.proofs.ShapePaths.{shapes_before}
 use Rattle.word_lowering.proofs.TypeShapes.{IsOfEnum, enum_facts, IsNoDistinct, same_parts, same_first, same_fields, same_shapes}
 use Rattle.word_lowering.proofs.TypeShapes.{any_base, at_base, element_is}

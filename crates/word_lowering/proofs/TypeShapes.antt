@@ -18,9 +18,9 @@ use Rattle.nim_types.specs.Entries.{meant_at, said_at}
 use Rattle.nim_types.proofs.ForCallers.{the_form, entry_type, entry_said}
 use Rattle.mid_code.specs.Shapes.{Shape, Shapes, shape_in, shapes_in, shape_by, shape_within, shape_of}
 use Rattle.mid_code.specs.Shapes as look
+use Rattle.mid_code.proofs.ForCallers.{shape_bytes, shapes_bytes}
 use Rattle.word_lowering.specs.Stored.{bytes_at, base_or, base_within, entry_at, is_word, count_in, element_bytes, HaveForms}
 use Rattle.word_lowering.proofs.Options.{none_some, some_same}
-use Rattle.word_lowering.proofs.ShapeLemmas.{shape_bytes, shapes_bytes}
 use Rattle.word_lowering.proofs.Sites.{is_one_word}
 
 -- ---- bytes, where nothing is hooked

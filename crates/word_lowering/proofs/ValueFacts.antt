@@ -14,6 +14,7 @@ use Rattle.mid_code.specs.Words.{Vars}
 use Rattle.mid_code.specs.Scene.{with_value, put, known_in}
 use Rattle.mid_code.specs.Shapes.{Shape, has_shape}
 use Rattle.mid_code.specs.Fits.{is_value, shape_named}
+use Rattle.mid_code.proofs.ForCallers.{never}
 use Rattle.word_lowering.specs.declared.homes.TheConstants.{OWN_FROM}
 use Rattle.word_lowering.specs.declared.homes.Home.TheVariants.{Variable}
 use Rattle.word_lowering.specs.declared.homes.Housed.{Housed}
@@ -24,7 +25,6 @@ use Rattle.word_lowering.specs.Spots.{spot_of}
 use Rattle.word_lowering.specs.Operations.{word}
 use Rattle.word_lowering.specs.LineCode.{variable_in, variable_of}
 use Rattle.word_lowering.proofs.Options.{some_same}
-use Rattle.word_lowering.proofs.ShapeLemmas.{never}
 use Rattle.word_lowering.proofs.OrdinalRuns.{AllBut}
 use Rattle.word_lowering.proofs.Moves.{single_word}
 use Rattle.word_lowering.proofs.LineFits.{number_fits}

@@ -20,13 +20,13 @@ use Rattle.mid_code.specs.Lines.{writes_text}
 use Rattle.mid_code.specs.Running.{scene_of}
 use Rattle.mid_code.specs.Shapes.{Shape, number, has_shape, shape_of}
 use Rattle.mid_code.specs.Fits.{is_value, shape_named, is_number, may_get}
+use Rattle.mid_code.proofs.ForCallers.{never, value_wider}
 use Rattle.word_lowering.specs.declared.texts.TheConstants.{FIXED_BYTES}
 use Rattle.word_lowering.specs.Operations.{word}
 use Rattle.word_lowering.specs.Stored.{base_at, entry_at}
 use Rattle.word_lowering.specs.Texts.{members_of, names_before, names_at}
 use Rattle.word_lowering.specs.LineCode.{variable_of, bool_code, char_code, name_code, ordinal_code}
 use Rattle.word_lowering.proofs.Options.{some_same}
-use Rattle.word_lowering.proofs.ShapeLemmas.{never, value_wider}
 use Rattle.word_lowering.proofs.LineFits.{may_get_some}
 use Rattle.word_lowering.proofs.Sites.{around, data_end}
 use Rattle.word_lowering.proofs.Scenes.{of_value, house}
