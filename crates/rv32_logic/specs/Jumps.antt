@@ -1,9 +1,9 @@
--- Where jumps and branches lead.
+-- Where branches lead.
 use Rattle.std.specs.Prelude.{ℕ, ◌+◌, ◌%◌, ◌^◌, Bool, if◌then◌else◌}
 use Rattle.rv32_isa.specs.State.{State}
 use Rattle.rv32_isa.specs.Values.{with_sign}
 use Rattle.rv32_isa.specs.Steps.{ahead}
-use Rattle.rv32_logic.specs.Straight.{moved}
+use Rattle.rv32_logic.specs.Placed.{moved}
 
 -- at another place
 abbrev pub placed : State → ℕ → State

@@ -1,13 +1,11 @@
 -- Instructions that stand in the code, and a machine that is before them.
-use Rattle.std.specs.Prelude.{◌≡◌, ◌<◌, ◌≤◌, ℕ, ◌+◌, List, [], ◌∷◌, length, take, drop, Some}
+use Rattle.std.specs.Prelude.{◌≡◌, ◌≤◌, ℕ, ◌+◌, List, [], ◌∷◌, length, take, drop, Some}
 use Rattle.rv32_isa.specs.declared.instr.Instr.{Instr}
-use Rattle.rv32_isa.specs.declared.image.HookAt.{HookAt}
 use Rattle.rv32_isa.specs.Words.{little}
 use Rattle.rv32_isa.specs.Row.{row, word_of}
 use Rattle.rv32_isa.specs.Hooks.{code_at}
 use Rattle.rv32_isa.specs.State.{State}
 use Rattle.rv32_isa.specs.Steps.{Outcome, obey, next_pc}
-use Rattle.rv32_isa.specs.Machine.{arrival}
 
 -- these instructions stand in the code from an offset on
 abbrev pub Stands : List ℕ → ℕ → List Instr → Type 0
@@ -24,6 +22,6 @@ pub record Before (s : State) (off : ℕ) (is : List Instr) : Type 0 where
 abbrev pub outcome_of : State → Instr → Outcome
 outcome_of s i = obey s (next_pc s) (word_of i) i
 
--- no hook begins above the one address and up to the other
-abbrev pub Quiet : List HookAt → ℕ → ℕ → Type 0
-Quiet hooks low high = (pc : ℕ) → low < pc → pc ≤ high → arrival hooks pc ≡ []
+-- the state with other registers, at another place
+abbrev pub moved : State → List ℕ → ℕ → State
+moved s regs pc = record s { regs = regs; pc = pc }
