@@ -26,7 +26,7 @@ use Rattle.core_compiler.specs.Compile.{live_objects}
 use Rattle.source_compiler.specs.Source.{alone, Reads}
 use Rattle.core_compiler.specs.Limits.{unless_left_out}
 use Rattle.source_compiler.specs.Limits.{plain_limits}
-use Rattle.source_compiler.specs.Compile.{Compiled, IsProgram, IsNoProgram, by_limits, source_most, empty_plan, OnRefused}
+use Rattle.source_compiler.specs.Compile.{Compiled, IsNoProgram, by_limits, source_most, empty_plan, OnRefused}
 use Rattle.arc_top.specs.declared.answer.Answer.{Answer}
 use Rattle.arc_top.specs.declared.answer.Answer.TheVariants.{Done, Ended, Usage, NoFile, TooLong, Refused, BadElf, MachineFault, StepsSpent, ReadFault}
 use Rattle.arc_top.specs.declared.answer.Answer.TheVariants.{WriteFault, StoreFault, Memory}

@@ -1,5 +1,5 @@
 // The top call.
-ghost use Rattle.std.specs.Prelude.{◌≡◌, ◌≤◌, [], ◌∷◌, List, ℕ, Ok, IfOk, IfErr, map, string_bytes};
+ghost use Rattle.std.specs.Prelude.{◌≡◌, ◌≤◌, [], List, ℕ, Ok, IfOk, IfErr, map, string_bytes};
 ghost use Rattle.arc_base.specs.Outside.{Writes};
 ghost use Rattle.elf32.specs.Elf.{file_of};
 ghost use Rattle.rv32_isa.specs.Image.{image_of};
@@ -9,13 +9,13 @@ ghost use Rattle.check_decls.specs.Modules.{program_in};
 ghost use Rattle.source_compiler.specs.Source.{alone, Reads};
 ghost use Rattle.core_compiler.specs.Limits.{build_limits};
 ghost use Rattle.source_compiler.specs.Limits.{no_limits, plain_limits};
-ghost use Rattle.source_compiler.specs.Compile.{Compiled, IsProgram, source_most, OnTooLong};
+ghost use Rattle.source_compiler.specs.Compile.{Compiled, source_most, OnTooLong};
 ghost use Rattle.arc_top.specs.Answer.{OnQuiet, OnUsage, OnCommand};
-ghost use Rattle.arc_top.specs.Loads.{Kept, Gives, files_state};
+ghost use Rattle.arc_top.specs.Loads.{Gives, files_state};
 ghost use Rattle.arc_top.specs.Report.{report_of};
 ghost use Rattle.arc_top.specs.Stages.{StopsLoad, StopsReading, IsRefusal, RunsOrWants, IsMeant};
 ghost use Rattle.arc_top.specs.Top.{IsFileOf, Checks, Builds, Runs, RunsMeaning, Executes, Answered, Carries, modules_of, WithoutStreams};
-ghost use Rattle.arc_top.specs.Top.{always, world, file_most, meant};
+ghost use Rattle.arc_top.specs.Top.{always, world, meant};
 
 use crate::answer::{Answer, FileName};
 use crate::report::put_report;

@@ -1,16 +1,14 @@
 -- What the stages do, one behind the other.
-use Rattle.std.proofs.Common.{◌≡◌, ◌≤◌, ◌<◌, ℕ, suc, ◌+◌, ◌*◌, ◌%◌, List, [], length, refl, sym, ap, subst, ◌∙◌, arith, true, Result, Ok, Err}
+use Rattle.std.proofs.Common.{◌≡◌, ◌≤◌, ℕ, ◌+◌, ◌*◌, List, [], length, refl, sym, subst, ◌∙◌, arith, true, Result, Ok, Err}
 use Rattle.std.specs.Prelude.{IfOk, IfErr}
 use Rattle.arc_base.specs.Event.{Event}
 use Rattle.arc_base.specs.Behaviour.{Behaviour, Agrees, Sound}
-use Rattle.arc_base.specs.Pace.{PacedFrom, Paced}
+use Rattle.arc_base.specs.Pace.{PacedFrom}
 use Rattle.nim_types.specs.declared.types.TypeDef.{TypeDef}
 use Rattle.nim_plan.specs.declared.plan.Plan.{Plan}
 use Rattle.nim_core.specs.Program.{Program}
 use Rattle.nim_core.specs.Meaning.{meaning}
 use Rattle.rv32_isa.specs.declared.label.LabelLine.{LabelLine}
-use Rattle.rv32_isa.specs.Labels.{Addresses, Rise, marks}
-use Rattle.rv32_isa.specs.LabelsMeaning.{label_meaning}
 use Rattle.rv32_isa.specs.Image.{Image}
 use Rattle.rv32_isa.specs.Machine.{machine}
 use Rattle.mid_code.specs.declared.flat.Flat.{Flat}
@@ -30,7 +28,7 @@ use Rattle.core_compiler.specs.Compile.{live_objects, DoesProgram}
 use Rattle.rv32_codegen.specs.Lowering.{most_bytes}
 use Rattle.rv32_codegen.specs.declared.layout.LayFault.{LayFault}
 use Rattle.rv32_codegen.specs.declared.layout.LayFault.TheVariants.{TooLarge, Memory}
-use Rattle.core_compiler.specs.Stages.{IsTooLarge, IsImageOf, CanLayOut, IsFlatOf, AreWordsOf}
+use Rattle.core_compiler.specs.Stages.{IsTooLarge, IsImageOf, IsFlatOf, AreWordsOf}
 use Rattle.core_compiler.proofs.InTime.{in_time}
 
 abbrev pub AgreesLaw : Type 0

@@ -1,10 +1,9 @@
 -- Homes for one procedure after another.
-use Rattle.std.proofs.Common.{◌≡◌, ◌≤◌, ◌<◌, ℕ, ◌+◌, List, [], ◌∷◌, ◌++◌, length, drop, slice_index_or, refl, sym, ap, subst, ◌∙◌, arith, append_assoc, append-nil}
+use Rattle.std.proofs.Common.{◌≡◌, ℕ, ◌+◌, List, [], ◌∷◌, ◌++◌, drop, sym, subst, append_assoc, append-nil}
 use Rattle.mid_code.specs.declared.word.WordProc.{WordProc}
 use Rattle.reg_scan.specs.Homes.{IsHomes}
 use Rattle.reg_scan.specs.declared.homes.Homes.{Homes}
 use Rattle.rv32_codegen.specs.Lowering.{AllHomes}
-use Rattle.word_lowering.specs.Lowers.{AreSmall}
 
 -- with homes for the procedures that are left, they are homes for all
 abbrev pub IsFront : List WordProc → (done : ℕ) → List Homes → Type 0

@@ -1,16 +1,16 @@
 -- The stack of word code whose procedures take little is one that a machine may have.
-use Rattle.std.proofs.Common.{◌≡◌, ◌≤◌, ℕ, zero, suc, ◌+◌, ◌*◌, ◌%◌, max, Bool, true, false, if◌then◌else◌, List, [], ◌∷◌, length, refl, sym, ap, subst, ◌∙◌, arith}
+use Rattle.std.proofs.Common.{◌≡◌, ◌≤◌, ℕ, zero, suc, ◌+◌, ◌*◌, ◌%◌, Bool, true, false, if◌then◌else◌, List, [], ◌∷◌, length, refl, sym, ap, subst, ◌∙◌, arith}
 use Rattle.std.proofs.Common.{inl, inr}
 use Rattle.std.specs.Prelude.{◌==◌}
 use Rattle.std.proofs.lemmas.Bool.{eqb-true, cases_Bool, cond-true, cond-false}
 use Rattle.mid_code.specs.declared.word.WordInstr.{WordInstr}
 use Rattle.mid_code.specs.declared.word.WordInstr.TheVariants as word
 use Rattle.mid_code.specs.declared.word.WordProc.{WordProc}
-use Rattle.mid_code.specs.Words.{is_counted, from_proc, most_called, most_chain, most_room, uncounted_room, chain_room, places_size}
+use Rattle.mid_code.specs.Words.{is_counted, from_proc, most_called, most_chain, most_room, uncounted_room, chain_room}
 use Rattle.reg_scan.specs.declared.homes.Homes.{Homes}
-use Rattle.rv32_codegen.specs.Stack.{uncounted, chain, longest, frame_for, most_frame, stack_need}
+use Rattle.rv32_codegen.specs.Stack.{uncounted, chain, frame_for, most_frame, stack_need}
 use Rattle.rv32_codegen.specs.Lowering.{AllHomes}
-use Rattle.word_lowering.specs.Lowers.{IsRoutine, AreSmall}
+use Rattle.word_lowering.specs.Lowers.{AreSmall}
 
 -- ---- chains of which each takes little
 

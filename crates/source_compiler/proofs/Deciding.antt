@@ -1,5 +1,5 @@
 -- A module whose bytes are tokens or refused, and whose tokens have a tree or are refused, is a typed program or is refused.
-use Rattle.std.proofs.Common.{◌≡◌, ◌⊎◌, inl, inr, ℕ, List, [], ◌∷◌, refl}
+use Rattle.std.proofs.Common.{◌⊎◌, inl, inr, ℕ, List, [], ◌∷◌, refl}
 use Rattle.arc_base.specs.declared.place.Place.{Place}
 use Rattle.arc_base.specs.declared.place.Code.{Code}
 use Rattle.indent_scanner.specs.declared.token.Token.{Token}

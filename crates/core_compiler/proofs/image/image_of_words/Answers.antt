@@ -1,4 +1,4 @@
-use Rattle.std.proofs.Common.{◌≡◌, ◌≤◌, [], refl, sym, ap, subst, ◌∙◌, ◌%◌, arith, length}
+use Rattle.std.proofs.Common.{◌≡◌, refl, sym, ap, subst, ◌∙◌, ◌%◌, arith}
 use Rattle.mid_code.specs.Memory.{data_of}
 use Rattle.rv32_codegen.specs.Layout.{DoesCode, code_size}
 use Rattle.rv32_codegen.specs.Stack.{stack_need}

@@ -1,9 +1,7 @@
-use Rattle.std.proofs.Common.{◌≤◌, ◌+◌, ◌*◌, refl, sym, subst, arith, length, map}
+use Rattle.std.proofs.Common.{◌≤◌, ◌+◌, ◌*◌, refl, subst, arith, length, map}
 use Rattle.std.proofs.lemmas.Result.{err_from_is_err_and}
 use Rattle.arc_base.specs.declared.place.Code.TheVariants.{TooLarge}
-use Rattle.arc_base.specs.Refusal.{Answers}
 use Rattle.arc_base.proofs.ForCallers.{refuses, stops}
-use Rattle.nim_types.specs.Table.{types_in}
 use Rattle.mid_code.specs.declared.flat.Flat.{Flat}
 use Rattle.mid_code.specs.Codes.{flat_placed}
 use Rattle.mid_code.specs.Sizes.{code_weight, word_weight}

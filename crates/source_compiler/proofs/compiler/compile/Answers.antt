@@ -1,7 +1,6 @@
-use Rattle.std.proofs.Common.{◌≡◌, refl, sym, ap, subst, arith, Ok, length}
+use Rattle.std.proofs.Common.{◌≡◌, refl, sym, subst, arith, Ok}
 use Rattle.std.proofs.lemmas.Result.{err_from_is_err_and}
 use Rattle.rv32_isa.specs.declared.image.Image.{Image as RustImage}
-use Rattle.rv32_isa.specs.Image.{image_of}
 use Rattle.elf32.specs.Elf.{file_of}
 use Rattle.check_decls.specs.Modules.{program_in}
 use Rattle.core_compiler.specs.Limits.{build_limits}

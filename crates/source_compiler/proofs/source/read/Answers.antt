@@ -1,4 +1,4 @@
-use Rattle.std.proofs.Common.{refl, sym, subst}
+use Rattle.std.proofs.Common.{sym, subst}
 use Rattle.std.proofs.lemmas.Result.{err_from_is_err_and}
 use Rattle.indent_scanner.specs.Tokens.{Tokens}
 use Rattle.nim_tree.specs.Statements.{tree_of}
