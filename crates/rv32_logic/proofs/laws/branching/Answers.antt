@@ -2,4 +2,4 @@ use Rattle.rv32_logic.proofs.Jumps.{branch_goes}
 use Rattle.rv32_logic.proofs.laws.branching.Goals as goal
 
 pub returns : goal.returns
-returns c = branch_goes
+returns c = record { branch = branch_goes }
