@@ -8,7 +8,7 @@ use Rattle.nim_types.specs.declared.types.TypeDef.{TypeDef}
 use Rattle.nim_types.specs.declared.types.TypeDef.TheVariants as D
 use Rattle.nim_types.specs.Types.{Ty, int, bool, char, text, sequence, array, tuple, parameter, enum, object, distinct, ref, exception, Tys, no_types, types}
 use Rattle.nim_types.specs.Types.{Key, Field, Fact, members, fields, base, below, Facts, fact_of, if_same, same}
-use Rattle.nim_types.specs.Forms.{Form, parts, wrapped, Forms}
+use Rattle.nim_types.specs.Forms.{Form, wrapped, Forms}
 use Rattle.nim_types.specs.Forms.{IsForm, of_int, of_bool, of_char, of_text, of_sequence, of_any_sequence, of_array, of_tuple, of_parameter, of_enum, of_object}
 use Rattle.nim_types.specs.Forms.{of_distinct, of_ref, of_exception, AreForms, none_of, more_of, object_form, types_of}
 use Rattle.nim_types.specs.Table.{type_at, types_at, meant, types_in, fields_with, fields_fact, said_of, and_said, facts_over, facts_in, AllBelow}
