@@ -1,6 +1,5 @@
 -- Steps of the code, whose trees and values are known by equations.
-use Rattle.std.proofs.Common.{◌≡◌, ℕ, zero, suc, ◌+◌, ◌≤◌, length, List, [], ◌∷◌, ◌++◌, drop, refl, sym, ap, ap₂, subst, ◌∙◌, arith, add_assoc, Option, Some}
-use Rattle.std.proofs.Common.{None}
+use Rattle.std.proofs.Common.{◌≡◌, ℕ, zero, suc, ◌+◌, ◌≤◌, length, List, [], ◌∷◌, ◌++◌, drop, refl, sym, ap, ap₂, subst, ◌∙◌, arith, add_assoc}
 use Rattle.std.specs.Prelude.{Result, IfOk}
 use Rattle.arc_base.specs.Event.{Event}
 use Rattle.arc_base.specs.declared.bytes.Memory.{Memory}
@@ -75,7 +74,3 @@ pub opens_in : (program : Program) (ts : List Ty) (old : Run) (rest : RustRest) 
     Goes program old (opened (opening_of ts o) (there ts rest now todo after))
 opens_in program ts old rest todo now o known after world f g h =
     goes_as program old old _ _ refl (ap₂ (λ (k : Opening) (w : World). opened k (there ts rest now todo w)) f g) h
-
-pub none_of : {A : Type 0} (o : Option A) → ((x : A) → o ≡ Some x → ⊥) → o ≡ None
-none_of None h = refl
-none_of (Some x) h = absurd (h x refl)

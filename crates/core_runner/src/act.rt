@@ -1,13 +1,15 @@
 // What waits for an answer and looks at places, changes the world, or traps.
 ghost use Rattle.std.specs.Prelude.{◌≡◌, IfOk, OnOk, Some, None, Option, option_map};
+ghost use Rattle.core_runner.specs.Look.{located};
 ghost use Rattle.core_runner.specs.Step.{result_put};
 ghost use Rattle.nim_core.specs.declared.program.Program.{Program as RustProgram};
-ghost use Rattle.nim_core.specs.Values.{Number};
+ghost use Rattle.nim_core.specs.Values.{Number, default_of};
 ghost use Rattle.nim_core.specs.Meaning.{measured};
+ghost use Rattle.nim_core.specs.Places.{Aim as SpecAim};
 ghost use Rattle.nim_core.specs.State.{load, store};
 ghost use Rattle.nim_core.specs.Acts.{On};
 ghost use Rattle.nim_types.specs.Table.{type_at};
-ghost use Rattle.core_runner.specs.Table.{types_of};
+ghost use Rattle.core_runner.specs.Table.{types_of, facts_of};
 ghost use Rattle.core_runner.specs.Left.{Comes, Applies, Operates, Converts, Gets, Measures, Looks};
 ghost use Rattle.core_runner.specs.Left.{Moves, StepsByOne, Steps, Adds, Swaps, Assigns, Results};
 ghost use Rattle.core_runner.specs.Left.{Returns};
@@ -16,14 +18,14 @@ ghost use Rattle.core_runner.specs.View.{answer_of, value_of, aim_of, location_o
 ghost use Rattle.core_runner.specs.View.{world_of, run_of, with_waiting, StepOf};
 
 use crate::expr::{gives, goes};
-use crate::follow::{aim_in, value_in};
-use crate::place::{find, length_at, load, number_at, store};
+use crate::follow::{aim_in, number_given, value_in};
+use crate::place::{length_at, load, loaded, look_up, number_at, store};
 use crate::state::{Aim, Answer, Base, Frame, Location, Now, Rest, Step, Way};
 use crate::table::default_value;
 use crate::value::{Value, number};
 use arc_base::Memory;
 use nim_core::{Measure, Operator, PlaceDecl, Program, UnaryOperator};
-use nim_types::TypeId;
+use nim_types::{TypeId, TypeTable};
 use plain_values::{Trap, apply, calculate, limit_of, one_of};
 use std::alloc::Global;
 
@@ -32,18 +34,20 @@ pub fn unary<'a>(operator: UnaryOperator, answer: Answer, rest: &Rest<'a>) -> St
     ensures { (p : RustProgram) → StepOf p (with_waiting (Applies operator)
         (run_of p (Comes (On (answer_of answer))) rest.now)) result rest.now }
 {
-    match apply(operator, number(&value_in(answer))) {
+    match apply(operator, number_given(answer)) {
         Ok(z) => Step::Goes(gives(Value::Number(z))),
         Err(trap) => Step::Traps(trap),
     }
 }
 
 /// An operation on two operands.
-pub fn operate<'a>(operator: Operator, left: &Value, answer: Answer, rest: &Rest<'a>) -> Step<'a>
-    ensures { (p : RustProgram) → StepOf p (with_waiting (Operates operator (value_of left.now))
+pub fn operate<'a>(operator: Operator, left: Value, answer: Answer, rest: &Rest<'a>) -> Step<'a>
+    ensures { (p : RustProgram) → StepOf p (with_waiting (Operates operator (value_of left))
         (run_of p (Comes (On (answer_of answer))) rest.now)) result rest.now }
 {
-    match calculate(operator, number(left), number(&value_in(answer))) {
+    let x = number(&left);
+    drop(left);
+    match calculate(operator, x, number_given(answer)) {
         Ok(z) => Step::Goes(gives(Value::Number(z))),
         Err(trap) => Step::Traps(trap),
     }
@@ -56,7 +60,7 @@ pub fn convert<'a>(program: &Program, ty: TypeId, answer: Answer, rest: &Rest<'a
 {
     match limit_of(&program.types, ty) {
         None => Step::Goes(gives(value_in(answer))),
-        Some(values) => match one_of(values, number(&value_in(answer))) {
+        Some(values) => match one_of(values, number_given(answer)) {
             Ok(z) => Step::Goes(gives(Value::Number(z))),
             Err(trap) => Step::Traps(trap),
         },
@@ -68,10 +72,10 @@ pub fn get<'a>(alloc: Global, answer: Answer, rest: &Rest<'a>) -> Result<Step<'a
     ensures { (p : RustProgram) → IfOk result (λ step. StepOf p
         (with_waiting Gets (run_of p (Comes (On (answer_of answer))) rest.now)) step rest.now) }
 {
-    match find(alloc, &rest.frames, &aim_in(alloc, answer))? {
+    match look_up(alloc, &rest.frames, aim_in(alloc, answer))? {
         None => Ok(Step::Traps(Trap::IndexOutOfBounds)),
         Some(location) => {
-            let v = load(alloc, &rest.frames, &location)?;
+            let v = loaded(alloc, &rest.frames, location)?;
             Ok(Step::Goes(gives(v)))
         }
     }
@@ -101,10 +105,12 @@ pub fn measure<'a>(
         (with_waiting (Measures measure) (run_of p (Comes (On (answer_of answer))) rest.now)) step
         rest.now) }
 {
-    match find(alloc, &rest.frames, &aim_in(alloc, answer))? {
+    match look_up(alloc, &rest.frames, aim_in(alloc, answer))? {
         None => Ok(Step::Traps(Trap::IndexOutOfBounds)),
         Some(location) => {
-            let v = measured(measure, length_at(&rest.frames, &location))?;
+            let len = length_at(&rest.frames, &location);
+            drop(location);
+            let v = measured(measure, len)?;
             Ok(Step::Goes(gives(v)))
         }
     }
@@ -115,26 +121,57 @@ pub fn look<'a>(alloc: Global, answer: Answer, rest: &Rest<'a>) -> Result<Step<'
     ensures { (p : RustProgram) → IfOk result (λ step. StepOf p
         (with_waiting Looks (run_of p (Comes (On (answer_of answer))) rest.now)) step rest.now) }
 {
-    match find(alloc, &rest.frames, &aim_in(alloc, answer))? {
+    match look_up(alloc, &rest.frames, aim_in(alloc, answer))? {
         None => Ok(Step::Traps(Trap::IndexOutOfBounds)),
-        Some(_) => Ok(Step::Goes(gives(Value::Number(0)))),
+        Some(location) => {
+            drop(location);
+            Ok(Step::Goes(gives(Value::Number(0))))
+        }
     }
 }
 
 /// A look-up behind a value.
-pub fn add<'a>(
-    alloc: Global,
-    aim: &Aim,
-    answer: Answer,
-    rest: &Rest<'a>,
-) -> Result<Step<'a>, Memory>
+pub fn add<'a>(alloc: Global, aim: Aim, answer: Answer, rest: &Rest<'a>) -> Result<Step<'a>, Memory>
     ensures { (p : RustProgram) → IfOk result (λ step. StepOf p
-        (with_waiting (Adds (aim_of aim.now)) (run_of p (Comes (On (answer_of answer))) rest.now))
+        (with_waiting (Adds (aim_of aim)) (run_of p (Comes (On (answer_of answer))) rest.now))
         step rest.now) }
 {
-    match find(alloc, &rest.frames, aim)? {
+    drop(answer);
+    match look_up(alloc, &rest.frames, aim)? {
         None => Ok(Step::Traps(Trap::IndexOutOfBounds)),
-        Some(_) => Ok(Step::Goes(gives(Value::Number(0)))),
+        Some(location) => {
+            drop(location);
+            Ok(Step::Goes(gives(Value::Number(0))))
+        }
+    }
+}
+
+// The value at a location, where the default of a type stands then.
+fn replaced(
+    alloc: Global,
+    types: &TypeTable,
+    ty: TypeId,
+    frames: &mut Vec<Frame>,
+    location: Location,
+) -> Result<Value, Memory>
+    ensures value { IfOk result (λ v. value_of v ≡ load (world_of frames.old.items)
+        (location_of location)) }
+    ensures blank { OnOk result (world_of frames.new.items ≡ store (world_of frames.old.items)
+        (location_of location) (default_of (facts_of types.now)
+        (type_at (types_of types.now) ty))) }
+{
+    let value = load(alloc, frames, &location);
+    match default_value(alloc, types, ty) {
+        Err(stop) => {
+            drop(value);
+            drop(location);
+            Err(stop)
+        }
+        Ok(blank) => {
+            store(frames, &location, blank);
+            drop(location);
+            Ok(value?)
+        }
     }
 }
 
@@ -150,26 +187,28 @@ pub fn move_out<'a>(
         (with_waiting (Moves (type_at (types_of program.now.types) ty))
         (run_of program.now (Comes (On (answer_of answer))) rest.old)) step rest.new) }
 {
-    match find(alloc, &rest.frames, &aim_in(alloc, answer))? {
+    match look_up(alloc, &rest.frames, aim_in(alloc, answer))? {
         None => Ok(Step::Traps(Trap::IndexOutOfBounds)),
         Some(location) => {
-            let v = load(alloc, &rest.frames, &location)?;
-            let blank = default_value(alloc, &program.types, ty)?;
-            store(&mut rest.frames, &location, blank);
+            let v = replaced(alloc, &program.types, ty, &mut rest.frames, location)?;
             Ok(Step::Goes(gives(v)))
         }
     }
 }
 
 // Changes a number at a location.
-fn change(operator: Operator, frames: &mut Vec<Frame>, location: &Location, y: i32) -> Option<Trap>
-    ensures { Changes operator (world_of frames.old.items) (location_of location.now) y result
+fn change(operator: Operator, frames: &mut Vec<Frame>, location: Location, y: i32) -> Option<Trap>
+    ensures { Changes operator (world_of frames.old.items) (location_of location) y result
         (world_of frames.new.items) }
 {
-    match calculate(operator, number_at(frames, location), y) {
-        Err(trap) => Some(trap),
+    match calculate(operator, number_at(frames, &location), y) {
+        Err(trap) => {
+            drop(location);
+            Some(trap)
+        }
         Ok(z) => {
-            store(frames, location, Value::Number(z));
+            store(frames, &location, Value::Number(z));
+            drop(location);
             None
         }
     }
@@ -186,9 +225,9 @@ pub fn step_by_one<'a>(
         (with_waiting (StepsByOne operator) (run_of p (Comes (On (answer_of answer))) rest.old))
         step rest.new) }
 {
-    match find(alloc, &rest.frames, &aim_in(alloc, answer))? {
+    match look_up(alloc, &rest.frames, aim_in(alloc, answer))? {
         None => Ok(Step::Traps(Trap::IndexOutOfBounds)),
-        Some(location) => match change(operator, &mut rest.frames, &location, 1) {
+        Some(location) => match change(operator, &mut rest.frames, location, 1) {
             Some(trap) => Ok(Step::Traps(trap)),
             None => Ok(Step::Goes(gives(Value::Number(0)))),
         },
@@ -199,27 +238,21 @@ pub fn step_by_one<'a>(
 pub fn step<'a>(
     alloc: Global,
     operator: Operator,
-    aim: &Aim,
+    aim: Aim,
     answer: Answer,
     rest: &mut Rest<'a>,
 ) -> Result<Step<'a>, Memory>
     ensures { (p : RustProgram) → IfOk result (λ step. StepOf p
-        (with_waiting (Steps operator (aim_of aim.now))
+        (with_waiting (Steps operator (aim_of aim))
         (run_of p (Comes (On (answer_of answer))) rest.old)) step rest.new) }
 {
-    match find(alloc, &rest.frames, aim)? {
+    let y = number_given(answer);
+    match look_up(alloc, &rest.frames, aim)? {
         None => Ok(Step::Traps(Trap::IndexOutOfBounds)),
-        Some(location) => {
-            match change(
-                operator,
-                &mut rest.frames,
-                &location,
-                number(&value_in(answer)),
-            ) {
-                Some(trap) => Ok(Step::Traps(trap)),
-                None => Ok(Step::Goes(gives(Value::Number(0)))),
-            }
-        }
+        Some(location) => match change(operator, &mut rest.frames, location, y) {
+            Some(trap) => Ok(Step::Traps(trap)),
+            None => Ok(Step::Goes(gives(Value::Number(0)))),
+        },
     }
 }
 
@@ -242,44 +275,96 @@ fn exchange(
     Ok(())
 }
 
+// The same, of locations that are done with.
+fn exchanged(
+    alloc: Global,
+    frames: &mut Vec<Frame>,
+    location: Location,
+    other: Location,
+) -> Result<(), Memory>
+    ensures { OnOk result (world_of frames.new.items
+        ≡ store (store (world_of frames.old.items) (location_of other)
+        (load (world_of frames.old.items) (location_of location))) (location_of location)
+        (load (world_of frames.old.items) (location_of other))) }
+{
+    let done = exchange(alloc, frames, &location, &other);
+    drop(location);
+    drop(other);
+    done
+}
+
+// The values at a location, to which a path leads, and at another path change places.
+fn swap_with<'a>(
+    alloc: Global,
+    location: Location,
+    answer: Answer,
+    rest: &mut Rest<'a>,
+) -> Result<Step<'a>, Memory>
+    ensures { (p : RustProgram) (aim : SpecAim) →
+        located (world_of rest.old.frames.items) aim ≡ Some (location_of location) →
+        IfOk result (λ step. StepOf p (with_waiting (Swaps aim)
+        (run_of p (Comes (On (answer_of answer))) rest.old)) step rest.new) }
+{
+    match look_up(alloc, &rest.frames, aim_in(alloc, answer)) {
+        Err(stop) => {
+            drop(location);
+            Err(stop)
+        }
+        Ok(None) => {
+            drop(location);
+            Ok(Step::Traps(Trap::IndexOutOfBounds))
+        }
+        Ok(Some(other)) => {
+            exchanged(alloc, &mut rest.frames, location, other)?;
+            Ok(Step::Goes(gives(Value::Number(0))))
+        }
+    }
+}
+
 /// The values at two paths change places.
 pub fn swap<'a>(
     alloc: Global,
-    aim: &Aim,
+    aim: Aim,
     answer: Answer,
     rest: &mut Rest<'a>,
 ) -> Result<Step<'a>, Memory>
     ensures { (p : RustProgram) → IfOk result (λ step. StepOf p
-        (with_waiting (Swaps (aim_of aim.now)) (run_of p (Comes (On (answer_of answer))) rest.old))
+        (with_waiting (Swaps (aim_of aim)) (run_of p (Comes (On (answer_of answer))) rest.old))
         step rest.new) }
 {
-    match find(alloc, &rest.frames, aim)? {
-        None => Ok(Step::Traps(Trap::IndexOutOfBounds)),
-        Some(location) => match find(alloc, &rest.frames, &aim_in(alloc, answer))? {
-            None => Ok(Step::Traps(Trap::IndexOutOfBounds)),
-            Some(other) => {
-                exchange(alloc, &mut rest.frames, &location, &other)?;
-                Ok(Step::Goes(gives(Value::Number(0))))
-            }
-        },
+    match look_up(alloc, &rest.frames, aim) {
+        Err(stop) => {
+            drop(answer);
+            Err(stop)
+        }
+        Ok(None) => {
+            drop(answer);
+            Ok(Step::Traps(Trap::IndexOutOfBounds))
+        }
+        Ok(Some(location)) => swap_with(alloc, location, answer, rest),
     }
 }
 
 /// A value becomes that at a path.
 pub fn assign<'a>(
     alloc: Global,
-    aim: &Aim,
+    aim: Aim,
     answer: Answer,
     rest: &mut Rest<'a>,
 ) -> Result<Step<'a>, Memory>
     ensures { (p : RustProgram) → IfOk result (λ step. StepOf p
-        (with_waiting (Assigns (aim_of aim.now)) (run_of p
+        (with_waiting (Assigns (aim_of aim)) (run_of p
         (Comes (On (answer_of answer))) rest.old)) step rest.new) }
 {
-    match find(alloc, &rest.frames, aim)? {
-        None => Ok(Step::Traps(Trap::IndexOutOfBounds)),
+    let v = value_in(answer);
+    match look_up(alloc, &rest.frames, aim)? {
+        None => {
+            drop(v);
+            Ok(Step::Traps(Trap::IndexOutOfBounds))
+        }
         Some(location) => {
-            store(&mut rest.frames, &location, value_in(answer));
+            store(&mut rest.frames, &location, v);
+            drop(location);
             Ok(Step::Goes(gives(Value::Number(0))))
         }
     }
@@ -297,7 +382,7 @@ fn put_result(
         (value_of v) (world_of frames.old.items) }
 {
     match place {
-        None => (),
+        None => drop(v),
         Some(place) => {
             let location = Location {
                 base: Base::Standing {
@@ -307,6 +392,7 @@ fn put_result(
                 path: Vec::new(alloc),
             };
             store(frames, &location, v);
+            drop(location);
         }
     }
 }

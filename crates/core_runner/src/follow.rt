@@ -9,7 +9,8 @@ ghost use Rattle.core_runner.specs.Opens as spec;
 ghost use Rattle.nim_core.specs.View.{expr_of, stmts_of};
 ghost use Rattle.nim_core.specs.View.{choices_of, branches_of};
 ghost use Rattle.core_runner.specs.Table.{types_of, facts_of};
-ghost use Rattle.core_runner.specs.Left.{value_given, aim_given, Evaluates, Chooses, Runs, Decides};
+ghost use Rattle.core_runner.specs.Left.{value_given, aim_given, number_given, Evaluates, Chooses};
+ghost use Rattle.core_runner.specs.Left.{Runs, Decides};
 ghost use Rattle.core_runner.specs.Opens.{follows_of, now_if};
 ghost use Rattle.core_runner.specs.View.{opening_of, follow_of, path_follow_of, stmt_follow_of};
 ghost use Rattle.core_runner.specs.View.{answer_of, value_of, aim_of};
@@ -49,6 +50,26 @@ pub fn aim_in(alloc: Global, answer: Answer) -> Aim
     }
 }
 
+/// The number that was given.
+pub fn number_given(answer: Answer) -> i32
+    ensures { result ≡ number_given (answer_of answer) }
+{
+    let v = value_in(answer);
+    let z = number(&v);
+    drop(v);
+    z
+}
+
+/// Whether the bool that was given is true.
+pub fn is_true_in(answer: Answer) -> bool
+    ensures { result ≡ is_true (number_given (answer_of answer)) }
+{
+    let v = value_in(answer);
+    let holds = is_true(&v);
+    drop(v);
+    holds
+}
+
 // ---- what follows
 
 fn evaluates<'a>(expr: &'a Box<Expr>) -> Opening<'a>
@@ -65,12 +86,11 @@ fn gives_number<'a>(z: i32) -> Opening<'a>
 }
 
 // One of two things.
-fn either<'a>(condition: &Value, holds: Opening<'a>, fails: Opening<'a>) -> Opening<'a>
+fn either<'a>(condition: bool, holds: Opening<'a>, fails: Opening<'a>) -> Opening<'a>
     ensures { (ts : List Ty) → opening_of ts result
-        ≡ branch (is_true (int_of condition.now)) (opening_of ts holds.entry)
-        (opening_of ts fails.entry) }
+        ≡ branch condition (opening_of ts holds.entry) (opening_of ts fails.entry) }
 {
-    if is_true(condition) {
+    if condition {
         drop(fails);
         holds
     } else {
@@ -81,18 +101,17 @@ fn either<'a>(condition: &Value, holds: Opening<'a>, fails: Opening<'a>) -> Open
 
 // The value of a choice, or the choices behind it.
 fn chosen<'a>(
-    condition: &Value,
+    condition: bool,
     choice: &'a Choice,
     choices: &'a Vec<Choice>,
     from: usize,
     otherwise: &'a Box<Expr>,
 ) -> Opening<'a>
     ensures { (ts : List Ty) → opening_of ts result
-        ≡ spec.goes (branch (is_true (int_of condition.now))
-        (Evaluates (expr_of ts choice.now.value)) (Chooses
+        ≡ spec.goes (branch condition (Evaluates (expr_of ts choice.now.value)) (Chooses
         (choices_of ts (drop from choices.now.items)) (expr_of ts otherwise.now.value))) }
 {
-    if is_true(condition) {
+    if condition {
         return goes(Now::Evaluate(&choice.value));
     }
     goes(Now::Choose {
@@ -113,25 +132,26 @@ fn chosen_at<'a>(
         (expr_of ts otherwise.now.value)) (answer_of answer) }
 {
     if at >= choices.len() {
+        drop(answer);
         return gives(Value::Number(0));
     }
-    chosen(&value_in(answer), &choices[at], choices, at + 1, otherwise)
+    chosen(is_true_in(answer), &choices[at], choices, at + 1, otherwise)
 }
 
 // The block of a branch, or the branches behind it.
 fn chosen_block<'a>(
-    condition: &Value,
+    condition: bool,
     one: &'a Branch,
     branches: &'a Vec<Branch>,
     from: usize,
     otherwise: &'a Vec<Stmt>,
 ) -> Opening<'a>
     ensures { (ts : List Ty) → opening_of ts result
-        ≡ spec.goes (branch (is_true (int_of condition.now)) (Runs (stmts_of ts one.now.body.items))
+        ≡ spec.goes (branch condition (Runs (stmts_of ts one.now.body.items))
         (Decides (branches_of ts (drop from branches.now.items))
         (stmts_of ts otherwise.now.items))) }
 {
-    if is_true(condition) {
+    if condition {
         return goes(Now::Run {
             stmts: &one.body,
             from: 0,
@@ -155,10 +175,11 @@ fn chosen_block_at<'a>(
         (stmts_of ts otherwise.now.items)) (answer_of answer) }
 {
     if at >= branches.len() {
+        drop(answer);
         return gives(Value::Number(0));
     }
     chosen_block(
-        &value_in(answer),
+        is_true_in(answer),
         &branches[at],
         branches,
         at + 1,
@@ -166,10 +187,13 @@ fn chosen_block_at<'a>(
     )
 }
 
-fn compare(comparison: Comparison, x: &Value, y: &Value) -> bool
-    ensures { result ≡ compared comparison (int_of x.now) (int_of y.now) }
+// Whether a value and the one that was given compare so.
+fn compare(comparison: Comparison, left: Value, answer: Answer) -> bool
+    ensures { result ≡ compared comparison (int_of left) (number_given (answer_of answer)) }
 {
-    compares(comparison, number(x), number(y))
+    let x = number(&left);
+    drop(left);
+    compares(comparison, x, number_given(answer))
 }
 
 // A bool as a value.
@@ -234,17 +258,25 @@ fn follow_stmt<'a>(answer: Answer, follow: OfStmt<'a>) -> Result<Opening<'a>, Me
         ≡ follows_of facts (stmt_follow_of ts follow.entry) (answer_of answer)) }
 {
     match follow {
-        OfStmt::Rest { stmts, from } => Ok(goes(Now::Run { stmts, from })),
-        OfStmt::Drop => Ok(gives(Value::Number(0))),
+        OfStmt::Rest { stmts, from } => {
+            drop(answer);
+            Ok(goes(Now::Run { stmts, from }))
+        }
+        OfStmt::Drop => {
+            drop(answer);
+            Ok(gives(Value::Number(0)))
+        }
         OfStmt::ChosenBlock {
             branches,
             at,
             otherwise,
         } => Ok(chosen_block_at(answer, branches, at, otherwise)),
-        OfStmt::Select { arms, otherwise } => Ok(goes(Now::Run {
-            stmts: selected(arms, otherwise, &value_in(answer)),
-            from: 0,
-        })),
+        OfStmt::Select { arms, otherwise } => {
+            let v = value_in(answer);
+            let stmts = selected(arms, otherwise, &v);
+            drop(v);
+            Ok(goes(Now::Run { stmts, from: 0 }))
+        }
         OfStmt::CountFrom {
             place,
             last,
@@ -301,13 +333,18 @@ pub fn follow<'a>(
             }),
         )),
         Follow::Compare { comparison, left } => {
-            let right = value_in(answer);
-            Ok(gives(truth(compare(comparison, &left, &right))))
+            Ok(gives(truth(compare(comparison, left, answer))))
         }
-        Follow::And(right) => Ok(either(&value_in(answer), evaluates(right), gives_number(0))),
-        Follow::Or(right) => Ok(either(&value_in(answer), gives_number(1), evaluates(right))),
-        Follow::JoinRight(right) => Ok(first(&**right, Todo::Follow(Follow::Forget))),
-        Follow::Forget => Ok(gives(Value::Number(0))),
+        Follow::And(right) => Ok(either(is_true_in(answer), evaluates(right), gives_number(0))),
+        Follow::Or(right) => Ok(either(is_true_in(answer), gives_number(1), evaluates(right))),
+        Follow::JoinRight(right) => {
+            drop(answer);
+            Ok(first(&**right, Todo::Follow(Follow::Forget)))
+        }
+        Follow::Forget => {
+            drop(answer);
+            Ok(gives(Value::Number(0)))
+        }
         Follow::Chosen {
             choices,
             at,
@@ -317,7 +354,12 @@ pub fn follow<'a>(
             ty,
             picks,
             otherwise,
-        } => Ok(handed_on(ty, if_there(picked(picks, otherwise, &value_in(answer))))),
+        } => {
+            let v = value_in(answer);
+            let next = if_there(picked(picks, otherwise, &v));
+            drop(v);
+            Ok(handed_on(ty, next))
+        }
         Follow::HandOn(_) => Ok(gives(value_in(answer))),
         Follow::Again(_) => Ok(gives(value_in(answer))),
         Follow::Listed(next) => listed(alloc, types, answer, next),

@@ -44,10 +44,15 @@ fn written<'a>(
         (drop at exprs.now.items)) (answer_of answer)) }
 {
     if at >= exprs.len() {
+        drop(answer);
+        drop(text);
         return Ok(gives(Value::Number(0)));
     }
+    let v = value_in(answer);
     let mut text = text;
-    write(types, &exprs[at], &value_in(answer), &mut text)?;
+    let wrote = write(types, &exprs[at], &v, &mut text);
+    drop(v);
+    wrote?;
     Ok(goes(Now::Write {
         text,
         exprs,

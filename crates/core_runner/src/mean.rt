@@ -4,10 +4,12 @@ ghost use Rattle.nim_types.specs.Types.{Ty};
 ghost use Rattle.nim_core.specs.View.{exprs_of};
 ghost use Rattle.core_runner.specs.Opens.{with_todo};
 ghost use Rattle.nim_core.specs.Acts.{On, Out, line_of};
+ghost use Rattle.nim_core.specs.Ints.{low_byte};
 ghost use Rattle.nim_core.specs.Meaning.{meaning};
 ghost use Rattle.nim_core.specs.Traps.{trap_text};
 ghost use Rattle.nim_core.specs.declared.program.Program.{Program as RustProgram};
-ghost use Rattle.core_runner.specs.Left.{Now as SpecNow, Comes, Writes};
+ghost use Rattle.core_runner.specs.Left.{Now as SpecNow, Answer as SpecAnswer, Comes, Writes};
+ghost use Rattle.core_runner.specs.Left.{number_given};
 ghost use Rattle.core_runner.specs.Mean.{Means};
 ghost use Rattle.core_runner.specs.Turned.{Turned, first_run};
 ghost use Rattle.core_runner.specs.View.{stack_of, run_of, program_of, now_of, todo_of, way_of};
@@ -70,6 +72,55 @@ fn write<'a>(
     Ok(Step::Says(line))
 }
 
+// The status that was given.
+fn status_in(answer: Answer) -> u8
+    ensures { result ≡ low_byte (number_given (answer_of answer)) }
+{
+    let v = value_in(answer);
+    let status = low_byte(&v);
+    drop(v);
+    status
+}
+
+// What waits for the end of a body goes on, whatever came of it. Nothing else comes here; it'd want
+// memory.
+fn behind<'a>(alloc: Global, todo: Todo<'a>, rest: &mut Rest<'a>) -> Result<Step<'a>, Memory>
+    ensures { (p : RustProgram) (a : SpecAnswer) → IfOk result (λ step. StepOf p
+        (with_waiting (todo_of (types_of p.types) todo.entry) (run_of p (Comes (On a)) rest.old))
+        step rest.new) }
+{
+    match todo {
+        Todo::Turned { condition, body } => {
+            Ok(Step::Goes(expr::goes(Now::Loop(Loop::While { condition, body }))))
+        }
+        Todo::Counted {
+            place,
+            done,
+            last,
+            inclusive,
+            body,
+        } => Ok(turn::following(place, done, last, inclusive, body, rest)),
+        Todo::EachTurned {
+            place,
+            aim,
+            len,
+            next,
+            body,
+        } => Ok(Step::Goes(expr::goes(Now::Loop(Loop::Each {
+            place,
+            aim,
+            len,
+            next,
+            body,
+        })))),
+        Todo::Hand { caller, .. } => hand(alloc, caller, rest),
+        _ => {
+            drop(todo);
+            Err(Memory)
+        }
+    }
+}
+
 // What waits goes on with an answer.
 fn resume<'a>(
     alloc: Global,
@@ -85,18 +136,18 @@ fn resume<'a>(
     match todo {
         Todo::Follow(next) => Ok(Step::Goes(follow(alloc, &program.types, answer, next)?)),
         Todo::Unary(operator) => Ok(act::unary(operator, answer, rest)),
-        Todo::Operate { operator, left } => Ok(act::operate(operator, &left, answer, rest)),
+        Todo::Operate { operator, left } => Ok(act::operate(operator, left, answer, rest)),
         Todo::Convert(ty) => Ok(act::convert(program, ty, answer, rest)),
         Todo::Get => act::get(alloc, answer, rest),
         Todo::Measure(measure) => act::measure(alloc, measure, answer, rest),
         Todo::Look => act::look(alloc, answer, rest),
         Todo::Move(ty) => act::move_out(alloc, program, ty, answer, rest),
         Todo::StepByOne(operator) => act::step_by_one(alloc, operator, answer, rest),
-        Todo::Step { operator, aim } => act::step(alloc, operator, &aim, answer, rest),
-        Todo::Add(aim) => act::add(alloc, &aim, answer, rest),
-        Todo::Swap(aim) => act::swap(alloc, &aim, answer, rest),
-        Todo::Assign(aim) => act::assign(alloc, &aim, answer, rest),
-        Todo::Exit => Ok(Step::Quits(low_byte(&value_in(answer)))),
+        Todo::Step { operator, aim } => act::step(alloc, operator, aim, answer, rest),
+        Todo::Add(aim) => act::add(alloc, aim, answer, rest),
+        Todo::Swap(aim) => act::swap(alloc, aim, answer, rest),
+        Todo::Assign(aim) => act::assign(alloc, aim, answer, rest),
+        Todo::Exit => Ok(Step::Quits(status_in(answer))),
         Todo::Result => Ok(act::give(alloc, answer, rest)),
         Todo::Return(by) => Ok(act::give_back(alloc, by, answer, rest)),
         Todo::Fill { place, stmts, from } => {
@@ -104,31 +155,11 @@ fn resume<'a>(
         }
         Todo::End(_) => Ok(Step::Goes(expr::goes(Now::Have(answer)))),
         Todo::Test { condition, body } => Ok(turn::test(condition, body, answer, rest)),
-        Todo::Turned { condition, body } => {
-            Ok(Step::Goes(expr::goes(Now::Loop(Loop::While { condition, body }))))
-        }
-        Todo::Counted {
-            place,
-            done,
-            last,
-            inclusive,
-            body,
-        } => Ok(turn::following(place, &done, last, inclusive, body, rest)),
         Todo::EachOver { place, body } => turn::each_over(alloc, place, body, answer, rest),
-        Todo::EachTurned {
-            place,
-            aim,
-            len,
-            next,
-            body,
-        } => Ok(Step::Goes(expr::goes(Now::Loop(Loop::Each {
-            place,
-            aim,
-            len,
-            next,
-            body,
-        })))),
-        Todo::Hand { caller, .. } => hand(alloc, caller, rest),
+        _ => {
+            drop(answer);
+            behind(alloc, todo, rest)
+        }
     }
 }
 
@@ -151,7 +182,7 @@ fn unwind<'a>(
             last,
             inclusive,
             body,
-        } => Ok(turn::counted(way, place, &done, last, inclusive, body, rest)),
+        } => Ok(turn::counted(way, place, done, last, inclusive, body, rest)),
         Todo::EachTurned {
             place,
             aim,
@@ -161,7 +192,10 @@ fn unwind<'a>(
         } => Ok(turn::each_turned(way, place, aim, len, next, body, rest)),
         Todo::Hand { caller, .. } => hand(alloc, caller, rest),
         Todo::End(_) => Ok(Step::Goes(expr::goes(Now::Leave(way)))),
-        _ => Ok(Step::Goes(expr::goes(Now::Leave(way)))),
+        _ => {
+            drop(todo);
+            Ok(Step::Goes(expr::goes(Now::Leave(way))))
+        }
     }
 }
 
@@ -211,7 +245,10 @@ fn step<'a>(
         } => Ok(Step::Goes(decide(branches, from, otherwise))),
         Now::Loop(turns) => turn::next(alloc, turns, rest),
         Now::Have(answer) => match rest.todo.pop() {
-            None => Ok(Step::Finishes),
+            None => {
+                drop(answer);
+                Ok(Step::Finishes)
+            }
             Some(todo) => resume(alloc, program, answer, todo, rest),
         },
         Now::Leave(way) => match rest.todo.pop() {
@@ -274,8 +311,13 @@ fn advance<'a>(
 {
     match step(alloc, program, now, rest)? {
         Step::Goes(opening) => {
-            wait(&mut rest.todo, opening.todo)?;
-            Ok(Turn::Next(opening.now))
+            match wait(&mut rest.todo, opening.todo) {
+                Err(stop) => {
+                    drop(opening.now);
+                    Err(stop)
+                }
+                Ok(()) => Ok(Turn::Next(opening.now)),
+            }
         }
         Step::Says(line) => Ok(Turn::Says(line)),
         Step::Quits(status) => Ok(Turn::Quits(status)),

@@ -121,6 +121,25 @@ pub fn load_place(
     }
 }
 
+/// The value at a location that is done with.
+pub fn loaded(alloc: Global, frames: &Vec<Frame>, location: Location) -> Result<Value, Memory>
+    ensures { IfOk result (λ v. value_of v ≡ load (world_of frames.now.items)
+        (location_of location)) }
+{
+    let v = load(alloc, frames, &location);
+    drop(location);
+    v
+}
+
+// The location of a part.
+fn deeper(location: Location, i: usize) -> Result<Location, Memory>
+    ensures { IfOk result (λ part. location_of part ≡ deeper (location_of location) i) }
+{
+    let mut location = location;
+    location.path.push(i)?;
+    Ok(location)
+}
+
 /// A part of the value at a location.
 pub fn load_part(
     alloc: Global,
@@ -131,9 +150,7 @@ pub fn load_part(
     ensures { IfOk result (λ v. value_of v ≡ load (world_of frames.now.items)
         (deeper (location_of location) i)) }
 {
-    let mut location = location;
-    location.path.push(i)?;
-    load(alloc, frames, &location)
+    loaded(alloc, frames, deeper(location, i)?)
 }
 
 /// The number of the value at a location.
@@ -223,11 +240,24 @@ pub fn find(alloc: Global, frames: &Vec<Frame>, aim: &Aim) -> Result<Option<Loca
     let mut location = root_of(alloc, frames, &aim.base)?;
     for hop in &aim.hops {
         match step_down(frames, &location, hop) {
-            None => return Ok(None),
-            Some(i) => location.path.push(i)?,
+            None => {
+                drop(location);
+                return Ok(None);
+            }
+            Some(i) => location = deeper(location, i)?,
         }
     }
     Ok(Some(location))
+}
+
+/// Looks a path up that is done with.
+pub fn look_up(alloc: Global, frames: &Vec<Frame>, aim: Aim) -> Result<Option<Location>, Memory>
+    ensures { IfOk result (λ location. option_map location_of location
+        ≡ located (world_of frames.now.items) (aim_of aim)) }
+{
+    let location = find(alloc, frames, &aim);
+    drop(aim);
+    location
 }
 
 // A slot with another value at a path.

@@ -14,10 +14,10 @@ ghost use Rattle.core_runner.specs.View.{loop_of, with_waiting, StepOf};
 
 use crate::direct::comes_to;
 use crate::expr::{first, gives, goes};
-use crate::follow::{aim_in, value_in};
+use crate::follow::{aim_in, is_true_in, value_in};
 use crate::place::{fill, find, length_at, load_part};
 use crate::state::{Aim, Answer, Loop, Now, Opening, Rest, Step, Todo, Way};
-use crate::value::{Value, is_true, number};
+use crate::value::{Value, number};
 use arc_base::Memory;
 use nim_core::{Expr, PlaceDecl, Stmt};
 use plain_values::Trap;
@@ -35,7 +35,7 @@ pub fn test<'a>(
         (stmts_of (types_of p.types) body.now.items))
         (run_of p (Comes (On (answer_of answer))) rest.old)) result rest.new }
 {
-    if !is_true(&value_in(answer)) {
+    if !is_true_in(answer) {
         return Step::Goes(gives(Value::Number(0)));
     }
     if rest.units == 0 {
@@ -127,9 +127,13 @@ fn count<'a>(
         (int_of next) (stmts_of (types_of p.types) body.now.items)) rest.old) result rest.new }
 {
     if !goes_on(&next, &last, inclusive) {
+        drop(next);
+        drop(last);
         return Step::Goes(gives(Value::Number(0)));
     }
     if rest.units == 0 {
+        drop(next);
+        drop(last);
         return Step::Waits;
     }
     rest.units -= 1;
@@ -157,12 +161,13 @@ fn plain(v: &Value) -> Value
 }
 
 // The number behind another one, unless the last is reached.
-fn next_number(done: &Value, last: &Value) -> Option<Value>
-    ensures none { IfNone result (int_lt (int_of done.now +ℤ pos 1) (int_of last.now +ℤ pos 1)
+fn next_number(done: Value, last: &Value) -> Option<Value>
+    ensures none { IfNone result (int_lt (int_of done +ℤ pos 1) (int_of last.now +ℤ pos 1)
         ≡ false) }
-    ensures some { IfSome result (λ v. int_of v ≡ int_of done.now +ℤ pos 1) }
+    ensures some { IfSome result (λ v. int_of v ≡ int_of done +ℤ pos 1) }
 {
-    let i = number(done);
+    let i = number(&done);
+    drop(done);
     if i < number(last) {
         Some(Value::Number(i + 1))
     } else {
@@ -173,7 +178,7 @@ fn next_number(done: &Value, last: &Value) -> Option<Value>
 /// What comes behind a turn over a range.
 pub fn following<'a>(
     place: &'a PlaceDecl,
-    done: &Value,
+    done: Value,
     last: Value,
     inclusive: bool,
     body: &'a Vec<Stmt>,
@@ -181,12 +186,12 @@ pub fn following<'a>(
 ) -> Step<'a>
     ensures on { (p : RustProgram) (a : SpecAnswer) →
         StepOf p (with_waiting (Counted (declared_of (types_of p.types) place.now)
-        (limit inclusive (int_of last)) (int_of done.now +ℤ pos 1)
+        (limit inclusive (int_of last)) (int_of done +ℤ pos 1)
         (stmts_of (types_of p.types) body.now.items)) (run_of p (Comes (On a)) rest.now)) result
         rest.now }
     ensures continued { (p : RustProgram) (by : ℕ) → StepOf p
         (with_waiting (Counted (declared_of (types_of p.types) place.now)
-        (limit inclusive (int_of last)) (int_of done.now +ℤ pos 1)
+        (limit inclusive (int_of last)) (int_of done +ℤ pos 1)
         (stmts_of (types_of p.types) body.now.items)) (run_of p (Comes (Out (Continued by))) rest.now))
         result rest.now }
 {
@@ -198,7 +203,10 @@ pub fn following<'a>(
             inclusive,
             body,
         }))),
-        None => Step::Goes(gives(Value::Number(0))),
+        None => {
+            drop(last);
+            Step::Goes(gives(Value::Number(0)))
+        }
     }
 }
 
@@ -206,7 +214,7 @@ pub fn following<'a>(
 pub fn counted<'a>(
     way: Way,
     place: &'a PlaceDecl,
-    done: &Value,
+    done: Value,
     last: Value,
     inclusive: bool,
     body: &'a Vec<Stmt>,
@@ -214,13 +222,21 @@ pub fn counted<'a>(
 ) -> Step<'a>
     ensures { (p : RustProgram) → StepOf p (with_waiting
         (Counted (declared_of (types_of p.types) place.now) (limit inclusive (int_of last))
-        (int_of done.now +ℤ pos 1) (stmts_of (types_of p.types) body.now.items))
+        (int_of done +ℤ pos 1) (stmts_of (types_of p.types) body.now.items))
         (run_of p (Comes (Out (way_of way))) rest.now)) result rest.now }
 {
     match way {
-        Way::Broke(_) => Step::Goes(gives(Value::Number(0))),
+        Way::Broke(_) => {
+            drop(done);
+            drop(last);
+            Step::Goes(gives(Value::Number(0)))
+        }
         Way::Continued(_) => following(place, done, last, inclusive, body, rest),
-        Way::Returned(by) => Step::Goes(goes(Now::Leave(Way::Returned(by)))),
+        Way::Returned(by) => {
+            drop(done);
+            drop(last);
+            Step::Goes(goes(Now::Leave(Way::Returned(by))))
+        }
     }
 }
 
@@ -238,10 +254,18 @@ pub fn each_over<'a>(
         (run_of p (Comes (On (answer_of answer))) rest.now)) step rest.now) }
 {
     let aim = aim_in(alloc, answer);
-    match find(alloc, &rest.frames, &aim)? {
-        None => Ok(Step::Traps(Trap::IndexOutOfBounds)),
-        Some(location) => {
+    match find(alloc, &rest.frames, &aim) {
+        Err(stop) => {
+            drop(aim);
+            Err(stop)
+        }
+        Ok(None) => {
+            drop(aim);
+            Ok(Step::Traps(Trap::IndexOutOfBounds))
+        }
+        Ok(Some(location)) => {
             let len = length_at(&rest.frames, &location);
+            drop(location);
             Ok(Step::Goes(goes(Now::Loop(Loop::Each {
                 place,
                 aim,
@@ -274,18 +298,32 @@ fn each<'a>(
         (stmts_of (types_of p.types) body.now.items)) rest.old) step rest.new) }
 {
     if is_same(next, len) {
+        drop(aim);
         return Ok(Step::Goes(gives(Value::Number(0))));
     }
     let Some(following) = next.checked_add(1) else {
+        drop(aim);
         return Err(Memory);
     };
-    let Some(location) = find(alloc, &rest.frames, &aim)? else {
-        return Ok(Step::Traps(Trap::IndexOutOfBounds));
+    let location = match find(alloc, &rest.frames, &aim) {
+        Err(stop) => {
+            drop(aim);
+            return Err(stop);
+        }
+        Ok(None) => {
+            drop(aim);
+            return Ok(Step::Traps(Trap::IndexOutOfBounds));
+        }
+        Ok(Some(location)) => location,
     };
     if !is_same(length_at(&rest.frames, &location), len) {
+        drop(location);
+        drop(aim);
         return Ok(Step::Traps(Trap::LengthChanged));
     }
     if rest.units == 0 {
+        drop(location);
+        drop(aim);
         return Ok(Step::Waits);
     }
     let v = load_part(alloc, &rest.frames, location, next)?;
@@ -322,7 +360,10 @@ pub fn each_turned<'a>(
         (run_of p (Comes (Out (way_of way))) rest.now)) result rest.now }
 {
     match way {
-        Way::Broke(_) => Step::Goes(gives(Value::Number(0))),
+        Way::Broke(_) => {
+            drop(aim);
+            Step::Goes(gives(Value::Number(0)))
+        }
         Way::Continued(_) => Step::Goes(goes(Now::Loop(Loop::Each {
             place,
             aim,
@@ -330,7 +371,10 @@ pub fn each_turned<'a>(
             next,
             body,
         }))),
-        Way::Returned(by) => Step::Goes(goes(Now::Leave(Way::Returned(by)))),
+        Way::Returned(by) => {
+            drop(aim);
+            Step::Goes(goes(Now::Leave(Way::Returned(by))))
+        }
     }
 }
 

@@ -18,10 +18,10 @@ returns-in-None c =
     let world = world_of r.frames.items in
     let todo = stack_of ts r.todo.items in
     let a = answer_of c.args.answer in
-    moves.adds_stops program todo at r.units world a (aim_of c.args.aim.now) (sym c.in_ok-find.ensures ∙ ap (option_map location_of) c.in-None.is)
+    moves.adds_stops program todo at r.units world a (aim_of c.args.aim) (sym c.in_ok-look_up.ensures ∙ ap (option_map location_of) c.in-None.is)
 
-pub returns : goal.returns
-returns c =
+pub returns-in-Some : goal.returns-in-Some
+returns-in-Some c =
     λ p.
     let r = c.args.rest.now in
     let ts = types_of p.types in
@@ -30,6 +30,6 @@ returns c =
     let world = world_of r.frames.items in
     let todo = stack_of ts r.todo.items in
     let a = answer_of c.args.answer in
-    let location = location_of c.in-Some.field-0 in
+    let location = location_of c.in-Some.location in
     opens_as program ts _ _ r (Comes (Out (Broke 0))) c.gives.result _ refl (c.gives.ensures ts)
-    (moves.adds_goes program todo at r.units world a (aim_of c.args.aim.now) location (sym c.in_ok-find.ensures ∙ ap (option_map location_of) c.in-Some.is))
+    (moves.adds_goes program todo at r.units world a (aim_of c.args.aim) location (sym c.in_ok-look_up.ensures ∙ ap (option_map location_of) c.in-Some.is))

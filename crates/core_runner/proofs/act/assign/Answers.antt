@@ -19,7 +19,7 @@ returns-in-None c =
     let world = world_of r.frames.items in
     let todo = stack_of ts r.todo.items in
     let a = answer_of c.args.answer in
-    moves.assigns_stops program todo at r.units world a (aim_of c.args.aim.now) (sym c.in_ok-find.ensures ∙ ap (option_map location_of) c.in-None.is)
+    moves.assigns_stops program todo at r.units world a (aim_of c.args.aim) (sym c.in_ok-look_up.ensures ∙ ap (option_map location_of) c.in-None.is)
 
 pub returns-in-Some : goal.returns-in-Some
 returns-in-Some c =
@@ -32,5 +32,5 @@ returns-in-Some c =
     let todo = stack_of ts r.todo.items in
     let a = answer_of c.args.answer in
     let location = location_of c.in-Some.location in
-    opens_in program ts _ r todo (Comes (Out (Broke 0))) c.gives.result _ _ _ (c.gives.ensures ts) (c.store.ensures ∙ ap (store world location) c.value_in.ensures)
-    (moves.assigns_goes program todo at r.units world a (aim_of c.args.aim.now) location (sym c.in_ok-find.ensures ∙ ap (option_map location_of) c.in-Some.is))
+    opens_in program ts _ r todo (Comes (Out (Broke 0))) c.gives.result _ _ _ (c.gives.ensures ts) (c.store.ensures ∙ ap (store world location) c.value_in-v.ensures)
+    (moves.assigns_goes program todo at r.units world a (aim_of c.args.aim) location (sym c.in_ok-look_up.ensures ∙ ap (option_map location_of) c.in-Some.is))

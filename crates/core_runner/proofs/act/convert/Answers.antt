@@ -42,7 +42,7 @@ returns-in-Ok c =
     let values = c.in-Some.values in
     let e : within values (number_of (Rattle.core_runner.specs.Left.value_given a)) ≡ Fine z =
     sym (ap (within values)
-    (to_z-of_z w32 c.number.result (record { sfits = c.number.type_inv }) ∙ c.number.ensures ∙ ap number_of c.value_in-in-Some.ensures)) ∙
+    (to_z-of_z w32 c.number_given.result (record { sfits = c.number_given.type_inv }) ∙ c.number_given.ensures)) ∙
     sym c.one_of.ensures ∙ ap checked_of c.in-Ok.is in
     opens_as program ts _ _ r (Comes (Out (Broke 0))) c.gives-in-Ok.result _ refl
     (c.gives-in-Ok.ensures ts ∙ ap (λ n. gives (Number n)) (to_z-of_z w32 z (record { sfits = search (rules, c.one_of.type_inv, c.in-Ok.is) })))

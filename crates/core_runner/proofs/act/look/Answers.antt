@@ -20,10 +20,10 @@ returns-in-None c =
     let todo = stack_of ts r.todo.items in
     let a = answer_of c.args.answer in
     moves.looks_stops program todo at r.units world a
-    (sym (c.in_ok-find.ensures ∙ ap (located world) c.aim_in.ensures) ∙ ap (option_map location_of) c.in-None.is)
+    (sym (c.in_ok-look_up.ensures ∙ ap (located world) c.aim_in.ensures) ∙ ap (option_map location_of) c.in-None.is)
 
-pub returns : goal.returns
-returns c =
+pub returns-in-Some : goal.returns-in-Some
+returns-in-Some c =
     λ p.
     let r = c.args.rest.now in
     let ts = types_of p.types in
@@ -32,7 +32,7 @@ returns c =
     let world = world_of r.frames.items in
     let todo = stack_of ts r.todo.items in
     let a = answer_of c.args.answer in
-    let location = location_of c.in-Some.field-0 in
+    let location = location_of c.in-Some.location in
     opens_as program ts _ _ r (Comes (Out (Broke 0))) c.gives.result _ refl (c.gives.ensures ts)
     (moves.looks_goes program todo at r.units world a location
-    (sym (c.in_ok-find.ensures ∙ ap (located world) c.aim_in.ensures) ∙ ap (option_map location_of) c.in-Some.is))
+    (sym (c.in_ok-look_up.ensures ∙ ap (located world) c.aim_in.ensures) ∙ ap (option_map location_of) c.in-Some.is))

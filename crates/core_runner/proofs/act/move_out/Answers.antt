@@ -1,6 +1,5 @@
 use Rattle.std.proofs.Common.{◌∙◌, ap, sym}
 use Rattle.std.specs.Prelude.{option_map}
-use Rattle.nim_core.specs.State.{store}
 use Rattle.nim_core.specs.Acts.{Out, Broke}
 use Rattle.nim_types.specs.Table.{type_at}
 use Rattle.core_runner.specs.Table.{types_of}
@@ -23,10 +22,10 @@ returns-in-None c =
     let todo = stack_of ts r.todo.items in
     let a = answer_of c.args.answer in
     moves.moves_stops program todo at r.units world a (type_at ts c.args.ty)
-    (sym (c.in_ok-find.ensures ∙ ap (located world) c.aim_in.ensures) ∙ ap (option_map location_of) c.in-None.is)
+    (sym (c.in_ok-look_up.ensures ∙ ap (located world) c.aim_in.ensures) ∙ ap (option_map location_of) c.in-None.is)
 
-pub returns : goal.returns
-returns c =
+pub returns-in_ok-v-in-Some : goal.returns-in_ok-v-in-Some
+returns-in_ok-v-in-Some c =
     let p = c.args.program.now in
     let r = c.args.rest.now in
     let ts = types_of p.types in
@@ -37,7 +36,7 @@ returns c =
     let a = answer_of c.args.answer in
     let location = location_of c.in-Some.location in
     let ty = type_at ts c.args.ty in
-    opens_in program ts _ r todo (Comes (Out (Broke 0))) c.gives.result _ _ _ (c.gives.ensures ts ∙ ap gives c.in_ok-v-in-Some.ensures)
-    (c.store.ensures ∙ ap (store world location) c.in_ok-blank-in-Some.ensures)
+    opens_in program ts _ r todo (Comes (Out (Broke 0))) c.gives.result _ _ _ (c.gives.ensures ts ∙ ap gives c.in_ok-v-in-Some.ensures.value)
+    c.in_ok-v-in-Some.ensures.blank
     (moves.moves_goes program todo at r.units world a ty location
-    (sym (c.in_ok-find.ensures ∙ ap (located world) c.aim_in.ensures) ∙ ap (option_map location_of) c.in-Some.is))
+    (sym (c.in_ok-look_up.ensures ∙ ap (located world) c.aim_in.ensures) ∙ ap (option_map location_of) c.in-Some.is))

@@ -22,11 +22,11 @@ returns-in-Ok c =
     let world = world_of r.frames.items in
     let todo = stack_of ts r.todo.items in
     let a = answer_of c.args.answer in
-    let x = value_of c.args.left.now in
+    let x = value_of c.args.left in
     let z = c.in-Ok.z in
     let e : applied c.args.operator (number_of x) (number_of (Rattle.core_runner.specs.Left.value_given a)) ≡ Fine z =
-    sym (ap₂ (applied c.args.operator) (to_z-of_z w32 c.number.result (record { sfits = c.number.type_inv }) ∙ c.number.ensures)
-    (to_z-of_z w32 c.number-2.result (record { sfits = c.number-2.type_inv }) ∙ c.number-2.ensures ∙ ap number_of c.value_in.ensures)) ∙
+    sym (ap₂ (applied c.args.operator) (to_z-of_z w32 c.number-x.result (record { sfits = c.number-x.type_inv }) ∙ c.number-x.ensures)
+    (to_z-of_z w32 c.number_given.result (record { sfits = c.number_given.type_inv }) ∙ c.number_given.ensures)) ∙
     sym c.calculate.ensures ∙ ap checked_of c.in-Ok.is in
     opens_as program ts _ _ r (Comes (Out (Broke 0))) c.gives.result _ refl
     (c.gives.ensures ts ∙ ap (λ n. gives (Number n)) (to_z-of_z w32 z (record { sfits = search (rules, c.calculate.type_inv, c.in-Ok.is) })))

@@ -1,7 +1,6 @@
 use Rattle.std.proofs.Common.{◌∙◌, ap, sym, subst, w32}
 use Rattle.std.proofs.lemmas.Int.{to_z-of_z}
 use Rattle.std.specs.Prelude.{option_map}
-use Rattle.nim_core.specs.Values.{number_of}
 use Rattle.nim_core.specs.Acts.{Out, Broke}
 use Rattle.core_runner.specs.Table.{types_of}
 use Rattle.core_runner.specs.Left.{Comes, number_given}
@@ -22,8 +21,8 @@ returns-in-None c =
     let world = world_of r.frames.items in
     let todo = stack_of ts r.todo.items in
     let a = answer_of c.args.answer in
-    moves.steps_stops program todo at r.units world a c.args.operator (aim_of c.args.aim.now)
-    (sym c.in_ok-find.ensures ∙ ap (option_map location_of) c.in-None.is)
+    moves.steps_stops program todo at r.units world a c.args.operator (aim_of c.args.aim)
+    (sym c.in_ok-look_up.ensures ∙ ap (option_map location_of) c.in-None.is)
 
 pub returns-in-Some-change : goal.returns-in-Some-change
 returns-in-Some-change c =
@@ -40,13 +39,13 @@ returns-in-Some-change c =
     let after = world_of c.change.new.frames.items in
     let changes =
     subst (λ y. Changes op world location y c.change.result after)
-    (to_z-of_z w32 c.number.result (record { sfits = c.number.type_inv }) ∙ c.number.ensures ∙ ap number_of c.value_in.ensures) c.change.ensures in
-    moves.steps_traps program todo at r.units world a op (aim_of c.args.aim.now) location (trap_of c.in-Some-change.trap)
-    (sym c.in_ok-find.ensures ∙ ap (option_map location_of) c.in-Some.is)
+    (to_z-of_z w32 c.number_given-y.result (record { sfits = c.number_given-y.type_inv }) ∙ c.number_given-y.ensures) c.change.ensures in
+    moves.steps_traps program todo at r.units world a op (aim_of c.args.aim) location (trap_of c.in-Some-change.trap)
+    (sym c.in_ok-look_up.ensures ∙ ap (option_map location_of) c.in-Some.is)
     (subst (λ o. Changes op world location (number_given a) o after) c.in-Some-change.is changes)
 
-pub returns : goal.returns
-returns c =
+pub returns-in-None-change : goal.returns-in-None-change
+returns-in-None-change c =
     λ p.
     let r = c.args.rest.now in
     let ts = types_of p.types in
@@ -60,9 +59,9 @@ returns c =
     let after = world_of c.change.new.frames.items in
     let changes =
     subst (λ y. Changes op world location y c.change.result after)
-    (to_z-of_z w32 c.number.result (record { sfits = c.number.type_inv }) ∙ c.number.ensures ∙ ap number_of c.value_in.ensures) c.change.ensures in
+    (to_z-of_z w32 c.number_given-y.result (record { sfits = c.number_given-y.type_inv }) ∙ c.number_given-y.ensures) c.change.ensures in
     let changed : Changed op world location (number_given a) after =
     subst (λ o. Changes op world location (number_given a) o after) c.in-None-change.is changes in
     opens_in program ts _ r todo (Comes (Out (Broke 0))) c.gives.result _ _ _ (c.gives.ensures ts) changed.stored
-    (moves.steps_goes program todo at r.units world a op (aim_of c.args.aim.now) location changed.number
-    (sym c.in_ok-find.ensures ∙ ap (option_map location_of) c.in-Some.is) changed.fine)
+    (moves.steps_goes program todo at r.units world a op (aim_of c.args.aim) location changed.number
+    (sym c.in_ok-look_up.ensures ∙ ap (option_map location_of) c.in-Some.is) changed.fine)

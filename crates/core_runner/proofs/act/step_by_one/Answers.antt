@@ -22,7 +22,7 @@ returns-in-None c =
     let todo = stack_of ts r.todo.items in
     let a = answer_of c.args.answer in
     moves.ones_stops program todo at r.units world a c.args.operator
-    (sym (c.in_ok-find.ensures ∙ ap (located world) c.aim_in.ensures) ∙ ap (option_map location_of) c.in-None.is)
+    (sym (c.in_ok-look_up.ensures ∙ ap (located world) c.aim_in.ensures) ∙ ap (option_map location_of) c.in-None.is)
 
 pub returns-in-Some-change : goal.returns-in-Some-change
 returns-in-Some-change c =
@@ -39,11 +39,11 @@ returns-in-Some-change c =
     let after = world_of c.change.new.frames.items in
     let changes = subst (λ y. Changes op world location y c.change.result after) refl c.change.ensures in
     moves.ones_traps program todo at r.units world a op location (trap_of c.in-Some-change.trap)
-    (sym (c.in_ok-find.ensures ∙ ap (located world) c.aim_in.ensures) ∙ ap (option_map location_of) c.in-Some.is)
+    (sym (c.in_ok-look_up.ensures ∙ ap (located world) c.aim_in.ensures) ∙ ap (option_map location_of) c.in-Some.is)
     (subst (λ o. Changes op world location (pos 1) o after) c.in-Some-change.is changes)
 
-pub returns : goal.returns
-returns c =
+pub returns-in-None-change : goal.returns-in-None-change
+returns-in-None-change c =
     λ p.
     let r = c.args.rest.now in
     let ts = types_of p.types in
@@ -59,4 +59,4 @@ returns c =
     let changed : Changed op world location (pos 1) after = subst (λ o. Changes op world location (pos 1) o after) c.in-None-change.is changes in
     opens_in program ts _ r todo (Comes (Out (Broke 0))) c.gives.result _ _ _ (c.gives.ensures ts) changed.stored
     (moves.ones_goes program todo at r.units world a op location changed.number
-    (sym (c.in_ok-find.ensures ∙ ap (located world) c.aim_in.ensures) ∙ ap (option_map location_of) c.in-Some.is) changed.fine)
+    (sym (c.in_ok-look_up.ensures ∙ ap (located world) c.aim_in.ensures) ∙ ap (option_map location_of) c.in-Some.is) changed.fine)

@@ -25,7 +25,7 @@ returns-in-Ok c =
     let z = c.in-Ok.z in
     let e : applied_to c.args.operator (number_of (Rattle.core_runner.specs.Left.value_given a)) ≡ Fine z =
     sym (ap (applied_to c.args.operator)
-    (to_z-of_z w32 c.number.result (record { sfits = c.number.type_inv }) ∙ c.number.ensures ∙ ap number_of c.value_in.ensures)) ∙ sym c.apply.ensures ∙
+    (to_z-of_z w32 c.number_given.result (record { sfits = c.number_given.type_inv }) ∙ c.number_given.ensures)) ∙ sym c.apply.ensures ∙
     ap checked_of c.in-Ok.is in
     opens_as program ts _ _ r (Comes (Out (Broke 0))) c.gives.result _ refl
     (c.gives.ensures ts ∙ ap (λ n. gives (Number n)) (to_z-of_z w32 z (record { sfits = search (rules, c.apply.type_inv, c.in-Ok.is) })))

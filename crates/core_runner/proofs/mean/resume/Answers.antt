@@ -1,13 +1,11 @@
 use Rattle.std.proofs.Common.{ap}
 use Rattle.nim_core.specs.Acts.{On, Out, Broke}
-use Rattle.nim_core.specs.View.{expr_of, stmts_of, declared_of}
 use Rattle.core_runner.specs.Table.{types_of}
 use Rattle.core_runner.specs.Left.{Comes}
-use Rattle.core_runner.specs.View.{program_of, run_of, follow_of, todo_of, answer_of, aim_of, caller_of, stack_of}
+use Rattle.core_runner.specs.View.{program_of, run_of, follow_of, todo_of, answer_of, caller_of, stack_of}
 use Rattle.core_runner.specs.View.{world_of, with_waiting}
 use Rattle.core_runner.proofs.Arrive.{opens_as, stepped_as}
 use Rattle.core_runner.proofs.Following.{follow_goes}
-use Rattle.core_runner.proofs.Turning as turning
 use Rattle.core_runner.proofs.mean.resume.Goals as goal
 
 pub returns-in_ok-follow-in-Follow : goal.returns-in_ok-follow-in-Follow
@@ -73,33 +71,5 @@ returns-in-Assign c =
     let a = answer_of c.args.answer in
     stepped_as program ts _ _ c.assign.result _ (ap (λ t. with_waiting (todo_of ts t) (run_of p (Comes (On a)) r)) c.in-Assign.is) (c.assign.ensures p)
 
-pub returns-in-Turned : goal.returns-in-Turned
-returns-in-Turned c =
-    let p = c.args.program.now in
-    let r = c.args.rest.now in
-    let ts = types_of p.types in
-    let program = program_of p in
-    let at = caller_of ts r.at in
-    let world = world_of r.frames.items in
-    let todo = stack_of ts r.todo.items in
-    let a = answer_of c.args.answer in
-    let given = c.in-Turned in
-    opens_as program ts _ _ r (Comes (Out (Broke 0))) c.goes-in-Turned.result _ (ap (λ t. with_waiting (todo_of ts t) (run_of p (Comes (On a)) r)) c.in-Turned.is)
-    (c.goes-in-Turned.ensures ts)
-    (turning.turned_on program todo at r.units world (expr_of ts given.condition.now) (stmts_of ts given.body.now.items) a)
-
-pub returns-in-EachTurned : goal.returns-in-EachTurned
-returns-in-EachTurned c =
-    let p = c.args.program.now in
-    let r = c.args.rest.now in
-    let ts = types_of p.types in
-    let program = program_of p in
-    let at = caller_of ts r.at in
-    let world = world_of r.frames.items in
-    let todo = stack_of ts r.todo.items in
-    let a = answer_of c.args.answer in
-    let given = c.in-EachTurned in
-    opens_as program ts _ _ r (Comes (Out (Broke 0))) c.goes-in-EachTurned.result _
-    (ap (λ t. with_waiting (todo_of ts t) (run_of p (Comes (On a)) r)) c.in-EachTurned.is) (c.goes-in-EachTurned.ensures ts)
-    (turning.each_turned_on program todo at (declared_of ts given.place.now) (stmts_of ts given.body.now.items)
-    (aim_of given.aim) given.len r.units world given.next a)
+pub returns-in_default : goal.returns-in_default
+returns-in_default c = c.behind.ensures c.args.program.now (answer_of c.args.answer)

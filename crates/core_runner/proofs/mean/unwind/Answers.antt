@@ -16,8 +16,8 @@ returns-in-EachTurned c =
     subst (λ t. StepOf p (with_waiting (todo_of ts t) (run_of p (Comes (Out (way_of c.args.way))) r)) c.each_turned.result r) (sym c.in-EachTurned.is)
     (c.each_turned.ensures p)
 
-pub returns : goal.returns
-returns c =
+pub returns-in_default : goal.returns-in_default
+returns-in_default c =
     λ p.
     let r = c.args.rest.now in
     let ts = types_of p.types in

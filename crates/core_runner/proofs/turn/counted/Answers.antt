@@ -21,7 +21,7 @@ returns-in-Broke c =
     let place = declared_of ts c.args.place.now in
     let body = stmts_of ts c.args.body.now.items in
     let last = limit c.args.inclusive (int_of c.args.last) in
-    let i = int_of c.args.done.now +ℤ pos 1 in
+    let i = int_of c.args.done +ℤ pos 1 in
     opens_as program ts _ _ r (Comes (Out (Broke 0))) c.gives.result _
     (ap (λ w. record { now = Comes (Out (way_of w)); todo = Counted place last i body ∷ todo; at = at; units = r.units; world = world }) c.in-Broke.is)
     (c.gives.ensures ts) (turning.counted_out program todo at place body last r.units world i (Broke c.in-Broke.field-0))
@@ -38,7 +38,7 @@ returns-in-Returned c =
     let place = declared_of ts c.args.place.now in
     let body = stmts_of ts c.args.body.now.items in
     let last = limit c.args.inclusive (int_of c.args.last) in
-    let i = int_of c.args.done.now +ℤ pos 1 in
+    let i = int_of c.args.done +ℤ pos 1 in
     opens_as program ts _ _ r (Comes (Out (Broke 0))) c.goes.result _
     (ap (λ w. record { now = Comes (Out (way_of w)); todo = Counted place last i body ∷ todo; at = at; units = r.units; world = world }) c.in-Returned.is)
     (c.goes.ensures ts) (turning.counted_out program todo at place body last r.units world i (Returned c.in-Returned.by))

@@ -11,8 +11,8 @@ use Rattle.core_runner.proofs.Arrive.{opens_as}
 use Rattle.core_runner.proofs.Turning as turning
 use Rattle.core_runner.proofs.turn.each_over.Goals as goal
 
-pub returns-in-None : goal.returns-in-None
-returns-in-None c =
+pub returns-in-Ok-None : goal.returns-in-Ok-None
+returns-in-Ok-None c =
     λ p.
     let r = c.args.rest.now in
     let ts = types_of p.types in
@@ -24,10 +24,10 @@ returns-in-None c =
     let body = stmts_of ts c.args.body.now.items in
     let a = answer_of c.args.answer in
     turning.over_stops program todo at r.units world place body a
-    (sym (c.in_ok-find.ensures ∙ ap (located world) c.aim_in-aim.ensures) ∙ ap (option_map location_of) c.in-None.is)
+    (sym (c.in-Ok-None.ensures ∙ ap (located world) c.aim_in-aim.ensures) ∙ ap (option_map location_of) c.in-Ok-None.field-0-is)
 
-pub returns : goal.returns
-returns c =
+pub returns-in-Ok-Some : goal.returns-in-Ok-Some
+returns-in-Ok-Some c =
     λ p.
     let r = c.args.rest.now in
     let ts = types_of p.types in
@@ -38,8 +38,8 @@ returns c =
     let place = declared_of ts c.args.place.now in
     let body = stmts_of ts c.args.body.now.items in
     let a = answer_of c.args.answer in
-    let location = location_of c.in-Some.location in
+    let location = location_of c.in-Ok-Some.location in
     opens_as program ts _ _ r (Comes (Out (Broke 0))) c.goes.result _ refl
     (c.goes.ensures ts ∙ ap₂ (λ m n. goes (Eachs place m n 0 body)) c.aim_in-aim.ensures c.length_at-len.ensures)
     (turning.over_goes program todo at r.units world place body a location
-    (sym (c.in_ok-find.ensures ∙ ap (located world) c.aim_in-aim.ensures) ∙ ap (option_map location_of) c.in-Some.is))
+    (sym (c.in-Ok-Some.ensures ∙ ap (located world) c.aim_in-aim.ensures) ∙ ap (option_map location_of) c.in-Ok-Some.field-0-is))

@@ -24,7 +24,7 @@ returns-in-Some-clause-on c =
     let body = stmts_of ts c.args.body.now.items in
     let last = limit c.args.inclusive (int_of c.args.last) in
     opens_as program ts _ _ r (Comes (Out (Broke 0))) c.goes.result _ refl (c.goes.ensures ts ∙ ap (λ n. goes (Counts place last n body)) c.in-Some.ensures.some)
-    (turning.counted_on program todo at place body last r.units world (int_of c.args.done.now +ℤ pos 1) a)
+    (turning.counted_on program todo at place body last r.units world (int_of c.args.done +ℤ pos 1) a)
 
 pub returns-in-Some-clause-continued : goal.returns-in-Some-clause-continued
 returns-in-Some-clause-continued c =
@@ -39,10 +39,10 @@ returns-in-Some-clause-continued c =
     let body = stmts_of ts c.args.body.now.items in
     let last = limit c.args.inclusive (int_of c.args.last) in
     opens_as program ts _ _ r (Comes (Out (Broke 0))) c.goes.result _ refl (c.goes.ensures ts ∙ ap (λ n. goes (Counts place last n body)) c.in-Some.ensures.some)
-    (turning.counted_out program todo at place body last r.units world (int_of c.args.done.now +ℤ pos 1) (Continued by))
+    (turning.counted_out program todo at place body last r.units world (int_of c.args.done +ℤ pos 1) (Continued by))
 
-pub returns-clause-on : goal.returns-clause-on
-returns-clause-on c =
+pub returns-in-None-clause-on : goal.returns-in-None-clause-on
+returns-in-None-clause-on c =
     λ p a.
     let r = c.args.rest.now in
     let ts = types_of p.types in
@@ -53,13 +53,13 @@ returns-clause-on c =
     let place = declared_of ts c.args.place.now in
     let body = stmts_of ts c.args.body.now.items in
     let last = limit c.args.inclusive (int_of c.args.last) in
-    let i = int_of c.args.done.now +ℤ pos 1 in
+    let i = int_of c.args.done +ℤ pos 1 in
     opens_as program ts _ _ r (Comes (Out (Broke 0))) c.gives.result _ refl (c.gives.ensures ts)
     (goes_on program _ _ _ (turning.counted_on program todo at place body last r.units world i a)
     (turning.counts_ends program todo at place body last r.units world i (past c.args.inclusive i (int_of c.args.last) c.in-None.ensures.none)))
 
-pub returns-clause-continued : goal.returns-clause-continued
-returns-clause-continued c =
+pub returns-in-None-clause-continued : goal.returns-in-None-clause-continued
+returns-in-None-clause-continued c =
     λ p by.
     let r = c.args.rest.now in
     let ts = types_of p.types in
@@ -70,7 +70,7 @@ returns-clause-continued c =
     let place = declared_of ts c.args.place.now in
     let body = stmts_of ts c.args.body.now.items in
     let last = limit c.args.inclusive (int_of c.args.last) in
-    let i = int_of c.args.done.now +ℤ pos 1 in
+    let i = int_of c.args.done +ℤ pos 1 in
     opens_as program ts _ _ r (Comes (Out (Broke 0))) c.gives.result _ refl (c.gives.ensures ts)
     (goes_on program _ _ _ (turning.counted_out program todo at place body last r.units world i (Continued by))
     (turning.counts_ends program todo at place body last r.units world i (past c.args.inclusive i (int_of c.args.last) c.in-None.ensures.none)))
