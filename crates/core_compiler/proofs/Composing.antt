@@ -22,7 +22,8 @@ use Rattle.owned_code.specs.Owning.{IsOwned}
 use Rattle.goto_exceptions.specs.Branches.{IsBranched}
 use Rattle.reg_scan.specs.declared.homes.Homes.{Homes}
 use Rattle.rv32_codegen.specs.Layout.{DoesCode, IsFault}
-use Rattle.rv32_codegen.specs.Lowering.{AlwaysDoes, CanRun}
+use Rattle.rv32_codegen.specs.Lowering.{AllHomes, AlwaysDoes, CanRun}
+use Rattle.rv32_codegen.specs.Stack.{stack_need}
 use Rattle.word_lowering.specs.Lowers.{Lowers}
 use Rattle.core_compiler.specs.Compile.{live_objects, DoesProgram}
 use Rattle.rv32_codegen.specs.Lowering.{most_bytes}
@@ -113,9 +114,16 @@ module _ (law : AgreesLaw) (pace : PaceLaw) where
         let upper = does live_objects laid.0 heap image.stack input (λ s t e f. refl) laid.1 can sound in
         pace 2 32 1 1 _ _ _ (omega arith) (laid.2 input (sound_low upper.agrees)).1 upper.paced
 
-    pub image_of_code : image.heap ≡ heap → length image.code ≤ most_bytes words.procs → (have_no_hooks words.procs ≡ true → image.hooks ≡ []) →
-        IsImageOf words heap image
-    image_of_code same few hooks = record { agrees = image_agrees; paced = image_paced; heap_is = same; code = few; hooks = hooks }
+    pub image_of_code : image.heap ≡ heap → AllHomes words.procs homes → image.stack ≡ stack_need words.procs homes →
+        length image.code ≤ most_bytes words.procs → (have_no_hooks words.procs ≡ true → image.hooks ≡ []) → IsImageOf words heap image
+    image_of_code same all need few hooks = record {
+      agrees = image_agrees;
+      paced = image_paced;
+      heap_is = same;
+      stack = (homes, all, need);
+      code = few;
+      hooks = hooks;
+    }
 
   -- ---- the whole
 

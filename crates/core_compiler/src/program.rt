@@ -6,7 +6,7 @@ ghost use Rattle.rv32_isa.specs.Image.{image_of};
 ghost use Rattle.mid_code.specs.declared.flat.Flat.{Flat as FlatCode};
 ghost use Rattle.expr_lowering.specs.Programs.{program_in};
 ghost use Rattle.word_lowering.specs.Stored.{HaveForms};
-ghost use Rattle.core_compiler.specs.Limits.{flat_limits, build_limits};
+ghost use Rattle.core_compiler.specs.Limits.{flat_limits, code_bound, build_limits};
 ghost use Rattle.core_compiler.specs.Compile.{DoesProgram};
 ghost use Rattle.core_compiler.specs.Stages.{IsFlatOf, AreWordsOf, too_large};
 
@@ -106,7 +106,8 @@ pub fn compile_core(alloc: Global, program: &Program, heap: u32) -> Result<Image
     requires { heap ≤ 16777216 }
     ensures answers { (code : ℕ) × Answers (λ (image : RustImage). tt)
         (build_limits code (program_in program.now)) result
-        × IfOk result (λ image. length image.code ≡ code) }
+        × IfOk result (λ image. (length image.code ≡ code)
+        × (code ≤ code_bound (program_in program.now))) }
     ensures does { IfOk result (λ image. DoesProgram (program_in program.now) heap (image_of image)) }
 {
     let flat = flat_within(alloc, program)?;

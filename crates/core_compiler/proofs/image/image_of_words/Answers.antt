@@ -46,7 +46,7 @@ returns-clause-is c =
       stack_least = omega (arith, same, need);
       stack_most = omega (arith, same, need, most);
     })
-    (ap (λ i. i.heap) is) (omega (arith, size, c.layouts.ensures.shorter lines, c.in_ok-lines.ensures.bytes))
+    (ap (λ i. i.heap) is) all (same ∙ need) (omega (arith, size, c.layouts.ensures.shorter lines, c.in_ok-lines.ensures.bytes))
     (λ none. ap (λ i. i.hooks) is ∙ c.layouts.ensures.unhooked lines c.as_slice-4.result.now heap c.in_ok-stack.stack (c.in_ok-lines.ensures.unhooked none)))
     c.lay_out.ensures.is c.lay_out.ensures.agrees c.lay_out.ensures.size
 

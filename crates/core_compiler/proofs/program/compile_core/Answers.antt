@@ -40,7 +40,11 @@ pub returns-in-Ok-clause-answers : goal.returns-in-Ok-clause-answers
 returns-in-Ok-clause-answers c =
     let program = program_in c.args.program.now in
     let image = c.in-Ok.image in
-    (length image.code, code_fits program (length image.code) c.in_ok-flat.ensures.answers image.code_most, refl)
+    let few : code_weight (map flat_placed c.in_ok-flat.flat.procs) ≤ 30 * program_parts program = c.in_ok-flat.ensures.flat.weight in
+    let weighs : word_weight c.in_ok-words.words.procs ≤ code_weight (map flat_placed c.in_ok-flat.flat.procs) + 100 = c.in_ok-words.ensures.weight in
+    let bound = bound_is program c.in_ok-flat.flat c.in_ok-words.words.procs few weighs in
+    let code = c.in-Ok.ensures.is.code in
+    (length image.code, code_fits program (length image.code) c.in_ok-flat.ensures.answers image.code_most, (refl, omega (arith, code, bound)))
 
 pub returns-in-Ok-clause-does : goal.returns-in-Ok-clause-does
 returns-in-Ok-clause-does c =
