@@ -195,17 +195,41 @@ def _is_step(expression: tree.Expression) -> bool:
     return is_field or isinstance(expression, tree.Index)
 
 
+def has_only_written_texts(program: Program) -> bool:
+    """Whether it has no sequences, and texts only as literals that `echo` writes: no variable has a text in it, no
+    constant, and no value."""
+    if any(form.kind == 'seq' for form in program.types.forms):
+        return False
+    heads = [type_number for procedure in program.procedures
+             for type_number in [*procedure.parameters, procedure.result_type]]
+    if any(program.types.has_text(type_number) for type_number in heads):
+        return False
+    echoed = set()
+    for node in tree.walk(program.statements):
+        if isinstance(node, tree.Call) and isinstance(node.meaning, BuiltInCall) and node.meaning.name == 'echo':
+            echoed.update(node.arguments)
+        elif isinstance(node, tree.Parentheses):
+            if node in echoed:
+                echoed.add(node.inner)
+        elif isinstance(node, (tree.Expression, tree.Definition)) and program.types.has_text(node.type):
+            if not (isinstance(node, tree.TextLiteral) and node in echoed):
+                return False
+    return True
+
+
 def answer(source: str) -> str:
-    """'0', or place and code of the refusal, as `1:5: E21`."""
+    """'0', or place and code of the refusal, as `1:5: E21`. A program that isn't built has no size."""
     try:
-        fault = frame_fault(check(source))
+        program = check(source)
     except Refusal as refusal:
         return str(refusal)
+    fault = frame_fault(program) if has_only_written_texts(program) else None
     return '0' if fault is None else '%d:%d: E21' % fault
 
 
 def main() -> None:
-    parser = argparse.ArgumentParser(description='Prints 0 for a program whose procedures can be called, else place and code.')
+    parser = argparse.ArgumentParser(
+        description='Prints 0 for a program whose procedures can be called or that is not built, else place and code.')
     parser.add_argument('file', type=argparse.FileType('rb'))
     source = parser.parse_args().file.read().decode('latin-1')
     sys.setrecursionlimit(RECURSION_LIMIT)

@@ -13,7 +13,7 @@ import sys
 from typing import List, NamedTuple, Optional
 
 import frames
-from check import answer, check
+from check import check
 from interp import run, with_deep_stack
 from rows import REPOSITORY, Row, files_of, read
 from scan import Refusal
@@ -45,7 +45,7 @@ def wanted_answer(row: Row, part: str) -> str:
 def typing_difference(row: Row) -> Optional[str]:
     """What differs in a row of the typing rules."""
     wanted = wanted_answer(row, 'check')
-    got = answer(row.parts['source'])
+    got = frames.answer(row.parts['source'])
     return None if wanted == got else 'wanted %s, got %s' % (wanted, got)
 
 

@@ -1,15 +1,16 @@
 -- From the stages of a command to what is said of its answer.
-use Rattle.std.proofs.Common.{◌≡◌, ℕ, List, [], ◌∷◌, ◌++◌, Some, None, Ok, inl, inr, refl, sym, ap, subst, ◌∙◌, append_assoc}
+use Rattle.std.proofs.Common.{◌≡◌, ℕ, List, [], ◌∷◌, ◌++◌, Ok, Err, inl, inr, refl, sym, ap, subst, ◌∙◌, append_assoc}
 use Rattle.arc_base.specs.FileCalls.{load, store}
 use Rattle.arc_base.specs.Outside.{Rose, KeepsOthers, Stores}
 use Rattle.arc_base.specs.declared.outside.Loaded.TheVariants as loaded
 use Rattle.arc_base.specs.declared.outside.Stream.TheVariants.{Out, Err}
 use Rattle.arc_base.specs.declared.place.Place.{Place}
 use Rattle.arc_base.specs.declared.place.Code.{Code}
-use Rattle.arc_base.specs.declared.place.Code.TheVariants.{LeftOut}
+use Rattle.arc_base.specs.declared.place.Stop.{Stop}
+use Rattle.arc_base.specs.declared.place.Stop.TheVariants as stop
+use Rattle.arc_base.specs.Refusal.{Answers}
 use Rattle.elf32.specs.Elf.{File}
 use Rattle.nim_core.specs.Program.{Program}
-use Rattle.nim_core.specs.LeftOut.{first_left_out}
 use Rattle.nim_core.specs.Meaning.{meaning}
 use Rattle.core_runner.specs.declared.mean.MeanEnd.{MeanEnd}
 use Rattle.core_runner.specs.declared.mean.MeanEnd.TheVariants as mean_end
@@ -24,13 +25,12 @@ use Rattle.source_compiler.specs.declared.compiler.NotCompiled.{NotCompiled}
 use Rattle.source_compiler.specs.declared.compiler.NotCompiled.TheVariants as why
 use Rattle.core_compiler.specs.Compile.{live_objects}
 use Rattle.source_compiler.specs.Source.{alone, Reads}
-use Rattle.core_compiler.specs.Limits.{unless_left_out}
-use Rattle.source_compiler.specs.Limits.{plain_limits}
+use Rattle.core_compiler.specs.Limits.{flat_limits}
 use Rattle.source_compiler.specs.Compile.{Compiled, IsNoProgram, by_limits, source_most, empty_plan, OnRefused}
 use Rattle.arc_top.specs.declared.answer.Answer.{Answer}
 use Rattle.arc_top.specs.declared.answer.Answer.TheVariants.{Done, Ended, Usage, NoFile, TooLong, Refused, BadElf, MachineFault, StepsSpent, ReadFault}
 use Rattle.arc_top.specs.declared.answer.Answer.TheVariants.{WriteFault, StoreFault, Memory}
-use Rattle.arc_top.specs.Answer.{OnQuiet}
+use Rattle.arc_top.specs.Answer.{OnQuiet, IsStopped}
 use Rattle.arc_top.specs.Loads.{FilesState, Gives, Wants}
 use Rattle.arc_top.specs.Runs.{HasRun, Does, answer_of}
 use Rattle.arc_top.specs.Stages.{StopsReading, IsRefusal, RunsOrWants, IsMeant}
@@ -81,6 +81,15 @@ turned_away limits main source P so (why.Refused code at) answer old new gives i
     subst (λ a. StopsReading limits main a old new) (sym is) (inr (source, gives, so code at said))
 turned_away limits main source P so why.Memory answer old new gives is said = inl (is, wants_behind main source source_most old new gives)
 
+-- a typed program that this command doesn't take
+pub limits_stop : {T : Type 0} (of : T → Unit {0}) (limits : Taking) (bytes : ℕ) (main source : List ℕ) (program : Program) (old new : FilesState)
+    → Gives old new main source_most source → Reads (alone main source) program → (s : Stop) (answer : Answer)
+    → Answers of (limits bytes program) (Err s) → IsStopped s answer → StopsReading limits main answer old new
+limits_stop of limits bytes main source program old new gives reads (stop.Refused code at) answer said is =
+    subst (λ a. StopsReading limits main a old new) (sym is)
+    (inr (source, gives, (bytes, record { within = gives.within; refused = by_limits program reads said })))
+limits_stop of limits bytes main source program old new gives reads stop.Memory answer said is = inl (is, wants_behind main source source_most old new gives)
+
 -- ---- runs
 
 abbrev has_run : (steps : ℕ) (image : Image) (e : RunEnd) (last : State) (before after : Streams) → Ran steps before (first_state image) e last after
@@ -121,17 +130,8 @@ module _ (sees : Sees) (shows : Shows) (main source : List ℕ) (heap steps : �
 
 -- ---- meanings
 
--- a form has no meaning yet
-pub left_down : (main source : List ℕ) (old new : FilesState) (program : Program) (at : Place) → Gives old new main source_most source
-    → Reads (alone main source) program → first_left_out program ≡ Some at → IsNoProgram plain_limits main source LeftOut at
-left_down main source old new program at gives reads e =
-    record { within = gives.within; refused = by_limits program reads (ap unless_left_out e) }
-
-pub none_left_out : (program : Program) → first_left_out program ≡ None → plain_limits program ≡ Ok tt
-none_left_out program e = ap unless_left_out e
-
 module _ (main source : List ℕ) (heap steps : ℕ) (program : Program) (old new : FilesState) (before after : Streams)
-    (gives : Gives old new main source_most source) (reads : Reads (alone main source) program) (built : plain_limits program ≡ Ok tt)
+    (gives : Gives old new main source_most source) (reads : Reads (alone main source) program) (taken : flat_limits program ≡ Ok tt)
     (same : after.input ≡ before.input) where
   abbrev Ends : MeanEnd → Type 0
   Ends e = (input : List ℕ) → Means (meaning program empty_plan heap input steps) e (told before.out after.out) (told before.err after.err)
@@ -142,7 +142,7 @@ module _ (main source : List ℕ) (heap steps : ℕ) (program : Program) (old ne
     gives = gives;
     program = program;
     reads = reads;
-    built = built;
+    taken = taken;
     end = e;
     means = means;
     answers = refl;
@@ -158,11 +158,11 @@ module _ (main source : List ℕ) (heap steps : ℕ) (program : Program) (old ne
   meaning_ended mean_end.Memory means = inr (means_so mean_end.Memory means)
 
 pub mean_told : (main source : List ℕ) (heap steps : ℕ) (program : Program) (old new : FilesState) (before after : Streams)
-    → Gives old new main source_most source → Reads (alone main source) program → plain_limits program ≡ Ok tt
+    → Gives old new main source_most source → Reads (alone main source) program → flat_limits program ≡ Ok tt
     → (answer : Answer) → IsMeant program heap steps answer before after → RunsMeaning main heap steps answer (world old before) (world new after)
-mean_told main source heap steps program old new before after gives reads built answer is =
+mean_told main source heap steps program old new before after gives reads taken answer is =
     subst (λ a. RunsMeaning main heap steps a (world old before) (world new after)) (sym is.answers)
-    (meaning_ended main source heap steps program old new before after gives reads built is.input is.end is.means)
+    (meaning_ended main source heap steps program old new before after gives reads taken is.input is.end is.means)
 
 -- ---- lines
 

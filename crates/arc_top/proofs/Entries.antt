@@ -92,6 +92,10 @@ named_mean main heap steps answer old new m =
 
 -- ---- entries
 
+-- by some number of bytes of code
+abbrev pub IsDueBy : Command → Option (List ℕ) → Answer → Type 0
+IsDueBy command entry answer = (code : ℕ) × IsDue command entry code answer
+
 on_entry : (held : Option Held) (name : List ℕ) (entry : Option (List ℕ)) (P : Option (List ℕ) → Type 0) → TellsEntry held name entry
     → OnEntry held name P → P entry
 on_entry None name entry P told h = absurd told
@@ -103,17 +107,17 @@ module _ (entry : Option (List ℕ)) (old new : FilesState) where
 
   due_stop : (command : Command) → ReadsSource command → most_of command ≡ source_most → TellsEntry old.held (file_of command) entry
       → (Rose old.load_faults new.load_faults → ⊥)
-      → (answer : Answer) → Stops (limits_of command) (file_of command) answer old new → IsDue command entry answer
+      → (answer : Answer) → Stops (limits_of command) (file_of command) answer old new → IsDueBy command entry answer
   due_stop command compiles most told fine Done stops = absurd stops
   due_stop command compiles most told fine (Ended status) stops = absurd stops
   due_stop command compiles most told fine Usage stops = absurd stops
   due_stop command compiles most told fine (NoFile name) stops =
-      subst (λ n. IsDue command entry (NoFile n)) (sym stops.0) (lacks (on_entry old.held (file_of command) entry (λ e. e ≡ None) told stops.1.told))
+      (0, subst (λ n. IsDue command entry 0 (NoFile n)) (sym stops.0) (lacks (on_entry old.held (file_of command) entry (λ e. e ≡ None) told stops.1.told)))
   due_stop command compiles most told fine (TooLong name) stops =
       let is = on_entry old.held (file_of command) entry (λ e. (bytes : List ℕ) × (e ≡ Some bytes) × (source_most < length bytes)) told stops.1.told in
-      subst (λ n. IsDue command entry (TooLong n)) (sym stops.0) (long is.0 is.1 (subst (λ n. n < length is.0) (sym most) is.2))
-  due_stop command compiles most told fine (Refused code at) stops = refused stops.0 code at stops.2.0 compiles
-      (given (file_of command) source_most stops.0 told stops.1) stops.2.1
+      (0, subst (λ n. IsDue command entry 0 (TooLong n)) (sym stops.0) (long is.0 is.1 (subst (λ n. n < length is.0) (sym most) is.2)))
+  due_stop command compiles most told fine (Refused why at) stops =
+      (stops.2.0, refused stops.0 why at compiles (given (file_of command) source_most stops.0 told stops.1) stops.2.1)
   due_stop command compiles most told fine (BadElf fault) stops = absurd stops
   due_stop command compiles most told fine (MachineFault kind pc word) stops = absurd stops
   due_stop command compiles most told fine (StepsSpent n) stops = absurd stops
@@ -130,33 +134,38 @@ is_program main heap steps answer old new ran =
 
 module _ (causes : CausesLaw) (entry : Option (List ℕ)) (old new : World) (fine : NothingFails old new) where
   due_program : (main : List ℕ) (heap steps : ℕ) (answer : Answer) → TellsEntry old.files.held main entry → IsCarriedOut (run main heap steps) answer
-      → RunsProgram main heap steps answer old new → IsDue (run main heap steps) entry answer
-  due_program main heap steps answer told done ran =
-      accepted ran.source answer (length ran.file.image.code) tt (given entry old.files new.files main source_most ran.source told ran.gives)
-      (is_program main heap steps answer old new ran) done
+      → RunsProgram main heap steps answer old new → IsDueBy (run main heap steps) entry answer
+  due_program main heap steps answer told done ran = (
+    length ran.file.image.code,
+    accepted ran.source answer tt (given entry old.files new.files main source_most ran.source told ran.gives)
+        (is_program main heap steps answer old new ran) done,
+  )
 
   due_meaning : (main : List ℕ) (heap steps : ℕ) (answer : Answer) → TellsEntry old.files.held main entry → IsCarriedOut (mean main heap steps) answer
-      → MeansProgram main heap steps answer old new → IsDue (mean main heap steps) entry answer
-  due_meaning main heap steps answer told done m =
-      accepted m.source answer 0 tt (given entry old.files new.files main source_most m.source told m.gives)
-      (record { within = m.gives.within; program = m.program; reads = m.reads; taken = m.built }) done
+      → MeansProgram main heap steps answer old new → IsDueBy (mean main heap steps) entry answer
+  due_meaning main heap steps answer told done m = (
+    0,
+    accepted m.source answer tt (given entry old.files new.files main source_most m.source told m.gives)
+        (record { within = m.gives.within; program = m.program; reads = m.reads; taken = m.taken }) done,
+  )
 
   due_file : (name : List ℕ) (steps : ℕ) (answer : Answer) → TellsEntry old.files.held name entry → IsCarriedOut (exec name steps) answer
-      → RunsFile name steps answer old new → IsDue (exec name steps) entry answer
+      → RunsFile name steps answer old new → IsDueBy (exec name steps) entry answer
   due_file name steps answer told done ran =
-      executed ran.bytes ran.file answer tt (given entry old.files new.files name file_most ran.bytes told ran.gives) ran.gives.within ran.elf done
+      (0, executed ran.bytes ran.file answer tt (given entry old.files new.files name file_most ran.bytes told ran.gives) ran.gives.within ran.elf done)
 
-  due_read : (main : List ℕ) (heap steps : ℕ) → Runs main heap steps ReadFault old new → IsDue (run main heap steps) entry ReadFault
+  due_read : (main : List ℕ) (heap steps : ℕ) → Runs main heap steps ReadFault old new → IsDueBy (run main heap steps) entry ReadFault
   due_read main heap steps (inl fails) = absurd (fine.loads fails.0.loads)
   due_read main heap steps (inr ran) = absurd (fine.streams.input (named causes steps ran.file.image ReadFault old.streams new.streams ran.ran))
 
-  due_exec_read : (name : List ℕ) (steps : ℕ) → Executes name steps ReadFault old new → IsDue (exec name steps) entry ReadFault
+  due_exec_read : (name : List ℕ) (steps : ℕ) → Executes name steps ReadFault old new → IsDueBy (exec name steps) entry ReadFault
   due_exec_read name steps (inl fails) = absurd (fine.loads fails.0.loads)
   due_exec_read name steps (inr ran) = absurd (fine.streams.input (named causes steps ran.file.image ReadFault old.streams new.streams ran.ran))
 
   pub due : (command : Command) (answer : Answer) → TellsEntry old.files.held (file_of command) entry → Answered command answer old new
-      → IsDue command entry answer
-  due (check main) Done told is = accepted is.0.0 Done 0 tt (given entry old.files new.files main source_most is.0.0 told is.0.1) is.0.2 tt
+      → IsDueBy command entry answer
+  due (check main) Done told is =
+      (is.0.2.code, accepted is.0.0 Done tt (given entry old.files new.files main source_most is.0.0 told is.0.1) is.0.2.program tt)
   due (check main) (Ended status) told is = due_stop entry old.files new.files (check main) tt refl told fine.loads (Ended status) is.0
   due (check main) Usage told is = due_stop entry old.files new.files (check main) tt refl told fine.loads Usage is.0
   due (check main) (NoFile name) told is = due_stop entry old.files new.files (check main) tt refl told fine.loads (NoFile name) is.0
@@ -170,9 +179,10 @@ module _ (causes : CausesLaw) (entry : Option (List ℕ)) (old new : World) (fin
   due (check main) (WriteFault Out) told is = due_stop entry old.files new.files (check main) tt refl told fine.loads (WriteFault Out) is.0
   due (check main) (WriteFault Err) told is = due_stop entry old.files new.files (check main) tt refl told fine.loads (WriteFault Err) is.0
   due (check main) StoreFault told is = due_stop entry old.files new.files (check main) tt refl told fine.loads StoreFault is.0
-  due (check main) Memory told is = wanting
-  due (build main out heap) Done told is = accepted is.0.0.source Done (length is.0.0.file.file.image.code) tt
-      (on_entry old.files.held main entry (λ e. e ≡ Some is.0.0.source) told is.0.0.told) is.0.0.program tt
+  due (check main) Memory told is = (0, wanting)
+  due (build main out heap) Done told is =
+      let found = on_entry old.files.held main entry (λ e. e ≡ Some is.0.0.source) told is.0.0.told in
+      (length is.0.0.file.file.image.code, accepted is.0.0.source Done tt found is.0.0.program tt)
   due (build main out heap) (Ended status) told is = due_stop entry old.files new.files (build main out heap) tt refl told fine.loads (Ended status) is.0
   due (build main out heap) Usage told is = due_stop entry old.files new.files (build main out heap) tt refl told fine.loads Usage is.0
   due (build main out heap) (NoFile name) told is = due_stop entry old.files new.files (build main out heap) tt refl told fine.loads (NoFile name) is.0
@@ -186,7 +196,7 @@ module _ (causes : CausesLaw) (entry : Option (List ℕ)) (old new : World) (fin
   due (build main out heap) (WriteFault Out) told is = due_stop entry old.files new.files (build main out heap) tt refl told fine.loads (WriteFault Out) is.0
   due (build main out heap) (WriteFault Err) told is = due_stop entry old.files new.files (build main out heap) tt refl told fine.loads (WriteFault Err) is.0
   due (build main out heap) StoreFault told is = absurd (fine.stores is.0.1)
-  due (build main out heap) Memory told is = wanting
+  due (build main out heap) Memory told is = (0, wanting)
   due (run main heap steps) Done told is = due_stop entry old.files new.files (run main heap steps) tt refl told fine.loads Done is.0
   due (run main heap steps) (Ended status) told is = due_program main heap steps (Ended status) told tt is
   due (run main heap steps) Usage told is = due_stop entry old.files new.files (run main heap steps) tt refl told fine.loads Usage is.0
@@ -203,7 +213,7 @@ module _ (causes : CausesLaw) (entry : Option (List ℕ)) (old new : World) (fin
   due (run main heap steps) (WriteFault Err) told is = absurd
       (fine.streams.err (named causes steps is.file.image (WriteFault Err) old.streams new.streams is.ran))
   due (run main heap steps) StoreFault told is = due_stop entry old.files new.files (run main heap steps) tt refl told fine.loads StoreFault is.0
-  due (run main heap steps) Memory told is = wanting
+  due (run main heap steps) Memory told is = (0, wanting)
   due (mean main heap steps) Done told is = due_stop entry old.files new.files (mean main heap steps) tt refl told fine.loads Done is.0
   due (mean main heap steps) (Ended status) told is = due_meaning main heap steps (Ended status) told tt is
   due (mean main heap steps) Usage told is = due_stop entry old.files new.files (mean main heap steps) tt refl told fine.loads Usage is.0
@@ -219,27 +229,28 @@ module _ (causes : CausesLaw) (entry : Option (List ℕ)) (old new : World) (fin
   due (mean main heap steps) (WriteFault Out) told is = absurd (fine.streams.out (named_mean main heap steps (WriteFault Out) old new is))
   due (mean main heap steps) (WriteFault Err) told is = absurd (fine.streams.err (named_mean main heap steps (WriteFault Err) old new is))
   due (mean main heap steps) StoreFault told is = due_stop entry old.files new.files (mean main heap steps) tt refl told fine.loads StoreFault is.0
-  due (mean main heap steps) Memory told is = wanting
+  due (mean main heap steps) Memory told is = (0, wanting)
   due (exec name steps) Done told is = absurd is
   due (exec name steps) (Ended status) told is = due_file name steps (Ended status) told tt is
   due (exec name steps) Usage told is = absurd is
   due (exec name steps) (NoFile lacking) told is =
-      subst (λ n. IsDue (exec name steps) entry (NoFile n)) (sym is.0) (lacks (on_entry old.files.held name entry (λ e. e ≡ None) told is.1.0.told))
+      (0, subst (λ n. IsDue (exec name steps) entry 0 (NoFile n)) (sym is.0) (lacks (on_entry old.files.held name entry (λ e. e ≡ None) told is.1.0.told)))
   due (exec name steps) (TooLong far) told is =
       let long_is = on_entry old.files.held name entry (λ e. (bytes : List ℕ) × (e ≡ Some bytes) × (file_most < length bytes)) told is.1.0.told in
-      subst (λ n. IsDue (exec name steps) entry (TooLong n)) (sym is.0) (long long_is.0 long_is.1 long_is.2)
+      (0, subst (λ n. IsDue (exec name steps) entry 0 (TooLong n)) (sym is.0) (long long_is.0 long_is.1 long_is.2))
   due (exec name steps) (Refused code at) told is = absurd is
-  due (exec name steps) (BadElf fault) told is = bad is.0.0 fault tt (given entry old.files new.files name file_most is.0.0 told is.0.1) is.0.1.within is.0.2
+  due (exec name steps) (BadElf fault) told is =
+      (0, bad is.0.0 fault tt (given entry old.files new.files name file_most is.0.0 told is.0.1) is.0.1.within is.0.2)
   due (exec name steps) (MachineFault kind pc word) told is = due_file name steps (MachineFault kind pc word) told tt is
   due (exec name steps) (StepsSpent n) told is = due_file name steps (StepsSpent n) told tt is
   due (exec name steps) ReadFault told is = due_exec_read name steps is
   due (exec name steps) (WriteFault Out) told is = absurd (fine.streams.out (named causes steps is.file.image (WriteFault Out) old.streams new.streams is.ran))
   due (exec name steps) (WriteFault Err) told is = absurd (fine.streams.err (named causes steps is.file.image (WriteFault Err) old.streams new.streams is.ran))
   due (exec name steps) StoreFault told is = absurd is
-  due (exec name steps) Memory told is = wanting
+  due (exec name steps) Memory told is = (0, wanting)
 
 pub answer_due : CausesLaw → (command : Command) (entry : Option (List ℕ)) (answer : Answer) → WasAnswered command entry answer
-    → IsDue command entry answer
+    → IsDueBy command entry answer
 answer_due causes command entry answer was =
     due causes entry was.old (before_line was.new was.carries.err)
     (before_fine command answer was.old was.new was.carries was.fine) command answer was.told was.carries.answered

@@ -70,39 +70,33 @@ no_entry xs e = cc
 abbrev EitherLaw : Type 0
 EitherLaw = (limits : Limits) (name source : List ℕ) (c : Code) (at : Place) → IsProgram limits name source → IsNoProgram limits name source c at → ⊥
 
--- for some number of bytes of its code: where such a program is one that the command takes, the answer is complete
-abbrev pub CompleteBy : Command → (source : List ℕ) → Answer → Type 0
-CompleteBy command source answer = (bytes : ℕ) × (IsProgram (limits_of command bytes) (file_of command) source → IsComplete command answer)
-
-pub program_due : EitherLaw → (command : Command) (source : List ℕ) (answer : Answer) → ReadsSource command
-    → IsDue command (Some source) answer → CompleteBy command source answer
-program_due either command source _ c (lacks e) = (0, λ is. absurd (no_entry source e))
-program_due either command source _ c (long bytes e far) =
-    (0, λ is. absurd (omega (arith, is.within, subst (λ n. n < length bytes) (most_is command c) far, ap length (one_entry source bytes e))))
-program_due either command source _ c (refused other code at size d e refusal) = (
-  size,
-  λ is. absurd (either (limits_of command size) (file_of command) source code at is
-      (subst (λ text. IsNoProgram (limits_of command size) (file_of command) text code at) (sym (one_entry source other e)) refusal)),
-)
-program_due either command source _ c (accepted other answer size d e p done) = (0, λ is. carried command answer done)
-program_due either command source _ c (bad bytes fault d e within has) = absurd (never_both command c d)
-program_due either command source _ c (executed bytes file answer d e within elf done) = absurd (never_both command c d)
-program_due either command source _ c wanting = (0, λ is. tt)
+pub program_due : EitherLaw → (command : Command) (source : List ℕ) (code : ℕ) (answer : Answer) → ReadsSource command
+    → IsDue command (Some source) code answer → IsProgram (limits_of command code) (file_of command) source → IsComplete command answer
+program_due either command source code _ c (lacks e) is = absurd (no_entry source e)
+program_due either command source code _ c (long bytes e far) is =
+    absurd (omega (arith, is.within, subst (λ n. n < length bytes) (most_is command c) far, ap length (one_entry source bytes e)))
+program_due either command source code _ c (refused other why at d e refusal) is =
+    absurd (either (limits_of command code) (file_of command) source why at is
+    (subst (λ text. IsNoProgram (limits_of command code) (file_of command) text why at) (sym (one_entry source other e)) refusal))
+program_due either command source code _ c (accepted other answer d e p done) is = carried command answer done
+program_due either command source code _ c (bad bytes fault d e within has) is = absurd (never_both command c d)
+program_due either command source code _ c (executed bytes file answer d e within elf done) is = absurd (never_both command c d)
+program_due either command source code _ c wanting is = tt
 
 abbrev ApartLaw : Type 0
 ApartLaw = (bytes : List ℕ) (file : File) (fault : ElfFault) → Elf bytes file → HasFault bytes fault → ⊥
 
-pub file_due : ApartLaw → (name bytes : List ℕ) (file : File) (steps : ℕ) (answer : Answer) → length bytes ≤ file_most → Elf bytes file
-    → IsDue (exec name steps) (Some bytes) answer
+pub file_due : ApartLaw → (name bytes : List ℕ) (file : File) (steps code : ℕ) (answer : Answer) → length bytes ≤ file_most → Elf bytes file
+    → IsDue (exec name steps) (Some bytes) code answer
     → IsComplete (exec name steps) answer
-file_due apart name bytes file steps _ within elf (lacks e) = absurd (no_entry bytes e)
-file_due apart name bytes file steps _ within elf (long other e far) = absurd (omega (arith, within, far, ap length (one_entry bytes other e)))
-file_due apart name bytes file steps _ within elf (refused other code at size d e refusal) = absurd d
-file_due apart name bytes file steps _ within elf (accepted other answer size d e p done) = absurd d
-file_due apart name bytes file steps _ within elf (bad other fault d e short has) =
+file_due apart name bytes file steps code _ within elf (lacks e) = absurd (no_entry bytes e)
+file_due apart name bytes file steps code _ within elf (long other e far) = absurd (omega (arith, within, far, ap length (one_entry bytes other e)))
+file_due apart name bytes file steps code _ within elf (refused other why at d e refusal) = absurd d
+file_due apart name bytes file steps code _ within elf (accepted other answer d e p done) = absurd d
+file_due apart name bytes file steps code _ within elf (bad other fault d e short has) =
     absurd (apart bytes file fault elf (subst (λ b. HasFault b fault) (sym (one_entry bytes other e)) has))
-file_due apart name bytes file steps _ within elf (executed other f answer d e short elf2 done) = carried (exec name steps) answer done
-file_due apart name bytes file steps _ within elf wanting = tt
+file_due apart name bytes file steps code _ within elf (executed other f answer d e short elf2 done) = carried (exec name steps) answer done
+file_due apart name bytes file steps code _ within elf wanting = tt
 
 -- ---- machines
 

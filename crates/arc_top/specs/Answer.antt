@@ -1,5 +1,7 @@
 -- Facts for one answer of the top call.
-use Rattle.std.specs.Prelude.{ℕ, ⊤}
+use Rattle.std.specs.Prelude.{◌≡◌, ℕ, ⊤}
+use Rattle.arc_base.specs.declared.place.Stop.{Stop}
+use Rattle.arc_base.specs.declared.place.Stop.TheVariants as stop
 use Rattle.arc_top.specs.declared.answer.Answer.{Answer}
 use Rattle.arc_top.specs.declared.answer.Answer.TheVariants.{Done, Ended, Usage, NoFile, TooLong, Refused, BadElf, MachineFault, StepsSpent, ReadFault}
 use Rattle.arc_top.specs.declared.answer.Answer.TheVariants.{WriteFault, StoreFault, Memory}
@@ -35,3 +37,8 @@ status_of ReadFault = 74
 status_of (WriteFault stream) = 74
 status_of StoreFault = 74
 status_of (StepsSpent steps) = 124
+
+-- the answer where a typed program isn't taken
+abbrev pub IsStopped : Stop → Answer → Type 0
+IsStopped (stop.Refused code at) answer = answer ≡ Refused code at
+IsStopped stop.Memory answer = answer ≡ Memory

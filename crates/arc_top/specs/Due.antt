@@ -84,20 +84,20 @@ IsCarriedOut (exec name steps) (StepsSpent n) = ⊤
 IsCarriedOut (exec name steps) (MachineFault kind pc word) = ⊤
 IsCarriedOut _ _ = ⊥
 
--- The answers that are due. No two of the first six fit one entry, since a source is a program or is refused, and bytes are a
--- file or have a fault: where the code of a program may be too large, by how many bytes it has.
-pub data IsDue (command : Command) (entry : Option (List ℕ)) : Answer → Type 0 where
-  lacks : entry ≡ None → IsDue command entry (NoFile (file_of command))
-  long : (bytes : List ℕ) → entry ≡ Some bytes → most_of command < length bytes → IsDue command entry (TooLong (file_of command))
-  refused : (source : List ℕ) (code : Code) (at : Place) (bytes : ℕ) → ReadsSource command → entry ≡ Some source →
-      IsNoProgram (limits_of command bytes) (file_of command) source code at → IsDue command entry (Refused code at)
-  accepted : (source : List ℕ) (answer : Answer) (bytes : ℕ) → ReadsSource command → entry ≡ Some source →
-      IsProgram (limits_of command bytes) (file_of command) source → IsCarriedOut command answer → IsDue command entry answer
+-- The answers that are due, where the code that the command makes has so many bytes. No two of the first six fit one entry, since a
+-- source is a program or is refused, and bytes are a file or have a fault.
+pub data IsDue (command : Command) (entry : Option (List ℕ)) (code : ℕ) : Answer → Type 0 where
+  lacks : entry ≡ None → IsDue command entry code (NoFile (file_of command))
+  long : (bytes : List ℕ) → entry ≡ Some bytes → most_of command < length bytes → IsDue command entry code (TooLong (file_of command))
+  refused : (source : List ℕ) (why : Code) (at : Place) → ReadsSource command → entry ≡ Some source →
+      IsNoProgram (limits_of command code) (file_of command) source why at → IsDue command entry code (Refused why at)
+  accepted : (source : List ℕ) (answer : Answer) → ReadsSource command → entry ≡ Some source →
+      IsProgram (limits_of command code) (file_of command) source → IsCarriedOut command answer → IsDue command entry code answer
   bad : (bytes : List ℕ) (fault : ElfFault) → Executes command → entry ≡ Some bytes → length bytes ≤ file_most → HasFault bytes fault →
-      IsDue command entry (BadElf fault)
+      IsDue command entry code (BadElf fault)
   executed : (bytes : List ℕ) (file : File) (answer : Answer) → Executes command → entry ≡ Some bytes → length bytes ≤ file_most →
-      Elf bytes file → IsCarriedOut command answer → IsDue command entry answer
-  wanting : IsDue command entry Memory
+      Elf bytes file → IsCarriedOut command answer → IsDue command entry code answer
+  wanting : IsDue command entry code Memory
 
 -- the command came to its end, or memory was wanting
 abbrev pub IsComplete : Command → Answer → Type 0

@@ -19,8 +19,9 @@ use Rattle.core_runner.specs.declared.mean.MeanEnd.TheVariants as end
 use Rattle.core_runner.specs.Mean.{Means, Told}
 use Rattle.command_words.specs.Command.{Command, check, build, run, mean, exec}
 use Rattle.source_compiler.specs.Source.{Module, alone, Reads}
-use Rattle.core_compiler.specs.Limits.{build_limits}
-use Rattle.source_compiler.specs.Limits.{Limits, no_limits, plain_limits}
+use Rattle.core_compiler.specs.Limits.{flat_limits, build_limits, check_limits}
+use Rattle.core_compiler.specs.Compile.{HasImageWhereBuilt}
+use Rattle.source_compiler.specs.Limits.{Limits, no_limits}
 use Rattle.source_compiler.specs.Compile.{Compiled, IsProgram, IsNoProgram, source_most, empty_plan}
 use Rattle.arc_top.specs.declared.answer.Answer.{Answer}
 use Rattle.arc_top.specs.declared.answer.Answer.TheVariants.{Done, Ended, NoFile, TooLong, Refused, BadElf, MachineFault, StepsSpent, ReadFault, WriteFault}
@@ -63,10 +64,16 @@ Stops limits main _ old new = ⊥
 
 -- ---- `check MAIN`
 
+-- the main module is a program that can be compiled, or that has to wait until all of it is built
+pub record IsChecked (main source : List ℕ) : Type 0 where
+  pub code : ℕ
+  pub program : IsProgram (check_limits code) main source
+  pub image : HasImageWhereBuilt program.program code
+
 abbrev pub Checks : (main : List ℕ) → Answer → (old new : FilesState) → Type 0
-Checks main Done old new = (source : List ℕ) × Gives old new main source_most source × IsProgram no_limits main source
+Checks main Done old new = (source : List ℕ) × Gives old new main source_most source × IsChecked main source
 Checks main Memory old new = Wants old new main
-Checks main answer old new = Stops (always no_limits) main answer old new
+Checks main answer old new = Stops check_limits main answer old new
 
 -- ---- `build MAIN OUT`
 
@@ -141,14 +148,14 @@ meant steps end.ReadFault = ReadFault
 meant steps (end.WriteFault stream) = WriteFault stream
 meant steps end.Memory = Memory
 
--- A load of MAIN gave a source, which is a typed program whose meaning is built. What the sinks got is what that writes with so
--- many units, on whatever input: none was taken.
+-- A load of MAIN gave a source, which is a typed program whose meaning is built and whose procedures and data aren't too large. What
+-- the sinks got is what that writes with so many units, on whatever input: none was taken.
 pub record MeansProgram (main : List ℕ) (heap steps : ℕ) (answer : Answer) (old new : World) : Type 0 where
   pub source : List ℕ
   pub gives : Gives old.files new.files main source_most source
   pub program : Program
   pub reads : Reads (alone main source) program
-  pub built : plain_limits program ≡ Ok tt
+  pub taken : flat_limits program ≡ Ok tt
   pub end : MeanEnd
   pub means : (input : List ℕ) → Means (meaning program empty_plan heap input steps) end
       (told old.streams.out new.streams.out) (told old.streams.err new.streams.err)
@@ -163,7 +170,7 @@ RunsMeaning main heap steps (WriteFault stream) old new = MeansProgram main heap
 -- (before the run, or in it)
 RunsMeaning main heap steps Memory old new =
     OfFiles (λ before after. Wants before after main) old new ⊎ MeansProgram main heap steps Memory old new
-RunsMeaning main heap steps answer old new = OfFiles (Stops (always plain_limits) main answer) old new
+RunsMeaning main heap steps answer old new = OfFiles (Stops (always flat_limits) main answer) old new
 
 -- ---- `exec ELF`
 
@@ -203,10 +210,10 @@ modules_of (exec name steps) = []
 
 -- which typed programs the command takes
 abbrev pub limits_of : Command → Taking
-limits_of (check main) = always no_limits
+limits_of (check main) = check_limits
 limits_of (build main out heap) = build_limits
 limits_of (run main heap steps) = build_limits
-limits_of (mean main heap steps) = always plain_limits
+limits_of (mean main heap steps) = always flat_limits
 limits_of (exec name steps) = always no_limits
 
 -- what an answer to a command says of the outside before the command, and after it but for the line of the answer

@@ -2,7 +2,7 @@
 ghost use Rattle.std.specs.Prelude.{◌≡◌, IfOk};
 ghost use Rattle.arc_top.specs.Answer.{status_of};
 
-use arc_base::{Bytes, Code, Memory, Place, Stream};
+use arc_base::{Bytes, Code, Memory, Place, Stop, Stream};
 use elf32::ElfFault;
 use rv32_isa::FaultKind;
 use std::alloc::Global;
@@ -100,5 +100,18 @@ impl From<Memory> for Answer {
 
     fn from(_: Memory) -> Self {
         Answer::Memory
+    }
+}
+
+impl From<Stop> for Answer {
+    ghost use Rattle.arc_top.specs.Answer.{IsStopped};
+
+    ghost from_gives = { λ stop e. IsStopped stop e };
+
+    fn from(stop: Stop) -> Self {
+        match stop {
+            Stop::Refused { code, at } => Answer::Refused { code, at },
+            Stop::Memory => Answer::Memory,
+        }
     }
 }

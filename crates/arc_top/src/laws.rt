@@ -18,16 +18,16 @@ use rv32_isa::machines;
 use rv32_runner::runs;
 use source_compiler::one_answer;
 
-/// Where the outside tells what it holds and nothing fails, what was read says which answer is due: a
-/// program that the command takes, or a file that can be executed, is carried out, unless memory is
-/// wanting. A machine's answer
-/// is by where it stands after all its instructions, and the sinks got what it has written.
+/// Where the outside tells what it holds and nothing fails, what was read says which answer is due, by
+/// how many bytes the code has that the command makes: a program that the command takes then, or a
+/// file that can be executed, is carried out, unless memory is wanting. A machine's answer is by where
+/// it stands after all its instructions, and the sinks got what it has written.
 pub fn complete()
     ensures due { (command : Command) (entry : Option (List ℕ)) (answer : Answer) →
-        WasAnswered command entry answer → IsDue command entry answer }
-    ensures programs { (command : Command) (source : List ℕ) (answer : Answer) →
-        ReadsSource command → WasAnswered command (Some source) answer → (bytes : ℕ) ×
-        (IsProgram (limits_of command bytes) (file_of command) source → IsComplete command answer) }
+        WasAnswered command entry answer → (code : ℕ) × IsDue command entry code answer }
+    ensures programs { (command : Command) (source : List ℕ) (code : ℕ) (answer : Answer) → ReadsSource command →
+        IsDue command (Some source) code answer →
+        IsProgram (limits_of command code) (file_of command) source → IsComplete command answer }
     ensures files { (name bytes : List ℕ) (file : File) (steps : ℕ) (answer : Answer) → length bytes ≤ file_most →
         Elf bytes file → WasAnswered (exec name steps) (Some bytes) answer → IsComplete (exec name steps) answer }
     ensures stands { (steps : ℕ) (image : Image) (answer : Answer) (old new : Streams) (input : List ℕ) →

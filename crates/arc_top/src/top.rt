@@ -7,25 +7,24 @@ ghost use Rattle.rv32_runner.specs.Streams.{feed, tally, streams};
 ghost use Rattle.command_words.specs.Command.{Command as TheCommand, command_of, IsCommand, IsNoCommand, IsInRange};
 ghost use Rattle.check_decls.specs.Modules.{program_in};
 ghost use Rattle.source_compiler.specs.Source.{alone, Reads};
-ghost use Rattle.core_compiler.specs.Limits.{build_limits};
-ghost use Rattle.source_compiler.specs.Limits.{no_limits, plain_limits};
+ghost use Rattle.core_compiler.specs.Limits.{flat_limits, build_limits, check_limits};
 ghost use Rattle.source_compiler.specs.Compile.{Compiled, source_most, OnTooLong};
 ghost use Rattle.arc_top.specs.Answer.{OnQuiet, OnUsage, OnCommand};
 ghost use Rattle.arc_top.specs.Loads.{Gives, files_state};
 ghost use Rattle.arc_top.specs.Report.{report_of};
 ghost use Rattle.arc_top.specs.Stages.{StopsLoad, StopsReading, IsRefusal, RunsOrWants, IsMeant};
-ghost use Rattle.arc_top.specs.Top.{IsFileOf, Checks, Builds, Runs, RunsMeaning, Executes, Answered, Carries, modules_of, WithoutStreams};
+ghost use Rattle.arc_top.specs.Top.{IsFileOf, IsChecked, Checks, Builds, Runs, RunsMeaning, Executes, Answered, Carries, modules_of, WithoutStreams};
 ghost use Rattle.arc_top.specs.Top.{always, world, meant};
 
 use crate::answer::{Answer, FileName};
 use crate::report::put_report;
-use arc_base::{Bytes, Code, FileFault, Files, Loaded, Sink, Source};
+use arc_base::{Bytes, FileFault, Files, Loaded, Sink, Source};
 use command_words::{Command, one_command, read_words};
+use core_compiler::{check_core, within};
 use core_runner::mean::{MeanEnd, mean};
 use elf32::{ElfFile, ElfStop, read, write};
 use nim_core::Program;
 use nim_plan::Plan;
-use plain_core::left_out;
 use rv32_isa::{Image, machines};
 use rv32_runner::{RunEnd, load, runs};
 use source_compiler::{NotCompiled, SOURCE_MOST, compile, typed};
@@ -74,10 +73,10 @@ fn read_main<F: Files>(alloc: Global, main: &str, files: &mut F) -> Result<Progr
         (files_state (F.held files.old) (F.load_faults files.old) (F.store_faults files.old) (F.calls files.old))
         (files_state (F.held files.new) (F.load_faults files.new) (F.store_faults files.new) (F.calls files.new)) main.now source_most source
         × Reads (alone main.now source) (program_in program)) }
-    ensures stops_check { IfErr result (λ answer. StopsReading (always no_limits) main.now answer
+    ensures stops_check { IfErr result (λ answer. StopsReading check_limits main.now answer
         (files_state (F.held files.old) (F.load_faults files.old) (F.store_faults files.old) (F.calls files.old))
         (files_state (F.held files.new) (F.load_faults files.new) (F.store_faults files.new) (F.calls files.new))) }
-    ensures stops_mean { IfErr result (λ answer. StopsReading (always plain_limits) main.now answer
+    ensures stops_mean { IfErr result (λ answer. StopsReading (always flat_limits) main.now answer
         (files_state (F.held files.old) (F.load_faults files.old) (F.store_faults files.old) (F.calls files.old))
         (files_state (F.held files.new) (F.load_faults files.new) (F.store_faults files.new) (F.calls files.new))) }
 {
@@ -86,6 +85,39 @@ fn read_main<F: Files>(alloc: Global, main: &str, files: &mut F) -> Result<Progr
         Ok(program) => Ok(program),
         Err(why) => Err(refuse(why)),
     }
+}
+
+// Loads the main module and types it. It can be compiled, or has to wait until all of it is built.
+fn check_main<F: Files>(alloc: Global, main: &str, files: &mut F) -> Result<(), Answer>
+    ensures checked { IfOk result (λ done. (source : List ℕ)
+        × Gives
+        (files_state (F.held files.old) (F.load_faults files.old) (F.store_faults files.old) (F.calls files.old))
+        (files_state (F.held files.new) (F.load_faults files.new) (F.store_faults files.new) (F.calls files.new)) main.now source_most source
+        × IsChecked main.now source) }
+    ensures stops { IfErr result (λ answer. StopsReading check_limits main.now answer
+        (files_state (F.held files.old) (F.load_faults files.old) (F.store_faults files.old) (F.calls files.old))
+        (files_state (F.held files.new) (F.load_faults files.new) (F.store_faults files.new) (F.calls files.new))) }
+{
+    let program = read_main(alloc, main, files)?;
+    check_core(alloc, &program)?;
+    Ok(())
+}
+
+// Loads the main module and types it, and it is one whose meaning can be run.
+fn read_within<F: Files>(alloc: Global, main: &str, files: &mut F) -> Result<Program, Answer>
+    ensures taken { IfOk result (λ program. (source : List ℕ)
+        × Gives
+        (files_state (F.held files.old) (F.load_faults files.old) (F.store_faults files.old) (F.calls files.old))
+        (files_state (F.held files.new) (F.load_faults files.new) (F.store_faults files.new) (F.calls files.new)) main.now source_most source
+        × Reads (alone main.now source) (program_in program)
+        × (flat_limits (program_in program) ≡ Ok tt)) }
+    ensures stops { IfErr result (λ answer. StopsReading (always flat_limits) main.now answer
+        (files_state (F.held files.old) (F.load_faults files.old) (F.store_faults files.old) (F.calls files.old))
+        (files_state (F.held files.new) (F.load_faults files.new) (F.store_faults files.new) (F.calls files.new))) }
+{
+    let program = read_main(alloc, main, files)?;
+    within(alloc, &program)?;
+    Ok(program)
 }
 
 // Loads the main module and compiles it.
@@ -200,14 +232,14 @@ fn run_program<I: Source, O: Sink, E: Sink>(
 
 // ---- commands
 
-// Says whether a main module is a program.
+// Says whether a main module is a program that can be compiled.
 fn check<F: Files>(alloc: Global, main: &str, files: &mut F) -> Answer
     ensures checks { Checks main.now result
         (files_state (F.held files.old) (F.load_faults files.old) (F.store_faults files.old) (F.calls files.old))
         (files_state (F.held files.new) (F.load_faults files.new) (F.store_faults files.new) (F.calls files.new)) }
 {
-    match read_main(alloc, main, files) {
-        Ok(_) => Answer::Done,
+    match check_main(alloc, main, files) {
+        Ok(()) => Answer::Done,
         Err(answer) => answer,
     }
 }
@@ -281,16 +313,9 @@ fn mean_main<F: Files, I: Source, O: Sink, E: Sink>(
         (streams (feed (I.left input.new) (I.ended input.new) (I.faults input.new) (I.gave input.new))
         (tally (O.written out.new) (O.faults out.new)) (tally (E.written err.new) (E.faults err.new)))) }
 {
-    let program = match read_main(alloc, main, files) {
-        Ok(program) => program,
-        Err(answer) => return answer,
-    };
-    match left_out(&program) {
-        Some(at) => Answer::Refused {
-            code: Code::LeftOut,
-            at,
-        },
-        None => run_program(alloc, &program, heap, steps, input, out, err),
+    match read_within(alloc, main, files) {
+        Ok(program) => run_program(alloc, &program, heap, steps, input, out, err),
+        Err(answer) => answer,
     }
 }
 
@@ -377,7 +402,8 @@ fn say<E: Sink>(err: &mut E, command: &Command<'_>, answer: &Answer)
 
 /// Does what the words say.
 ///
-/// `check MAIN` says whether the source in the file MAIN is a program; `build MAIN OUT` compiles it and
+/// `check MAIN` says whether the source in the file MAIN is a program that `build` takes, or would take
+/// if all of it were built; `build MAIN OUT` compiles it and
 /// stores the ELF file under the name OUT; `run MAIN` compiles it and runs the machine on it, on `input`,
 /// `out` and `err`; `exec ELF` does that with a file that `build` stored; `mean MAIN` runs what the source
 /// means. `--heap=N` gives the bytes of heap of a program, `--steps=N` the most instructions that `run`

@@ -24,6 +24,7 @@ use Rattle.rv32_codegen.specs.Lowering.{most_bytes}
 use Rattle.core_compiler.specs.Frames.{frame_limits}
 use Rattle.core_compiler.proofs.Framing.{framed}
 use Rattle.core_compiler.specs.Limits.{unless_left_out, unless_large, data_limits, flat_limits, code_bound, code_limits, build_limits}
+use Rattle.core_compiler.specs.Limits.{where_built, check_limits}
 
 -- ---- where what follows refuses nothing
 
@@ -67,6 +68,24 @@ module _ (program : Program) where
       let all : most_bytes procs ≤ 20 + 48 * word_weight procs = omega arith in
       let bound : 1440 * program_parts program + 4820 ≤ code_bound program = omega arith in
       omega (arith, few, words, all, bound)
+
+-- ---- where all of it is built
+
+module _ (program : Program) where
+  pub checks_nothing : (code : ℕ) (at : Place) → first_left_out program ≡ Some at → check_limits code program ≡ Ok tt
+  checks_nothing code at e = ap (λ o. where_built o (build_limits code program)) e
+
+  pub checks_all : (code : ℕ) → first_left_out program ≡ None → check_limits code program ≡ build_limits code program
+  checks_all code e = ap (λ o. where_built o (build_limits code program)) e
+
+pub not_both : (found : Option Place) (at : Place) → found ≡ Some at → found ≡ None → ⊥
+not_both found at some none = cc
+
+-- what is refused, said of other limits that are equal
+pub refused_too : {T : Type 0} (of : T → Unit {0}) (said limits : Result (Unit {0}) Refusal) → limits ≡ said → (stop : Stop) →
+    Answers of said (Err stop) → Answers (λ (done : Unit {0}). tt) limits (Err stop)
+refused_too of said limits e (Refused k at) is = e ∙ is
+refused_too of said limits e Memory is = tt
 
 -- ---- what flat code says of a plain program
 

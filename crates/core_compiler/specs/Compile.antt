@@ -1,11 +1,12 @@
 -- What the image of a typed program does.
-use Rattle.std.specs.Prelude.{◌≡◌, ℕ, ◌+◌, ◌*◌, List, []}
+use Rattle.std.specs.Prelude.{◌≡◌, ℕ, ◌+◌, ◌*◌, List, [], length, None}
 use Rattle.arc_base.specs.Event.{Event}
 use Rattle.arc_base.specs.Behaviour.{Live, Ended, Behaviour, Agrees, no_objects}
 use Rattle.arc_base.specs.Pace.{PacedFrom}
 use Rattle.nim_plan.specs.declared.plan.Plan.{Plan}
 use Rattle.nim_core.specs.Program.{Program}
 use Rattle.nim_core.specs.Meaning.{meaning}
+use Rattle.nim_core.specs.LeftOut.{first_left_out}
 use Rattle.rv32_isa.specs.Image.{Image}
 use Rattle.rv32_isa.specs.Machine.{Lives, machine}
 use Rattle.core_compiler.specs.declared.program.TheConstants.{IMAGE_PACE, IMAGE_LATE, TIME_PACE, TIME_LATE}
@@ -31,3 +32,14 @@ pub record DoesProgram (program : Program) (heap : ℕ) (image : Image) : Type 0
   pub in_time : (plan : Plan) (input : List ℕ) → EndsInTime (machine live_objects image input) (meaning program plan heap input)
   pub heap_is : image.heap ≡ heap
   pub hooks : image.hooks ≡ []
+
+-- some image, with some heap, does what the program means, and so many bytes are its code
+pub record HasImage (program : Program) (code : ℕ) : Type 0 where
+  pub heap : ℕ
+  pub image : Image
+  pub does : DoesProgram program heap image
+  pub bytes : length image.code ≡ code
+
+-- the code of which the limits of `check` speak, where all of the program is built
+abbrev pub HasImageWhereBuilt : Program → (code : ℕ) → Type 0
+HasImageWhereBuilt program code = first_left_out program ≡ None → HasImage program code

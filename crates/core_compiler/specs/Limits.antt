@@ -1,4 +1,4 @@
--- Which typed programs are compiled, and how others are refused, in this order: what isn't built (E23), a procedure that is too large
+-- Which typed programs a command takes, and how others are refused, in this order: what isn't built (E23), a procedure that is too large
 -- to be called (E21), data or code that is too large (E25).
 use Rattle.std.specs.Prelude.{ℕ, ◌+◌, ◌*◌, min, Bool, true, false, nat_le, Option, Some, None, Result, Ok}
 use Rattle.arc_base.specs.declared.place.Place.{Place}
@@ -41,3 +41,12 @@ code_limits code program = unless_large (nat_le (min code (code_bound program)) 
 
 abbrev pub build_limits : (code : ℕ) → Program → Result (Unit {0}) Refusal
 build_limits code program = and_then (flat_limits program) (λ small. code_limits code program)
+
+-- what is said of a program all of which is built; of another one nothing
+abbrev pub where_built : Option Place → Result (Unit {0}) Refusal → Result (Unit {0}) Refusal
+where_built None said = said
+where_built (Some at) said = Ok tt
+
+-- what only waits to be built is a program for `check`
+abbrev pub check_limits : (code : ℕ) → Program → Result (Unit {0}) Refusal
+check_limits code program = where_built (first_left_out program) (build_limits code program)

@@ -1,4 +1,4 @@
-//! From a typed program to its image.
+//! From a typed program to its image, and which programs have one.
 #![tactic(auto)]
 
 mod data;
@@ -10,5 +10,6 @@ mod texts;
 pub use data::MOST_DATA;
 pub use laws::program_limits;
 pub use program::{
-    BYTES_OF_ALL, BYTES_OF_PART, IMAGE_LATE, IMAGE_PACE, TIME_LATE, TIME_PACE, compile_core,
+    BYTES_OF_ALL, BYTES_OF_PART, IMAGE_LATE, IMAGE_PACE, TIME_LATE, TIME_PACE, check_core,
+    compile_core, within,
 };

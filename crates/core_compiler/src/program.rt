@@ -1,4 +1,4 @@
-// From a typed program to its image, stage by stage.
+// What commands do with a typed program: its image, stage by stage, or only whether it has one.
 ghost use Rattle.std.specs.Prelude.{◌≡◌, ◌≤◌, ℕ, length, IfOk};
 ghost use Rattle.arc_base.specs.Refusal.{Answers};
 ghost use Rattle.rv32_isa.specs.declared.image.Image.{Image as RustImage};
@@ -6,8 +6,8 @@ ghost use Rattle.rv32_isa.specs.Image.{image_of};
 ghost use Rattle.mid_code.specs.declared.flat.Flat.{Flat as FlatCode};
 ghost use Rattle.expr_lowering.specs.Programs.{program_in};
 ghost use Rattle.word_lowering.specs.Stored.{HaveForms};
-ghost use Rattle.core_compiler.specs.Limits.{flat_limits, code_bound, build_limits};
-ghost use Rattle.core_compiler.specs.Compile.{DoesProgram};
+ghost use Rattle.core_compiler.specs.Limits.{flat_limits, code_bound, build_limits, check_limits};
+ghost use Rattle.core_compiler.specs.Compile.{DoesProgram, HasImageWhereBuilt};
 ghost use Rattle.core_compiler.specs.Stages.{IsFlatOf, AreWordsOf, too_large};
 
 use crate::data::data_fits;
@@ -97,6 +97,16 @@ fn words_of(alloc: Global, types: &TypeTable, flat: &Flat) -> Result<WordCode, M
     words(alloc, &blocks, types)
 }
 
+/// Refuses a program with a form that isn't built (E23), with a procedure that is too large to be
+/// called (E21), and one whose data is too large (E25).
+pub fn within(alloc: Global, program: &Program) -> Result<(), Stop>
+    ensures { Answers (λ (done : Unit {0}). tt) (flat_limits (program_in program.now)) result }
+{
+    let flat = flat_within(alloc, program)?;
+    drop(flat);
+    Ok(())
+}
+
 /// The image of a typed program: for every input and every number of steps, and under each plan, its
 /// machine does what the program means, with a heap of that many bytes, at most 16,777,216.
 ///
@@ -119,4 +129,22 @@ pub fn compile_core(alloc: Global, program: &Program, heap: u32) -> Result<Image
         Err(LayFault::TooLarge(_)) => Err(too_large()),
         Err(LayFault::Memory) => Err(Stop::Memory),
     }
+}
+
+/// Refuses what `compile_core` refuses, whatever the heap, but for a program with a form that isn't
+/// built: of that it says nothing.
+pub fn check_core(alloc: Global, program: &Program) -> Result<(), Stop>
+    ensures answers { (code : ℕ) × Answers (λ (done : Unit {0}). tt)
+        (check_limits code (program_in program.now)) result
+        × IfOk result (λ done. HasImageWhereBuilt (program_in program.now) code) }
+{
+    match left_out(program) {
+        Some(_) => {
+            return Ok(());
+        }
+        None => {}
+    }
+    let image = compile_core(alloc, program, 0)?;
+    drop(image);
+    Ok(())
 }

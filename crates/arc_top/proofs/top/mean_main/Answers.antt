@@ -1,38 +1,23 @@
-use Rattle.std.proofs.Common.{refl, sym, ◌∙◌}
 use Rattle.rv32_runner.specs.Streams.{feed, tally, streams}
 use Rattle.check_decls.specs.Modules.{program_in}
 use Rattle.arc_top.specs.Loads.{files_state}
-use Rattle.arc_top.proofs.Commands.{left_down, none_left_out, mean_told}
+use Rattle.arc_top.proofs.Commands.{mean_told}
 use Rattle.arc_top.proofs.top.mean_main.Goals as goal
 
-pub returns-in-Some : goal.returns-in-Some
-returns-in-Some g c =
-    let F = g.F.Files in
-    let given = c.in-Ok.ensures.typed in
-    let old = c.args.files.now in
-    let new = c.read_main.new.files in
-    let program = program_in c.in-Ok.program in
-    let down = left_down c.args.main.now given.0
-    (files_state (F.held old) (F.load_faults old) (F.store_faults old) (F.calls old))
-    (files_state (F.held new) (F.load_faults new) (F.store_faults new) (F.calls new))
-    program c.in-Some.at given.1 given.2 (sym c.left_out.ensures ∙ c.in-Some.is) in
-    record { means = ((given.0, given.1, (0, down)), refl) }
-
-pub returns : goal.returns
-returns g c =
+pub returns-in-Ok : goal.returns-in-Ok
+returns-in-Ok g c =
     let F = g.F.Files in
     let I = g.I.Source in
     let O = g.O.Sink in
     let E = g.E.Sink in
-    let given = c.in-Ok.ensures.typed in
+    let given = c.in-Ok.ensures.taken in
     let old = c.args.files.now in
-    let new = c.read_main.new.files in
+    let new = c.read_within.new.files in
     let input = c.args.input.now in
     let out = c.args.out.now in
     let err = c.args.err.now in
     let after = c.run_program.new in
     let program = program_in c.in-Ok.program in
-    let built = none_left_out program (sym c.left_out.ensures ∙ c.in-None.is) in
     record {
       means = mean_told c.args.main.now given.0 c.args.heap c.args.steps program
           (files_state (F.held old) (F.load_faults old) (F.store_faults old) (F.calls old))
@@ -41,5 +26,5 @@ returns g c =
           (tally (O.written out) (O.faults out)) (tally (E.written err) (E.faults err)))
           (streams (feed (I.left after.input) (I.ended after.input) (I.faults after.input) (I.gave after.input))
           (tally (O.written after.out) (O.faults after.out)) (tally (E.written after.err) (E.faults after.err)))
-          given.1 given.2 built c.run_program.result c.run_program.ensures.ran;
+          given.1 given.2 given.3 c.run_program.result c.run_program.ensures.ran;
     }

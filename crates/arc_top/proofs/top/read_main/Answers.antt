@@ -1,5 +1,6 @@
 use Rattle.std.proofs.Common.{ℕ, List}
-use Rattle.source_compiler.specs.Limits.{Limits, no_limits, plain_limits}
+use Rattle.core_compiler.specs.Limits.{flat_limits, check_limits}
+use Rattle.source_compiler.specs.Limits.{Limits}
 use Rattle.source_compiler.specs.Compile.{IsNoProgram}
 use Rattle.arc_top.specs.Loads.{files_state}
 use Rattle.arc_top.specs.Top.{always}
@@ -16,8 +17,8 @@ returns-clause-stops_check g c =
     let old = c.args.files.now in
     let new = c.load_file.new.files in
     let source = c.as_slice.result.now in
-    turned_away (always no_limits) c.args.main.now source (λ code at. (limits : Limits) (name : List ℕ) → IsNoProgram limits name source code at)
-    (λ code at h. (0, h no_limits c.args.main.now)) c.in-Err.why c.refuse.result
+    turned_away check_limits c.args.main.now source (λ code at. (limits : Limits) (name : List ℕ) → IsNoProgram limits name source code at)
+    (λ code at h. (0, h (check_limits 0) c.args.main.now)) c.in-Err.why c.refuse.result
     (files_state (F.held old) (F.load_faults old) (F.store_faults old) (F.calls old))
     (files_state (F.held new) (F.load_faults new) (F.store_faults new) (F.calls new))
     (rw c.as_slice.ensures c.in_ok-source.ensures.gives) c.refuse.ensures c.in-Err.ensures.refused
@@ -28,8 +29,8 @@ returns-clause-stops_mean g c =
     let old = c.args.files.now in
     let new = c.load_file.new.files in
     let source = c.as_slice.result.now in
-    turned_away (always plain_limits) c.args.main.now source (λ code at. (limits : Limits) (name : List ℕ) → IsNoProgram limits name source code at)
-    (λ code at h. (0, h plain_limits c.args.main.now)) c.in-Err.why c.refuse.result
+    turned_away (always flat_limits) c.args.main.now source (λ code at. (limits : Limits) (name : List ℕ) → IsNoProgram limits name source code at)
+    (λ code at h. (0, h flat_limits c.args.main.now)) c.in-Err.why c.refuse.result
     (files_state (F.held old) (F.load_faults old) (F.store_faults old) (F.calls old))
     (files_state (F.held new) (F.load_faults new) (F.store_faults new) (F.calls new))
     (rw c.as_slice.ensures c.in_ok-source.ensures.gives) c.refuse.ensures c.in-Err.ensures.refused
