@@ -1,5 +1,8 @@
 -- When a procedure of a program is too large to be called (E21): its sum, the bytes of its places and of the values of its nodes, is above
 -- the most; or the type of a place or a node has too many levels.
+--
+-- This is the rule that is believed. The one of flat code, by which `flatten` refuses (expr_lowering/specs/Frames.antt, with the same
+-- names), looks at the places of flat code; the two are equal (`framed`, proofs/Framing.antt).
 use Rattle.std.specs.Prelude.{ℕ, Bool, if◌then◌else◌, nat_lt, List, [], ◌∷◌, ◌++◌, Option, Some, None, option_map, Result}
 use Rattle.arc_base.specs.declared.place.Place.{Place}
 use Rattle.arc_base.specs.Refusal.{Refusal}
@@ -190,12 +193,13 @@ module _ (facts : Facts) where
 
   -- by its sum where the procedure stands, which comes before all that stands in it
   abbrev pub body_fault : List Param → (at : Place) → Option Body → Option Node
+  -- (a procedure without a body is never called, so its parameters aren't looked at)
   body_fault params at None = None
   body_fault params at (Some body) =
       fault_by (body_sum facts params body) (record { number = first_of body.stmts; at = at })
       (first_deep (first_of body.stmts) (uses_in_body params body))
 
-  -- the start code, at the beginning of the main module, which comes before all nodes
+  -- the start code, at the beginning of the main module, which comes before all nodes as long as there is no other module
   abbrev pub start_fault : Body → Option Node
   start_fault body = fault_by (start_sum facts body) (record { number = 0; at = beginning }) (deep_in_code body.result body.stmts)
 
