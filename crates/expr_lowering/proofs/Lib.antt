@@ -8,6 +8,7 @@ mod FormRows
 mod Extending
 mod Capping
 mod Listing
+mod Rounds
 mod Summing
 mod Faults
 mod Bodies

@@ -1,9 +1,10 @@
 -- How large types are, as the code counts: what is beyond the most is as one more than it. It serves proofs alone: the promise of
 -- `flatten` doesn't speak of it.
-use Rattle.std.specs.Prelude.{◌≡◌, ℕ, suc, ◌+◌, min, max, List, map}
+use Rattle.std.specs.Prelude.{◌≡◌, ◌<◌, ℕ, suc, ◌+◌, min, max, Bool, true, false, List, map, length, Option, Some, None, slice_get}
 use Rattle.nim_types.specs.Types.{Ty, Facts}
 use Rattle.nim_types.specs.Forms.{Form, Forms, size, size_all, levels, most_levels, form_in, forms_in, form_within, form_of}
 use Rattle.nim_types.specs.declared.types.TypeDef.{TypeDef}
+use Rattle.nim_types.specs.declared.types.TheConstants.{WORD_BYTES}
 use Rattle.nim_types.specs.Table.{type_at, types_at, types_in, facts_in}
 use Rattle.expr_lowering.specs.declared.extent.Extent.{Extent}
 use Rattle.expr_lowering.specs.declared.frames.TheConstants.{MOST_BYTES, MOST_LEVELS}
@@ -43,3 +44,24 @@ extent_in facts ty = extent_of (form_of facts ty)
 
 abbrev pub AreListed : List TypeDef → List Extent → Type 0
 AreListed ds all = all ≡ map (extent_in (facts_in ds)) (types_in ds)
+
+-- ---- round by round
+
+-- what isn't listed is as large as an int
+abbrev pub extent_or : Option Extent → Extent
+extent_or (Some e) = e
+extent_or None = record { bytes = WORD_BYTES; levels = 1 }
+
+-- the types below a number, with so many declared types inside one another looked through
+abbrev pub AreKnown : ℕ → List TypeDef → List Extent → (bound : ℕ) → Type 0
+AreKnown n ds known bound = (i : ℕ) → i < bound → extent_or (slice_get known i) ≡ extent_at n ds i
+
+-- what the round before had; there is none before the first
+abbrev pub IsLast : (first : Bool) → ℕ → List TypeDef → List Extent → Type 0
+IsLast true n ds last = n ≡ 0
+IsLast false n ds last = (k : ℕ) × (n ≡ suc k) × AreKnown k ds last (length ds)
+
+-- what a round has of all types
+pub record AreNext (first : Bool) (ds : List TypeDef) (last next : List Extent) : Type 0 where
+  pub long : length next ≡ length ds
+  pub known : (n : ℕ) → IsLast first n ds last → AreKnown n ds next (length ds)

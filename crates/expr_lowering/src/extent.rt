@@ -1,10 +1,12 @@
 // How many bytes the values of types have, and how many levels types have, as far as it matters.
-ghost use Rattle.std.specs.Prelude.{◌≡◌, ◌+◌, min, max, suc, IfOk};
+ghost use Rattle.std.specs.Prelude.{◌≡◌, ◌+◌, min, max, suc, ℕ, List, true, slice_get, IfOk};
 ghost use Rattle.nim_types.specs.Forms.{Form, Forms, row, elements, parts, wrapped, or_word};
+ghost use Rattle.nim_types.specs.declared.types.TypeDef.{TypeDef};
 ghost use Rattle.nim_types.specs.Table.{AllBelow};
 ghost use Rattle.expr_lowering.specs.declared.frames.TheConstants.{MOST_LEVELS};
 ghost use Rattle.expr_lowering.specs.Extents.{capped, extent_of, extents_of, extent_at, extents_at};
-ghost use Rattle.expr_lowering.specs.Extents.{with_more, AreListed};
+ghost use Rattle.expr_lowering.specs.Extents.{with_more, extent_or, AreKnown, IsLast, AreNext};
+ghost use Rattle.expr_lowering.specs.Extents.{AreListed};
 
 use crate::frames::{MOST_BYTES, MOST_LEVELS};
 use arc_base::{Items, Memory};
@@ -111,35 +113,65 @@ fn elements_of(each: Extent) -> Extent
     above(LIST_BYTES, each.levels)
 }
 
-// Of a type, so many declared types inside one another looked through.
-#[cycle(extents)]
-fn type_extent(types: &TypeTable, within: u32, ty: TypeId) -> Extent
-    ensures { result ≡ extent_at within types.now ty }
+// How large a type is that is listed; one beyond the list counts as an int.
+fn look(known: &[Extent], ty: TypeId) -> Extent
+    ensures { result ≡ extent_or (slice_get known.now ty) }
+{
+    match known.get(ty as usize) {
+        Some(extent) => *extent,
+        None => alone(WORD_BYTES),
+    }
+}
+
+// Of types one behind the other, all below a number.
+fn look_all(known: &[Extent], bound: u32, ids: &[TypeId]) -> Extent
+    requires { AllBelow bound ids.now }
+    ensures { (n : ℕ) (ds : List TypeDef) → AreKnown n ds known.now bound →
+        result ≡ extents_at n ds ids.now }
+{
+    let mut all = Extent {
+        bytes: 0,
+        levels: 0,
+    };
+    for id in ids {
+        all = beside(all, look(known, *id));
+    }
+    all
+}
+
+// Of the type of a number. Those of lower numbers are listed before it. The last round has all
+// types, with one declared type fewer inside one another looked through; the first looks through none.
+fn type_extent(
+    types: &TypeTable,
+    ty: TypeId,
+    first: bool,
+    last: &[Extent],
+    before: &[Extent],
+) -> Extent
+    ensures { (n : ℕ) → IsLast first n types.now last.now → AreKnown n types.now before.now ty →
+        result ≡ extent_at n types.now ty }
 {
     match entry(types, ty) {
         None => alone(WORD_BYTES),
         Some(def) => match def {
             TypeDef::Text => alone(LIST_BYTES),
-            TypeDef::Seq(of) => elements_of(type_extent(types, within, *of)),
-            TypeDef::Array { len, of } => row_of(*len, type_extent(types, within, *of)),
-            TypeDef::Tuple { parts, .. } => {
-                whole_of(extent_all(types, within, ty, parts.as_slice()))
-            }
+            TypeDef::Seq(of) => elements_of(look(before, *of)),
+            TypeDef::Array { len, of } => row_of(*len, look(before, *of)),
+            TypeDef::Tuple { parts, .. } => whole_of(look_all(before, ty, parts.as_slice())),
             TypeDef::Object { parts, .. } => {
-                if within == 0 {
+                if first {
                     return alone(WORD_BYTES);
                 }
                 if !says(def) {
                     return alone(WORD_BYTES);
                 }
-                let count = types.count();
-                whole_of(extent_all(types, within - 1, count, parts.as_slice()))
+                whole_of(look_all(last, types.count(), parts.as_slice()))
             }
             TypeDef::Distinct { base, .. } => {
-                if within == 0 {
+                if first {
                     return alone(WORD_BYTES);
                 }
-                wrapped_around(type_extent(types, within - 1, *base))
+                wrapped_around(look(last, *base))
             }
             TypeDef::Int => alone(WORD_BYTES),
             TypeDef::Bool => alone(WORD_BYTES),
@@ -152,29 +184,60 @@ fn type_extent(types: &TypeTable, within: u32, ty: TypeId) -> Extent
     }
 }
 
-#[cycle(extents)]
-fn extent_all(types: &TypeTable, within: u32, bound: u32, ids: &[TypeId]) -> Extent
-    requires { AllBelow bound ids.now }
-    ensures { result ≡ extents_at within types.now ids.now }
+// Of all types, with one declared type more inside one another looked through.
+fn next_extents(
+    alloc: Global,
+    types: &TypeTable,
+    first: bool,
+    last: &[Extent],
+) -> Result<Items<Extent>, Memory>
+    ensures { IfOk result (λ next. AreNext first types.now last.now next) }
 {
-    let mut all = Extent {
-        bytes: 0,
-        levels: 0,
-    };
-    for id in ids {
-        all = beside(all, type_extent(types, within, *id));
+    let mut next = Items::new(alloc);
+    for ty in 0..types.count() {
+        let one = type_extent(types, ty, first, last, next.as_slice());
+        next.push(one)?;
     }
-    all
+    Ok(next)
 }
 
-/// How large each type of a table is.
+fn is_same(a: Extent, b: Extent) -> bool
+    ensures { result ≡ true → a ≡ b }
+{
+    a.bytes == b.bytes && a.levels == b.levels
+}
+
+fn are_same(a: &[Extent], b: &[Extent]) -> bool
+    ensures { result ≡ true → a.now ≡ b.now }
+{
+    let mut left = a;
+    let mut other = b;
+    while let Some((one, more)) = left.split_first() {
+        let Some((two, rest)) = other.split_first() else {
+            return false;
+        };
+        if !is_same(*one, *two) {
+            return false;
+        }
+        left = more;
+        other = rest;
+    }
+    other.is_empty()
+}
+
+/// How large each type of a table is. What is looked through grows by one declared type a round, up
+/// to where nothing changes.
 pub fn all_extents(alloc: Global, types: &TypeTable) -> Result<Items<Extent>, Memory>
     ensures { IfOk result (λ of. AreListed types.now of) }
 {
     let declared = declared_types(types);
-    let mut of = Items::new(alloc);
-    for ty in 0..types.count() {
-        of.push(type_extent(types, declared, ty))?;
+    let mut of = next_extents(alloc, types, true, &[])?;
+    for _round in 0..declared {
+        let next = next_extents(alloc, types, false, of.as_slice())?;
+        if are_same(next.as_slice(), of.as_slice()) {
+            return Ok(of);
+        }
+        of = next;
     }
     Ok(of)
 }

@@ -4,6 +4,7 @@ use Rattle.std.proofs.Common.{length, Bool, true, false, Option, Some, None}
 use Rattle.std.proofs.Common.{refl, sym, ap, subst, ◌∙◌, arith, inl, inr, drop, get_or}
 use Rattle.std.specs.Prelude.{max, ◌==◌, if◌then◌else◌, slice_get}
 use Rattle.std.proofs.lemmas.Bool.{cases_Bool, ne_eqb, cond-true, cond-false}
+use Rattle.std.proofs.lemmas.List.{drop_more, drop_all}
 use Rattle.std.proofs.lemmas.Option.{slice_get_read}
 use Rattle.mid_code.specs.declared.word.TheConstants.{MOST_ARGUMENTS, SPARE_ROOM}
 use Rattle.mid_code.specs.declared.word.WordInstr.{WordInstr}
@@ -12,7 +13,7 @@ use Rattle.mid_code.specs.Words.{is_counted, most_calls, from_proc, most_called,
 use Rattle.reg_scan.specs.declared.homes.Homes.{Homes}
 use Rattle.rv32_codegen.specs.Stack.{uncounted, chain, longest, frame_for, most_frame, stack_need}
 use Rattle.rv32_codegen.specs.Chains.{callee_of, cut, number_for, chain_from, chains_from, most_of, rooms_of, frames_of, taken_for, none_of, cut_chain}
-use Rattle.rv32_codegen.specs.Chains.{AreLongest}
+use Rattle.rv32_codegen.specs.Chains.{AreLongest, NoneBehind}
 use Rattle.rv32_codegen.specs.Chains.{IsCallSize}
 use Rattle.rv32_codegen.specs.Lowering.{AllHomes}
 use Rattle.rv32_codegen.proofs.Lookups.{none_some, some_same, nil_cons, here, later}
@@ -228,6 +229,29 @@ drop_none (suc i) = refl
 
 none_left : (procs : List WordProc) (i n : ℕ) → number_for procs (drop i []) n ≡ 0
 none_left procs i n = ap (λ l. number_for procs l n) (drop_none i) ∙ no_taken n procs
+
+-- the numbers that are there come up to their end
+pub none_past : (taken : List ℕ) → NoneBehind (length taken) taken
+none_past taken m le procs n = ap (λ l. number_for procs l n) (drop_all m taken le) ∙ no_taken n procs
+
+-- one more of them is 0
+pub none_more : (taken : List ℕ) (count : ℕ) → count < length taken → get_or taken count zero ≡ zero → NoneBehind (count + 1) taken → NoneBehind count taken
+none_more taken count lt e h m le procs n = by (m - count) refl
+  where
+    same_if : (b : Bool) (k : ℕ) → (if b then k else k) ≡ k
+    same_if true k = refl
+    same_if false k = refl
+
+    first : (ps : List WordProc) → number_for ps (0 ∷ drop (count + 1) taken) n ≡ 0
+    first [] = refl
+    first (p ∷ ps) = ap (λ k. if p.number == n then 0 else k) (h (count + 1) (omega arith) ps n) ∙ same_if (p.number == n) 0
+
+    here : drop count taken ≡ 0 ∷ drop (count + 1) taken
+    here = drop_more taken count zero lt ∙ ap (λ k. k ∷ drop (count + 1) taken) e
+
+    by : (d : ℕ) → m - count ≡ d → number_for procs (drop m taken) n ≡ 0
+    by zero is = ap (λ k. number_for procs (drop k taken) n) (omega (arith, le, is)) ∙ ap (λ l. number_for procs l n) here ∙ first procs
+    by (suc d) is = h m (omega (arith, is)) procs n
 
 -- past a procedure of another number
 past_number : (procs : List WordProc) (taken : List ℕ) (i n : ℕ) (p : WordProc) → slice_get procs i ≡ Some p → (p.number == n) ≡ false →

@@ -1,6 +1,6 @@
 -- Chains of calls as they are computed: a number for each procedure, in order, of at most 32 bits. No public contract speaks of it.
-use Rattle.std.specs.Prelude.{◌≡◌, ◌<◌, ℕ, zero, suc, ◌+◌, ◌-◌, ◌^◌, max, min, ◌==◌, if◌then◌else◌, List, [], ◌∷◌}
-use Rattle.std.specs.Prelude.{length, Option, Some, None}
+use Rattle.std.specs.Prelude.{◌≡◌, ◌<◌, ◌≤◌, ℕ, zero, suc, ◌+◌, ◌-◌, ◌^◌, max, min, ◌==◌, if◌then◌else◌, List, [], ◌∷◌}
+use Rattle.std.specs.Prelude.{length, drop, Option, Some, None}
 use Rattle.mid_code.specs.declared.word.WordInstr.{WordInstr}
 use Rattle.mid_code.specs.declared.word.WordInstr.TheVariants.{Call}
 use Rattle.mid_code.specs.declared.word.WordProc.{WordProc}
@@ -21,6 +21,10 @@ abbrev pub number_for : List WordProc → List ℕ → (number : ℕ) → ℕ
 number_for [] taken number = 0
 number_for (p ∷ procs) [] number = 0
 number_for (p ∷ procs) (n ∷ taken) number = if p.number == number then n else number_for procs taken number
+
+-- what stands behind the first so many isn't taken of any procedure
+abbrev pub NoneBehind : ℕ → List ℕ → Type 0
+NoneBehind count taken = (m : ℕ) → count ≤ m → (procs : List WordProc) (number : ℕ) → number_for procs (drop m taken) number ≡ 0
 
 -- what chains take from a procedure on, where those from the procedures that it calls take so much
 abbrev pub chain_from : (taken : ℕ → ℕ) → (size : ℕ) → WordProc → ℕ

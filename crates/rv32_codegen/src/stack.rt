@@ -37,12 +37,29 @@ fn callee_of(line: WordInstr) -> Option<u32>
     }
 }
 
-// The number of the first procedure that has this one, or 0.
-fn number_for(procs: &[WordProc], taken: &[u32], number: u32) -> u32
-    requires { length taken.now ≡ length procs.now }
+// How many of these numbers come up to the last one that isn't 0.
+fn used(taken: &[u32]) -> usize
+    ensures within { result ≤ length taken.now }
+    ensures none { chains.NoneBehind result taken.now }
+{
+    let mut count = taken.len();
+    while count > 0 {
+        if taken[count - 1] > 0 {
+            return count;
+        }
+        count -= 1;
+    }
+    count
+}
+
+// What the first procedure of this number takes, or 0. Those behind the first so many take nothing.
+fn number_for(procs: &[WordProc], taken: &[u32], count: usize, number: u32) -> u32
+    requires long { length taken.now ≡ length procs.now }
+    requires within { count ≤ length taken.now }
+    requires none { chains.NoneBehind count taken.now }
     ensures { result ≡ chains.number_for procs.now taken.now number }
 {
-    for i in 0..procs.len() {
+    for i in 0..count {
         if procs[i].number == number {
             return taken[i];
         }
@@ -51,38 +68,44 @@ fn number_for(procs: &[WordProc], taken: &[u32], number: u32) -> u32
 }
 
 // What the procedure takes that a line calls, or 0.
-fn taken_for(procs: &[WordProc], taken: &[u32], line: WordInstr) -> u32
-    requires { length taken.now ≡ length procs.now }
+fn taken_for(procs: &[WordProc], taken: &[u32], count: usize, line: WordInstr) -> u32
+    requires long { length taken.now ≡ length procs.now }
+    requires within { count ≤ length taken.now }
+    requires none { chains.NoneBehind count taken.now }
     ensures { result
         ≡ chains.taken_for (chains.number_for procs.now taken.now) (chains.callee_of line) }
 {
     match callee_of(line) {
-        Some(callee) => number_for(procs, taken, callee),
+        Some(callee) => number_for(procs, taken, count, callee),
         None => 0,
     }
 }
 
 // The most that one of the procedures takes that these lines call.
-fn most_called(procs: &[WordProc], taken: &[u32], lines: &[WordInstr]) -> u32
-    requires { length taken.now ≡ length procs.now }
+fn most_called(procs: &[WordProc], taken: &[u32], count: usize, lines: &[WordInstr]) -> u32
+    requires long { length taken.now ≡ length procs.now }
+    requires within { count ≤ length taken.now }
+    requires none { chains.NoneBehind count taken.now }
     ensures { result ≡ words.most_called (chains.number_for procs.now taken.now) lines.now }
 {
     let mut most = 0;
     for line in lines {
-        most = larger(most, taken_for(procs, taken, *line));
+        most = larger(most, taken_for(procs, taken, count, *line));
     }
     most
 }
 
 // What chains take from a procedure on that takes so much itself.
-fn chain_from(procs: &[WordProc], taken: &[u32], size: u32, proc: &WordProc) -> u32
-    requires { length taken.now ≡ length procs.now }
+fn chain_from(procs: &[WordProc], taken: &[u32], count: usize, size: u32, proc: &WordProc) -> u32
+    requires long { length taken.now ≡ length procs.now }
+    requires within { count ≤ length taken.now }
+    requires none { chains.NoneBehind count taken.now }
     ensures { result ≡ chains.chain_from (chains.number_for procs.now taken.now) size proc.now }
 {
     if is_counted(proc.kind) {
         return 0;
     }
-    size.saturating_add(most_called(procs, taken, proc.lines.as_slice()))
+    size.saturating_add(most_called(procs, taken, count, proc.lines.as_slice()))
 }
 
 // The same of each procedure.
@@ -97,9 +120,10 @@ fn chains_from(
     ensures { IfOk result (λ next. next
         ≡ chains.chains_from (chains.number_for procs.now taken.now) procs.now sizes.now) }
 {
+    let count = used(taken);
     let mut next = Items::new(alloc);
     for i in 0..procs.len() {
-        next.push(chain_from(procs, taken, sizes[i], &procs[i]))?;
+        next.push(chain_from(procs, taken, count, sizes[i], &procs[i]))?;
     }
     Ok(next)
 }
@@ -141,9 +165,13 @@ fn most_chain(procs: &[WordProc], taken: &[u32]) -> u32
     requires { length taken.now ≡ length procs.now }
     ensures { result ≡ words.most_chain (chains.number_for procs.now taken.now) procs.now }
 {
+    let count = used(taken);
     let mut most = 0;
     for proc in procs {
-        most = larger(most, most_called(procs, taken, proc.lines.as_slice()));
+        most = larger(
+            most,
+            most_called(procs, taken, count, proc.lines.as_slice()),
+        );
     }
     most
 }

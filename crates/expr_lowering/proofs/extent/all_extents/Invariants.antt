@@ -1,8 +1,11 @@
-use Rattle.std.proofs.Common.{◌≡◌, ◌++◌, drop, map}
-use Rattle.nim_types.specs.Table.{types_in, facts_in}
-use Rattle.expr_lowering.specs.Extents.{extent_in}
+use Rattle.std.proofs.Common.{◌≡◌, ◌≤◌, length}
+use Rattle.expr_lowering.specs.Extents.{AreKnown}
 use Rattle.expr_lowering.proofs.extent.all_extents.Given as goal
 
-abbrev pub invariant-loop-ty : goal.invariant-loop-ty
-invariant-loop-ty l =
-    l.of ++ map (extent_in (facts_in l.types)) (drop l.ty (types_in l.types)) ≡ map (extent_in (facts_in l.types)) (types_in l.types)
+-- as many declared types inside one another are looked through as there were rounds
+abbrev pub invariant-loop-round : goal.invariant-loop-round
+invariant-loop-round l = record {
+  below : l._round ≤ l.declared;
+  long : length l.of ≡ length l.types;
+  known : AreKnown l._round l.types l.of (length l.types);
+}
