@@ -21,10 +21,10 @@ use Rattle.flat_laws.proofs.FitLines.{Operations}
 use Rattle.flat_laws.proofs.Operating.{IsClosed}
 use Rattle.flat_laws.proofs.Operated.{table_operations}
 use Rattle.flat_laws.proofs.Calls.{known_of}
-use Rattle.flat_laws.proofs.Programs.{fixed_of}
+use Rattle.flat_laws.proofs.Programs.{fixed_of, Owed}
 use Rattle.flat_laws.proofs.SaneBodies.{typed_procs}
 use Rattle.flat_laws.proofs.Held.{AllListed, IsNumbered, fitting, holding}
-use Rattle.flat_laws.proofs.Law.{law_formed, law_agrees, law_paced}
+use Rattle.flat_laws.proofs.Law.{law_formed, law_agrees, law_paced, owed}
 
 -- all nodes have types of the table
 pub record IsListed (types : List Ty) (program : Program) : Type 0 where
@@ -46,21 +46,26 @@ module _ (table : List TypeDef) (program : Program) (plan : Plan) (facts : progr
       IsNumbered types body
   numbered_in params gives body t all = record { rises = (both_of _ _ (both_of _ _ (both_of _ _ t).0).0).0; listed = all }
 
-  parts : (are_typed_procs types program program.procs ≡ true) × (is_typed_start types program program.start ≡ true)
+  pub parts : (are_typed_procs types program program.procs ≡ true) × (is_typed_start types program program.start ≡ true)
   parts = both_of _ _ (both_of _ _ typed).1
 
-  bodies : (n : ℕ) (proc : T.Proc) (body : Body) → slice_get program.procs n ≡ Some proc → proc.body ≡ Some body → IsNumbered types body
+  pub bodies : (n : ℕ) (proc : T.Proc) (body : Body) → slice_get program.procs n ≡ Some proc → proc.body ≡ Some body → IsNumbered types body
   bodies n proc body e has =
       numbered_in proc.params proc.gives body
       (subst (λ b. is_typed_if types program proc.params proc.gives b ≡ true) has (typed_procs types program program.procs n proc parts.0 e))
       (listed.bodies n proc body e has)
 
-  start_numbered : IsNumbered types program.start
+  pub start_numbered : IsNumbered types program.start
   start_numbered = record { rises = (both_of _ _ (both_of _ _ (both_of _ _ parts.1).0).0).0; listed = listed.start }
 
   pub formed : is_flat (known_in table) (flat_of (types_in table) program) ≡ true
   formed =
       law_formed table program plan facts typed plain (fitting types plan program ops fits bodies start_numbered)
+      (holding types plan program ops fits bodies start_numbered) fits
+
+  pub owed_all : Owed types plan program
+  owed_all =
+      owed table program plan facts typed plain (fitting types plan program ops fits bodies start_numbered)
       (holding types plan program ops fits bodies start_numbered) fits
 
   module _ (heap : ℕ) (input : List ℕ) (sound : Sound (meaning program plan heap input)) where

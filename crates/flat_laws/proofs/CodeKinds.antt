@@ -1,10 +1,10 @@
 -- What shapes are like, by the kinds of types, over what a table says.
-use Rattle.std.proofs.Common.{◌≡◌, ℕ, zero, suc, pos, ◌⊎◌, inl, inr, Bool, true, false, List, [], ◌∷◌, Option, Some, None, refl, sym, ap}
+use Rattle.std.proofs.Common.{◌≡◌, ℕ, zero, suc, pos, ◌⊎◌, inl, inr, Bool, true, false, List, Option, Some, None, refl, sym, ap}
 use Rattle.std.proofs.Common.{◌∙◌, subst}
 use Rattle.std.specs.Prelude.{if◌then◌else◌, length}
 use Rattle.std.proofs.lemmas.Bool.{both_ways}
 use Rattle.nim_types.specs.Types as type
-use Rattle.nim_types.specs.Types.{Ty, Tys, no_types, types, Key, Fact, members, fields, base, below, Facts, fact_of, base_in, same}
+use Rattle.nim_types.specs.Types.{Ty, Tys, no_types, types, Key, Fact, members, fields, base, below, Facts, fact_of, base_in}
 use Rattle.nim_types.specs.Forms as form
 use Rattle.nim_types.specs.Forms.{Form, form_in, form_by, form_within, form_of, hooked, types_of}
 use Rattle.nim_types.proofs.ForCallers.{same_sound}
@@ -21,6 +21,7 @@ use Rattle.typed_trees.specs.Finite.{is_finite_within, is_finite, are_finite}
 use Rattle.flat_laws.proofs.CodeShapes.{never, base_finite, Matches, matches, among_finite, kind_matches, said_shape, shapes_of}
 use Rattle.flat_laws.proofs.Sane.{Listed}
 use Rattle.flat_laws.proofs.Typed.{listed}
+use Rattle.flat_laws.proofs.NumberForms.{at_type}
 
 -- ---- what is hooked
 
@@ -185,16 +186,6 @@ module _ (known : Known) (finite : are_finite known.facts known.types ≡ true) 
   unhooked (elements s) f h plain = both_ways (hooked f) plain h
   unhooked (row n s) f h plain = tt
   unhooked (parts ss) f h plain = tt
-
-  at_type : (all : List Ty) (ty : Ty) → (type_at all (type_number all ty) ≡ ty) ⊎ (type_at all (type_number all ty) ≡ type.int)
-  at_type [] ty = inr refl
-  at_type (t ∷ ts) ty = at (same t ty) refl (at_type ts ty)
-    where
-      at : (u : Bool) → same t ty ≡ u → (type_at ts (type_number ts ty) ≡ ty) ⊎ (type_at ts (type_number ts ty) ≡ type.int) →
-          (type_at (t ∷ ts) (if u then zero else suc (type_number ts ty)) ≡ ty)
-          ⊎ (type_at (t ∷ ts) (if u then zero else suc (type_number ts ty)) ≡ type.int)
-      at true e rest = inl (same_sound t ty e)
-      at false e rest = rest
 
   pub free : (ty : Ty) → is_hooked facts ty ≡ false → IsFree (placed ty)
   free ty plain = at (at_type known.types ty)

@@ -26,6 +26,19 @@ unmapped (Some n) h = absurd (apart h)
     apart : Some n.at ≡ None → ⊥
     apart e = cc
 
+-- no body has anything that comes with the heap
+pub none_out : (program : Program) → IsPlain program →
+    (left_out_in_procs program.facts program.procs ≡ None) × (left_out_in_body program.facts [] program.start ≡ None)
+none_out program plain =
+    earlier_none (left_out_in_procs program.facts program.procs) (left_out_in_body program.facts [] program.start)
+    (unmapped (earlier (left_out_in_procs program.facts program.procs) (left_out_in_body program.facts [] program.start)) plain)
+
+pub tabled_by : (table : List TypeDef) (program : Program) → program.facts ≡ facts_in table → are_finite program.facts (types_in table) ≡ true →
+    Tabled (record { types = types_in table; facts = program.facts })
+tabled_by table program facts finite =
+    subst (λ (facts : Facts). Tabled (record { types = types_in table; facts = facts })) (sym facts)
+    (tabled_in table (subst (λ (facts : Facts). are_finite facts (types_in table) ≡ true) facts finite))
+
 pub flat_fits : (table : List TypeDef) (program : Program) → program.facts ≡ facts_in table → is_typed (types_in table) program ≡ true →
     IsPlain program →
     code_fits (record { types = types_in table; facts = program.facts }) (map flat_placed (flat_of (types_in table) program).procs) ≡ true
@@ -33,8 +46,5 @@ flat_fits table program facts typed plain =
     let u = and_parts (are_finite program.facts (types_in table))
     (are_typed_procs (types_in table) program program.procs && is_typed_start (types_in table) program program.start) typed in
     let v = and_parts (are_typed_procs (types_in table) program program.procs) (is_typed_start (types_in table) program program.start) u.1 in
-    let out = earlier_none (left_out_in_procs program.facts program.procs) (left_out_in_body program.facts [] program.start)
-    (unmapped (earlier (left_out_in_procs program.facts program.procs) (left_out_in_body program.facts [] program.start)) plain) in
-    let finite = subst (λ (facts : Facts). are_finite facts (types_in table) ≡ true) facts u.0 in
-    let tabled = subst (λ (facts : Facts). Tabled (record { types = types_in table; facts = facts })) (sym facts) (tabled_in table finite) in
-    code_is_fit (types_in table) program tabled v.0 out.0 v.1 (neither _ _ out.1).1
+    let out = none_out program plain in
+    code_is_fit (types_in table) program (tabled_by table program facts u.0) v.0 out.0 v.1 (neither _ _ out.1).1

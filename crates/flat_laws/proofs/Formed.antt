@@ -23,7 +23,7 @@ use Rattle.flat_laws.proofs.Ground.{Code, Spot, Ground, EndsWith}
 use Rattle.flat_laws.proofs.Sane.{Named}
 use Rattle.flat_laws.proofs.BlockCodes.{block_code, block_is}
 use Rattle.flat_laws.proofs.BlockSane.{SaneBlock}
-use Rattle.flat_laws.proofs.Marks.{finds_none}
+use Rattle.flat_laws.proofs.Marks.{Finds, finds_none}
 use Rattle.flat_laws.proofs.BlockLabels.{finds_body}
 use Rattle.flat_laws.proofs.BlockLeading.{Leads, goes_block}
 use Rattle.flat_laws.proofs.Calls.{Fixed, known_of, ground, InScope}
@@ -65,26 +65,37 @@ module _ (types : List Ty) (plan : Plan) (program : Program) (owed : Owed types 
   abbrev Lines : Code → Type 0
   Lines lines = all_lead flat_label flat_line lines lines ≡ true
 
+  -- the labels of a body stand once
+  pub finds_in : (n : ℕ) (proc : T.Proc) (body : Body) → BodyOwed x owed.fitting owed.globals n proc body →
+      Finds (body_lines types program.facts proc.at body)
+  finds_in n proc body o =
+      finds_body (ground x owed.fitting (n ∷ []) [] 1 0 [] body.result finds_none) owed.globals (InScope x owed.globals n proc body) proc.at body
+      o.lo o.hi o.least (o.sane [] [] 0 0 [] finds_none)
+
+  pub finds_start : Finds (body_lines types program.facts beginning program.start)
+  finds_start =
+      let o = owed.start in
+      finds_body (ground x owed.fitting [] [] 0 ACTIVE_CALLS [] program.start.result finds_none) owed.globals nowhere beginning program.start
+      o.lo o.hi o.least (o.sane [] finds_none)
+
   whole_by : (n : ℕ) (proc : T.Proc) (body : Option Body) → proc.body ≡ body →
       ((body : Body) → proc.body ≡ Some body → BodyOwed x owed.fitting owed.globals n proc body) →
       Lines (flat_body types program.facts proc.params proc.at body).lines
   whole_by n proc None e each = refl
   whole_by n proc (Some body) e each =
       let o = each body e in
-      let finds = finds_body (ground x owed.fitting (n ∷ []) [] 1 0 [] body.result finds_none) owed.globals (InScope x owed.globals n proc body) proc.at body
-      o.lo o.hi o.least (o.sane [] [] 0 0 [] finds_none) in
+      let finds = finds_in n proc body o in
       let lines = body_lines types program.facts proc.at body in
-      whole_body (ground x owed.fitting (n ∷ []) lines 1 0 [] body.result finds) owed.globals (InScope x owed.globals n proc body) proc.at body o.lo o.hi refl
+      whole_body (ground x owed.fitting (n ∷ []) lines 1 0 [] body.result finds) owed.globals (InScope x owed.globals n proc body) proc.at body o.lo o.hi
+      refl
       (o.sane [] lines 0 0 [] finds)
 
   whole_start : Lines (body_lines types program.facts beginning program.start)
   whole_start =
       let o = owed.start in
       let lines = body_lines types program.facts beginning program.start in
-      let finds = finds_body (ground x owed.fitting [] [] 0 ACTIVE_CALLS [] program.start.result finds_none) owed.globals nowhere beginning program.start
-      o.lo o.hi o.least (o.sane [] finds_none) in
-      whole_body (ground x owed.fitting [] lines 0 ACTIVE_CALLS [] program.start.result finds) owed.globals nowhere beginning program.start o.lo o.hi refl
-      (o.sane lines finds)
+      whole_body (ground x owed.fitting [] lines 0 ACTIVE_CALLS [] program.start.result finds_start) owed.globals nowhere beginning program.start o.lo o.hi
+      refl (o.sane lines finds_start)
 
   pub code_whole : are_whole flat_label flat_line x.procs ≡ true
   code_whole =

@@ -33,7 +33,7 @@ module _ (table : List TypeDef) (program : Program) (plan : Plan) (facts : progr
   all_fit : AllFit x fitting
   all_fit ns whole level left waiting result finds = values_fit _ (named_globals program) said
 
-  owed : Owed (types_in table) plan program
+  pub owed : Owed (types_in table) plan program
   owed = owed_of (types_in table) plan program fitting all_fit holding typed plain
 
   pub law_formed : is_flat (known_in table) (flat_of (types_in table) program) ≡ true

@@ -1,5 +1,5 @@
 -- The law of flat code: of a typed, plain program over a table of types, and its flat code.
-use Rattle.std.proofs.Common.{◌≡◌, ℕ, ◌≤◌, ◌*◌, true, List, [], map, Some, sym, subst}
+use Rattle.std.proofs.Common.{◌≡◌, ℕ, ◌≤◌, ◌*◌, Bool, true, false, List, [], map, Some, sym, subst}
 use Rattle.arc_base.specs.Behaviour.{Agrees, Sound}
 use Rattle.arc_base.specs.Pace.{Paced}
 use Rattle.nim_types.specs.declared.types.TypeDef.{TypeDef}
@@ -8,12 +8,14 @@ use Rattle.nim_types.specs.Table.{type_at, types_in, facts_in}
 use Rattle.nim_types.specs.Forms.{Form, HasForm}
 use Rattle.nim_plan.specs.declared.plan.Plan.{Plan}
 use Rattle.nim_core.specs.Program.{Program}
+use Rattle.nim_core.specs.LeftOut.{is_hooked}
 use Rattle.nim_core.specs.Meaning.{meaning}
 use Rattle.mid_code.specs.declared.flat.Flat.{Flat}
 use Rattle.mid_code.specs.Scene.{known_in}
 use Rattle.mid_code.specs.Codes.{flat_placed, flat_meaning, is_flat, AreNone, flat_hooks}
 use Rattle.mid_code.specs.Fits.{code_fits}
 use Rattle.mid_code.specs.Sizes.{code_weight}
+use Rattle.mid_code.specs.ProgramPoints.{HasProgram}
 use Rattle.expr_lowering.specs.Flatten.{flat_of}
 use Rattle.typed_trees.specs.Finite.{are_finite}
 use Rattle.flat_laws.specs.Flattens.{HasFlat}
@@ -25,6 +27,7 @@ use Rattle.flat_laws.proofs.CodeTables.{said_in}
 use Rattle.flat_laws.proofs.CodeLaw.{flat_fits}
 use Rattle.flat_laws.proofs.ListedBlocks.{all_listed}
 use Rattle.flat_laws.proofs.Agreed.{IsListed, formed, agrees, paced}
+use Rattle.flat_laws.proofs.LawPoints.{program_points}
 use Rattle.flat_laws.proofs.TableForms.{table_forms}
 use Rattle.flat_laws.proofs.FlatOf.{flat_is, no_hooks}
 use Rattle.flat_laws.proofs.StmtWeights.{program_weighs}
@@ -65,6 +68,14 @@ module _ (table : List TypeDef) (program : Program) (flat : Flat) (has : HasFlat
     law_formed =
         subst (λ (flat : Flat). is_flat (known_in table) flat ≡ true) is
         (formed table program no_plan has.facts has.typed has.plain closed fits listed)
+
+    pub law_points : (can_copy : Ty → Bool) → ((ty : Ty) → is_hooked program.facts ty ≡ false → can_copy ty ≡ true) →
+        HasProgram (λ proc ty. false) (known_in table) can_copy program flat
+    law_points can_copy copied =
+        subst (λ (flat : Flat). HasProgram (λ proc ty. false) (known_in table) can_copy program flat) is
+        (subst (λ (facts : Facts). HasProgram (λ proc ty. false) (record { types = types; facts = facts }) can_copy program (flat_of types program))
+        has.facts
+        (program_points table program no_plan has.facts has.typed has.plain closed fits listed can_copy copied))
 
     module _ (plan : Plan) (heap : ℕ) (input : List ℕ) (sound : Sound (meaning program plan heap input)) where
       pub law_agrees : Agrees (flat_meaning table flat plan heap input) (meaning program plan heap input)

@@ -132,7 +132,7 @@ mutual
 
 -- ---- numbers that rise
 
-least : (lo hi : ℕ) (xs : List TypedNode) → rise_to lo hi (map number xs) ≡ true → (x : TypedNode) → Member x xs → lo ≤ x.node.number
+pub least : (lo hi : ℕ) (xs : List TypedNode) → rise_to lo hi (map number xs) ≡ true → (x : TypedNode) → Member x xs → lo ≤ x.node.number
 least lo hi [] r x h = absurd h
 least lo hi (y ∷ ys) r x (inl e) = let f = rise_first lo hi y.node.number (map number ys) r in omega (arith, f.0, ap number e)
 least lo hi (y ∷ ys) r x (inr h) =

@@ -1,17 +1,20 @@
 // The laws of flat code.
-ghost use Rattle.std.specs.Prelude.{◌≡◌, ◌≤◌, ◌<◌, ◌*◌, ℕ, true, List, length, map};
+ghost use Rattle.std.specs.Prelude.{◌≡◌, ◌≤◌, ◌<◌, ◌*◌, ℕ, Bool, true, false, List, length, map};
 ghost use Rattle.arc_base.specs.Behaviour.{Agrees};
 ghost use Rattle.arc_base.specs.Pace.{Paced};
 ghost use Rattle.nim_types.specs.declared.types.TypeDef.{TypeDef};
+ghost use Rattle.nim_types.specs.Types.{Ty};
 ghost use Rattle.nim_types.specs.Forms.{Form, HasForm};
 ghost use Rattle.nim_types.specs.Table.{type_at, types_in, facts_in};
 ghost use Rattle.nim_plan.specs.declared.plan.Plan.{Plan};
 ghost use Rattle.nim_core.specs.Program.{Program};
+ghost use Rattle.nim_core.specs.LeftOut.{is_hooked};
 ghost use Rattle.nim_core.specs.Meaning.{meaning};
 ghost use Rattle.mid_code.specs.declared.flat.Flat.{Flat};
 ghost use Rattle.mid_code.specs.Scene.{known_in};
 ghost use Rattle.mid_code.specs.Codes.{flat_meaning, flat_placed, is_flat, AreNone, flat_hooks};
 ghost use Rattle.mid_code.specs.Sizes.{code_weight, data_bytes};
+ghost use Rattle.mid_code.specs.ProgramPoints.{HasProgram};
 ghost use Rattle.flat_laws.specs.declared.laws.TheConstants.{FLAT_PACE, NODE_WEIGHT, MOST_PLACES};
 ghost use Rattle.flat_laws.specs.Counted.{program_parts};
 ghost use Rattle.flat_laws.specs.DataCounted.{data_counted};
@@ -59,6 +62,12 @@ pub fn flat_code()
     // The variables of each procedure are small.
     ensures places { (table : List TypeDef) (program : Program) (flat : Flat) →
         HasFlat table program flat → AllWithin (known_in table) MOST_PLACES flat.procs }
+    // It has its program's places, and its points with the ways between them, whichever parameters
+    // count as `sink`; whatever lets values be copied that have nothing to do then.
+    ensures points { (table : List TypeDef) (program : Program) (flat : Flat) →
+        HasFlat table program flat → (can_copy : Ty → Bool) →
+        ((ty : Ty) → is_hooked program.facts ty ≡ false → can_copy ty ≡ true) →
+        HasProgram (λ proc ty. false) (known_in table) can_copy program flat }
 {
     meanings();
     ints();

@@ -1,4 +1,4 @@
-use Rattle.flat_laws.proofs.LawOf.{law_formed, law_hooks, law_forms, law_weight, law_agrees, law_paced}
+use Rattle.flat_laws.proofs.LawOf.{law_formed, law_hooks, law_forms, law_weight, law_points, law_agrees, law_paced}
 use Rattle.flat_laws.proofs.Bounds.{law_data, law_places}
 use Rattle.flat_laws.proofs.laws.flat_code.Goals as goal
 
@@ -29,3 +29,6 @@ returns-clause-data_size c = law_data
 
 pub returns-clause-places : goal.returns-clause-places
 returns-clause-places c = law_places
+
+pub returns-clause-points : goal.returns-clause-points
+returns-clause-points c = λ table program flat has. law_points table program flat has c.ints.ensures.closed
