@@ -72,7 +72,10 @@ module _ (sinks : Sinks) (raises : Raises) (counts : T.Root → Bool) (hooked : 
       tree ≡ scopes_that_count counts acts → HasWays raises counts sinks whole acts
   body_ways finds bare once acts same = record {
     once = once;
-    begins = subst (λ a. Comes sinks whole whole (W.entry a (W.Stop T.On))) same real.begins.comes;
+    begins = λ p. (
+      (λ c. subst (λ a. p ≡ W.entry a (W.Stop T.On)) same (real.begins.only p c)),
+      (λ e. subst (λ q. Comes sinks whole whole q) (sym e) (subst (λ a. Comes sinks whole whole (W.entry a (W.Stop T.On))) same real.begins.comes)),
+    );
     edges = λ p d q. (
       (λ e. subst (λ a. Edges raises a W.Stop p d q) same (to p d q (ways_both sinks whole inside (last ∷ []) [] p d q (all_ways sinks whole p d q e)))),
       (λ e. ways_all sinks whole p d q (ways_left sinks whole inside (last ∷ []) [] p d q

@@ -1,5 +1,5 @@
 -- Code has the ways of a body where both are the same as lists, but for their order.
-use Rattle.std.proofs.Common.{◌≡◌, subst, inl, inr, ⊎_elim, ◌↔◌, ℕ, zero, suc, ◌+◌, ◌*◌, List, [], ◌∷◌, ◌++◌, Option, Some, None, map}
+use Rattle.std.proofs.Common.{◌≡◌, sym, ap, ◌∙◌, subst, inl, inr, ⊎_elim, ◌↔◌, ℕ, zero, suc, ◌+◌, ◌*◌, List, [], ◌∷◌, ◌++◌, Option, Some, None, map}
 use Rattle.std.specs.Prelude.{slice_get, Bool, true}
 use Rattle.nim_core.specs.ActTree.{Act, Acts, Root, Named, Temporary, Literal, Flow, On, Out, Turn_over, Back}
 use Rattle.nim_core.specs.ActTree.{Role, Begins, Does, Fills, Looks, Chooses, Turns, Asks, Decides, Leaves}
@@ -9,7 +9,7 @@ use Rattle.nim_core.specs.Marks.{Member}
 use Rattle.mid_code.specs.declared.point.PointAt.{PointAt}
 use Rattle.mid_code.specs.declared.flat.FlatLine.{FlatLine}
 use Rattle.mid_code.specs.Whole.{falls}
-use Rattle.mid_code.specs.Points.{Sinks, point_of, act_of, point_under, points, way_to, Comes, scopes_that_count, HasWays}
+use Rattle.mid_code.specs.Points.{Sinks, point_of, act_of, point_under, points, way_to, Comes, there, over, scopes_that_count, HasWays}
 use Rattle.mid_code.specs.FlatArrows.{where_to, where_on, found_by, next_points, or_point, first_points, to_each, arrows_at, arrows_on, flat_arrows}
 use Rattle.mid_code.proofs.FlatWays.{member_left, member_right, member_cases, among_left, among_right, among_cases, of_each, to_arrows, from_arrows}
 use Rattle.mid_code.proofs.Marked.{all_new, distinct_by}
@@ -134,6 +134,27 @@ point_number (Enter place) = 4 * root_number place + 1
 point_number (Leave place by) = 4 * (1000 * root_number place + flow_number by) + 2
 point_number (Stop by) = 4 * flow_number by + 3
 
+-- ---- where lines begin
+
+some_same : {a b : PointAt} → Some a ≡ Some b → a ≡ b
+some_same e = cc
+
+none_some : {B : Type 0} {a : PointAt} → None ≡ Some a → B
+none_some {B} {a} e = absurd (apart e)
+  where
+    apart : None ≡ Some a → ⊥
+    apart e = cc
+
+first_only : {sinks : Sinks} {whole rest : List FlatLine} {line : FlatLine} {at : PointAt} {p : Point} → point_under sinks line.point ≡ Some at →
+    Comes sinks whole (line ∷ rest) p → p ≡ point_of at.point
+first_only is (there e) = ap (λ (at : PointAt). point_of at.point) (some_same (sym e ∙ is))
+first_only is (over n l c) = none_some (sym n ∙ is)
+
+-- at the first one, where that is a point
+pub begins_at_first : {sinks : Sinks} {whole rest : List FlatLine} {line : FlatLine} {at : PointAt} → point_under sinks line.point ≡ Some at →
+    (p : Point) → Comes sinks whole (line ∷ rest) p ↔ (p ≡ point_of at.point)
+begins_at_first {sinks} {whole} {rest} {line} is p = (first_only is, λ e. subst (λ q. Comes sinks whole (line ∷ rest) q) (sym e) (there is))
+
 -- ---- both as lists
 
 module _ (raises : Raises) (counts : Root → Bool) (sinks : Sinks) (lines : List FlatLine) (body : Acts) where
@@ -142,7 +163,7 @@ module _ (raises : Raises) (counts : Root → Bool) (sinks : Sinks) (lines : Lis
 
   -- over so many lines that are no points there are all ways
   pub ways_by_lists : (depth : ℕ) → all_new (map point_number (points sinks lines)) ≡ true →
-      Comes sinks lines lines (start (scopes_that_count counts body)) → (from to : List ℕ) →
+      ((p : Point) → Comes sinks lines lines p ↔ (p ≡ start (scopes_that_count counts body))) → (from to : List ℕ) →
       ((n : ℕ) → flat_arrows sinks (more depth n) lines ≡ picked from Tree) → Tree ≡ picked to (flat_arrows sinks depth lines) →
       ((p : Point) (d : Act) (q : Point) → Edges raises (scopes_that_count counts body) Stop p d q ↔ Among p d q Tree) →
       HasWays raises counts sinks lines body

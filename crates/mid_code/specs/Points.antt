@@ -219,9 +219,10 @@ module _ (counts : T.Root → Bool) where
     scopes_that_count (T.Bind place last rest) = if counts place then T.Bind place last (scopes_that_count rest) else scopes_that_count rest
     scopes_that_count (T.Result place last rest) = if counts place then T.Result place last (scopes_that_count rest) else scopes_that_count rest
 
--- The lines have the points of a body, each once, begin where the body begins, and control goes from point to point as in the body.
+-- The lines have the points of a body, each once; from their front control comes where the body begins, and to no other point; and control
+-- goes from point to point as in the body.
 pub record HasWays (raises : Raises) (counts : T.Root → Bool) (sinks : Sinks) (lines : List FlatLine) (body : Acts) : Type 0 where
   pub once : Distinct (points sinks lines)
-  pub begins : Comes sinks lines lines (start (scopes_that_count counts body))
+  pub begins : (p : W.Point) → Comes sinks lines lines p ↔ (p ≡ start (scopes_that_count counts body))
   pub edges : (p : W.Point) (act : T.Act) (q : W.Point) →
       FlatEdge sinks lines p act q ↔ follows raises (scopes_that_count counts body) p act q
