@@ -1,9 +1,9 @@
 -- What a line of word code does to memory, to arguments and outside, its label code does.
 use Rattle.std.proofs.Common.{◌≡◌, ℕ, suc, ◌+◌, ◌-◌, ◌*◌, ◌%◌, ◌^◌, ◌<◌, ◌≤◌, ◌⊎◌, inl, inr, List}
-use Rattle.std.proofs.Common.{[], ◌∷◌, ◌++◌, length, take, drop, get_or, set, true}
+use Rattle.std.proofs.Common.{[], ◌∷◌, ◌++◌, length, take, drop, get_or, set, true, false}
 use Rattle.std.proofs.Common.{Option, Some, None, Result, Ok, Err, refl, sym, ap, subst, ◌∙◌, arith, length-set, append-nil, add_assoc}
 use Rattle.std.specs.Prelude.{◌==◌, ◌&&◌, nat_lt, min}
-use Rattle.std.proofs.lemmas.Bool.{cases_eq, eq-eqb, ne_eqb, and_parts, ltb-true, cond-true, cond-false}
+use Rattle.std.proofs.lemmas.Bool.{cases_eq, eq-eqb, ne_eqb, and_parts, and_right, ltb-true, cond-true, cond-false}
 use Rattle.std.proofs.lemmas.List.{get_or-set_same, get_or-set_other, length-take-le}
 use Rattle.arc_base.specs.declared.outside.Stream.{Stream}
 use Rattle.arc_base.specs.Event.{Event, writes as write_events}
@@ -35,14 +35,15 @@ use Rattle.mid_code.specs.Memory.{Memory, as_state, memory_of, number_at, may_pu
 use Rattle.reg_scan.specs.Alive.{Alive, read_by}
 use Rattle.reg_scan.specs.Homes.{home_of}
 use Rattle.mid_code.specs.Words.{put as put_var, WordState, scene_of, loads, shows, on}
-use Rattle.rv32_codegen.specs.Code.{does, save, fetch, store, stream_number, move, give, left_of, right_of, argument_at, move_range}
+use Rattle.rv32_codegen.specs.Code.{does, save, fetch, store, stream_number, move, give, is_call_or_label, only_calls, left_of, right_of, argument_at}
+use Rattle.rv32_codegen.specs.Code.{move_range}
 use Rattle.rv32_codegen.proofs.Machine.{state_of, run_at, Fits, fits_words, word_place, Regs, Quiet, quiet_does, Goes_in, then_goes}
 use Rattle.rv32_codegen.proofs.Machine.{instr_goes, writes}
 use Rattle.rv32_codegen.proofs.PieceRuns.{Gets, put_gets, save_goes}
 use Rattle.rv32_codegen.proofs.Asked.{write_is, exit_is, read_is, stream_is, stream_small}
 use Rattle.rv32_codegen.proofs.Wider.{read_wider, may_wider, may_less, fill_wider, fits_kept, places_kept, found_wider, length-low_bytes}
 use Rattle.rv32_codegen.proofs.Lookups.{some_same}
-use Rattle.rv32_codegen.proofs.Frees.{free_apart}
+use Rattle.rv32_codegen.proofs.Frees.{kept_apart}
 use Rattle.rv32_codegen.proofs.Frames.{size, Alike, word_kept, word_alike, Sits, sits_next, linked_kept, held_alike, Setting, whole, True, Sim}
 use Rattle.rv32_codegen.proofs.HomeRuns.{seats_past, alike_refl}
 use Rattle.rv32_codegen.proofs.LineRuns.{at_lines, setting, homes, frame_at, sim_goes, Sim_did, using_sim, if_sim, laid_of, inside_of, arguments_fit}
@@ -57,8 +58,9 @@ module _ (g : Setting) where
       (bytes input : List ℕ) →
       writable (as_state t.memory) a (length bytes) ≡ true → Sits g.lay g.procs t.frame.proc more → Regs new (frame_at g t j) t.frame.base →
       Alike regs new → ((v : ℕ) → Alive t.frame.proc.lines v more → Alive t.frame.proc.lines v lines) →
+      (only_calls more ≡ false → only_calls lines ≡ false) →
       True g (record (at_lines t more) { memory = memory_of (filled (as_state t.memory) a bytes); input = input }) more new ws j
-  memory_true t lines more regs new ws j f a bytes input may sits kept same stays = record {
+  memory_true t lines more regs new ws j f a bytes input may sits kept same stays returns = record {
     fits = fits_kept regs t.memory ws a bytes may f.fits;
     kept = subst (λ n. Regs new (stack_at + (n + 4 * j)) t.frame.base) (sym (places_kept regs t.memory ws a bytes may)) kept;
     base_fits = f.base_fits;
@@ -66,6 +68,7 @@ module _ (g : Setting) where
     held = held_alike g.lay g.procs regs new ws j t.frame.proc lines more t.frame.vars (laid_of g t lines f.sits) same stays f.held;
     given = f.given;
     linked = f.linked;
+    leaf = λ leaf some. same 1 refl ∙ f.leaf leaf (returns some);
     deep = f.deep;
   }
 
@@ -104,7 +107,7 @@ module _ (g : Setting) where
       (fetch_is s rs x.0 m ws t.input last ∙ ap (λ o. led g.live (whole g) g.at mid last (loaded st 0 5 o)) is) in
       let z = put_gets x.0 5 w (frame_at g t j) t.frame.base (omega arith) (omega arith) x.2.kept in
       sets_from g t l rest regs ws j f r 1 4 to w (put x.0 5 w) (record { goes = refl; is = refl }) (ltb-true to vars named.0) (omega arith)
-      (λ n free ne. z.other n (free_apart n 5 free refl) ∙ x.2.others n (free_apart n 5 free refl)) z.kept 5 (omega arith) (λ e. omega (arith, e))
+      (λ n kept ne. z.other n (kept_apart n 5 kept refl) ∙ x.2.others n (kept_apart n 5 kept refl)) z.kept 5 (omega arith) (λ e. omega (arith, e))
       (then_goes g.live (whole g) g.at 0 1 3 1 _ _ _ x.1 y) z.same))
 
   store_is : (s : Size) (ra rs : ℕ) (regs : List ℕ) (m : Memory) (ws input : List ℕ) (rest : List LabelLine) →
@@ -156,7 +159,7 @@ module _ (g : Setting) where
       (store_is s (left_of (homes g t) address) (right_of (homes g t) from) x.0 m ws t.input k ∙ ap (led g.live (whole g) g.at mid k) acts) in
       let t' = record (at_lines t rest) { memory = m' } in
       let facts = memory_true t (l ∷ rest) rest regs x.0 ws j f a bytes t.input may sits x.2.kept x.2.alike
-      (λ v alive. passes_alive g l p.lines rest v (record { goes = refl; none = refl }) alive) in
+      (λ v alive. passes_alive g l p.lines rest v (record { goes = refl; none = refl }) alive) (λ more. refl) in
       sim_goes g r (run_at x.0 m' ws t.input k) t t' 1 7 (then_goes g.live (whole g) g.at 0 1 6 1 r mid _ x.1 y) (omega arith) (omega arith)
       (record { regs = x.0; ws = ws; j = j; facts = facts; is = refl }))
       (λ h. tt)))
@@ -198,6 +201,7 @@ module _ (g : Setting) where
         given = λ x w e. given_one x w e (cases_eq x i) fit lt inside some;
         linked = linked_kept g.lay g.procs g.need g.total (whole g) g.at ws ws' j p t.frame.base t.callers long
             (λ x o. past x (elim o [ inl e ↦ omega (arith, e) | inr le ↦ omega (arith, le) ])) f.linked;
+        leaf = λ leaf more. same 1 refl ∙ f.leaf leaf (and_right (is_call_or_label l) (only_calls rest) more) ∙ sym (past j (omega arith));
         deep = f.deep;
       }
     where
@@ -244,7 +248,7 @@ module _ (g : Setting) where
       (seats_past (size (homes g t)) (home_of (homes g t) from) there) x.2.same in
       let ws' = set ws (j - suc index) (a % 2 ^ 32) in
       let t' = record t { frame = record t.frame { left = rest; given = put_var t.frame.given index a } } in
-      let alike : Alike regs y.0 = λ n free. y.2.other n (free_apart n 7 free refl) ∙ x.2.others n (free_apart n 5 free refl) in
+      let alike : Alike regs y.0 = λ n kept. y.2.other n (kept_apart n 7 kept refl) ∙ x.2.others n (kept_apart n 5 kept refl) in
       sim_goes g r (run_at y.0 m ws' t.input k) t t' 1 6 (then_goes g.live (whole g) g.at 0 1 3 3 _ _ _ x.1 y.1) (omega arith) (omega arith)
       (record {
         regs = y.0;
@@ -273,7 +277,7 @@ module _ (g : Setting) where
       let second = move 12 (home_of (homes g t) w) in
       let x = var_moves g t lines regs ws j f regs 11 v a (does second rest) (quiet_does second rest quiet) (omega arith) (omega arith) lives e f.kept
       (alike_refl regs) in
-      let alike : Alike regs x.0 = λ r free. x.2.other r (free_apart r 11 free refl) in
+      let alike : Alike regs x.0 = λ r kept. x.2.other r (kept_apart r 11 kept refl) in
       let y = var_moves g t lines regs ws j f x.0 12 w n rest quiet (omega arith) (omega arith) also d x.2.kept alike in (
         y.0,
         then_goes g.live (whole g) g.at 1 1 3 3 _ _ _ x.1 y.1,
@@ -281,7 +285,7 @@ module _ (g : Setting) where
           kept = y.2.kept;
           eleven = y.2.other 11 (λ e. omega (arith, e)) ∙ x.2.same;
           twelve = y.2.same;
-          alike = λ r free. y.2.other r (free_apart r 12 free refl) ∙ alike r free;
+          alike = λ r kept. y.2.other r (kept_apart r 12 kept refl) ∙ alike r kept;
         },
       )
 
@@ -329,7 +333,7 @@ module _ (g : Setting) where
           eleven = z.2.other 11 (λ e. omega (arith, e)) ∙ y.2.other 11 (λ e. omega (arith, e)) ∙ x.2.eleven;
           twelve = z.2.other 12 (λ e. omega (arith, e)) ∙ y.2.other 12 (λ e. omega (arith, e)) ∙ x.2.twelve;
           seventeen = z.2.same;
-          alike = λ r free. z.2.other r (free_apart r 17 free refl) ∙ y.2.other r (free_apart r 10 free refl) ∙ x.2.alike r free;
+          alike = λ r kept. z.2.other r (kept_apart r 17 kept refl) ∙ y.2.other r (kept_apart r 10 kept refl) ∙ x.2.alike r kept;
         },
       )
 
@@ -368,9 +372,9 @@ module _ (g : Setting) where
       let showing = steps_one (step g.live (whole g) g.at) mid next shown 1 1 does_call (omega arith) in
       let all = steps_on (step g.live (whole g) g.at) 4 1 8 1 r mid next [] shown x.1 showing in
       let z = put_gets x.0 10 (get_or x.0 12 0) (frame_at g t j) t.frame.base (omega arith) (omega arith) q.kept in
-      let alike : Alike regs last = λ r free. z.other r (free_apart r 10 free refl) ∙ q.alike r free in
+      let alike : Alike regs last = λ r kept. z.other r (kept_apart r 10 kept refl) ∙ q.alike r kept in
       let facts = same_true g t (l ∷ rest) rest regs last ws j f sits z.kept alike
-      (λ v alive. passes_alive g l p.lines rest v (record { goes = refl; none = refl }) alive) in (
+      (λ v alive. passes_alive g l p.lines rest v (record { goes = refl; none = refl }) alive) (λ more. refl) in (
         next,
         5,
         record { work = all.work; within = omega (arith, all.within); by = all.by },
@@ -413,10 +417,10 @@ module _ (g : Setting) where
       let reading = steps_one (step g.live (whole g) g.at) mid next [] 1 1 does_call (omega arith) in
       let z = put_gets x.0 10 count (frame_at g t j) t.frame.base (omega arith) (omega arith) q.kept in
       let t' = record (at_lines t (l ∷ rest)) { memory = m'; input = left } in
-      let alike : Alike regs last = λ r free. z.other r (free_apart r 10 free refl) ∙ q.alike r free in
-      let f' = memory_true t (l ∷ rest) (l ∷ rest) regs last ws j f a bytes left may f.sits z.kept alike (λ v alive. alive) in
+      let alike : Alike regs last = λ r kept. z.other r (kept_apart r 10 kept refl) ∙ q.alike r kept in
+      let f' = memory_true t (l ∷ rest) (l ∷ rest) regs last ws j f a bytes left may f.sits z.kept alike (λ v alive. alive) (λ more. more) in
       sets_from g t' l rest last ws j f' r 5 9 to count last (record { goes = refl; is = refl }) (ltb-true to p.vars named.0) (omega arith)
-      (λ r free ne. refl) f'.kept 10 (omega arith) (λ e. omega (arith, e))
+      (λ r kept ne. refl) f'.kept 10 (omega arith) (λ e. omega (arith, e))
       (then_goes g.live (whole g) g.at 4 1 8 1 r mid next x.1 reading) z.same)
       (λ h. tt)))
 

@@ -1,7 +1,7 @@
 -- How many bytes the label code of word code has at most, where all branches are laid out as too far.
 use Rattle.std.proofs.Common.{◌≡◌, ℕ, ◌+◌, ◌*◌, ◌≤◌, List, [], ◌∷◌, length, arith}
 use Rattle.rv32_isa.specs.declared.instr.Instr.{Instr}
-use Rattle.rv32_isa.specs.declared.instr.Instr.TheVariants.{Lw, Sw, Addi, Jalr, Ecall, Ebreak}
+use Rattle.rv32_isa.specs.declared.instr.Instr.TheVariants.{Sw, Addi, Jalr, Ecall, Ebreak}
 use Rattle.rv32_isa.specs.declared.label.LabelName.TheVariants.{Entry, Inner}
 use Rattle.rv32_isa.specs.declared.label.LabelLine.{LabelLine}
 use Rattle.rv32_isa.specs.declared.label.LabelLine.TheVariants.{Do, Jump, Branch}
@@ -13,10 +13,11 @@ use Rattle.reg_scan.specs.declared.homes.Homes.{Homes}
 use Rattle.reg_scan.specs.Homes.{home_of}
 use Rattle.rv32_codegen.specs.Code.{does, negative, constant, datum, sum, shift, save, operate, fetch, store, stream_number, bring, move, settle, give, target}
 use Rattle.rv32_codegen.specs.Code.{left_of, right_of, argument_at, datum_at, compare, after_call, bring_both, move_range, keep, line_code, lines_code}
-use Rattle.rv32_codegen.specs.Code.{homes_code, code_of}
+use Rattle.rv32_codegen.specs.Code.{is_leaf, restore, homes_code, code_of}
 use Rattle.rv32_codegen.specs.Layout.{all_far, size}
 use Rattle.rv32_codegen.specs.Lowering.{most_bytes}
 use Rattle.rv32_codegen.proofs.Chunks.{Few, few_constant, few_datum, few_sum, few_shift, few_save, few_bring, few_move, few_settle, few_give}
+use Rattle.rv32_codegen.proofs.Chunks.{few_restore}
 
 bytes-does : (is : List Instr) (k : List LabelLine) → size all_far (does is k) ≡ 4 * length is + size all_far k
 bytes-does [] k = omega arith
@@ -91,11 +92,14 @@ line_bytes h p (word.Call to callee) k =
       few_give 10 (home_of h to),
     )
 line_bytes h p (word.Return from) k =
+    let back = restore (is_leaf p.lines) in
     let rest = Do (Jalr 0 1 0) ∷ k in
     omega (
       arith,
-      bytes-does (move 10 (home_of h from)) (Do (Lw 1 2 0) ∷ does (sum 2 2 h.frame) rest),
+      bytes-does (move 10 (home_of h from)) (does back (does (sum 2 2 h.frame) rest)),
       few_move 10 (home_of h from),
+      bytes-does back (does (sum 2 2 h.frame) rest),
+      few_restore (is_leaf p.lines),
       bytes-does (sum 2 2 h.frame) rest,
       few_sum 2 2 h.frame,
     )

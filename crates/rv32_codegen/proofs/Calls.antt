@@ -3,7 +3,7 @@ use Rattle.std.proofs.Common.{◌≡◌, ◌≢◌, ℕ, suc, ◌+◌, ◌-◌, 
 use Rattle.std.proofs.Common.{List, [], ◌∷◌, ◌++◌, length, get_or, set, Bool, true, false}
 use Rattle.std.proofs.Common.{Some, None, refl, sym, ap, subst, ◌∙◌, arith, length-set, append-nil, mul-suc}
 use Rattle.std.specs.Prelude.{nat_lt, nat_le, ◌&&◌, if◌then◌else◌}
-use Rattle.std.proofs.lemmas.Bool.{cases_Bool, ltb-true, leb-false, cond-true, cond-false}
+use Rattle.std.proofs.lemmas.Bool.{cases_Bool, and_parts, ltb-true, leb-false, cond-true, cond-false}
 use Rattle.std.proofs.lemmas.List.{get_or-set_same, get_or-set_other}
 use Rattle.arc_base.specs.Event.{Event}
 use Rattle.arc_base.specs.Stepping.{Next, Goes}
@@ -33,7 +33,8 @@ use Rattle.reg_scan.specs.Homes.{home_of, IsFrame}
 use Rattle.mid_code.specs.Words.{Vars, no_words, WordState, most_calls, is_counted, counted, seen_call, is_full, from_proc}
 use Rattle.mid_code.specs.Words.{params_of}
 use Rattle.mid_code.specs.Words.{scene_of, entered}
-use Rattle.rv32_codegen.specs.Code.{does, shift, sum, negative, after_call, lines_code, hook_of, proc_code, start_code}
+use Rattle.rv32_codegen.specs.Code.{does, shift, sum, negative, is_call_or_label, only_calls, is_leaf, after_call, lines_code, hook_of, proc_code}
+use Rattle.rv32_codegen.specs.Code.{start_code}
 use Rattle.rv32_codegen.proofs.Machine.{state_of, run_at, Fits, fits_words, word_place, Regs, put_other, quiet_does, Goes_in, then_goes}
 use Rattle.rv32_codegen.proofs.PieceRuns.{shift_any, sum_any, sw_at}
 use Rattle.rv32_codegen.proofs.Chunks.{call_split, quiet_lines}
@@ -49,6 +50,22 @@ pub seen_is : (k : ProcKind) (others : List Event) → others ≡ [] → hook_or
 seen_is kind.Counted others e = e
 seen_is (kind.Hook kind of) others e = refl
 seen_is kind.Uncounted others e = e
+
+-- ---- behind a call of a leaf there are calls alone
+
+only_behind : (before : List WordInstr) (l : WordInstr) (rest : List WordInstr) → only_calls (before ++ l ∷ rest) ≡ true → only_calls rest ≡ true
+only_behind [] l rest h = (and_parts (is_call_or_label l) (only_calls rest) h).1
+only_behind (x ∷ before) l rest h = only_behind before l rest (and_parts (is_call_or_label x) (only_calls (before ++ l ∷ rest)) h).1
+
+call_last : (before : List WordInstr) (l : WordInstr) (rest : List WordInstr) → (effect_of l).calls ≡ true →
+    is_leaf (before ++ l ∷ rest) ≡ true → only_calls rest ≡ true
+call_last [] l rest e h = sym (cond-true (effect_of l).calls (only_calls rest) (is_leaf rest) e) ∙ h
+call_last (x ∷ before) l rest e h =
+    let more = before ++ l ∷ rest in
+    elim (cases_Bool (effect_of x).calls) [
+      | inl t ↦ only_behind before l rest (sym (cond-true (effect_of x).calls (only_calls more) (is_leaf more) t) ∙ h)
+      | inr f ↦ call_last before l rest e (sym (cond-false (effect_of x).calls (only_calls more) (is_leaf more) f) ∙ h)
+    ]
 
 module _ (g : Setting) where
   -- ---- the frame of a call
@@ -68,7 +85,7 @@ module _ (g : Setting) where
       get_or regs 3 0 ≡ base → get_or regs 4 0 ≡ statics_at → (new : List ℕ)
       × Goes_in g.live (whole g) g.at 3 5 (run_at regs m ws input (proc_code (g.lay q.number) q (procs_code g.lay tail)))
       (run_at new m (set ws (k - size (g.lay q.number)) return) input (lines_code (g.lay q.number) q q.lines (behind g.lay tail)))
-      × Regs new (word_place m (k - size (g.lay q.number))) base
+      × Regs new (word_place m (k - size (g.lay q.number))) base × (get_or new 1 0 ≡ return)
   enters m ws input regs k return base q tail fits laid under inside good at1 small at2 at3 at4 =
       let h = g.lay q.number in
       let lines = lines_code h q q.lines (behind g.lay tail) in
@@ -98,6 +115,7 @@ module _ (g : Setting) where
           base_is = b.2.other 3 (λ e. omega (arith, e)) (λ e. omega (arith, e)) ∙ at3;
           data_is = b.2.other 4 (λ e. omega (arith, e)) (λ e. omega (arith, e)) ∙ at4;
         },
+        at1',
       )
 
   -- parameters that are alive hold the arguments that stand below the caller's frame
@@ -204,10 +222,11 @@ module _ (g : Setting) where
       (f : True g t (l ∷ rest) regs ws j) → Call_line l to → to < t.frame.proc.vars → from_proc callee g.procs ≡ q ∷ tail →
       Within (whole g) (Jump 1 (Entry callee) ∷ after_of t l rest regs ws j to f) → HasRoom j (counted (t.frame ∷ t.callers)) q →
       Regs new (word_place t.memory (j - size (g.lay q.number))) (added t.frame.base t.frame.proc.room) →
+      get_or new 1 0 ≡ g.at (mark_before (after_of t l rest regs ws j to f)) →
       (x : True g (called_state t rest to q) q.lines new (set ws (j - size (g.lay q.number)) (g.at (mark_before (after_of t l rest regs ws j to f))))
       (j - size (g.lay q.number))) × (x.sits.tail ≡ tail)
   unfolding called_state after_of
-  call_true t l rest regs new ws j to callee q tail f line lt e stands room kept =
+  call_true t l rest regs new ws j to callee q tail f line lt e stands room kept one =
       let p = t.frame.proc in
       let h = g.lay q.number in
       let return = g.at (mark_before (after_of t l rest regs ws j to f)) in
@@ -222,6 +241,7 @@ module _ (g : Setting) where
       let under = room.under in
       let long : length ws' ≡ length ws = length-set ws k return in
       let up : k + size h ≡ j = omega (arith, under) in
+      let here : get_or ws' k 0 ≡ return = get_or-set_same ws k return 0 (omega (arith, inside, under, some, own_some)) in
       let apart : (i : ℕ) → j ≤ i → get_or ws' i 0 ≡ get_or ws i 0 = λ i le. get_or-set_other ws k i return 0
       (λ s. omega (arith, s, le, under, some)) in
       let before_call : (v : ℕ) → Alive p.lines v rest → v ≢ to → Alive p.lines v (l ∷ rest) = λ v lives ne.
@@ -238,8 +258,9 @@ module _ (g : Setting) where
           linked = (
             record {
               sits = sits_next g.lay g.procs p l rest f.sits;
+              last = λ leaf. call_last f.sits.before l rest line.calls (ap is_leaf f.sits.split ∙ leaf);
               behind_call = subst (λ n. Within (whole g) (Jump 1 (Entry n) ∷ after_of t l rest regs ws j to f)) (sym number) stands;
-              returns = get_or-set_same ws k return 0 (omega (arith, inside, under, some, own_some));
+              returns = here;
               base_is = refl;
               base_fits = f.base_fits;
               awaits = lt;
@@ -259,6 +280,7 @@ module _ (g : Setting) where
                 (linked_kept g.lay g.procs g.need g.total (whole g) g.at ws ws' j p t.frame.base t.callers long
                 (λ i o. apart i (elim o [ inl x ↦ omega (arith, x) | inr le ↦ omega (arith, le) ])) f.linked),
           );
+          leaf = λ leaf more. one ∙ sym here;
           deep = room.deep;
         },
         refl,
@@ -323,7 +345,7 @@ module _ (g : Setting) where
       let w = enters m ws t.input two j return (added base p.room) q tail f.fits laid room.under (omega (arith, inside)) good
       (put_same x.0 1 return x.2.good (omega arith) (omega arith)) fits at2 at3 at4 in
       let x_true = call_true t l rest regs w.0 ws j to callee q tail f (record { line = record { goes = refl; is = refl }; calls = refl }) lt e stands room
-      w.2 in
+      w.2 w.3 in
       let last = run_at w.0 m (set ws (j - size h) return) t.input (lines_code h q q.lines (behind g.lay tail)) in
       let first = steps_on (step g.live (whole g) g.at) 0 1 3 1 r mid there [] (seen_call q.kind) x.1 z in
       let all = steps_on (step g.live (whole g) g.at) 1 3 4 5 r there last (seen_call q.kind) [] first w.1 in

@@ -1,11 +1,11 @@
 -- The code of a line is some lines in front of what follows.
 use Rattle.std.proofs.Common.{◌≡◌, ℕ, ◌+◌, ◌%◌, ◌^◌, ◌≤◌, List, [], ◌∷◌, ◌++◌, length}
-use Rattle.std.proofs.Common.{true, Some, None, refl, sym, ap, subst, ◌∙◌, arith}
+use Rattle.std.proofs.Common.{Bool, true, false, Some, None, refl, sym, ap, subst, ◌∙◌, arith}
 use Rattle.std.proofs.Common.{append_assoc}
 use Rattle.std.specs.Prelude.{◌==◌, ◌&&◌, if◌then◌else◌}
 use Rattle.std.proofs.lemmas.Bool.{eq-eqb, ne_eqb, and_left, cond-false, cond_both}
 use Rattle.rv32_isa.specs.declared.instr.Instr.{Instr}
-use Rattle.rv32_isa.specs.declared.instr.Instr.TheVariants.{Lw, Sw, Addi, Jalr, Ecall, Ebreak}
+use Rattle.rv32_isa.specs.declared.instr.Instr.TheVariants.{Sw, Addi, Jalr, Ecall, Ebreak}
 use Rattle.rv32_isa.specs.declared.label.LabelName.{LabelName}
 use Rattle.rv32_isa.specs.declared.label.LabelName.TheVariants.{Entry, Inner}
 use Rattle.rv32_isa.specs.declared.label.LabelLine.{LabelLine}
@@ -23,7 +23,7 @@ use Rattle.reg_scan.specs.declared.homes.Homes.{Homes}
 use Rattle.reg_scan.specs.Homes.{home_of}
 use Rattle.rv32_codegen.specs.Code.{does, is_near, negative, constant, datum, sum, shift, load, save, operate, fetch, store, stream_number, bring, move}
 use Rattle.rv32_codegen.specs.Code.{settle, give, target, left_of, right_of, argument_at, datum_at, compare, after_call, bring_both, move_range, keep}
-use Rattle.rv32_codegen.specs.Code.{line_code, lines_code, entry_code}
+use Rattle.rv32_codegen.specs.Code.{is_leaf, restore, line_code, lines_code, entry_code}
 use Rattle.rv32_codegen.proofs.Machine.{Quiet}
 
 -- ---- instructions in front of lines
@@ -81,6 +81,10 @@ few_settle (Frame at) = few_save 5 at
 pub few_give : (rs : ℕ) (home : Home) → Few 3 (give rs home)
 few_give rs (Reg number) = omega arith
 few_give rs (Frame at) = few_save rs at
+
+pub few_restore : (leaf : Bool) → Few 1 (restore leaf)
+few_restore true = omega arith
+few_restore false = omega arith
 
 both_long : (h : Homes) (left right : ℕ) (k : List LabelLine) → length (bring_both h left right k) ≤ 6 + length k
 both_long h left right k =
@@ -151,11 +155,14 @@ line_long h p (word.Call to callee) k =
       few_give 10 (home_of h to),
     )
 line_long h p (word.Return from) k =
+    let back = restore (is_leaf p.lines) in
     let rest = Do (Jalr 0 1 0) ∷ k in
     omega (
       arith,
-      length-does (move 10 (home_of h from)) (Do (Lw 1 2 0) ∷ does (sum 2 2 h.frame) rest),
+      length-does (move 10 (home_of h from)) (does back (does (sum 2 2 h.frame) rest)),
       few_move 10 (home_of h from),
+      length-does back (does (sum 2 2 h.frame) rest),
+      few_restore (is_leaf p.lines),
       length-does (sum 2 2 h.frame) rest,
       few_sum 2 2 h.frame,
     )
@@ -207,9 +214,12 @@ line_split h p (word.Call to callee) k =
     ap (λ x. does (shift 3 p.room) (Jump 1 (Entry callee) ∷ x)) (does_two (shift 3 (negative p.room)) (give 10 (home_of h to)) k)
     ∙ does_append (shift 3 p.room) (Jump 1 (Entry callee) ∷ after_call h p to []) k
 line_split h p (word.Return from) k =
+    let first = move 10 (home_of h from) in
+    let back = restore (is_leaf p.lines) in
     let last = Do (Jalr 0 1 0) ∷ [] in
-    ap (λ x. does (move 10 (home_of h from)) (Do (Lw 1 2 0) ∷ x)) (does_append (sum 2 2 h.frame) last k)
-    ∙ does_append (move 10 (home_of h from)) (Do (Lw 1 2 0) ∷ does (sum 2 2 h.frame) last) k
+    ap (λ x. does first (does back x)) (does_append (sum 2 2 h.frame) last k)
+    ∙ ap (does first) (does_append back (does (sum 2 2 h.frame) last) k)
+    ∙ does_append first (does back (does (sum 2 2 h.frame) last)) k
 line_split h p (word.Read to a len) k =
     let b = give 10 (home_of h to) in
     ap (λ x. move_range h a len (Do (Addi 10 0 0) ∷ Do (Addi 17 0 63) ∷ Do Ecall ∷ x)) (does_append b [] k)
@@ -275,7 +285,8 @@ line_look name h p (word.Argument index from) k =
     skip_does _ (bring 5 (home_of h from)) _ ∙ skip_does _ (save (left_of h from) (argument_at index)) k
 line_look name h p (word.Call to callee) k =
     skip_does _ (shift 3 p.room) _ ∙ skip_does _ (shift 3 (negative p.room)) _ ∙ skip_does _ (give 10 (home_of h to)) k
-line_look name h p (word.Return from) k = skip_does _ (move 10 (home_of h from)) _ ∙ skip_does _ (sum 2 2 h.frame) _
+line_look name h p (word.Return from) k =
+    skip_does _ (move 10 (home_of h from)) _ ∙ skip_does _ (restore (is_leaf p.lines)) _ ∙ skip_does _ (sum 2 2 h.frame) _
 line_look name h p (word.Read to a len) k =
     skip_does _ (move 11 (home_of h a)) _ ∙ skip_does _ (move 12 (home_of h len)) _ ∙ skip_does _ (give 10 (home_of h to)) k
 line_look name h p (word.Write stream a len) k = skip_does _ (move 11 (home_of h a)) _ ∙ skip_does _ (move 12 (home_of h len)) _
@@ -322,7 +333,7 @@ own_line h p (word.Branch test left right to) = own_two _ (bring 5 (home_of h le
 own_line h p (word.Argument index from) = own_two _ (bring 5 (home_of h from)) (save (left_of h from) (argument_at index)) [] tt
 own_line h p (word.Call to callee) =
     own_does _ (shift 3 p.room) _ (tt, own_two _ (shift 3 (negative p.room)) (give 10 (home_of h to)) [] tt)
-own_line h p (word.Return from) = own_does _ (move 10 (home_of h from)) _ (tt, own_does _ (sum 2 2 h.frame) _ (tt, tt))
+own_line h p (word.Return from) = own_two _ (move 10 (home_of h from)) (restore (is_leaf p.lines)) _ (own_does _ (sum 2 2 h.frame) _ (tt, tt))
 own_line h p (word.Read to a len) =
     own_two _ (move 11 (home_of h a)) (move 12 (home_of h len)) _ (tt, (tt, (tt, own_does _ (give 10 (home_of h to)) [] tt)))
 own_line h p (word.Write stream a len) = own_two _ (move 11 (home_of h a)) (move 12 (home_of h len)) _ (tt, (tt, (tt, tt)))

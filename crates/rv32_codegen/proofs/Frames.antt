@@ -27,8 +27,9 @@ use Rattle.reg_scan.specs.declared.homes.Home.TheVariants.{Reg, Frame}
 use Rattle.reg_scan.specs.declared.homes.Homes.{Homes}
 use Rattle.reg_scan.specs.Alive.{Alive}
 use Rattle.reg_scan.specs.Homes.{home_of, is_free, IsFrame, IsHomes}
-use Rattle.rv32_codegen.specs.Code.{after_call, lines_code, entry_code, hook_of, proc_code, start_code}
+use Rattle.rv32_codegen.specs.Code.{only_calls, is_leaf, after_call, lines_code, entry_code, hook_of, proc_code, start_code}
 use Rattle.rv32_codegen.proofs.Machine.{run_at, Fits, Regs, word_place}
+use Rattle.rv32_codegen.proofs.Frees.{is_kept, free_kept}
 use Rattle.rv32_codegen.proofs.Chunks.{lines_fold, lines_end, body, body_split, entry_split}
 use Rattle.rv32_codegen.proofs.Lookups.{Layout, procs_code, behind, none_some, some_same, nil_cons, here, later}
 
@@ -68,13 +69,13 @@ abbrev pub HasWord : (regs : List ℕ) → Home → (value : ℕ) → Type 0
 HasWord regs (Reg number) value = get_or regs number 0 ≡ value
 HasWord regs (Frame at) value = Unit {0}
 
--- free registers are as they were
+-- free registers and x1 are as they were
 abbrev pub Alike : (regs new : List ℕ) → Type 0
-Alike regs new = (r : ℕ) → is_free r ≡ true → get_or new r 0 ≡ get_or regs r 0
+Alike regs new = (r : ℕ) → is_kept r ≡ true → get_or new r 0 ≡ get_or regs r 0
 
 -- but for one
 abbrev pub Alike_but : (rd : ℕ) (regs new : List ℕ) → Type 0
-Alike_but rd regs new = (r : ℕ) → is_free r ≡ true → r ≢ rd → get_or new r 0 ≡ get_or regs r 0
+Alike_but rd regs new = (r : ℕ) → is_kept r ≡ true → r ≢ rd → get_or new r 0 ≡ get_or regs r 0
 
 pub length-saved : (ws : List ℕ) (j : ℕ) (home : Home) (value : ℕ) → length (saved ws j home value) ≡ length ws
 length-saved ws j (Reg number) value = refl
@@ -106,7 +107,7 @@ word_kept regs ws ws' j (Reg number) same = refl
 word_kept regs ws ws' j (Frame at) same = same (j + at / 4) (omega arith)
 
 pub word_alike : (regs new ws : List ℕ) (j n : ℕ) (home : Home) → IsThere n home → Alike regs new → word_at new ws j home ≡ word_at regs ws j home
-word_alike regs new ws j n (Reg number) h same = same number h
+word_alike regs new ws j n (Reg number) h same = same number (free_kept number h)
 word_alike regs new ws j n (Frame at) h same = refl
 
 -- whatever registers hold
@@ -235,6 +236,7 @@ module _ (lay : Layout) where
       -- a caller whose frame begins at word j, of a procedure of that number, whose return address is given and whose places begin at `base`
       pub record Waits (ws : List ℕ) (j number return base : ℕ) (c : WordFrame) (cs : List WordFrame) : Type 0 where
         pub sits : Sits c.proc c.left
+        pub last : is_leaf c.proc.lines ≡ true → only_calls c.left ≡ true
         pub behind_call : Within whole (line.Jump 1 (Entry number) ∷ after_call (lay c.proc.number) c.proc c.awaits (code_here c.proc c.left sits))
         pub returns : return ≡ at (mark_before (after_call (lay c.proc.number) c.proc c.awaits (code_here c.proc c.left sits)))
         pub base_is : base ≡ added c.base c.proc.room
@@ -266,6 +268,7 @@ module _ (lay : Layout) where
           let next = j + size (lay p.number) in (
             record {
               sits = x.sits;
+              last = x.last;
               behind_call = x.behind_call;
               returns = same j (inl refl) ∙ x.returns;
               base_is = x.base_is;
@@ -298,6 +301,7 @@ module _ (lay : Layout) where
         pub held : Held regs ws j t.frame.proc lines t.frame.vars
         pub given : Gave ws j t.frame.given
         pub linked : Linked ws j t.frame.proc t.frame.base t.callers
+        pub leaf : is_leaf t.frame.proc.lines ≡ true → only_calls lines ≡ false → get_or regs 1 0 ≡ get_or ws j 0
         pub deep : Deep j t.frame t.callers
 
       -- label code's machine is at the lines that are left

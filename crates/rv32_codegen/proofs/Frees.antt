@@ -1,7 +1,7 @@
--- The registers that variables may have.
+-- The registers that variables may have, and those that lines keep.
 use Rattle.std.proofs.Common.{◌≡◌, ◌≢◌, ℕ, ◌<◌, ◌≤◌, ◌⊎◌, inl, inr, Bool, true, false, refl, sym, ap, ◌∙◌, arith}
-use Rattle.std.specs.Prelude.{nat_le, ◌&&◌, ◌||◌}
-use Rattle.std.proofs.lemmas.Bool.{and_parts, leb-true, true≢false}
+use Rattle.std.specs.Prelude.{◌==◌, nat_le, ◌&&◌, ◌||◌}
+use Rattle.std.proofs.lemmas.Bool.{and_parts, or_right, leb-true, true≢false}
 use Rattle.reg_scan.specs.Homes.{is_free}
 
 -- in one of the three ranges
@@ -43,3 +43,13 @@ free_above n h = above_range n (in_range n h)
 -- one that isn't free is another
 pub free_apart : (n m : ℕ) → is_free n ≡ true → is_free m ≡ false → n ≢ m
 free_apart n m h other e = true≢false (sym h ∙ ap is_free e ∙ other)
+
+-- no line but a call changes these, if it doesn't set a variable that is there: beside free ones, x1 with the return address
+abbrev pub is_kept : ℕ → Bool
+is_kept n = (n == 1) || is_free n
+
+pub free_kept : (n : ℕ) → is_free n ≡ true → is_kept n ≡ true
+free_kept n h = or_right (n == 1) (is_free n) h
+
+pub kept_apart : (n m : ℕ) → is_kept n ≡ true → is_kept m ≡ false → n ≢ m
+kept_apart n m h other e = true≢false (sym h ∙ ap is_kept e ∙ other)

@@ -16,7 +16,7 @@ use Rattle.reg_scan.specs.declared.homes.Home.TheVariants.{Reg, Frame}
 use Rattle.rv32_codegen.specs.Code.{does, seat, bring, move, settle, give}
 use Rattle.rv32_codegen.proofs.Machine.{run_at, Fits, word_place, Regs, put_other, put_kept, Quiet, Goes_in, goes_within, writes}
 use Rattle.rv32_codegen.proofs.PieceRuns.{Gets, put_gets, Leads, load_goes, save_goes}
-use Rattle.rv32_codegen.proofs.Frees.{free_small, free_above, free_apart}
+use Rattle.rv32_codegen.proofs.Frees.{free_small, free_above, free_apart, free_kept, kept_apart}
 use Rattle.rv32_codegen.proofs.Frames.{IsThere, word_at, saved, HasWord, Alike, Alike_but}
 
 -- a word of the running call's frame
@@ -50,7 +50,7 @@ pub record Brought (regs new : List ℕ) (other : ℕ) (home : Home) (value fram
   pub same : get_or new (seat other home) 0 ≡ value
   pub others : (r : ℕ) → r ≢ other → get_or new r 0 ≡ get_or regs r 0
 
--- a home got the word, free registers beside it are as they were
+-- a home got the word, free registers beside it and x1 are as they were
 pub record Settled (regs new : List ℕ) (home : Home) (value frame base : ℕ) : Type 0 where
   pub kept : Regs new frame base
   pub has : HasWord new home value
@@ -106,14 +106,14 @@ module _ (live : Lives) (whole : List LabelLine) (at : Addresses) (m : Memory) (
         record {
           kept = put_kept regs number v frame base above kept;
           has = put_same regs number v kept.good (omega (arith, above)) (free_small number h) ∙ v_is;
-          alike = λ r free apart. put_other regs number r v apart;
+          alike = λ r kept apart. put_other regs number r v apart;
         },
       )
   home_gives regs rs w (Frame offset) h lt ne e kept =
       let within : j + offset / 4 < length ws = omega (arith, h.1.1, inside) in
       let x = save_goes live whole at m ws input regs rs offset (j + offset / 4) w frame base rest quiet (far offset (offset / 4) h.0 within)
       (place_is m ws j (offset / 4) offset fits h.0 within) within fits kept ne e in
-      (x.0, x.1, record { kept = x.2.kept; has = tt; alike = λ r free apart. x.2.other r (free_apart r 7 free refl) })
+      (x.0, x.1, record { kept = x.2.kept; has = tt; alike = λ r kept apart. x.2.other r (kept_apart r 7 kept refl) })
 
   pub home_settles : (regs : List ℕ) (w : ℕ) (home : Home) → IsThere n home → get_or regs (seat 5 home) 0 ≡ w → w < 2 ^ 32 → Regs regs frame base →
       Lands 0 3 regs (does (settle home) rest) home w
@@ -125,13 +125,13 @@ module _ (live : Lives) (whole : List LabelLine) (at : Addresses) (m : Memory) (
       let y = subst (λ v. Lands 1 3 regs (does (settle (Frame offset)) rest) (Frame offset) v) low x in
       (y.0, goes_within live whole at 1 0 3 3 _ _ (omega arith) (omega arith) y.1, y.2)
 
--- ---- free registers
+-- ---- registers that lines keep
 
 pub alike_refl : (regs : List ℕ) → Alike regs regs
-alike_refl regs r free = refl
+alike_refl regs r kept = refl
 
 pub word_but : (regs new ws : List ℕ) (j n : ℕ) (home other : Home) → IsThere n other → other ≢ home → Alike_but (seat 5 home) regs new →
     word_at new ws j other ≡ word_at regs ws j other
-word_but regs new ws j n (Reg number) (Reg r) h ne same = same r h (λ e. ne (ap Reg e))
-word_but regs new ws j n (Frame at) (Reg r) h ne same = same r h (free_apart r 5 h refl)
+word_but regs new ws j n (Reg number) (Reg r) h ne same = same r (free_kept r h) (λ e. ne (ap Reg e))
+word_but regs new ws j n (Frame at) (Reg r) h ne same = same r (free_kept r h) (free_apart r 5 h refl)
 word_but regs new ws j n home (Frame from) h ne same = refl

@@ -2,7 +2,7 @@
 use Rattle.std.proofs.Common.{◌≡◌, ℕ, inl, inr, List, []}
 use Rattle.std.proofs.Common.{◌∷◌, get_or}
 use Rattle.std.proofs.Common.{Option, Some, None, refl, ap, ◌∙◌, arith}
-use Rattle.std.specs.Prelude.{if◌then◌else◌}
+use Rattle.std.specs.Prelude.{false, if◌then◌else◌}
 use Rattle.std.proofs.lemmas.Bool.{cond-true, cond-false}
 use Rattle.arc_base.specs.Event.{Event}
 use Rattle.arc_base.specs.Stepping.{Next, Goes}
@@ -19,7 +19,7 @@ use Rattle.mid_code.specs.declared.word.WordInstr.TheVariants as word
 use Rattle.mid_code.specs.Words.{WordState, holds, scene_of, on, jumped}
 use Rattle.mid_code.specs.Words.{from_label}
 use Rattle.reg_scan.specs.Alive.{Alive, read_by, led_by}
-use Rattle.rv32_codegen.specs.Code.{compare, left_of, right_of, lines_code}
+use Rattle.rv32_codegen.specs.Code.{compare, only_calls, left_of, right_of, lines_code}
 use Rattle.rv32_codegen.proofs.Machine.{state_of, run_at, Regs, Goes_in, then_goes}
 use Rattle.rv32_codegen.proofs.HomeRuns.{alike_refl}
 use Rattle.rv32_codegen.proofs.Chunks.{quiet_lines}
@@ -33,14 +33,14 @@ module _ (g : Setting) where
 
   jump_true : (t : WordState) (lines found : List WordInstr) (regs new ws : List ℕ) (j name : ℕ) (f : True g t lines regs ws j) →
       from_label name t.frame.proc.lines ≡ Some found → Regs new (frame_at g t j) t.frame.base → Alike regs new →
-      ((v : ℕ) → Alive t.frame.proc.lines v found → Alive t.frame.proc.lines v lines) →
+      ((v : ℕ) → Alive t.frame.proc.lines v found → Alive t.frame.proc.lines v lines) → only_calls lines ≡ false →
       Rel g (run_at new t.memory ws t.input (lines_code (homes g t) t.frame.proc found (behind g.lay f.sits.tail))) (at_lines t found)
   unfolding same_true
-  jump_true t lines found regs new ws j name f e kept same stays = record {
+  jump_true t lines found regs new ws j name f e kept same stays leads = record {
     regs = new;
     ws = ws;
     j = j;
-    facts = same_true g t lines found regs new ws j f (sits_at g.lay g.procs t.frame.proc lines found name f.sits e) kept same stays;
+    facts = same_true g t lines found regs new ws j f (sits_at g.lay g.procs t.frame.proc lines found name f.sits e) kept same stays (λ more. leads);
     is = refl;
   }
 
@@ -77,7 +77,7 @@ module _ (g : Setting) where
       let r = Here g t l rest regs ws j f in
       jumped_sim t r (from_label to p.lines) (λ found e.
       sim_goes g r _ t (at_lines t found) 1 1 (goes_there t (l ∷ rest) found regs regs ws j to f r.left e refl) (omega arith) (omega arith)
-      (jump_true t (l ∷ rest) found regs regs ws j to f e f.kept (alike_refl regs) (λ v lives. led_by refl e lives)))
+      (jump_true t (l ∷ rest) found regs regs ws j to f e f.kept (alike_refl regs) (λ v lives. led_by refl e lives) refl))
 
   holds_same : (x : Test) (a b : ℕ) → label_holds (compare x) a b ≡ holds x a b
   holds_same test.Equal a b = refl
@@ -115,7 +115,7 @@ module _ (g : Setting) where
       (λ h. jumped_sim t r (from_label to p.lines) (λ found c.
       let goes = goes_there t (l ∷ rest) found regs y.0 ws j to f branch c (test_is ∙ cond-true (holds x a b) yes no h) in
       sim_goes g r _ t (at_lines t found) 1 7 (then_goes g.live (whole g) g.at 0 1 6 1 r mid _ y.1 goes) (omega arith) (omega arith)
-      (jump_true t (l ∷ rest) found regs y.0 ws j to f c y.2.kept y.2.alike (λ v lives. led_by refl c lives))))
+      (jump_true t (l ∷ rest) found regs y.0 ws j to f c y.2.kept y.2.alike (λ v lives. led_by refl c lives) refl)))
       (λ h.
       let next = run_at y.0 t.memory ws t.input k in
       let quiet = quiet_behind g t rest (sits_next g.lay g.procs p l rest f.sits) in
@@ -128,6 +128,6 @@ module _ (g : Setting) where
         ws = ws;
         j = j;
         facts = same_true g t (l ∷ rest) rest regs y.0 ws j f (sits_next g.lay g.procs p l rest f.sits) y.2.kept y.2.alike
-            (λ v lives. passes_alive g l p.lines rest v (record { goes = refl; none = refl }) lives);
+            (λ v lives. passes_alive g l p.lines rest v (record { goes = refl; none = refl }) lives) (λ more. refl);
         is = refl;
       }))))

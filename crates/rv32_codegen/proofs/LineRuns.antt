@@ -1,9 +1,9 @@
 -- What a line of word code does that sets a variable or jumps, its label code does.
 use Rattle.std.proofs.Common.{◌≡◌, ◌≢◌, ℕ, suc, ◌+◌, ◌-◌, ◌%◌, ◌^◌, ◌<◌, ◌≤◌, inl, inr, List, []}
 use Rattle.std.proofs.Common.{◌∷◌, length, get_or, Bool, true, false}
-use Rattle.std.proofs.Common.{Option, Some, None, refl, ap, subst, ◌∙◌, arith}
+use Rattle.std.proofs.Common.{Option, Some, None, refl, sym, ap, subst, ◌∙◌, arith}
 use Rattle.std.specs.Prelude.{◌&&◌, nat_lt, if◌then◌else◌}
-use Rattle.std.proofs.lemmas.Bool.{and_parts, ltb-true}
+use Rattle.std.proofs.lemmas.Bool.{and_parts, and_right, ltb-true}
 use Rattle.arc_base.proofs.ForCallers.{steps_one}
 use Rattle.rv32_isa.specs.declared.label.LabelLine.{LabelLine}
 use Rattle.rv32_isa.specs.declared.label.LabelLine.TheVariants.{Do}
@@ -24,11 +24,12 @@ use Rattle.reg_scan.specs.declared.homes.Home.{Home}
 use Rattle.reg_scan.specs.declared.homes.Homes.{Homes}
 use Rattle.reg_scan.specs.Alive.{effect_of, IsOne, Alive, read_by, kept_by}
 use Rattle.reg_scan.specs.Homes.{home_of}
-use Rattle.rv32_codegen.specs.Code.{does, operate, datum_at, seat, bring, move, settle, give, target, left_of, right_of, bring_both, keep}
+use Rattle.rv32_codegen.specs.Code.{does, operate, datum_at, seat, bring, move, settle, give, is_call_or_label, only_calls, target, left_of, right_of}
+use Rattle.rv32_codegen.specs.Code.{bring_both, keep}
 use Rattle.rv32_codegen.proofs.Machine.{state_of, run_at, fits_words, word_place, Regs, Quiet, quiet_does, Goes_in, then_goes, goes_within}
 use Rattle.rv32_codegen.proofs.Machine.{writes}
 use Rattle.rv32_codegen.proofs.PieceRuns.{Gets, put_gets, Leads, constant_any, datum_any, sum_any}
-use Rattle.rv32_codegen.proofs.Frees.{free_apart}
+use Rattle.rv32_codegen.proofs.Frees.{kept_apart}
 use Rattle.rv32_codegen.proofs.Computed.{computed_small}
 use Rattle.rv32_codegen.proofs.HomeRuns.{seat_above, seat_small, seats_apart, Brought, Settled, home_moves, home_brings, Lands, home_gives, home_settles}
 use Rattle.rv32_codegen.proofs.HomeRuns.{alike_refl, word_but}
@@ -132,7 +133,7 @@ module _ (g : Setting) where
         let n = size (homes t) in
         let there = laid.there v (f.held v a lives e).0 in
         let x = var_brought regs 5 v a (does second rest) (quiet_does second rest quiet) (omega arith) (omega arith) lives e f.kept (alike_refl regs) in
-        let alike : Alike regs x.0 = λ r free. x.2.others r (free_apart r 5 free refl) in
+        let alike : Alike regs x.0 = λ r kept. x.2.others r (kept_apart r 5 kept refl) in
         let y = var_brought x.0 6 w b rest quiet (omega arith) (omega arith) also k x.2.kept alike in (
           y.0,
           then_goes g.live (whole g) g.at 0 0 3 3 _ _ _ x.1 y.1,
@@ -140,7 +141,7 @@ module _ (g : Setting) where
             kept = y.2.kept;
             first = y.2.others (left_of (homes t) v) (seats_apart n (home_of (homes t) v) there) ∙ x.2.same;
             second = y.2.same;
-            alike = λ r free. y.2.others r (free_apart r 6 free refl) ∙ alike r free;
+            alike = λ r kept. y.2.others r (kept_apart r 6 kept refl) ∙ alike r kept;
           },
         )
 
@@ -197,6 +198,7 @@ module _ (g : Setting) where
       let laid = laid_of t (l ∷ rest) f.sits in
       let there = laid.there to lt in
       let inside = inside_of t (l ∷ rest) regs ws j f in
+      let above = target_above t (l ∷ rest) to f.sits lt in
       let long : length ws' ≡ length ws = length-saved ws j home value in
       let apart : (v : ℕ) → Alive p.lines v rest → v ≢ to → v < p.vars → home_of h v ≢ home =
       λ v lives ne less. laid.homes.apart f.sits.before rest l v to f.sits.split line.is lives ne less lt in
@@ -218,14 +220,16 @@ module _ (g : Setting) where
             (y.0, saved_outside ws j (size h) (j - suc i) home value there (inl (omega arith)) ∙ y.1, y.2);
         linked = linked_kept g.lay g.procs g.need g.total (whole g) g.at ws ws' j p t.frame.base t.callers long
             (λ k o. saved_outside ws j (size h) k home value there (elim o [ inl e ↦ inl (omega (arith, e)) | inr le ↦ inr le ])) f.linked;
+        leaf = λ leaf more. x.alike 1 refl (λ e. omega (arith, e, above)) ∙ f.leaf leaf (and_right (is_call_or_label l) (only_calls rest) more)
+            ∙ sym (saved_outside ws j (size h) j home value there (inl (omega arith)));
         deep = f.deep;
       }
 
-  -- free registers but the one that is computed into are as they were, and others still
+  -- registers that lines keep, but the one that is computed into, are as they were, and others still
   then_settled : (regs mid new : List ℕ) (home : Home) (value frame base : ℕ) → Alike_but (seat 5 home) regs mid →
       Settled mid new home value frame base → Settled regs new home value frame base
   then_settled regs mid new home value frame base same x =
-      record { kept = x.kept; has = x.has; alike = λ r free ne. x.alike r free ne ∙ same r free ne }
+      record { kept = x.kept; has = x.has; alike = λ r kept ne. x.alike r kept ne ∙ same r kept ne }
 
   -- where code comes to what puts a word to its home, and then to what follows
   module _ (t : WordState) (l : WordInstr) (rest : List WordInstr) (regs ws : List ℕ) (j : ℕ) (f : True g t (l ∷ rest) regs ws j) (r : LabelRun)
@@ -275,8 +279,9 @@ module _ (g : Setting) where
   -- where only lines and registers changed
   unfoldable pub same_true : (t : WordState) (lines more : List WordInstr) (regs new ws : List ℕ) (j : ℕ) (f : True g t lines regs ws j) →
       Sits g.lay g.procs t.frame.proc more → Regs new (frame_at t j) t.frame.base → Alike regs new →
-      ((v : ℕ) → Alive t.frame.proc.lines v more → Alive t.frame.proc.lines v lines) → True g (at_lines t more) more new ws j
-  same_true t lines more regs new ws j f sits kept same stays = record {
+      ((v : ℕ) → Alive t.frame.proc.lines v more → Alive t.frame.proc.lines v lines) → (only_calls more ≡ false → only_calls lines ≡ false) →
+      True g (at_lines t more) more new ws j
+  same_true t lines more regs new ws j f sits kept same stays returns = record {
     fits = f.fits;
     kept = kept;
     base_fits = f.base_fits;
@@ -284,6 +289,7 @@ module _ (g : Setting) where
     held = held_alike g.lay g.procs regs new ws j t.frame.proc lines more t.frame.vars (laid_of t lines f.sits) same stays f.held;
     given = f.given;
     linked = f.linked;
+    leaf = λ leaf some. same 1 refl ∙ f.leaf leaf (returns some);
     deep = f.deep;
   }
 
@@ -307,7 +313,7 @@ module _ (g : Setting) where
         ws = ws;
         j = j;
         facts = same_true t (l ∷ rest) rest regs regs ws j f (sits_next g.lay g.procs t.frame.proc l rest f.sits) f.kept (alike_refl regs)
-            (λ v lives. passes_alive l t.frame.proc.lines rest v (record { goes = refl; none = refl }) lives);
+            (λ v lives. passes_alive l t.frame.proc.lines rest v (record { goes = refl; none = refl }) lives) (λ more. more);
         is = refl;
       })
 
@@ -324,7 +330,7 @@ module _ (g : Setting) where
 
   -- a word into the register that a variable is computed into
   gets_but : (regs new : List ℕ) (rd value frame base : ℕ) → Gets regs new rd value frame base → Alike_but rd regs new
-  gets_but regs new rd value frame base x r free ne = x.other r ne
+  gets_but regs new rd value frame base x r kept ne = x.other r ne
 
   pub constant_sim : (to value : ℕ) → Line_sim (word.Constant to value)
   constant_sim to value t rest regs ws j f =
@@ -416,7 +422,7 @@ module _ (g : Setting) where
       let low : computed o a b ≡ computed o a b % 2 ^ 32 = omega (arith, small) in
       let z = put_gets x.0 rd v (frame_at t j) t.frame.base above under x.2.kept in
       sets t l rest regs ws j f r 1 7 to (computed o a b) (put x.0 rd v) (record { goes = refl; is = refl }) lt (omega arith)
-      (λ s free ne. z.other s ne ∙ x.2.alike s free) z.kept (omega arith)
+      (λ s kept ne. z.other s ne ∙ x.2.alike s kept) z.kept (omega arith)
       (then_goes g.live (whole g) g.at 0 1 6 1 _ _ _ x.1 y) (z.same ∙ value ∙ low)))
 
   pub place_sim : (to a : ℕ) → Line_sim (word.Place to a)
@@ -438,4 +444,4 @@ module _ (g : Setting) where
         data_is = x.2.other 4 (λ e. omega (arith, e, above)) (λ e. omega (arith, e)) ∙ f.kept.data_is;
       } in
       sets t l rest regs ws j f (Here t l rest regs ws j f) 1 3 to (base + a) x.0 (record { goes = refl; is = refl }) lt (omega arith)
-      (λ r free ne. x.2.other r ne (free_apart r 5 free refl)) kept (omega arith) x.1 (x.2.same ∙ same)
+      (λ r kept ne. x.2.other r ne (kept_apart r 5 kept refl)) kept (omega arith) x.1 (x.2.same ∙ same)

@@ -78,11 +78,6 @@ put_kept regs r value frame base gt h = record {
   data_is = put_other regs r 4 value (λ e. omega (arith, gt, e)) ∙ h.data_is;
 }
 
--- a register has a value, and those other than it are as they were
-pub record Changed (regs regs' : List ℕ) (rd value : ℕ) : Type 0 where
-  pub same : get_or regs' rd 0 ≡ value
-  pub other : (r : ℕ) → r ≢ rd → get_or regs' r 0 ≡ get_or regs r 0
-
 -- ---- points at which no hook begins
 
 abbrev pub Quiet : List LabelLine → Type 0

@@ -44,10 +44,10 @@ put_gets regs rd value frame base gt lt h = record {
 }
 
 -- the same, whatever the registers hold
-record Puts (regs new : List ℕ) (rd value : ℕ) : Type 0 where
-  good : IsRegs new
-  same : get_or new rd 0 ≡ value
-  other : (r : ℕ) → r ≢ rd → get_or new r 0 ≡ get_or regs r 0
+pub record Puts (regs new : List ℕ) (rd value : ℕ) : Type 0 where
+  pub good : IsRegs new
+  pub same : get_or new rd 0 ≡ value
+  pub other : (r : ℕ) → r ≢ rd → get_or new r 0 ≡ get_or regs r 0
 
 -- a register got the sum of one and a value; x5 may have changed
 pub record Sums (regs new : List ℕ) (rd from value : ℕ) : Type 0 where

@@ -1,6 +1,6 @@
 -- The label code of word code has its fields in range.
 use Rattle.std.proofs.Common.{ℕ, ◌+◌, ◌%◌, ◌^◌, ◌<◌, List, [], ◌∷◌, length, zero, suc, arith}
-use Rattle.std.specs.Prelude.{◌==◌, slice_get}
+use Rattle.std.specs.Prelude.{Bool, true, false, ◌==◌, slice_get}
 use Rattle.std.proofs.lemmas.Bool.{cond_both}
 use Rattle.arc_base.specs.declared.outside.Stream.{Stream}
 use Rattle.arc_base.specs.declared.outside.Stream.TheVariants.{Out, Err}
@@ -22,7 +22,7 @@ use Rattle.reg_scan.specs.declared.homes.Homes.{Homes}
 use Rattle.reg_scan.specs.Homes.{or_none, home_of, IsPlace, IsHomes}
 use Rattle.rv32_codegen.specs.Code.{does, is_near, lower, upper, negative, constant, datum, sum, shift, load, save, operate, fetch, store, stream_number}
 use Rattle.rv32_codegen.specs.Code.{seat, bring, move, settle, give, target, left_of, right_of, argument_at, datum_at, bring_both, move_range}
-use Rattle.rv32_codegen.specs.Code.{keep, line_code, lines_code, homes_code, code_of}
+use Rattle.rv32_codegen.specs.Code.{is_leaf, restore, keep, line_code, lines_code, homes_code, code_of}
 use Rattle.rv32_codegen.specs.Lowering.{AllHomes}
 use Rattle.rv32_codegen.proofs.Frees.{free_small}
 
@@ -138,6 +138,10 @@ in_give : (rs : ℕ) (home : Home) → rs < 32 → IsSmall home → AllIn (give 
 in_give rs (Reg number) lt h = ((h, lt, omega arith), tt)
 in_give rs (Frame at) lt h = in_save rs at lt
 
+in_restore : (leaf : Bool) → AllIn (restore leaf)
+in_restore true = tt
+in_restore false = ((omega arith, omega arith, omega arith), tt)
+
 -- ---- lines
 
 module _ (h : Homes) (good : (v : ℕ) → IsSmall (home_of h v)) where
@@ -191,10 +195,9 @@ module _ (h : Homes) (good : (v : ℕ) → IsSmall (home_of h v)) where
       fields_does (shift 3 p.room) _ (in_shift 3 p.room (omega arith))
       (omega arith, fields_does (shift 3 (negative p.room)) _ (in_shift 3 (negative p.room) (omega arith)) (fields_give 10 to k (omega arith) g))
   fields_line p (word.Return from) k g =
-      fields_does (move 10 (home_of h from)) _ (in_move 10 (home_of h from) (omega arith) (good from)) (
-        (omega arith, omega arith, omega arith),
-        fields_does (sum 2 2 h.frame) _ (in_sum 2 2 h.frame (omega arith) (omega arith)) ((omega arith, omega arith, omega arith), g),
-      )
+      fields_two (move 10 (home_of h from)) (restore (is_leaf p.lines)) _ (in_move 10 (home_of h from) (omega arith) (good from))
+      (in_restore (is_leaf p.lines))
+      (fields_does (sum 2 2 h.frame) _ (in_sum 2 2 h.frame (omega arith) (omega arith)) ((omega arith, omega arith, omega arith), g))
   fields_line p (word.Read to a len) k g =
       fields_range a len _ ((omega arith, omega arith, omega arith), ((omega arith, omega arith, omega arith), (tt, fields_give 10 to k (omega arith) g)))
   fields_line p (word.Write stream a len) k g =

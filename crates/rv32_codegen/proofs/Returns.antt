@@ -1,10 +1,11 @@
 -- What returns of word code do, their label code does.
 use Rattle.std.proofs.Common.{◌≡◌, ℕ, ◌+◌, ◌*◌, ◌/◌, ◌%◌, ◌^◌, ◌<◌, ◌≤◌, inl, inr}
-use Rattle.std.proofs.Common.{List, [], ◌∷◌, length, get_or}
+use Rattle.std.proofs.Common.{List, [], ◌∷◌, length, get_or, Bool, true, false}
 use Rattle.std.proofs.Common.{Some, refl, sym, ap, subst, ◌∙◌, arith}
+use Rattle.std.proofs.lemmas.Bool.{true≢false}
 use Rattle.arc_base.specs.Stepping.{Goes}
-use Rattle.arc_base.proofs.ForCallers.{steps_one}
-use Rattle.rv32_isa.specs.declared.instr.Instr.TheVariants.{Lw, Jalr}
+use Rattle.arc_base.proofs.ForCallers.{steps_one, steps_none}
+use Rattle.rv32_isa.specs.declared.instr.Instr.TheVariants.{Jalr}
 use Rattle.rv32_isa.specs.declared.label.LabelName.TheVariants.{Entry}
 use Rattle.rv32_isa.specs.declared.label.LabelLine.{LabelLine}
 use Rattle.rv32_isa.specs.declared.label.LabelLine.TheVariants.{Do, Jump}
@@ -12,7 +13,7 @@ use Rattle.rv32_isa.specs.Values.{added}
 use Rattle.rv32_isa.specs.Steps.{signed12}
 use Rattle.rv32_isa.specs.Labels.{mark_before, from_mark}
 use Rattle.rv32_isa.specs.LabelsMeaning.{LabelRun, goto, step}
-use Rattle.rv32_logic.specs.Registers.{put}
+use Rattle.rv32_logic.specs.Registers.{put, IsRegs}
 use Rattle.rv32_logic.proofs.ForCallers.{put_regs, put_same, plain_address}
 use Rattle.mid_code.specs.declared.word.WordInstr.{WordInstr}
 use Rattle.mid_code.specs.declared.word.WordInstr.TheVariants as word
@@ -22,9 +23,10 @@ use Rattle.reg_scan.specs.Alive.{Alive, read_by}
 use Rattle.reg_scan.specs.Homes.{home_of}
 use Rattle.mid_code.specs.Words.{put as put_var, WordFrame, WordState}
 use Rattle.mid_code.specs.Words.{returned, on}
-use Rattle.rv32_codegen.specs.Code.{does, shift, sum, negative, give, after_call, line_code}
+use Rattle.rv32_codegen.specs.Code.{does, shift, sum, negative, give, is_leaf, restore, after_call, line_code}
 use Rattle.rv32_codegen.proofs.Machine.{state_of, run_at, Fits, fits_words, word_place, Regs, put_other, Quiet, quiet_does, Goes_in, then_goes}
-use Rattle.rv32_codegen.proofs.PieceRuns.{shift_any, sum_any, lw_at}
+use Rattle.rv32_codegen.proofs.Machine.{goes_within}
+use Rattle.rv32_codegen.proofs.PieceRuns.{Leads, Puts, shift_any, sum_any, lw_at}
 use Rattle.rv32_codegen.proofs.Chunks.{quiet_lines}
 use Rattle.rv32_codegen.proofs.Lookups.{behind, none_some}
 use Rattle.rv32_codegen.proofs.Frames.{size, IsLaid, saved, HasWord, length-saved, saved_outside, Within}
@@ -85,8 +87,28 @@ module _ (g : Setting) where
         given = λ i w e. absurd (none_some w (ap (λ v. v i) (sym x.given) ∙ e));
         linked = linked_kept g.lay g.procs g.need g.total (whole g) g.at ws ws' n c.proc c.base cs long
             (λ k o. saved_outside ws n (size h) k home (a % 2 ^ 32) there (elim o [ inl e ↦ inl (omega (arith, e)) | inr le ↦ inr le ])) more;
+        leaf = λ leaf more. absurd (true≢false (sym (x.last leaf) ∙ more));
         deep = x.deep;
       }
+
+  -- the return address is in x1: it is still there, or is loaded
+  restores : (m : Memory) (ws input regs : List ℕ) (j return : ℕ) (leaf : Bool) (rest : List LabelLine) → Quiet rest → Fits m ws → j < length ws →
+      IsRegs regs → get_or regs 2 0 ≡ word_place m j → get_or ws j 0 ≡ return → return < 2 ^ 32 → (leaf ≡ true → get_or regs 1 0 ≡ return) →
+      Leads g.live (whole g) g.at m ws input 0 1 regs (restore leaf) rest (λ new. Puts regs new 1 return)
+  restores m ws input regs j return true rest quiet fits within good frame is small there =
+      (regs, steps_none (step g.live (whole g) g.at) (run_at regs m ws input rest) 1, record { good = good; same = there refl; other = λ r _. refl })
+  restores m ws input regs j return false rest quiet fits within good frame is small there =
+      let most = fits.stack_most in
+      let place = plain_address (get_or regs 2 0) (word_place m j) frame (omega (arith, most, within)) in
+      let x = lw_at g.live (whole g) g.at m ws input regs 1 2 0 j return rest quiet place within is small fits in (
+        put regs 1 return,
+        goes_within g.live (whole g) g.at 1 0 1 1 _ _ (omega arith) (omega arith) x,
+        record {
+          good = put_regs regs 1 return good;
+          same = put_same regs 1 return good (omega arith) (omega arith);
+          other = λ r ne. put_other regs 1 r return ne;
+        },
+      )
 
   -- what stands where a call has returned
   record Left (regs : List ℕ) (frame base a : ℕ) : Type 0 where
@@ -98,7 +120,7 @@ module _ (g : Setting) where
       (k after : List LabelLine)
       → t.frame.vars from ≡ Some a → get_or ws j 0 ≡ g.at (mark_before after) → Within (whole g) (Jump 1 (Entry t.frame.proc.number) ∷ after) →
       Quiet after →
-      (new : List ℕ) × Goes_in g.live (whole g) g.at 4 8
+      (new : List ℕ) × Goes_in g.live (whole g) g.at 3 8
       (run_at regs t.memory ws t.input (line_code (homes g t) t.frame.proc (word.Return from) k)) (run_at new t.memory ws t.input after)
       × Left new (word_place t.memory (j + size (homes g t))) t.frame.base a
   leaves t from rest regs ws j a f k after e returns stands quiet =
@@ -106,6 +128,7 @@ module _ (g : Setting) where
       let m = t.memory in
       let fr = word_place m j in
       let base = t.frame.base in
+      let leaf = is_leaf t.frame.proc.lines in
       let n = j + size h in
       let inside = inside_of g t (word.Return from ∷ rest) regs ws j f in
       let laid = laid_of g t (word.Return from ∷ rest) f.sits in
@@ -116,30 +139,29 @@ module _ (g : Setting) where
       let small = return_fits g t.frame.proc.number after stands in
       let fourth = Do (Jalr 0 1 0) ∷ k in
       let third = does (sum 2 2 h.frame) fourth in
-      let second = Do (Lw 1 2 0) ∷ third in
+      let second = does (restore leaf) third in
+      let quiet_third = quiet_does (sum 2 2 h.frame) fourth refl in
       let r = run_at regs m ws t.input (line_code h t.frame.proc (word.Return from) k) in
       let within : j < length ws = omega (arith, inside, some) in
       let lives : Alive t.frame.proc.lines from (word.Return from ∷ rest) = read_by (inl refl) in
-      let x = var_moves g t (word.Return from ∷ rest) regs ws j f regs 10 from a second refl (omega arith) (omega arith) lives e f.kept
-      (alike_refl regs) in
-      let one = put x.0 1 return in
-      let y = lw_at g.live (whole g) g.at m ws t.input x.0 1 2 0 j return third (quiet_does (sum 2 2 h.frame) fourth refl)
-      (plain_address (get_or x.0 2 0) fr x.2.kept.frame_is (omega (arith, most, within))) within returns small f.fits in
-      let good = put_regs x.0 1 return x.2.kept.good in
-      let z = sum_any g.live (whole g) g.at m ws t.input one 2 2 h.frame fourth refl (omega arith) (omega arith) (λ e. omega (arith, e)) good in
+      let x = var_moves g t (word.Return from ∷ rest) regs ws j f regs 10 from a second (quiet_does (restore leaf) third quiet_third) (omega arith)
+      (omega arith) lives e f.kept (alike_refl regs) in
+      let still : leaf ≡ true → get_or x.0 1 0 ≡ return = λ b. x.2.other 1 (λ e. omega (arith, e)) ∙ f.leaf b refl ∙ returns in
+      let y = restores m ws t.input x.0 j return leaf third quiet_third f.fits within x.2.kept.good x.2.kept.frame_is returns small still in
+      let one = y.0 in
+      let z = sum_any g.live (whole g) g.at m ws t.input one 2 2 h.frame fourth refl (omega arith) (omega arith) (λ e. omega (arith, e)) y.2.good in
       let at2 : get_or z.0 2 0 ≡ word_place m n =
-      z.2.same ∙ ap (λ i. added i h.frame) (put_other x.0 1 2 return (λ e. omega (arith, e)) ∙ x.2.kept.frame_is)
+      z.2.same ∙ ap (λ i. added i h.frame) (y.2.other 2 (λ e. omega (arith, e)) ∙ x.2.kept.frame_is)
       ∙ (let w : added fr h.frame ≡ word_place m n = omega (arith, inside, most, frame) in w) in
       let kept : Regs z.0 (word_place m n) base = record {
         good = z.2.good;
         frame_is = at2;
-        base_is = z.2.other 3 (λ e. omega (arith, e)) (λ e. omega (arith, e)) ∙ put_other x.0 1 3 return (λ e. omega (arith, e)) ∙ x.2.kept.base_is;
-        data_is = z.2.other 4 (λ e. omega (arith, e)) (λ e. omega (arith, e)) ∙ put_other x.0 1 4 return (λ e. omega (arith, e)) ∙ x.2.kept.data_is;
+        base_is = z.2.other 3 (λ e. omega (arith, e)) (λ e. omega (arith, e)) ∙ y.2.other 3 (λ e. omega (arith, e)) ∙ x.2.kept.base_is;
+        data_is = z.2.other 4 (λ e. omega (arith, e)) (λ e. omega (arith, e)) ∙ y.2.other 4 (λ e. omega (arith, e)) ∙ x.2.kept.data_is;
       } in
-      let at1 : get_or z.0 1 0 ≡ return =
-      z.2.other 1 (λ e. omega (arith, e)) (λ e. omega (arith, e)) ∙ put_same x.0 1 return x.2.kept.good (omega arith) (omega arith) in
+      let at1 : get_or z.0 1 0 ≡ return = z.2.other 1 (λ e. omega (arith, e)) (λ e. omega (arith, e)) ∙ y.2.same in
       let at10 : get_or z.0 10 0 ≡ a =
-      z.2.other 10 (λ e. omega (arith, e)) (λ e. omega (arith, e)) ∙ put_other x.0 1 10 return (λ e. omega (arith, e)) ∙ x.2.same in
+      z.2.other 10 (λ e. omega (arith, e)) (λ e. omega (arith, e)) ∙ y.2.other 10 (λ e. omega (arith, e)) ∙ x.2.same in
       let mid = run_at z.0 m ws t.input fourth in
       let to = run_at z.0 m ws t.input after in
       let marked : from_mark g.at (added (get_or z.0 1 0) (signed12 0) / 2 * 2) (whole g) ≡ Some after =
@@ -150,9 +172,9 @@ module _ (g : Setting) where
       ∙ ap (λ es. Goes es 1 to) quiet) (omega arith) in
       let at_second = run_at x.0 m ws t.input second in
       let at_third = run_at one m ws t.input third in
-      let to_third : Goes_in g.live (whole g) g.at 2 4 r at_third = then_goes g.live (whole g) g.at 1 1 3 1 r at_second at_third x.1 y in
-      let to_mid : Goes_in g.live (whole g) g.at 3 7 r mid = then_goes g.live (whole g) g.at 2 1 4 3 r at_third mid to_third z.1 in
-      (z.0, then_goes g.live (whole g) g.at 3 1 7 1 r mid to to_mid back, record { kept = kept; ten = at10 })
+      let to_third : Goes_in g.live (whole g) g.at 1 4 r at_third = then_goes g.live (whole g) g.at 1 0 3 1 r at_second at_third x.1 y.1 in
+      let to_mid : Goes_in g.live (whole g) g.at 2 7 r mid = then_goes g.live (whole g) g.at 1 1 4 3 r at_third mid to_third z.1 in
+      (z.0, then_goes g.live (whole g) g.at 2 1 7 1 r mid to to_mid back, record { kept = kept; ten = at10 })
 
   -- behind a call: the places of the callee go, and the result comes to its variable's home
   resumes : (m : Memory) (ws input regs : List ℕ) (n to base a : ℕ) (q : WordProc) (code : List LabelLine) → Fits m ws → IsLaid (g.lay q.number) q →
@@ -207,7 +229,7 @@ module _ (g : Setting) where
       let y = resumes m ws t.input x.0 n c.awaits c.base a c.proc code f.fits laid inside wait.awaits wait.base_fits left quiet in
       let ws' = saved ws n home (a % 2 ^ 32) in
       let s = run_at y.0 m ws' t.input code in
-      sim_goes g r s t (return_state t a c cs) 5 14 (then_goes g.live (whole g) g.at 4 1 8 6 r (run_at x.0 m ws t.input after) s x.1 y.1) (omega arith)
+      sim_goes g r s t (return_state t a c cs) 4 14 (then_goes g.live (whole g) g.at 3 1 8 6 r (run_at x.0 m ws t.input after) s x.1 y.1) (omega arith)
       (omega arith)
       (record { regs = y.0; ws = ws'; j = n; facts = return_true t (l ∷ rest) regs y.0 ws j a c cs f wait more y.2 y.3; is = refl })
 

@@ -3,7 +3,7 @@ use Rattle.std.proofs.Common.{◌≡◌, ℕ, zero, suc, ◌+◌, ◌-◌, ◌*�
 use Rattle.std.proofs.Common.{◌∷◌, ◌++◌, length, get_or, set, Bool, true, false}
 use Rattle.std.proofs.Common.{Option, Some, None, refl, sym, ap, subst, ◌∙◌, arith, length-append, append-nil, add_assoc, length-set, mul-suc}
 use Rattle.std.specs.Prelude.{replicate, if◌then◌else◌}
-use Rattle.std.proofs.lemmas.List.{length-replicate, replicate-append-replicate}
+use Rattle.std.proofs.lemmas.List.{get_or-set_same, length-replicate, replicate-append-replicate}
 use Rattle.arc_base.specs.Event.{Event}
 use Rattle.arc_base.specs.Behaviour.{Live, Ended, Faulted, Agrees, Sound}
 use Rattle.arc_base.specs.Pace.{Paced}
@@ -324,6 +324,7 @@ module _ (g : Setting) where
             held = λ v x lives e. absurd (none_some x e);
             given = λ v x e. absurd (none_some x e);
             linked = omega (arith, long_new, long, under);
+            leaf = λ leaf more. w.3 ∙ sym (get_or-set_same ws k 0 0 (omega (arith, long, under, some)));
             deep = subst (λ n. 4 * MOST_ARGUMENTS + (g.need q + g.total * n) ≤ 4 * k) (sym fewer)
                 (omega (arith, least, all, split, stack_is, total, frame, under));
           } in (

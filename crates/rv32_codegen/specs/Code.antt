@@ -2,8 +2,8 @@
 --
 -- x2 is where the frame of the running call begins, x3 where its places begin, x4 where the data begins. The frame's first word is the return address, and the
 -- caller's frame follows behind its last one. Arguments are put right below the frame, where the last words of the callee's will be.
-use Rattle.std.specs.Prelude.{ℕ, suc, ◌+◌, ◌-◌, ◌*◌, ◌/◌, ◌%◌, ◌^◌, Bool, nat_lt, ◌==◌, if◌then◌else◌, List, []}
-use Rattle.std.specs.Prelude.{◌∷◌, Option, Some, None}
+use Rattle.std.specs.Prelude.{ℕ, suc, ◌+◌, ◌-◌, ◌*◌, ◌/◌, ◌%◌, ◌^◌, Bool, true, false, ◌&&◌, nat_lt, ◌==◌}
+use Rattle.std.specs.Prelude.{if◌then◌else◌, List, [], ◌∷◌, Option, Some, None}
 use Rattle.arc_base.specs.declared.outside.Stream.{Stream}
 use Rattle.arc_base.specs.declared.outside.Stream.TheVariants.{Out, Err}
 use Rattle.rv32_isa.specs.declared.instr.Instr.{Instr}
@@ -31,6 +31,7 @@ use Rattle.mid_code.specs.Memory.{own_data_at}
 use Rattle.reg_scan.specs.declared.homes.Home.{Home}
 use Rattle.reg_scan.specs.declared.homes.Home.TheVariants.{Reg, Frame}
 use Rattle.reg_scan.specs.declared.homes.Homes.{Homes}
+use Rattle.reg_scan.specs.Alive.{effect_of}
 use Rattle.reg_scan.specs.Homes.{home_of}
 
 -- ---- pieces
@@ -158,6 +159,28 @@ argument_at index = negative (4 * suc index)
 abbrev pub datum_at : WordProc → ℕ → ℕ
 datum_at p at = (own_data_at + p.data_from + at) % 2 ^ 32
 
+-- ---- the return address
+
+abbrev pub is_call_or_label : WordInstr → Bool
+is_call_or_label (word.Label name) = true
+is_call_or_label (word.Call to callee) = true
+is_call_or_label line = false
+
+-- there are calls alone, and labels: control comes to no return
+abbrev pub only_calls : List WordInstr → Bool
+only_calls [] = true
+only_calls (line ∷ lines) = is_call_or_label line && only_calls lines
+
+-- Behind the first call there are calls alone, as those that end the program by a trap: where a procedure returns, x1 still holds the return address.
+abbrev pub is_leaf : List WordInstr → Bool
+is_leaf [] = true
+is_leaf (line ∷ lines) = if (effect_of line).calls then only_calls lines else is_leaf lines
+
+-- the return address into x1, where a call may have put another one there
+abbrev pub restore : (leaf : Bool) → List Instr
+restore true = []
+restore false = Lw 1 2 0 ∷ []
+
 -- ---- lines
 
 -- behind a call
@@ -187,6 +210,10 @@ left_of h left = seat 5 (home_of h left)
 abbrev pub right_of : Homes → (right : ℕ) → ℕ
 right_of h right = seat 6 (home_of h right)
 
+-- the end of a call: the result goes to x10, and the frame goes
+abbrev pub return_code : Homes → (leaf : Bool) → (from : ℕ) → List LabelLine → List LabelLine
+return_code h leaf from k = does (move 10 (home_of h from)) (does (restore leaf) (does (sum 2 2 h.frame) (Do (Jalr 0 1 0) ∷ k)))
+
 abbrev pub line_code : Homes → WordProc → WordInstr → List LabelLine → List LabelLine
 line_code h p (word.Label name) k = Label (Inner p.number name) None ∷ k
 line_code h p (word.Constant to value) k = does (constant (target h to) value) (keep h to k)
@@ -203,7 +230,7 @@ line_code h p (word.Branch test left right to) k =
     bring_both h left right (Branch (compare test) (left_of h left) (right_of h right) (Inner p.number to) ∷ k)
 line_code h p (word.Argument index from) k = does (bring 5 (home_of h from)) (does (save (left_of h from) (argument_at index)) k)
 line_code h p (word.Call to callee) k = does (shift 3 p.room) (Jump 1 (Entry callee) ∷ after_call h p to k)
-line_code h p (word.Return from) k = does (move 10 (home_of h from)) (Do (Lw 1 2 0) ∷ does (sum 2 2 h.frame) (Do (Jalr 0 1 0) ∷ k))
+line_code h p (word.Return from) k = return_code h (is_leaf p.lines) from k
 line_code h p (word.Read to address len) k =
     move_range h address len (Do (Addi 10 0 0) ∷ Do (Addi 17 0 63) ∷ Do Ecall ∷ does (give 10 (home_of h to)) k)
 line_code h p (word.Write stream address len) k =

@@ -2,6 +2,7 @@
 ghost use Rattle.std.specs.Prelude.{◌≡◌, ◌++◌, ◌∷◌, List, OnOk};
 ghost use Rattle.mid_code.specs.declared.word.WordInstr.TheVariants as word;
 ghost use Rattle.rv32_isa.specs.declared.label.LabelLine.{LabelLine as Line};
+ghost use Rattle.reg_scan.specs.Alive.{effect_of};
 ghost use Rattle.reg_scan.specs.Homes.{home_of};
 ghost use Rattle.rv32_codegen.specs.Code as code;
 
@@ -239,17 +240,23 @@ fn emit_call(
     emit_give(lines, 10, home_of(homes, to))
 }
 
-fn emit_return(
-    lines: &mut LabelCode,
-    homes: &Homes,
-    proc: &WordProc,
-    from: u32,
-) -> Result<(), Memory>
+// The return address into x1, where a call may have put another one there.
+fn emit_restore(lines: &mut LabelCode, leaf: bool) -> Result<(), Memory>
     ensures { OnOk result ((k : List Line) →
-        lines.new ++ k ≡ lines.old ++ code.line_code homes.now proc.now (word.Return from) k) }
+        lines.new ++ k ≡ lines.old ++ code.does (code.restore leaf) k) }
+{
+    if leaf {
+        return Ok(());
+    }
+    emit(lines, &[lw(1, 2, 0)])
+}
+
+fn emit_return(lines: &mut LabelCode, homes: &Homes, leaf: bool, from: u32) -> Result<(), Memory>
+    ensures { OnOk result ((k : List Line) →
+        lines.new ++ k ≡ lines.old ++ code.return_code homes.now leaf from k) }
 {
     emit_move(lines, 10, home_of(homes, from))?;
-    emit(lines, &[lw(1, 2, 0)])?;
+    emit_restore(lines, leaf)?;
     emit_sum(lines, 2, 2, homes.frame)?;
     emit(lines, &[jalr(0, 1, 0)])
 }
@@ -303,13 +310,15 @@ fn emit_exit(
     emit(lines, &[addi(17, 0, 93), ecall()])
 }
 
-// A line.
+// A line of a procedure, which may be a leaf.
 fn emit_line(
     lines: &mut LabelCode,
     homes: &Homes,
     proc: &WordProc,
+    leaf: bool,
     line: WordInstr,
 ) -> Result<(), Memory>
+    requires { leaf ≡ code.is_leaf proc.now.lines }
     ensures { OnOk result ((k : List Line) →
         lines.new ++ k ≡ lines.old ++ code.line_code homes.now proc.now line k) }
 {
@@ -352,7 +361,7 @@ fn emit_line(
         } => emit_branch(lines, homes, test, left, right, inner(proc, to)),
         WordInstr::Argument { index, from } => emit_argument(lines, homes, index, from),
         WordInstr::Call { to, callee } => emit_call(lines, homes, proc, to, callee),
-        WordInstr::Return { from } => emit_return(lines, homes, proc, from),
+        WordInstr::Return { from } => emit_return(lines, homes, leaf, from),
         WordInstr::Read { to, address, len } => emit_read(lines, homes, proc, to, address, len),
         WordInstr::Write {
             stream,
@@ -370,6 +379,44 @@ fn datum_at(proc: &WordProc, at: u32) -> u32
     OWN_DATA_AT.wrapping_add(proc.data_from).wrapping_add(at)
 }
 
+fn is_call(line: WordInstr) -> bool
+    ensures { result ≡ (effect_of line).calls }
+{
+    matches!(line, WordInstr::Call { .. })
+}
+
+fn is_call_or_label(line: WordInstr) -> bool
+    ensures { result ≡ code.is_call_or_label line }
+{
+    matches!(line, WordInstr::Label { .. } | WordInstr::Call { .. })
+}
+
+// Whether there are calls alone, and labels.
+fn only_calls(words: &[WordInstr]) -> bool
+    ensures { result ≡ code.only_calls words.now }
+{
+    for line in words {
+        if !is_call_or_label(*line) {
+            return false;
+        }
+    }
+    true
+}
+
+// Whether there are calls alone behind the first one.
+fn is_leaf(words: &[WordInstr]) -> bool
+    ensures { result ≡ code.is_leaf words.now }
+{
+    let mut left = words;
+    while let Some((line, rest)) = left.split_first() {
+        if is_call(*line) {
+            return only_calls(rest);
+        }
+        left = rest;
+    }
+    true
+}
+
 /// Lines of a procedure, one after another.
 pub fn emit_lines(
     lines: &mut LabelCode,
@@ -380,8 +427,9 @@ pub fn emit_lines(
     ensures { OnOk result ((k : List Line) →
         lines.new ++ k ≡ lines.old ++ code.lines_code homes.now proc.now words.now k) }
 {
+    let leaf = is_leaf(proc.lines.as_slice());
     for line in words {
-        emit_line(lines, homes, proc, *line)?;
+        emit_line(lines, homes, proc, leaf, *line)?;
     }
     Ok(())
 }
