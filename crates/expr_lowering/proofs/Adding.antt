@@ -1,22 +1,9 @@
 -- What parts add, one after another.
-use Rattle.std.proofs.Common.{◌≡◌, ℕ, zero, suc, ◌<◌, Bool, false, List, [], ◌∷◌, ◌++◌, length, drop, get_or, refl, sym, ap, ◌∙◌}
-use Rattle.std.proofs.Common.{append_assoc, Vec, Global, Option, Some, None}
+use Rattle.std.proofs.Common.{◌≡◌, ℕ, zero, suc, ◌<◌, List, [], ◌∷◌, ◌++◌, length, drop, get_or, refl, sym, ap, ◌∙◌}
+use Rattle.std.proofs.Common.{append_assoc, Some}
 use Rattle.std.proofs.lemmas.Option.{none-some, same_Some, slice_get_read}
 use Rattle.std.proofs.lemmas.Result.{on_ok_weaker}
-use Rattle.std.specs.Prelude.{option_map, slice_get, Result, OnOk}
-use Rattle.nim_core.specs.declared.expr.Node.{Node}
-use Rattle.nim_core.specs.declared.expr.Expr.TheVariants as E
-use Rattle.nim_core.specs.declared.expr.Pick.{Pick as RustPick}
-use Rattle.nim_core.specs.ActsOf.{number_of}
-use Rattle.nim_core.specs.View.{if_type, expr_of, picks_of}
-use Rattle.nim_core.proofs.ForCallers.{picked, picked_else}
-use Rattle.mid_code.specs.declared.line.Line.TheVariants as L
-use Rattle.mid_code.specs.declared.point.Role.TheVariants as O
-use Rattle.expr_lowering.specs.declared.around.Around.{Around}
-use Rattle.expr_lowering.specs.declared.numbers.Purpose.TheVariants.{End}
-use Rattle.expr_lowering.specs.Numbering.{label_of}
-use Rattle.expr_lowering.specs.ExprLines.{passes, pick_tests, label_line, root_filled}
-use Rattle.expr_lowering.specs.Views.{types_of, expr_in, picks_in, other_in}
+use Rattle.std.specs.Prelude.{slice_get, Result, OnOk}
 
 module _ {X : Type 0} where
   pub two : (a x y b c : List X) → b ≡ a ++ x → c ≡ b ++ y → c ≡ a ++ (x ++ y)
@@ -66,17 +53,3 @@ drop_at (y ∷ xs) (suc i) x e = drop_at xs i x e
 
 pub at_index : {X : Type 0} (xs : List X) (i : ℕ) (x : X) → i < length xs → x ≡ get_or xs i x → slice_get xs i ≡ Some x
 at_index xs i x l e = slice_get_read xs (length xs) i x refl l e
-
-module _ (a : Around) where
-  -- ---- expressions
-
-  pub case_adds : (root : Bool) (node : Node) (ty : Option ℕ) (selector : _) (picks : Vec RustPick Global) (other : _) →
-      expr_in a root (expr_of (types_of a) (E.Case node ty selector picks other)) ≡
-      expr_in a false (expr_of (types_of a) selector.value)
-      ++ (passes node O.Chooses L.Pass
-      ++ (pick_tests a.origin node (number_of (expr_of (types_of a) selector.value)) (picks_of (types_of a) picks.items)
-      ++ (other_in a node (if_type (types_of a) ty) (option_map (λ e. expr_of (types_of a) e.value) other)
-      ++ (picks_in a node (if_type (types_of a) ty) (picks_of (types_of a) picks.items)
-      ++ (label_line node (label_of a.origin node.number End) ++ root_filled root node)))))
-  case_adds root node ty selector picks None = ap (expr_in a root) (picked (types_of a) node ty selector picks)
-  case_adds root node ty selector picks (Some other) = ap (expr_in a root) (picked_else (types_of a) node ty selector picks other)

@@ -7,24 +7,34 @@ use Rattle.nim_types.specs.Types.{Ty}
 use Rattle.nim_core.specs.declared.expr.Node.{Node}
 use Rattle.nim_core.specs.declared.expr.Expr.{Expr as RustExpr}
 use Rattle.nim_core.specs.declared.expr.Expr.TheVariants as E
+use Rattle.nim_core.specs.declared.expr.Init.{Init as RustInit}
+use Rattle.nim_core.specs.declared.expr.Arg.{Arg as RustArg}
+use Rattle.nim_core.specs.declared.expr.Choice.{Choice as RustChoice}
+use Rattle.nim_core.specs.declared.expr.Operator.{Operator}
+use Rattle.nim_core.specs.declared.expr.Path.{Path as RustPath}
 use Rattle.nim_core.specs.declared.expr.Pick.{Pick as RustPick}
 use Rattle.nim_core.specs.declared.program.PlaceDecl.{PlaceDecl}
+use Rattle.nim_core.specs.declared.stmt.Bounds.{Bounds}
+use Rattle.nim_core.specs.declared.stmt.Branch.{Branch as RustBranch}
+use Rattle.nim_core.specs.declared.stmt.CaseBranch.{CaseBranch as RustArm}
 use Rattle.nim_core.specs.declared.stmt.Stmt.{Stmt as RustStmt}
 use Rattle.nim_core.specs.declared.stmt.Stmt.TheVariants as S
 use Rattle.nim_core.specs.Program as T
 use Rattle.nim_core.specs.Program.{Expr, Path, Declared, Stmts, Empty, Then}
-use Rattle.nim_core.specs.View.{expr_of, path_of, picks_of, stmt_before, stmts_of, discarded, returned, declares, declared_of}
-use Rattle.nim_core.proofs.ForCallers.{picked, picked_else}
+use Rattle.nim_core.specs.View.{expr_of, path_of, exprs_of, inits_of, args_of, choices_of, picks_of, stmt_before, stmts_of, branches_of, arms_of}
+use Rattle.nim_core.specs.View.{discarded, returned, declares, declared_of}
+use Rattle.nim_core.proofs.ForCallers.{made, constructed, called, chosen_by, echoed, picked, picked_else}
+use Rattle.nim_core.proofs.ForCallers.{decided, selected, repeated, counted, gone_over}
 use Rattle.mid_code.specs.declared.place.PlaceKind.{PlaceKind}
 use Rattle.mid_code.specs.declared.place.PlaceKind.TheVariants as K
 use Rattle.mid_code.specs.declared.place.FlatPlace.{FlatPlace}
 use Rattle.expr_lowering.specs.declared.around.Around.{Around}
 use Rattle.expr_lowering.specs.Places.{declared, counter, value, expr_places, path_places, altered_places, choice_places, pick_places}
-use Rattle.expr_lowering.specs.Places.{each_places, block_places}
+use Rattle.expr_lowering.specs.Places.{all_places, init_places, arg_places, each_places, block_places, branch_places, arm_places}
 use Rattle.expr_lowering.specs.Views.{types_of, result_of}
 use Rattle.expr_lowering.specs.PlaceViews.{part_places, own_places, other_adds, count_adds, each_adds, first_adds, given_if}
 use Rattle.expr_lowering.proofs.Taking.{drop_next}
-use Rattle.expr_lowering.proofs.Adding.{with_rest}
+use Rattle.expr_lowering.proofs.Adding.{two, three, as_words, with_rest}
 
 -- three lists, of which the first two are joined, or the last two
 front : {X : Type 0} (x y z : List X) → x ++ (y ++ z) ≡ (x ++ y) ++ z
@@ -34,69 +44,69 @@ module _ (ts : List Ty) where
   -- ---- expressions
 
   -- the places of the parts, and its own behind them
-  pub parts_own : (e : Expr) → expr_places ts e ≡ part_places ts e ++ own_places ts e
-  parts_own (T.Ordinal node ty z) = refl
-  parts_own (T.Text node ty bytes) = refl
-  parts_own (T.Constant node ty literal) = refl
-  parts_own (T.Default node ty) = refl
-  parts_own (T.Read path) = sym (append-nil (expr_places ts (T.Read path)))
-  parts_own (T.Measured node ty measure path) = refl
-  parts_own (T.Unary node ty operator x) = refl
-  parts_own (T.Binary node ty operator x y) = front (expr_places ts x) (expr_places ts y) (value ts node ty)
-  parts_own (T.Compare node ty comparison x y) = front (expr_places ts x) (expr_places ts y) (value ts node ty)
-  parts_own (T.Both node ty x y) = front (expr_places ts x) (expr_places ts y) (value ts node ty)
-  parts_own (T.Either node ty x y) = front (expr_places ts x) (expr_places ts y) (value ts node ty)
-  parts_own (T.Convert node ty x) = refl
-  parts_own (T.Join node ty x y) = refl
-  parts_own (T.Show node ty x) = refl
-  parts_own (T.Make node ty parts) = refl
-  parts_own (T.Sequence node ty parts) = refl
-  parts_own (T.Construct node ty parts) = refl
-  parts_own (T.Call node ty proc args) = refl
-  parts_own (T.If node ty branches otherwise) = front (choice_places ts branches) (expr_places ts otherwise) (own_places ts (T.If node ty branches otherwise))
-  parts_own (T.Case node ty selector branches) = front (expr_places ts selector) (pick_places ts branches) (own_places ts (T.Case node ty selector branches))
-  parts_own (T.CaseElse node ty selector branches otherwise) =
+  own_is : (e : Expr) → expr_places ts e ≡ part_places ts e ++ own_places ts e
+  own_is (T.Ordinal node ty z) = refl
+  own_is (T.Text node ty bytes) = refl
+  own_is (T.Constant node ty literal) = refl
+  own_is (T.Default node ty) = refl
+  own_is (T.Read path) = sym (append-nil (expr_places ts (T.Read path)))
+  own_is (T.Measured node ty measure path) = refl
+  own_is (T.Unary node ty operator x) = refl
+  own_is (T.Binary node ty operator x y) = front (expr_places ts x) (expr_places ts y) (value ts node ty)
+  own_is (T.Compare node ty comparison x y) = front (expr_places ts x) (expr_places ts y) (value ts node ty)
+  own_is (T.Both node ty x y) = front (expr_places ts x) (expr_places ts y) (value ts node ty)
+  own_is (T.Either node ty x y) = front (expr_places ts x) (expr_places ts y) (value ts node ty)
+  own_is (T.Convert node ty x) = refl
+  own_is (T.Join node ty x y) = refl
+  own_is (T.Show node ty x) = refl
+  own_is (T.Make node ty parts) = refl
+  own_is (T.Sequence node ty parts) = refl
+  own_is (T.Construct node ty parts) = refl
+  own_is (T.Call node ty proc args) = refl
+  own_is (T.If node ty branches otherwise) = front (choice_places ts branches) (expr_places ts otherwise) (own_places ts (T.If node ty branches otherwise))
+  own_is (T.Case node ty selector branches) = front (expr_places ts selector) (pick_places ts branches) (own_places ts (T.Case node ty selector branches))
+  own_is (T.CaseElse node ty selector branches otherwise) =
       let own = own_places ts (T.CaseElse node ty selector branches otherwise) in
       let picks = pick_places ts branches in
       ap (λ z. expr_places ts selector ++ z) (front picks (expr_places ts otherwise) own) ∙
       front (expr_places ts selector) (picks ++ expr_places ts otherwise) own
-  parts_own (T.NewSequence node ty length) = refl
-  parts_own (T.Pop node ty path) = refl
-  parts_own (T.Move node ty path) = refl
-  parts_own (T.ReadLine node ty) = refl
-  parts_own (T.ReadLineInto node ty path) = refl
-  parts_own (T.Echo node operands) = sym (append-nil (expr_places ts (T.Echo node operands)))
-  parts_own (T.QuitZero node) = refl
-  parts_own (T.Quit node status) = sym (append-nil (expr_places ts status))
-  parts_own (T.StepOne node operator path) = refl
-  parts_own (T.Step node operator path value) = sym (append-nil (expr_places ts (T.Step node operator path value)))
-  parts_own (T.Add node path value) = refl
-  parts_own (T.SetLen node path length) = refl
-  parts_own (T.Swap node left right) = sym (append-nil (expr_places ts (T.Swap node left right)))
+  own_is (T.NewSequence node ty length) = refl
+  own_is (T.Pop node ty path) = refl
+  own_is (T.Move node ty path) = refl
+  own_is (T.ReadLine node ty) = refl
+  own_is (T.ReadLineInto node ty path) = refl
+  own_is (T.Echo node operands) = sym (append-nil (expr_places ts (T.Echo node operands)))
+  own_is (T.QuitZero node) = refl
+  own_is (T.Quit node status) = sym (append-nil (expr_places ts status))
+  own_is (T.StepOne node operator path) = refl
+  own_is (T.Step node operator path value) = sym (append-nil (expr_places ts (T.Step node operator path value)))
+  own_is (T.Add node path value) = refl
+  own_is (T.SetLen node path length) = refl
+  own_is (T.Swap node left right) = sym (append-nil (expr_places ts (T.Swap node left right)))
 
-  pub case_adds : (node : Node) (ty : Option ℕ) (selector : _) (picks : Vec RustPick Global) (other : _) →
+  case_is : (node : Node) (ty : Option ℕ) (selector : _) (picks : Vec RustPick Global) (other : _) →
       part_places ts (expr_of ts (E.Case node ty selector picks other)) ≡
       expr_places ts (expr_of ts selector.value)
       ++ (pick_places ts (picks_of ts picks.items) ++ other_adds ts (option_map (λ e. expr_of ts e.value) other))
-  case_adds node ty selector picks None =
+  case_is node ty selector picks None =
       ap (part_places ts) (picked ts node ty selector picks) ∙
       ap (λ z. expr_places ts (expr_of ts selector.value) ++ z) (sym (append-nil (pick_places ts (picks_of ts picks.items))))
-  case_adds node ty selector picks (Some other) = ap (part_places ts) (picked_else ts node ty selector picks other)
+  case_is node ty selector picks (Some other) = ap (part_places ts) (picked_else ts node ty selector picks other)
 
-  pub quit_adds : (node : Node) (status : _) →
+  quit_is : (node : Node) (status : _) →
       part_places ts (expr_of ts (E.Quit node status)) ≡ other_adds ts (option_map (λ e. expr_of ts e.value) status)
-  quit_adds node None = refl
-  quit_adds node (Some status) = refl
+  quit_is node None = refl
+  quit_is node (Some status) = refl
 
-  pub step_adds : (node : Node) (operator : _) (path : _) (value : _) →
+  step_is : (node : Node) (operator : _) (path : _) (value : _) →
       part_places ts (expr_of ts (E.Step node operator path value)) ≡
       altered_places ts (path_of ts path) ++ other_adds ts (option_map (λ e. expr_of ts e.value) value)
-  step_adds node operator path None = sym (append-nil (altered_places ts (path_of ts path)))
-  step_adds node operator path (Some value) = refl
+  step_is node operator path None = sym (append-nil (altered_places ts (path_of ts path)))
+  step_is node operator path (Some value) = refl
 
   -- ---- loops
 
-  pub count_front : (node : Node) (variable : Declared) (first last : Expr) (rest : List FlatPlace) →
+  count_front : (node : Node) (variable : Declared) (first last : Expr) (rest : List FlatPlace) →
       declared ts K.ForVar variable ++ (expr_places ts first ++ (expr_places ts last ++ (counter node node.number ++ rest))) ≡
       count_adds ts node variable first last ++ rest
   count_front node variable first last rest =
@@ -106,7 +116,7 @@ module _ (ts : List Ty) where
       let n = counter node node.number in
       ap (λ z. d ++ (x ++ z)) (front y n rest) ∙ ap (λ z. d ++ z) (front x (y ++ n) rest) ∙ front d (x ++ (y ++ n)) rest
 
-  pub each_front : (node : Node) (variable : Declared) (path : Path) (rest : List FlatPlace) →
+  each_front : (node : Node) (variable : Declared) (path : Path) (rest : List FlatPlace) →
       declared ts K.ForVar variable ++ (path_places ts path ++ (each_places ts node variable ++ rest)) ≡ each_adds ts node variable path ++ rest
   each_front node variable path rest =
       let d = declared ts K.ForVar variable in
@@ -115,43 +125,43 @@ module _ (ts : List Ty) where
       ap (λ z. d ++ z) (front p n rest) ∙ front d (p ++ n) rest
 
 module _ (a : Around) (kind : PlaceKind) where
-  pub discard_adds : (node : Node) (value : Option RustExpr) →
+  discard_is : (node : Node) (value : Option RustExpr) →
       first_adds a kind (Then (discarded (types_of a) node value) Empty) ≡ other_adds (types_of a) (option_map (expr_of (types_of a)) value)
-  discard_adds node None = refl
-  discard_adds node (Some value) = refl
+  discard_is node None = refl
+  discard_is node (Some value) = refl
 
-  pub return_adds : (node : Node) (value : Option RustExpr) →
+  return_is : (node : Node) (value : Option RustExpr) →
       first_adds a kind (Then (returned (types_of a) node value) Empty) ≡ given_if a (option_map (expr_of (types_of a)) value)
-  return_adds node None = refl
-  return_adds node (Some value) = refl
+  return_is node None = refl
+  return_is node (Some value) = refl
 
-  pub declare_adds : (node : Node) (place : PlaceDecl) (value : Option RustExpr) →
+  declare_is : (node : Node) (place : PlaceDecl) (value : Option RustExpr) →
       first_adds a kind (declares node (declared_of (types_of a) place) (option_map (expr_of (types_of a)) value) Empty) ≡
       declared (types_of a) kind (declared_of (types_of a) place) ++ other_adds (types_of a) (option_map (expr_of (types_of a)) value)
-  declare_adds node place None = sym (append-nil (declared (types_of a) kind (declared_of (types_of a) place)))
-  declare_adds node place (Some value) = refl
+  declare_is node place None = sym (append-nil (declared (types_of a) kind (declared_of (types_of a) place)))
+  declare_is node place (Some value) = refl
 
   -- a statement before others
-  pub stmt_adds : (stmt : RustStmt) (rest : Stmts) →
+  stmt_ahead : (stmt : RustStmt) (rest : Stmts) →
       block_places (types_of a) (result_of a) kind (stmt_before (types_of a) stmt rest) ≡
       first_adds a kind (stmt_before (types_of a) stmt Empty) ++ block_places (types_of a) (result_of a) kind rest
-  stmt_adds (S.Eval node value) rest = refl
-  stmt_adds (S.Discard node value) rest = refl
-  stmt_adds (S.Give node value) rest = refl
-  stmt_adds (S.Return node value) rest = refl
-  stmt_adds (S.Break node) rest = refl
-  stmt_adds (S.Continue node) rest = refl
-  stmt_adds (S.Declare node place None) rest = refl
-  stmt_adds (S.Declare node place (Some value)) rest = refl
-  stmt_adds (S.Pass node) rest = refl
-  stmt_adds (S.Assign node path value) rest = refl
-  stmt_adds (S.Update node operator path value) rest = refl
-  stmt_adds (S.Append node path value) rest = refl
-  stmt_adds (S.If' node p branches q otherwise) rest = refl
-  stmt_adds (S.Case' node selector p branches q otherwise) rest = refl
-  stmt_adds (S.While' node condition p body) rest = refl
-  stmt_adds (S.Count' node variable bounds p body) rest = refl
-  stmt_adds (S.Each' node variable path p body) rest = refl
+  stmt_ahead (S.Eval node value) rest = refl
+  stmt_ahead (S.Discard node value) rest = refl
+  stmt_ahead (S.Give node value) rest = refl
+  stmt_ahead (S.Return node value) rest = refl
+  stmt_ahead (S.Break node) rest = refl
+  stmt_ahead (S.Continue node) rest = refl
+  stmt_ahead (S.Declare node place None) rest = refl
+  stmt_ahead (S.Declare node place (Some value)) rest = refl
+  stmt_ahead (S.Pass node) rest = refl
+  stmt_ahead (S.Assign node path value) rest = refl
+  stmt_ahead (S.Update node operator path value) rest = refl
+  stmt_ahead (S.Append node path value) rest = refl
+  stmt_ahead (S.If' node p branches q otherwise) rest = refl
+  stmt_ahead (S.Case' node selector p branches q otherwise) rest = refl
+  stmt_ahead (S.While' node condition p body) rest = refl
+  stmt_ahead (S.Count' node variable bounds p body) rest = refl
+  stmt_ahead (S.Each' node variable path p body) rest = refl
 
   abbrev all : List RustStmt → List FlatPlace
   all stmts = block_places (types_of a) (result_of a) kind (stmts_of (types_of a) stmts)
@@ -161,5 +171,162 @@ module _ (a : Around) (kind : PlaceKind) where
       old ++ all (drop i xs) ≡ whole → new ≡ old ++ first_adds a kind (stmt_before (types_of a) x Empty) → new ++ all (drop (i + 1) xs) ≡ whole
   block_next old new whole xs i x l e h f =
       let rest = stmts_of (types_of a) (drop (i + 1) xs) in
-      let next = ap all (drop_next xs i x l e) ∙ stmt_adds x rest in
+      let next = ap all (drop_next xs i x l e) ∙ stmt_ahead x rest in
       with_rest old (first_adds a kind (stmt_before (types_of a) x Empty)) (all (drop (i + 1) xs)) new whole (ap (λ z. old ++ z) (sym next) ∙ h) f
+
+-- ---- what each step adds, in front of what the whole says
+
+module _ (ts : List Ty) where
+  pub expr_adds : (e : Expr) (old b c : List FlatPlace) → b ≡ old ++ part_places ts e → c ≡ b ++ own_places ts e → c ≡ old ++ expr_places ts e
+  expr_adds e old b c f g = as_words old (part_places ts e ++ own_places ts e) (expr_places ts e) c
+      (two old (part_places ts e) (own_places ts e) b c f g) (own_is ts e)
+
+  module _ (whole : RustExpr) where
+    -- what is added is of the parts of the whole
+    in_whole : (x : List FlatPlace) (e : RustExpr) (old new : List FlatPlace) → whole ≡ e → part_places ts (expr_of ts e) ≡ x →
+        new ≡ old ++ x → new ≡ old ++ part_places ts (expr_of ts whole)
+    in_whole x e old new w g f = as_words old x (part_places ts (expr_of ts whole)) new f (ap (λ e. part_places ts (expr_of ts e)) w ∙ g)
+
+    pub make_adds : (node : Node) (ty : ℕ) (parts : Vec RustExpr Global) (old new : List FlatPlace) → whole ≡ E.Make node ty parts →
+        new ≡ old ++ all_places ts (exprs_of ts parts.items) → new ≡ old ++ part_places ts (expr_of ts whole)
+    make_adds node ty parts old new w f =
+        in_whole (all_places ts (exprs_of ts parts.items)) (E.Make node ty parts) old new w (ap (part_places ts) (made ts node ty parts)) f
+
+    pub construct_adds : (node : Node) (ty : ℕ) (parts : Vec RustInit Global) (old new : List FlatPlace) → whole ≡ E.Construct node ty parts →
+        new ≡ old ++ init_places ts (inits_of ts parts.items) → new ≡ old ++ part_places ts (expr_of ts whole)
+    construct_adds node ty parts old new w f =
+        in_whole (init_places ts (inits_of ts parts.items)) (E.Construct node ty parts) old new w (ap (part_places ts) (constructed ts node ty parts)) f
+
+    pub call_adds : (node : Node) (ty : Option ℕ) (proc : ℕ) (args : Vec RustArg Global) (old new : List FlatPlace) →
+        whole ≡ E.Call node ty proc args →
+        new ≡ old ++ arg_places ts (args_of ts args.items) → new ≡ old ++ part_places ts (expr_of ts whole)
+    call_adds node ty proc args old new w f =
+        in_whole (arg_places ts (args_of ts args.items)) (E.Call node ty proc args) old new w (ap (part_places ts) (called ts node ty proc args)) f
+
+    pub echo_adds : (node : Node) (operands : Vec RustExpr Global) (old new : List FlatPlace) → whole ≡ E.Echo node operands →
+        new ≡ old ++ all_places ts (exprs_of ts operands.items) → new ≡ old ++ part_places ts (expr_of ts whole)
+    echo_adds node operands old new w f =
+        in_whole (all_places ts (exprs_of ts operands.items)) (E.Echo node operands) old new w (ap (part_places ts) (echoed ts node operands)) f
+
+    pub if_adds : (node : Node) (ty : Option ℕ) (choices : Vec RustChoice Global) (otherwise : _) (other : RustExpr) (old b c : List FlatPlace) →
+        whole ≡ E.If node ty choices otherwise → other ≡ otherwise.value →
+        b ≡ old ++ choice_places ts (choices_of ts choices.items) → c ≡ b ++ expr_places ts (expr_of ts other) →
+        c ≡ old ++ part_places ts (expr_of ts whole)
+    if_adds node ty choices otherwise other old b c w o f g =
+        let x = choice_places ts (choices_of ts choices.items) in
+        let y = expr_places ts (expr_of ts otherwise.value) in
+        in_whole (x ++ y) (E.If node ty choices otherwise) old c w (ap (part_places ts) (chosen_by ts node ty choices otherwise))
+        (two old x y b c f (g ∙ ap (λ (e : RustExpr). b ++ expr_places ts (expr_of ts e)) o))
+
+    pub case_adds : (node : Node) (ty : Option ℕ) (selector : _) (picks : Vec RustPick Global) (other : _) (value : RustExpr)
+        (old b c d : List FlatPlace) →
+        whole ≡ E.Case node ty selector picks other → value ≡ selector.value →
+        b ≡ old ++ expr_places ts (expr_of ts value) → c ≡ b ++ pick_places ts (picks_of ts picks.items) →
+        d ≡ c ++ other_adds ts (option_map (λ e. expr_of ts e.value) other) →
+        d ≡ old ++ part_places ts (expr_of ts whole)
+    case_adds node ty selector picks other value old b c d w v f g h =
+        let x = expr_places ts (expr_of ts selector.value) in
+        let y = pick_places ts (picks_of ts picks.items) in
+        let z = other_adds ts (option_map (λ e. expr_of ts e.value) other) in
+        in_whole (x ++ (y ++ z)) (E.Case node ty selector picks other) old d w (case_is ts node ty selector picks other)
+        (three old x y z b c d (f ∙ ap (λ (e : RustExpr). old ++ expr_places ts (expr_of ts e)) v) g h)
+
+    pub quit_adds : (node : Node) (status : _) (old new : List FlatPlace) → whole ≡ E.Quit node status →
+        new ≡ old ++ other_adds ts (option_map (λ e. expr_of ts e.value) status) → new ≡ old ++ part_places ts (expr_of ts whole)
+    quit_adds node status old new w f =
+        in_whole (other_adds ts (option_map (λ e. expr_of ts e.value) status)) (E.Quit node status) old new w (quit_is ts node status) f
+
+    pub step_adds : (node : Node) (operator : Operator) (path : RustPath) (value : _) (old b c : List FlatPlace) →
+        whole ≡ E.Step node operator path value →
+        b ≡ old ++ altered_places ts (path_of ts path) → c ≡ b ++ other_adds ts (option_map (λ e. expr_of ts e.value) value) →
+        c ≡ old ++ part_places ts (expr_of ts whole)
+    step_adds node operator path value old b c w f g =
+        let x = altered_places ts (path_of ts path) in
+        let y = other_adds ts (option_map (λ e. expr_of ts e.value) value) in
+        in_whole (x ++ y) (E.Step node operator path value) old c w (step_is ts node operator path value) (two old x y b c f g)
+
+module _ (a : Around) (kind : PlaceKind) (whole : RustStmt) where
+  abbrev first : RustStmt → List FlatPlace
+  first s = first_adds a kind (stmt_before (types_of a) s Empty)
+
+  -- what is added is that of the whole
+  in_stmt : (x : List FlatPlace) (s : RustStmt) (old new : List FlatPlace) → whole ≡ s → first s ≡ x → new ≡ old ++ x → new ≡ old ++ first whole
+  in_stmt x s old new w g f = as_words old x (first whole) new f (ap first w ∙ g)
+
+  pub assign_places : (s : RustStmt) (old new : List FlatPlace) → whole ≡ s → new ≡ old ++ first s → new ≡ old ++ first whole
+  assign_places s old new w f = as_words old (first s) (first whole) new f (ap first w)
+
+  pub discard_places : (node : Node) (value : Option RustExpr) (old new : List FlatPlace) → whole ≡ S.Discard node value →
+      new ≡ old ++ other_adds (types_of a) (option_map (expr_of (types_of a)) value) → new ≡ old ++ first whole
+  discard_places node value old new w f =
+      in_stmt (other_adds (types_of a) (option_map (expr_of (types_of a)) value)) (S.Discard node value) old new w (discard_is a kind node value) f
+
+  pub return_places : (node : Node) (value : Option RustExpr) (old new : List FlatPlace) → whole ≡ S.Return node value →
+      new ≡ old ++ given_if a (option_map (expr_of (types_of a)) value) → new ≡ old ++ first whole
+  return_places node value old new w f =
+      in_stmt (given_if a (option_map (expr_of (types_of a)) value)) (S.Return node value) old new w (return_is a kind node value) f
+
+  pub declare_places : (node : Node) (place : PlaceDecl) (value : Option RustExpr) (old b c : List FlatPlace) → whole ≡ S.Declare node place value →
+      b ≡ old ++ declared (types_of a) kind (declared_of (types_of a) place) →
+      c ≡ b ++ other_adds (types_of a) (option_map (expr_of (types_of a)) value) → c ≡ old ++ first whole
+  declare_places node place value old b c w f g =
+      let x = declared (types_of a) kind (declared_of (types_of a) place) in
+      let y = other_adds (types_of a) (option_map (expr_of (types_of a)) value) in
+      in_stmt (x ++ y) (S.Declare node place value) old c w (declare_is a kind node place value) (two old x y b c f g)
+
+  pub if_places : (node : Node) (branches : Vec RustBranch Global) (otherwise : Vec RustStmt Global) (old b c : List FlatPlace) →
+      whole ≡ S.If node branches otherwise →
+      b ≡ old ++ branch_places (types_of a) (result_of a) (branches_of (types_of a) branches.items) →
+      c ≡ b ++ block_places (types_of a) (result_of a) K.Local (stmts_of (types_of a) otherwise.items) → c ≡ old ++ first whole
+  if_places node branches otherwise old b c w f g =
+      let x = branch_places (types_of a) (result_of a) (branches_of (types_of a) branches.items) in
+      let y = block_places (types_of a) (result_of a) K.Local (stmts_of (types_of a) otherwise.items) in
+      in_stmt (x ++ y) (S.If node branches otherwise) old c w
+      (ap (first_adds a kind) (decided (types_of a) node Empty branches otherwise)) (two old x y b c f g)
+
+  pub case_places : (node : Node) (selector : RustExpr) (arms : Vec RustArm Global) (otherwise : Vec RustStmt Global)
+      (old b c d : List FlatPlace) →
+      whole ≡ S.Case node selector arms otherwise →
+      b ≡ old ++ expr_places (types_of a) (expr_of (types_of a) selector) →
+      c ≡ b ++ arm_places (types_of a) (result_of a) (arms_of (types_of a) arms.items) →
+      d ≡ c ++ block_places (types_of a) (result_of a) K.Local (stmts_of (types_of a) otherwise.items) → d ≡ old ++ first whole
+  case_places node selector arms otherwise old b c d w f g h =
+      let x = expr_places (types_of a) (expr_of (types_of a) selector) in
+      let y = arm_places (types_of a) (result_of a) (arms_of (types_of a) arms.items) in
+      let z = block_places (types_of a) (result_of a) K.Local (stmts_of (types_of a) otherwise.items) in
+      in_stmt (x ++ (y ++ z)) (S.Case node selector arms otherwise) old d w
+      (ap (first_adds a kind) (selected (types_of a) node Empty selector arms otherwise)) (three old x y z b c d f g h)
+
+  pub while_places : (node : Node) (condition : RustExpr) (body : Vec RustStmt Global) (old b c : List FlatPlace) →
+      whole ≡ S.While node condition body →
+      b ≡ old ++ expr_places (types_of a) (expr_of (types_of a) condition) →
+      c ≡ b ++ block_places (types_of a) (result_of a) K.Local (stmts_of (types_of a) body.items) → c ≡ old ++ first whole
+  while_places node condition body old b c w f g =
+      let x = expr_places (types_of a) (expr_of (types_of a) condition) in
+      let y = block_places (types_of a) (result_of a) K.Local (stmts_of (types_of a) body.items) in
+      in_stmt (x ++ y) (S.While node condition body) old c w
+      (ap (first_adds a kind) (repeated (types_of a) node Empty condition body)) (two old x y b c f g)
+
+  pub count_places : (node : Node) (place : PlaceDecl) (bounds : Bounds) (body : Vec RustStmt Global) (old b c : List FlatPlace) →
+      whole ≡ S.Count node place bounds body →
+      b ≡ old ++ count_adds (types_of a) node (declared_of (types_of a) place) (expr_of (types_of a) bounds.first) (expr_of (types_of a) bounds.last) →
+      c ≡ b ++ block_places (types_of a) (result_of a) K.Local (stmts_of (types_of a) body.items) → c ≡ old ++ first whole
+  count_places node place bounds body old b c w f g =
+      let ts = types_of a in
+      let x = count_adds ts node (declared_of ts place) (expr_of ts bounds.first) (expr_of ts bounds.last) in
+      let y = block_places ts (result_of a) K.Local (stmts_of ts body.items) in
+      in_stmt (x ++ y) (S.Count node place bounds body) old c w
+      (ap (first_adds a kind) (counted ts node Empty place bounds body) ∙
+      count_front ts node (declared_of ts place) (expr_of ts bounds.first) (expr_of ts bounds.last) y) (two old x y b c f g)
+
+  pub each_places_of : (node : Node) (place : PlaceDecl) (path : RustPath) (body : Vec RustStmt Global) (old b c : List FlatPlace) →
+      whole ≡ S.Each node place path body →
+      b ≡ old ++ each_adds (types_of a) node (declared_of (types_of a) place) (path_of (types_of a) path) →
+      c ≡ b ++ block_places (types_of a) (result_of a) K.Local (stmts_of (types_of a) body.items) → c ≡ old ++ first whole
+  each_places_of node place path body old b c w f g =
+      let ts = types_of a in
+      let x = each_adds ts node (declared_of ts place) (path_of ts path) in
+      let y = block_places ts (result_of a) K.Local (stmts_of ts body.items) in
+      in_stmt (x ++ y) (S.Each node place path body) old c w
+      (ap (first_adds a kind) (gone_over ts node Empty place path body) ∙
+      each_front ts node (declared_of ts place) (path_of ts path) y) (two old x y b c f g)

@@ -16,14 +16,10 @@ use Rattle.expr_lowering.specs.declared.loops.Ways.{Ways}
 use Rattle.expr_lowering.specs.declared.numbers.Purpose.TheVariants.{Next, Arm}
 use Rattle.expr_lowering.specs.Numbering.{type_number, label_of}
 use Rattle.expr_lowering.specs.ExprLines.{at, passes, label_line, flat_path, number_at, find_lines}
-use Rattle.expr_lowering.specs.StmtLines.{begins, filled, assigned, give_lines, other_lines, stmt_lines, block_lines, branch_lines, arm_lines}
+use Rattle.expr_lowering.specs.StmtLines.{begins, filled, give_lines, other_lines, stmt_lines, block_lines, branch_lines, arm_lines}
 use Rattle.expr_lowering.specs.Views.{types_of, facts_of, result_of, expr_in, on_to_end}
 
--- what is assigned to a bare name, and to any other path
-abbrev pub named_assigned : Node → Path → (from : ℕ) → List FlatLine
-named_assigned node (T.Variable own ty place global) from = assigned node (T.Variable own ty place global) from
-named_assigned node path from = []
-
+-- what is assigned to a path that is no bare name
 abbrev pub path_assigned : Node → Path → (from : ℕ) → List FlatLine
 path_assigned node path from = find_lines path ++ at node O.Does (W.Give (flat_path path)) (L.Put (number_at path) from)
 

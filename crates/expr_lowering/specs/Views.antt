@@ -25,7 +25,7 @@ use Rattle.expr_lowering.specs.declared.constants.Evaluated.{Evaluated as RustEv
 use Rattle.expr_lowering.specs.declared.constants.Evaluated.TheVariants as E
 use Rattle.expr_lowering.specs.declared.numbers.Purpose.TheVariants.{End, Next, Arm}
 use Rattle.expr_lowering.specs.Numbering.{label_of}
-use Rattle.expr_lowering.specs.ExprLines.{inner, at, passes, label_line, flat_path, altering, number_at, find_lines, alter_lines, label_lines, copied}
+use Rattle.expr_lowering.specs.ExprLines.{inner, at, passes, label_line, flat_path, altering, number_at, find_lines, label_lines, copied}
 use Rattle.expr_lowering.specs.ExprLines.{uncovered, expr_lines, read_lines, index_lines, all_lines, init_lines, arg_lines, choice_lines, pick_lines}
 
 abbrev pub evaluated_as : RustEvaluated → Evaluated
@@ -62,12 +62,7 @@ abbrev pub given_by : List Ty → Node → RustArg → List FlatLine
 given_by ts node (A.Value value) = inner node (L.Argument (number_of (expr_of ts value)))
 given_by ts node (A.Var path) = find_lines (path_of ts path) ++ inner node (L.ArgumentAt (number_at (path_of ts path)))
 
--- an operation on a bare name, and on any other path
-abbrev pub altered_name : Node → Path → Operator → (operand : ℕ) → List FlatLine
-altered_name node (T.Variable own ty place global) operator operand =
-    alter_lines node (T.Variable own ty place global) operator operand
-altered_name node path operator operand = []
-
+-- an operation on a path that is no bare name
 abbrev pub altered_path : Node → Path → Operator → (operand : ℕ) → List FlatLine
 altered_path node path operator operand =
     find_lines path
@@ -86,11 +81,6 @@ module _ (a : Around) where
 
   abbrev pub read_in : Bool → Path → List FlatLine
   read_in is_root path = read_lines (types_of a) (facts_of a) a.origin is_root path
-
-  -- of a bare name
-  abbrev pub name_in : Bool → Path → List FlatLine
-  name_in is_root (T.Variable node ty place global) = read_in is_root (T.Variable node ty place global)
-  name_in is_root path = []
 
   abbrev pub index_in : Path → List FlatLine
   index_in path = index_lines (types_of a) (facts_of a) a.origin path

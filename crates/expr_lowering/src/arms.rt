@@ -1,19 +1,19 @@
 // The labels of a `case` that is a statement.
 ghost use Rattle.std.specs.Prelude.{◌≡◌, ◌++◌, OnOk};
-ghost use Rattle.nim_core.specs.ActsOf.{number_of};
-ghost use Rattle.nim_core.specs.View.{expr_of, arms_of};
+ghost use Rattle.nim_core.specs.View.{arms_of};
 ghost use Rattle.expr_lowering.specs.StmtLines.{arm_tests};
 ghost use Rattle.expr_lowering.specs.Views.{types_of};
 
 use crate::around::{Around, label_in};
 use crate::cases::add_tests;
-use crate::nodes::{first_of, number_of};
+use crate::nodes::first_of;
 use crate::numbers::Purpose;
 use arc_base::{Items, Memory};
 use mid_code::FlatLine;
-use nim_core::{CaseBranch, Expr, Node};
+use nim_core::{CaseBranch, Node};
 
-fn add_arm_tests(
+/// Where a `case` that is a statement leads, behind its selector.
+pub fn add_arm_tests(
     lines: &mut Items<FlatLine>,
     around: &Around,
     node: Node,
@@ -28,19 +28,4 @@ fn add_arm_tests(
         add_tests(lines, node, selector, arm, branch.labels.as_slice())?;
     }
     Ok(())
-}
-
-/// Where a `case` that is a statement leads, behind its selector.
-pub fn test_arms(
-    lines: &mut Items<FlatLine>,
-    around: &Around,
-    node: Node,
-    selector: &Expr,
-    arms: &Vec<CaseBranch>,
-) -> Result<(), Memory>
-    ensures { OnOk result (lines.new ≡ lines.old ++ arm_tests around.now.origin node
-        (number_of (expr_of (types_of around.now) selector.now))
-        (arms_of (types_of around.now) arms.now.items)) }
-{
-    add_arm_tests(lines, around, node, number_of(selector), arms)
 }

@@ -3,7 +3,7 @@ ghost use Rattle.std.specs.Prelude.{◌≡◌, IfOk};
 ghost use Rattle.nim_types.specs.Table.{type_at, types_in};
 ghost use Rattle.expr_lowering.specs.Numbering.{type_number, label_of};
 
-use crate::numbers::{Purpose, label_of};
+use crate::numbers::{PURPOSES, Purpose, purpose_number};
 use arc_base::Memory;
 use nim_core::PlaceDecl;
 use nim_types::{TypeId, TypeTable};
@@ -30,8 +30,17 @@ pub fn type_number(types: &TypeTable, ty: TypeId) -> Result<TypeId, Memory>
 }
 
 /// The label of a node for a purpose.
+///
+/// `Memory` comes too for a node beyond what labels can name.
 pub fn label_in(around: &Around, node: u32, purpose: Purpose) -> Result<u32, Memory>
     ensures { IfOk result (λ label. label ≡ label_of around.now.origin node purpose) }
 {
-    label_of(around.origin, node, purpose)
+    if node < around.origin {
+        return Err(Memory);
+    }
+    let place = node - around.origin;
+    if place >= 800_000_000 {
+        return Err(Memory);
+    }
+    Ok(PURPOSES * place + purpose_number(purpose))
 }

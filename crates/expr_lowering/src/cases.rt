@@ -1,6 +1,5 @@
 // The labels of a `case`, and what `echo` writes.
 ghost use Rattle.std.specs.Prelude.{◌≡◌, ◌++◌, OnOk, map};
-ghost use Rattle.nim_core.specs.ActsOf.{number_of};
 ghost use Rattle.nim_core.specs.View.{expr_of, exprs_of, picks_of, if_type};
 ghost use Rattle.nim_core.specs.View.{label_of as label_view};
 ghost use Rattle.expr_lowering.specs.ExprLines.{label_lines, pick_tests, written};
@@ -58,8 +57,8 @@ pub fn add_tests(
     Ok(())
 }
 
-// The labels of a `case` that is an expression.
-fn add_pick_tests(
+/// Where a `case` that is an expression leads, behind its selector.
+pub fn add_pick_tests(
     lines: &mut Items<FlatLine>,
     around: &Around,
     node: Node,
@@ -74,21 +73,6 @@ fn add_pick_tests(
         add_tests(lines, node, selector, arm, pick.labels.as_slice())?;
     }
     Ok(())
-}
-
-/// Where a `case` that is an expression leads, behind its selector.
-pub fn test_picks(
-    lines: &mut Items<FlatLine>,
-    around: &Around,
-    node: Node,
-    selector: &Expr,
-    picks: &Vec<Pick>,
-) -> Result<(), Memory>
-    ensures { OnOk result (lines.new ≡ lines.old ++ pick_tests around.now.origin node
-        (number_of (expr_of (types_of around.now) selector.now))
-        (picks_of (types_of around.now) picks.now.items)) }
-{
-    add_pick_tests(lines, around, node, number_of(selector), picks)
 }
 
 // ---- what `echo` writes

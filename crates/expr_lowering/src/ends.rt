@@ -15,7 +15,7 @@ ghost use Rattle.expr_lowering.specs.ExprLines.{inner, at, passes, label_line, r
 ghost use Rattle.expr_lowering.specs.ExprLines.{flat_path, number_at, altering, aimed_at};
 ghost use Rattle.expr_lowering.specs.ExprLines.{pieces_of, numbers_of, fields_from, converted};
 ghost use Rattle.expr_lowering.specs.ExprLines.{given_to, find_lines, copied, uncovered};
-ghost use Rattle.expr_lowering.specs.Views.{types_of, facts_of, name_in};
+ghost use Rattle.expr_lowering.specs.Views.{types_of, facts_of};
 
 use crate::around::{Around, label_in, type_number};
 use crate::finds::add_find;
@@ -23,7 +23,7 @@ use crate::lines::{add_at, add_inner, add_label, add_pass, add_root};
 use crate::nodes::{number_at, number_of};
 use crate::numbers::Purpose;
 use crate::parts::{fields_from, numbers_of};
-use crate::paths::{aimed_at, altering, altering_one, flat_path, looking};
+use crate::paths::{aimed_at, altering, altering_one, flat_path};
 use crate::pieces::add_pieces;
 use arc_base::{Bytes, Items, Memory};
 use mid_code::{FlatLine, Line, Operands, PlaceAct, Role};
@@ -83,13 +83,13 @@ pub fn end_measure(
         (L.Measure node.number measure (number_at (path_of (types_of around.now) path.now)))) }
 {
     add_find(lines, around, path)?;
-    let act = looking(alloc, around.types, path)?;
+    let look = flat_path(alloc, around.types, path)?;
     let line = Line::Measure {
         to: node.number,
         measure,
         from: number_at(path),
     };
-    add_at(lines, node, Role::Does, act, line)
+    add_at(lines, node, Role::Does, PlaceAct::Look { path: look }, line)
 }
 
 /// An operation on two operands, behind these.
@@ -448,39 +448,9 @@ pub fn end_read(
         (L.Get node.number node.number) ++ root_filled is_root node) }
 {
     add_find(lines, around, path)?;
-    let act = looking(alloc, around.types, path)?;
+    let look = flat_path(alloc, around.types, path)?;
     let to = node.number;
-    add_at(lines, node, Role::Does, act, Line::Get { to, from: to })?;
+    let line = Line::Get { to, from: to };
+    add_at(lines, node, Role::Does, PlaceAct::Look { path: look }, line)?;
     add_root(lines, is_root, node)
-}
-
-/// The value of a bare name.
-pub fn add_name(
-    alloc: Global,
-    lines: &mut Items<FlatLine>,
-    around: &Around,
-    is_root: bool,
-    path: &Path,
-) -> Result<(), Memory>
-    ensures { OnOk result (lines.new
-        ≡ lines.old ++ name_in around.now is_root (path_of (types_of around.now) path.now)) }
-{
-    match path {
-        Path::Variable {
-            node,
-            place,
-            global,
-            ..
-        } => {
-            let act = looking(alloc, around.types, path)?;
-            let line = Line::Fetch {
-                to: node.number,
-                place: *place,
-                global: *global,
-            };
-            add_at(lines, *node, Role::Does, act, line)?;
-            add_root(lines, is_root, *node)
-        }
-        Path::Fresh { .. } | Path::Field { .. } | Path::Element { .. } => Ok(()),
-    }
 }

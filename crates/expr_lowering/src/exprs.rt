@@ -9,12 +9,13 @@ mod operations;
 mod paths;
 
 use crate::around::Around;
-use crate::ends::{add_constant, add_default, add_name, end_read};
-use crate::lines::add_inner;
+use crate::ends::{add_constant, add_default, end_read};
+use crate::lines::{add_at, add_inner, add_root};
+use crate::paths::flat_path;
 use arc_base::{Items, Memory};
 use choosing::add_chosen;
 use lists::add_of_parts;
-use mid_code::{FlatLine, Line};
+use mid_code::{FlatLine, Line, PlaceAct, Role};
 use nim_core::{Expr, Path};
 use operations::{add_operation, add_short};
 use paths::{add_on_paths, add_optional};
@@ -84,7 +85,27 @@ fn add_read(
         ≡ lines.old ++ read_in around.now is_root (path_of (types_of around.now) path.now)) }
 {
     match path {
-        Path::Variable { .. } => add_name(alloc, lines, around, is_root, path),
+        Path::Variable {
+            node,
+            place,
+            global,
+            ..
+        } => {
+            let look = flat_path(alloc, around.types, path)?;
+            let line = Line::Fetch {
+                to: node.number,
+                place: *place,
+                global: *global,
+            };
+            add_at(
+                lines,
+                *node,
+                Role::Does,
+                PlaceAct::Look { path: look },
+                line,
+            )?;
+            add_root(lines, is_root, *node)
+        }
         Path::Fresh { value } => add_expr(alloc, lines, around, is_root, &**value),
         Path::Field { node, base, .. } => {
             add_indexes(alloc, lines, around, &**base)?;

@@ -2,7 +2,7 @@
 ghost use Rattle.std.specs.Prelude.{◌≡◌, ◌++◌, OnOk};
 ghost use Rattle.nim_core.specs.View.{path_of, args_of};
 ghost use Rattle.expr_lowering.specs.ExprLines.{find_lines, given_lines, alter_lines};
-ghost use Rattle.expr_lowering.specs.Views.{types_of, given_by, altered_name, altered_path};
+ghost use Rattle.expr_lowering.specs.Views.{types_of, given_by, altered_path};
 
 use crate::around::Around;
 use crate::lines::{add_at, add_inner};
@@ -107,57 +107,6 @@ pub fn add_given(
     Ok(())
 }
 
-// A bare name isn't looked up.
-fn alter_name(
-    alloc: Global,
-    lines: &mut Items<FlatLine>,
-    around: &Around,
-    node: Node,
-    path: &Path,
-    operator: Operator,
-    operand: u32,
-) -> Result<(), Memory>
-    ensures { OnOk result (lines.new ≡ lines.old ++ altered_name node
-        (path_of (types_of around.now) path.now) operator operand) }
-{
-    if let Path::Variable {
-        node: own,
-        place,
-        global,
-        ..
-    } = path
-    {
-        let to = own.number;
-        add_inner(
-            lines,
-            *own,
-            Line::Fetch {
-                to,
-                place: *place,
-                global: *global,
-            },
-        )?;
-        add_inner(
-            lines,
-            node,
-            Line::Binary {
-                to,
-                operator,
-                left: to,
-                right: operand,
-            },
-        )?;
-        let act = altering_one(alloc, around.types, path)?;
-        let line = Line::Store {
-            place: *place,
-            global: *global,
-            from: to,
-        };
-        return add_at(lines, node, Role::Does, act, line);
-    }
-    Ok(())
-}
-
 fn alter_path(
     alloc: Global,
     lines: &mut Items<FlatLine>,
@@ -202,7 +151,35 @@ pub fn add_alter(
         (path_of (types_of around.now) path.now) operator operand) }
 {
     match path {
-        Path::Variable { .. } => alter_name(alloc, lines, around, node, path, operator, operand),
+        // A bare name isn't looked up.
+        Path::Variable {
+            node: own,
+            place,
+            global,
+            ..
+        } => {
+            let to = own.number;
+            let line = Line::Fetch {
+                to,
+                place: *place,
+                global: *global,
+            };
+            add_inner(lines, *own, line)?;
+            let line = Line::Binary {
+                to,
+                operator,
+                left: to,
+                right: operand,
+            };
+            add_inner(lines, node, line)?;
+            let act = altering_one(alloc, around.types, path)?;
+            let line = Line::Store {
+                place: *place,
+                global: *global,
+                from: to,
+            };
+            add_at(lines, node, Role::Does, act, line)
+        }
         Path::Fresh { .. } | Path::Field { .. } | Path::Element { .. } => {
             alter_path(alloc, lines, around, node, path, operator, operand)
         }

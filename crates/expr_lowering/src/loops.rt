@@ -1,13 +1,9 @@
 // The lines of loops around those of their bodies.
-ghost use Rattle.std.specs.Prelude.{◌≡◌, ◌++◌, OnOk, IfOk, List, false};
-ghost use Rattle.nim_types.specs.Types.{Ty};
+ghost use Rattle.std.specs.Prelude.{◌≡◌, ◌++◌, OnOk, IfOk, false};
 ghost use Rattle.nim_core.specs.ActsOf.{number_of};
 ghost use Rattle.nim_core.specs.View.{expr_of, path_of, declared_of};
-ghost use Rattle.mid_code.specs.declared.line.Line.TheVariants as L;
-ghost use Rattle.mid_code.specs.declared.point.Role.TheVariants as O;
-ghost use Rattle.expr_lowering.specs.declared.numbers.Purpose.TheVariants.{End, Next, Turn};
+ghost use Rattle.expr_lowering.specs.declared.numbers.Purpose.TheVariants.{End};
 ghost use Rattle.expr_lowering.specs.Numbering.{label_of, counter_of, length_of};
-ghost use Rattle.expr_lowering.specs.ExprLines.{inner, passes, label_line};
 ghost use Rattle.expr_lowering.specs.StmtLines.{last_compared, loop_begun, loop_ended, each_begun};
 ghost use Rattle.expr_lowering.specs.StmtLines.{each_filled, count_filled};
 ghost use Rattle.expr_lowering.specs.Views.{types_of};
@@ -17,11 +13,11 @@ use crate::finds::add_find;
 use crate::lines::{add_at, add_inner, add_label, add_pass};
 use crate::nodes::{number_at, number_of};
 use crate::numbers::{Purpose, counter_of, length_of};
-use crate::paths::{item_path, looking};
+use crate::paths::{flat_path, item_path};
 use crate::single::fill_place;
 use arc_base::{Items, Memory};
 use mid_code::{FlatLine, Line, PlaceAct, Role};
-use nim_core::{Bounds, Comparison, Expr, Measure, Node, Path, PlaceDecl};
+use nim_core::{Bounds, Comparison, Measure, Node, Path, PlaceDecl};
 use std::alloc::Global;
 
 /// Where `continue` and `break` lead.
@@ -97,35 +93,27 @@ fn end_loop(
     add_label(lines, node, end)
 }
 
-/// A loop over numbers, behind its bounds.
+/// A loop over numbers, behind its bounds: before the first turn, and where each begins, with its
+/// variable.
 pub fn begin_count(
     lines: &mut Items<FlatLine>,
     around: &Around,
     node: Node,
-    bounds: &Bounds,
-) -> Result<(), Memory>
-    ensures { OnOk result (lines.new ≡ lines.old ++ loop_begun around.now.origin node
-        (number_of (expr_of (types_of around.now) bounds.now.first))
-        (number_of (expr_of (types_of around.now) bounds.now.last)) bounds.now.inclusive) }
-{
-    let first = number_of(&bounds.first);
-    let last = number_of(&bounds.last);
-    begin_loop(lines, around, node, first, last, bounds.inclusive)
-}
-
-/// The variable of a loop over numbers is filled.
-pub fn fill_count(
-    lines: &mut Items<FlatLine>,
-    node: Node,
     variable: &PlaceDecl,
     bounds: &Bounds,
 ) -> Result<(), Memory>
-    ensures { (ts : List Ty) → OnOk result (lines.new ≡ lines.old ++ count_filled node
-        (declared_of ts variable.now) (number_of (expr_of ts bounds.now.first))) }
+    ensures { OnOk result (lines.new ≡ lines.old ++ (loop_begun around.now.origin node
+        (number_of (expr_of (types_of around.now) bounds.now.first))
+        (number_of (expr_of (types_of around.now) bounds.now.last)) bounds.now.inclusive
+        ++ count_filled node (declared_of (types_of around.now) variable.now)
+        (number_of (expr_of (types_of around.now) bounds.now.first)))) }
 {
+    let first = number_of(&bounds.first);
+    let last = number_of(&bounds.last);
+    begin_loop(lines, around, node, first, last, bounds.inclusive)?;
     let line = Line::Fill {
         place: variable.number,
-        from: number_of(&bounds.first),
+        from: first,
     };
     fill_place(lines, node, Role::Fills, variable, line)
 }
@@ -146,7 +134,8 @@ pub fn end_count(
     end_loop(lines, around, node, first, last, bounds.inclusive)
 }
 
-/// A loop over elements, behind the indexes of its path: how many there are.
+/// A loop over elements, behind the indexes of its path: how many there are, and where each turn
+/// begins.
 pub fn begin_each(
     alloc: Global,
     lines: &mut Items<FlatLine>,
@@ -155,35 +144,31 @@ pub fn begin_each(
     path: &Path,
 ) -> Result<(), Memory>
     ensures { OnOk result (lines.new ≡ lines.old
-        ++ each_begun node (path_of (types_of around.now) path.now)) }
+        ++ (each_begun node (path_of (types_of around.now) path.now)
+        ++ loop_begun around.now.origin node (counter_of node.number) (length_of node.number)
+        false)) }
 {
     let counter = counter_of(node.number)?;
     let length = length_of(node.number)?;
     add_find(lines, around, path)?;
-    let act = looking(alloc, around.types, path)?;
+    let look = flat_path(alloc, around.types, path)?;
     let line = Line::Measure {
         to: length,
         measure: Measure::Len,
         from: number_at(path),
     };
-    add_at(lines, node, Role::Looks, act, line)?;
-    add_inner(
+    add_at(
         lines,
         node,
-        Line::Ordinal {
-            to: counter,
-            value: 0,
-        },
-    )
-}
-
-/// Before the first turn of a loop over elements, and where each begins.
-pub fn begin_turns(lines: &mut Items<FlatLine>, around: &Around, node: Node) -> Result<(), Memory>
-    ensures { OnOk result (lines.new ≡ lines.old ++ loop_begun around.now.origin node
-        (counter_of node.number) (length_of node.number) false) }
-{
-    let counter = counter_of(node.number)?;
-    let length = length_of(node.number)?;
+        Role::Looks,
+        PlaceAct::Look { path: look },
+        line,
+    )?;
+    let line = Line::Ordinal {
+        to: counter,
+        value: 0,
+    };
+    add_inner(lines, node, line)?;
     begin_loop(lines, around, node, counter, length, false)
 }
 
@@ -229,62 +214,13 @@ pub fn end_turns(lines: &mut Items<FlatLine>, around: &Around, node: Node) -> Re
     end_loop(lines, around, node, counter, length, false)
 }
 
-/// Where `continue` and `break` lead in a `for`.
-pub fn ways_of(around: &Around, node: Node) -> Result<Ways, Memory>
-    ensures again { IfOk result (λ ways. ways.again ≡ label_of around.now.origin node.number Next) }
+/// Where `continue` and `break` lead in a loop, by what the label of its next turn is for.
+pub fn ways_of(around: &Around, node: Node, turn: Purpose) -> Result<Ways, Memory>
+    ensures again { IfOk result (λ ways. ways.again
+        ≡ label_of around.now.origin node.number turn) }
     ensures out { IfOk result (λ ways. ways.out ≡ label_of around.now.origin node.number End) }
 {
-    let again = label_in(around, node.number, Purpose::Next)?;
+    let again = label_in(around, node.number, turn)?;
     let out = label_in(around, node.number, Purpose::End)?;
     Ok(Ways { again, out })
-}
-
-/// Where `continue` and `break` lead in a `while`.
-pub fn while_ways(around: &Around, node: Node) -> Result<Ways, Memory>
-    ensures again { IfOk result (λ ways. ways.again ≡ label_of around.now.origin node.number Turn) }
-    ensures out { IfOk result (λ ways. ways.out ≡ label_of around.now.origin node.number End) }
-{
-    let again = label_in(around, node.number, Purpose::Turn)?;
-    let out = label_in(around, node.number, Purpose::End)?;
-    Ok(Ways { again, out })
-}
-
-/// A turn of a `while` begins.
-pub fn begin_while(lines: &mut Items<FlatLine>, around: &Around, node: Node) -> Result<(), Memory>
-    ensures { OnOk result (lines.new ≡ lines.old
-        ++ passes node O.Turns (L.Label (label_of around.now.origin node.number Turn))) }
-{
-    let name = label_in(around, node.number, Purpose::Turn)?;
-    add_pass(lines, node, Role::Turns, Line::Label { name })
-}
-
-/// A `while`, behind its condition.
-pub fn choose_while(
-    lines: &mut Items<FlatLine>,
-    around: &Around,
-    node: Node,
-    condition: &Expr,
-) -> Result<(), Memory>
-    ensures { OnOk result (lines.new ≡ lines.old ++ passes node O.Chooses
-        (L.Unless (number_of (expr_of (types_of around.now) condition.now))
-        (label_of around.now.origin node.number End))) }
-{
-    let to = label_in(around, node.number, Purpose::End)?;
-    let line = Line::Unless {
-        from: number_of(condition),
-        to,
-    };
-    add_pass(lines, node, Role::Chooses, line)
-}
-
-/// A `while`, behind its body.
-pub fn end_while(lines: &mut Items<FlatLine>, around: &Around, node: Node) -> Result<(), Memory>
-    ensures { OnOk result (lines.new ≡ lines.old
-        ++ (inner node (L.Jump (label_of around.now.origin node.number Turn))
-        ++ label_line node (label_of around.now.origin node.number End))) }
-{
-    let to = label_in(around, node.number, Purpose::Turn)?;
-    let end = label_in(around, node.number, Purpose::End)?;
-    add_inner(lines, node, Line::Jump { to })?;
-    add_label(lines, node, end)
 }

@@ -1,6 +1,6 @@
 // The numbers of labels, and of the temporaries that loops have beside those of nodes.
 ghost use Rattle.std.specs.Prelude.{◌≡◌, IfOk};
-ghost use Rattle.expr_lowering.specs.Numbering.{purpose_number, label_of, counter_of, length_of};
+ghost use Rattle.expr_lowering.specs.Numbering.{purpose_number, counter_of, length_of};
 
 use arc_base::Memory;
 
@@ -29,7 +29,8 @@ pub enum Purpose {
     Turn,
 }
 
-fn purpose_number(purpose: Purpose) -> u32
+/// Its number among the labels of a node.
+pub fn purpose_number(purpose: Purpose) -> u32
     ensures { result ≡ purpose_number purpose }
 {
     match purpose {
@@ -39,22 +40,6 @@ fn purpose_number(purpose: Purpose) -> u32
         Purpose::Arm => 3,
         Purpose::Turn => 4,
     }
-}
-
-/// The label of a node for a purpose, where `origin` is the first node of its body.
-///
-/// `Memory` comes too for a node beyond what labels can name.
-pub fn label_of(origin: u32, node: u32, purpose: Purpose) -> Result<u32, Memory>
-    ensures { IfOk result (λ label. label ≡ label_of origin node purpose) }
-{
-    if node < origin {
-        return Err(Memory);
-    }
-    let place = node - origin;
-    if place >= 800_000_000 {
-        return Err(Memory);
-    }
-    Ok(PURPOSES * place + purpose_number(purpose))
 }
 
 /// The temporary with the number of a loop over elements, by its node.

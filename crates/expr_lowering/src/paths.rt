@@ -5,7 +5,6 @@ ghost use Rattle.nim_types.specs.Table.{types_in};
 ghost use Rattle.nim_core.specs.View.{path_of, args_of};
 ghost use Rattle.expr_lowering.specs.ExprLines.{path_root, path_steps, flat_path, item_path};
 ghost use Rattle.expr_lowering.specs.ExprLines.{aimed_at, altering};
-ghost use Rattle.mid_code.specs.declared.point.PlaceAct.TheVariants.{Look};
 ghost use Rattle.expr_lowering.specs.Views.{aimed_by};
 
 use crate::constants::constant_of;
@@ -70,14 +69,6 @@ pub fn item_path(alloc: Global, types: &TypeTable, path: &Path) -> Result<FlatPa
     })
 }
 
-/// What looks a path up in place.
-pub fn looking(alloc: Global, types: &TypeTable, path: &Path) -> Result<PlaceAct, Memory>
-    ensures { IfOk result (λ act. act ≡ Look (flat_path (path_of (types_in types.now) path.now))) }
-{
-    let path = flat_path(alloc, types, path)?;
-    Ok(PlaceAct::Look { path })
-}
-
 /// What looks paths up, reads and writes them.
 pub fn altering(alloc: Global, alters: Items<FlatPath>) -> PlaceAct
     ensures { result ≡ altering alters }
@@ -95,8 +86,8 @@ pub fn altering_one(alloc: Global, types: &TypeTable, path: &Path) -> Result<Pla
     ensures { IfOk result (λ act. act
         ≡ altering (flat_path (path_of (types_in types.now) path.now) ∷ [])) }
 {
-    let mut alters = Items::new(alloc);
     let path = flat_path(alloc, types, path)?;
+    let mut alters = Items::new(alloc);
     alters.push(path)?;
     Ok(altering(alloc, alters))
 }

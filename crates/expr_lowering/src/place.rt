@@ -2,8 +2,8 @@
 ghost use Rattle.std.specs.Prelude.{◌≡◌, ◌++◌, OnOk};
 ghost use Rattle.nim_types.specs.Table.{type_at};
 ghost use Rattle.nim_core.specs.View.{declared_of, if_type};
-ghost use Rattle.expr_lowering.specs.Places.{place, declared, value, location, counter};
-ghost use Rattle.expr_lowering.specs.Places.{value_if, location_if};
+ghost use Rattle.expr_lowering.specs.Numbering.{type_number};
+ghost use Rattle.expr_lowering.specs.Places.{place, declared, counter, value_if, location_if};
 ghost use Rattle.expr_lowering.specs.Views.{types_of};
 
 use crate::around::{Around, type_number};
@@ -46,32 +46,19 @@ pub fn add_declared(
     add_place(places, decl.number, decl.at, kind, ty)
 }
 
-/// The value of a node.
-pub fn add_value(
+/// The value of a node, or where a path leads behind it.
+pub fn add_typed(
     places: &mut Items<FlatPlace>,
     around: &Around,
     node: Node,
+    kind: PlaceKind,
     ty: TypeId,
 ) -> Result<(), Memory>
-    ensures { OnOk result (places.new ≡ places.old ++ value (types_of around.now) node
-        (type_at (types_of around.now) ty)) }
+    ensures { OnOk result (places.new ≡ places.old ++ place node.number node.at kind
+        (type_number (types_of around.now) (type_at (types_of around.now) ty))) }
 {
     let ty = type_number(around.types, ty)?;
-    add_place(places, node.number, node.at, PlaceKind::Temp, ty)
-}
-
-/// Where a path leads behind a node.
-pub fn add_location(
-    places: &mut Items<FlatPlace>,
-    around: &Around,
-    node: Node,
-    ty: TypeId,
-) -> Result<(), Memory>
-    ensures { OnOk result (places.new ≡ places.old ++ location (types_of around.now) node
-        (type_at (types_of around.now) ty)) }
-{
-    let ty = type_number(around.types, ty)?;
-    add_place(places, node.number, node.at, PlaceKind::Location, ty)
+    add_place(places, node.number, node.at, kind, ty)
 }
 
 /// A number that is no value of a node.
@@ -93,7 +80,7 @@ pub fn add_value_if(
 {
     match ty {
         None => Ok(()),
-        Some(ty) => add_value(places, around, node, ty),
+        Some(ty) => add_typed(places, around, node, PlaceKind::Temp, ty),
     }
 }
 
@@ -109,6 +96,6 @@ pub fn add_location_if(
 {
     match ty {
         None => Ok(()),
-        Some(ty) => add_location(places, around, node, ty),
+        Some(ty) => add_typed(places, around, node, PlaceKind::Location, ty),
     }
 }

@@ -6,14 +6,13 @@ ghost use Rattle.nim_core.specs.View.{stmt_before, stmts_of, branches_of, arms_o
 ghost use Rattle.nim_core.specs.declared.expr.Node.{Node};
 ghost use Rattle.expr_lowering.specs.Places.{stmt_places, block_places, branch_places, arm_places};
 ghost use Rattle.expr_lowering.specs.Places.{param_places, result_places, assigned_places};
-ghost use Rattle.expr_lowering.specs.Places.{each_places};
 ghost use Rattle.expr_lowering.specs.Views.{types_of, result_of};
 ghost use Rattle.expr_lowering.specs.PlaceViews.{other_adds, first_adds, given_adds, given_if};
 ghost use Rattle.expr_lowering.specs.PlaceViews.{count_adds, each_adds};
 
 use crate::around::Around;
 use crate::numbers::{counter_of, length_of};
-use crate::place::{add_counter, add_declared, add_location};
+use crate::place::{add_counter, add_declared, add_typed};
 use crate::places::{add_altered, add_expr, add_path};
 use crate::same::{is_itself, is_result};
 use arc_base::{Items, Memory};
@@ -110,24 +109,6 @@ fn add_count(
     add_counter(places, node, node.number)
 }
 
-// The numbers of a loop over elements, and where its element is.
-fn add_element(
-    places: &mut Items<FlatPlace>,
-    around: &Around,
-    node: Node,
-    variable: &PlaceDecl,
-) -> Result<(), Memory>
-    ensures { OnOk result (places.new ≡ places.old ++ each_places (types_of around.now) node
-        (declared_of (types_of around.now) variable.now)) }
-{
-    add_counter(places, node, node.number)?;
-    let counter = counter_of(node.number)?;
-    add_counter(places, node, counter)?;
-    let length = length_of(node.number)?;
-    add_counter(places, node, length)?;
-    add_location(places, around, node, variable.ty)
-}
-
 // Of a loop over elements, but for those of its body.
 fn add_each(
     places: &mut Items<FlatPlace>,
@@ -140,9 +121,14 @@ fn add_each(
         (declared_of (types_of around.now) variable.now)
         (path_of (types_of around.now) path.now)) }
 {
+    let counter = counter_of(node.number)?;
+    let length = length_of(node.number)?;
     add_declared(places, around, PlaceKind::ForVar, variable)?;
     add_path(places, around, path)?;
-    add_element(places, around, node, variable)
+    add_counter(places, node, node.number)?;
+    add_counter(places, node, counter)?;
+    add_counter(places, node, length)?;
+    add_typed(places, around, node, PlaceKind::Location, variable.ty)
 }
 
 #[cycle(stmts)]

@@ -10,9 +10,9 @@ ghost use Rattle.expr_lowering.specs.PlaceViews.{part_places, own_places, other_
 
 use crate::around::Around;
 use crate::nodes::node_of;
-use crate::place::{add_counter, add_location, add_location_if, add_value, add_value_if};
+use crate::place::{add_counter, add_location_if, add_typed, add_value_if};
 use arc_base::{Items, Memory};
-use mid_code::FlatPlace;
+use mid_code::{FlatPlace, PlaceKind};
 use nim_core::{Arg, Choice, Expr, Init, Path, Pick, type_of};
 
 // The place of an expression itself.
@@ -33,7 +33,7 @@ fn add_own(places: &mut Items<FlatPlace>, around: &Around, expr: &Expr) -> Resul
         | Expr::Convert { node, ty, .. }
         | Expr::Make { node, ty, .. }
         | Expr::Construct { node, ty, .. }
-        | Expr::Move { node, ty, .. } => add_value(places, around, *node, *ty),
+        | Expr::Move { node, ty, .. } => add_typed(places, around, *node, PlaceKind::Temp, *ty),
         Expr::Call { node, ty, .. } | Expr::If { node, ty, .. } => {
             add_value_if(places, around, *node, *ty)
         }
@@ -143,12 +143,12 @@ fn add_read(places: &mut Items<FlatPlace>, around: &Around, path: &Path) -> Resu
         ++ read_places (types_of around.now) (path_of (types_of around.now) path.now)) }
 {
     match path {
-        Path::Variable { node, ty, .. } => add_value(places, around, *node, *ty),
+        Path::Variable { node, ty, .. } => add_typed(places, around, *node, PlaceKind::Temp, *ty),
         Path::Fresh { value } => add_expr(places, around, &**value),
         Path::Field { node, ty, base, .. } => {
             add_path(places, around, &**base)?;
-            add_location(places, around, *node, *ty)?;
-            add_value(places, around, *node, *ty)
+            add_typed(places, around, *node, PlaceKind::Location, *ty)?;
+            add_typed(places, around, *node, PlaceKind::Temp, *ty)
         }
         Path::Element {
             node,
@@ -158,8 +158,8 @@ fn add_read(places: &mut Items<FlatPlace>, around: &Around, path: &Path) -> Resu
         } => {
             add_path(places, around, &**base)?;
             add_expr(places, around, &**index)?;
-            add_location(places, around, *node, *ty)?;
-            add_value(places, around, *node, *ty)
+            add_typed(places, around, *node, PlaceKind::Location, *ty)?;
+            add_typed(places, around, *node, PlaceKind::Temp, *ty)
         }
     }
 }
@@ -171,14 +171,20 @@ pub fn add_path(places: &mut Items<FlatPlace>, around: &Around, path: &Path) -> 
         ++ path_places (types_of around.now) (path_of (types_of around.now) path.now)) }
 {
     match path {
-        Path::Variable { node, ty, .. } => add_location(places, around, *node, *ty),
+        Path::Variable { node, ty, .. } => add_typed(
+            places,
+            around,
+            *node,
+            PlaceKind::Location,
+            *ty,
+        ),
         Path::Fresh { value } => {
             add_expr(places, around, &**value)?;
             add_location_if(places, around, node_of(&**value), type_of(&**value))
         }
         Path::Field { node, ty, base, .. } => {
             add_path(places, around, &**base)?;
-            add_location(places, around, *node, *ty)
+            add_typed(places, around, *node, PlaceKind::Location, *ty)
         }
         Path::Element {
             node,
@@ -188,7 +194,7 @@ pub fn add_path(places: &mut Items<FlatPlace>, around: &Around, path: &Path) -> 
         } => {
             add_path(places, around, &**base)?;
             add_expr(places, around, &**index)?;
-            add_location(places, around, *node, *ty)
+            add_typed(places, around, *node, PlaceKind::Location, *ty)
         }
     }
 }
@@ -204,7 +210,7 @@ pub fn add_altered(
         ++ altered_places (types_of around.now) (path_of (types_of around.now) path.now)) }
 {
     match path {
-        Path::Variable { node, ty, .. } => add_value(places, around, *node, *ty),
+        Path::Variable { node, ty, .. } => add_typed(places, around, *node, PlaceKind::Temp, *ty),
         Path::Fresh { value } => {
             let ty = type_of(&**value);
             let node = node_of(&**value);
@@ -214,8 +220,8 @@ pub fn add_altered(
         }
         Path::Field { node, ty, base, .. } => {
             add_path(places, around, &**base)?;
-            add_location(places, around, *node, *ty)?;
-            add_value(places, around, *node, *ty)
+            add_typed(places, around, *node, PlaceKind::Location, *ty)?;
+            add_typed(places, around, *node, PlaceKind::Temp, *ty)
         }
         Path::Element {
             node,
@@ -225,8 +231,8 @@ pub fn add_altered(
         } => {
             add_path(places, around, &**base)?;
             add_expr(places, around, &**index)?;
-            add_location(places, around, *node, *ty)?;
-            add_value(places, around, *node, *ty)
+            add_typed(places, around, *node, PlaceKind::Location, *ty)?;
+            add_typed(places, around, *node, PlaceKind::Temp, *ty)
         }
     }
 }

@@ -9,7 +9,7 @@ ghost use Rattle.expr_lowering.specs.ExprLines.{at};
 ghost use Rattle.expr_lowering.specs.StmtLines as stmt;
 ghost use Rattle.expr_lowering.specs.Views.{types_of, result_of};
 ghost use Rattle.expr_lowering.specs.StmtViews.{stmt_in, first_in, give_in, assign_in};
-ghost use Rattle.expr_lowering.specs.StmtViews.{update_in, named_assigned, path_assigned};
+ghost use Rattle.expr_lowering.specs.StmtViews.{update_in, path_assigned};
 
 use crate::around::{Around, type_number};
 use crate::exprs::{add_expr, add_indexes};
@@ -197,31 +197,6 @@ pub fn fill_place(
     add_at(lines, node, role, PlaceAct::Fill { place }, line)
 }
 
-fn assign_name(
-    alloc: Global,
-    lines: &mut Items<FlatLine>,
-    around: &Around,
-    node: Node,
-    path: &Path,
-    from: u32,
-) -> Result<(), Memory>
-    ensures { OnOk result (lines.new ≡ lines.old ++ named_assigned node
-        (path_of (types_of around.now) path.now) from) }
-{
-    match path {
-        Path::Variable { place, global, .. } => {
-            let line = Line::Store {
-                place: *place,
-                global: *global,
-                from,
-            };
-            let path = flat_path(alloc, around.types, path)?;
-            add_at(lines, node, Role::Does, PlaceAct::Give { path }, line)
-        }
-        Path::Fresh { .. } | Path::Field { .. } | Path::Element { .. } => Ok(()),
-    }
-}
-
 fn assign_path(
     alloc: Global,
     lines: &mut Items<FlatLine>,
@@ -234,12 +209,18 @@ fn assign_path(
         (path_of (types_of around.now) path.now) from) }
 {
     add_find(lines, around, path)?;
+    let given = flat_path(alloc, around.types, path)?;
     let line = Line::Put {
         at: number_at(path),
         from,
     };
-    let path = flat_path(alloc, around.types, path)?;
-    add_at(lines, node, Role::Does, PlaceAct::Give { path }, line)
+    add_at(
+        lines,
+        node,
+        Role::Does,
+        PlaceAct::Give { path: given },
+        line,
+    )
 }
 
 // A value is assigned to a path.
@@ -255,7 +236,21 @@ fn add_assigned(
         (path_of (types_of around.now) path.now) from) }
 {
     match path {
-        Path::Variable { .. } => assign_name(alloc, lines, around, node, path, from),
+        Path::Variable { place, global, .. } => {
+            let given = flat_path(alloc, around.types, path)?;
+            let line = Line::Store {
+                place: *place,
+                global: *global,
+                from,
+            };
+            add_at(
+                lines,
+                node,
+                Role::Does,
+                PlaceAct::Give { path: given },
+                line,
+            )
+        }
         Path::Fresh { .. } | Path::Field { .. } | Path::Element { .. } => {
             assign_path(alloc, lines, around, node, path, from)
         }

@@ -8,16 +8,13 @@ ghost use Rattle.expr_lowering.specs.Views.{types_of};
 ghost use Rattle.expr_lowering.specs.StmtViews.{first_in, block_in, branch_in, branches_in};
 ghost use Rattle.expr_lowering.specs.StmtViews.{arm_in, arms_in, others_in};
 
-use crate::arms::test_arms;
+use crate::arms::add_arm_tests;
 use crate::around::{Around, label_in};
 use crate::ends::{add_uncovered, end_label, jump_to_end};
 use crate::exprs::{add_expr, add_indexes};
-use crate::lines::{add_label, add_pass};
-use crate::loops::{
-    Ways, begin_count, begin_each, begin_turns, begin_while, choose_while, end_count, end_turns,
-    end_while, fill_count, fill_each, ways_of, while_ways,
-};
-use crate::nodes::{first_of, node_of};
+use crate::lines::{add_inner, add_label, add_pass};
+use crate::loops::{Ways, begin_count, begin_each, end_count, end_turns, fill_each, ways_of};
+use crate::nodes::{first_of, node_of, number_of};
 use crate::numbers::Purpose;
 use crate::single::{
     add_assign, add_declare, add_discard, add_give, add_return, add_update, begins,
@@ -110,7 +107,7 @@ fn add_choosing(
             begins(lines, *node)?;
             add_expr(alloc, lines, around, false, selector)?;
             add_pass(lines, *node, Role::Chooses, Line::Pass)?;
-            test_arms(lines, around, *node, selector, branches)?;
+            add_arm_tests(lines, around, *node, number_of(selector), branches)?;
             add_others(alloc, lines, around, ways, *node, otherwise)?;
             add_arms(alloc, lines, around, ways, *node, branches)?;
             end_label(lines, around, *node)
@@ -136,12 +133,17 @@ fn add_loop(
             condition,
             body,
         } => {
-            let ways = while_ways(around, *node)?;
-            begin_while(lines, around, *node)?;
+            let ways = ways_of(around, *node, Purpose::Turn)?;
+            add_pass(lines, *node, Role::Turns, Line::Label { name: ways.again })?;
             add_expr(alloc, lines, around, false, condition)?;
-            choose_while(lines, around, *node, condition)?;
+            let line = Line::Unless {
+                from: number_of(condition),
+                to: ways.out,
+            };
+            add_pass(lines, *node, Role::Chooses, line)?;
             add_block(alloc, lines, around, ways, body)?;
-            end_while(lines, around, *node)
+            add_inner(lines, *node, Line::Jump { to: ways.again })?;
+            add_label(lines, *node, ways.out)
         }
         Stmt::Count {
             node,
@@ -149,12 +151,11 @@ fn add_loop(
             bounds,
             body,
         } => {
-            let ways = ways_of(around, *node)?;
+            let ways = ways_of(around, *node, Purpose::Next)?;
             begins(lines, *node)?;
             add_expr(alloc, lines, around, false, &bounds.first)?;
             add_expr(alloc, lines, around, false, &bounds.last)?;
-            begin_count(lines, around, *node, bounds)?;
-            fill_count(lines, *node, variable, bounds)?;
+            begin_count(lines, around, *node, variable, bounds)?;
             add_block(alloc, lines, around, ways, body)?;
             end_count(lines, around, *node, bounds)
         }
@@ -164,11 +165,10 @@ fn add_loop(
             path,
             body,
         } => {
-            let ways = ways_of(around, *node)?;
+            let ways = ways_of(around, *node, Purpose::Next)?;
             begins(lines, *node)?;
             add_indexes(alloc, lines, around, path)?;
             begin_each(alloc, lines, around, *node, path)?;
-            begin_turns(lines, around, *node)?;
             fill_each(alloc, lines, around, *node, variable, path)?;
             add_block(alloc, lines, around, ways, body)?;
             end_turns(lines, around, *node)

@@ -27,13 +27,6 @@ fn sum_value(extents: &Extents, value: &Option<Expr>) -> u32
     }
 }
 
-fn sum_declared(extents: &Extents, place: &PlaceDecl) -> u32
-    ensures { result ≡ capped (sums.place_bytes (facts_of extents.now)
-        (declared_of (types_of extents.now) place.now)) }
-{
-    bytes_of(extents, place.ty)
-}
-
 // Of a loop over numbers, but for its body.
 fn sum_count(extents: &Extents, variable: &PlaceDecl, bounds: &Bounds) -> u32
     ensures { result ≡ capped (sums.for_bytes + sums.place_bytes (facts_of extents.now)
@@ -41,7 +34,7 @@ fn sum_count(extents: &Extents, variable: &PlaceDecl, bounds: &Bounds) -> u32
         + sums.expr_sum (facts_of extents.now) (expr_of (types_of extents.now) bounds.now.first)
         + sums.expr_sum (facts_of extents.now) (expr_of (types_of extents.now) bounds.now.last)) }
 {
-    let own = plus(FOR_BYTES, sum_declared(extents, variable));
+    let own = plus(FOR_BYTES, bytes_of(extents, variable.ty));
     plus(
         plus(own, sum_of(extents, &bounds.first)),
         sum_of(extents, &bounds.last),
@@ -54,7 +47,7 @@ fn sum_each(extents: &Extents, variable: &PlaceDecl, path: &Path) -> u32
         (declared_of (types_of extents.now) variable.now)
         + sums.place_sum (facts_of extents.now) (path_of (types_of extents.now) path.now)) }
 {
-    let own = plus(FOR_BYTES, sum_declared(extents, variable));
+    let own = plus(FOR_BYTES, bytes_of(extents, variable.ty));
     plus(own, sum_place(extents, path))
 }
 
@@ -69,7 +62,7 @@ fn sum_stmt(extents: &Extents, stmt: &Stmt) -> u32
         Stmt::Return { value, .. } => sum_value(extents, value),
         Stmt::Break { .. } | Stmt::Continue { .. } | Stmt::Pass { .. } => 0,
         Stmt::Declare { place, value, .. } => {
-            plus(sum_declared(extents, place), sum_value(extents, value))
+            plus(bytes_of(extents, place.ty), sum_value(extents, value))
         }
         Stmt::Assign { path, value, .. }
         | Stmt::Update { path, value, .. }
@@ -188,7 +181,7 @@ fn sum_params(extents: &Extents, params: &[Param]) -> u32
 {
     let mut sum = 0;
     for param in params {
-        sum = plus(sum, sum_declared(extents, &param.place));
+        sum = plus(sum, bytes_of(extents, param.place.ty));
     }
     sum
 }
@@ -199,7 +192,7 @@ fn sum_result(extents: &Extents, place: &Option<PlaceDecl>) -> u32
 {
     match place {
         None => 0,
-        Some(place) => sum_declared(extents, place),
+        Some(place) => bytes_of(extents, place.ty),
     }
 }
 

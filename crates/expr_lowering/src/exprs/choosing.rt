@@ -5,7 +5,7 @@ ghost use Rattle.expr_lowering.specs.Views.{types_of, expr_in, choice_in, choice
 ghost use Rattle.expr_lowering.specs.Views.{pick_in, picks_in, other_in};
 
 use crate::around::{Around, label_in};
-use crate::cases::test_picks;
+use crate::cases::add_pick_tests;
 use crate::ends::{add_copied, add_uncovered, end_label, jump_to_end};
 use crate::exprs::add_expr;
 use crate::lines::{add_label, add_pass, add_root};
@@ -52,7 +52,7 @@ pub(crate) fn add_chosen(
         } => {
             add_expr(alloc, lines, around, false, &**selector)?;
             add_pass(lines, *node, Role::Chooses, Line::Pass)?;
-            test_picks(lines, around, *node, &**selector, branches)?;
+            add_pick_tests(lines, around, *node, number_of(&**selector), branches)?;
             add_other(alloc, lines, around, *node, *ty, otherwise)?;
             add_picks(alloc, lines, around, *node, *ty, branches)?;
             end_label(lines, around, *node)?;

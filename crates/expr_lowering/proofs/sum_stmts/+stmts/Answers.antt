@@ -33,7 +33,7 @@ sum_stmt-returns-in-Declare t c =
     let facts = facts_of c.args.extents.now in
     let given = c.in-Declare in
     let whole = ap (λ s. first_sum facts (stmt_before ts s Empty)) given.is ∙ declare_sum facts ts given.node given.place given.value in
-    sum_two _ _ _ _ _ _ c.plus.ensures c.sum_declared.ensures c.sum_value-in-Declare.ensures whole
+    sum_two _ _ _ _ _ _ c.plus.ensures c.bytes_of.ensures c.sum_value-in-Declare.ensures whole
 
 pub sum_stmt-returns-in-If : goal.sum_stmt-returns-in-If
 sum_stmt-returns-in-If t c =

@@ -14,7 +14,7 @@ loop-param-preserved c =
     let at = c.loop-param in
     let next = params_next facts ts c.args.params.now at.param-index c.param-item.result c.loop-param-test.true
     c.param-item.is in
-    sums_next _ _ _ _ _ _ _ at.invariant.0 at.invariant.1 c.plus-sum.ensures c.sum_declared.ensures next
+    sums_next _ _ _ _ _ _ _ at.invariant.0 at.invariant.1 c.plus-sum.ensures c.bytes_of.ensures next
 
 pub returns : goal.returns
 returns c =
