@@ -1,5 +1,9 @@
 mod HomesApart
 mod Emits
+mod Finding
+mod NextHome
+mod NextLayout
+mod NextLine
 mod EntryNames
 mod LayoutBounds
 mod NamedCode

@@ -1,5 +1,7 @@
 pub mod Stored
+pub mod Lookups
 pub mod Layouts
+pub mod Places
 pub mod Emission
 pub mod Spots
 pub mod Operations

@@ -1,5 +1,5 @@
 // Where the places and temporaries of a procedure are in word code.
-use arc_base::Items;
+use crate::places::Places;
 use mid_code::PlaceKind;
 use nim_types::TypeId;
 
@@ -69,7 +69,7 @@ pub struct Free {
 #[derive(Drop)]
 pub struct Layout {
     /// Its places and temporaries, in their order.
-    pub all: Items<Housed>,
+    pub all: Places,
     /// What isn't taken behind them.
     pub free: Free,
     /// Whether it has lines.

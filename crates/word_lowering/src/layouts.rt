@@ -1,14 +1,15 @@
 // Where the places and temporaries of each procedure are.
-ghost use Rattle.std.specs.Prelude.{◌≡◌, length, map, IfOk};
+ghost use Rattle.std.specs.Prelude.{◌≡◌, ◌++◌, ◌∷◌, [], map, IfOk, OnOk};
 ghost use Rattle.mid_code.specs.Codes.{block_plain};
 ghost use Rattle.word_lowering.specs.Layouts.{roots_in, is_among, is_kept, is_static, home_at};
-ghost use Rattle.word_lowering.specs.Layouts.{free_behind, housed, behind};
+ghost use Rattle.word_lowering.specs.Layouts.{free_behind, housed, behind, all_housed, behind_all};
 ghost use Rattle.word_lowering.specs.Layouts.{layout_of, layouts};
-ghost use Rattle.word_lowering.specs.Layouts.{is_sort, found, is_param, params_in, param_before};
+ghost use Rattle.word_lowering.specs.Layouts.{is_sort, is_param, params_in};
 ghost use Rattle.word_lowering.specs.Layouts.{result_in, kept_in, nowhere};
 ghost use Rattle.word_lowering.specs.Stored.{HaveForms};
 
 use crate::homes::{FIRST, Free, Home, Housed, Layout, OWN_FROM, Sort};
+use crate::places::places_of;
 use crate::spots::sum;
 use crate::stored::{bytes_at, is_word};
 use arc_base::{Items, Memory};
@@ -48,14 +49,15 @@ fn is_among(number: u32, roots: &[u32]) -> bool
     false
 }
 
-// What is in a variable: an address, and a word whose own address isn't taken.
-fn is_kept(rooted: bool, word: bool, kind: PlaceKind) -> bool
-    ensures { result ≡ is_kept rooted word kind }
+// What is in a variable: an address, and a word whose own address isn't taken. Nobody looks for a
+// temporary among the places whose addresses are taken.
+fn is_kept(number: u32, roots: &[u32], word: bool, kind: PlaceKind) -> bool
+    ensures { result ≡ is_kept (is_among number roots.now) word kind }
 {
     match kind {
         PlaceKind::Location | PlaceKind::Param(Mode::Var) | PlaceKind::Counter => true,
         PlaceKind::Temp => word,
-        _ => word && !rooted,
+        _ => word && !is_among(number, roots),
     }
 }
 
@@ -112,7 +114,7 @@ fn housed(
     } else {
         bytes_at(types, place.ty)?
     };
-    let kept = is_kept(is_among(place.number, roots), word, place.kind);
+    let kept = is_kept(place.number, roots, word, place.kind);
     Ok(Housed {
         number: place.number,
         kind: place.kind,
@@ -128,8 +130,50 @@ fn behind(roots: &[u32], start: bool, free: Free, place: Housed) -> Result<Free,
     ensures { IfOk result (λ other. other ≡ free_behind (is_static start place.kind)
         (is_kept (is_among place.number roots.now) place.is_word place.kind) place.bytes free) }
 {
-    let kept = is_kept(is_among(place.number, roots), place.is_word, place.kind);
+    let kept = is_kept(place.number, roots, place.is_word, place.kind);
     free_behind(is_static(start, place.kind), kept, place.bytes, free)
+}
+
+// Adds where a place is, and what isn't taken behind it.
+fn put_housed(
+    types: &TypeTable,
+    start: bool,
+    roots: &[u32],
+    all: &mut Items<Housed>,
+    free: &mut Free,
+    place: &FlatPlace,
+) -> Result<(), Memory>
+    requires { HaveForms types.now }
+    ensures all { OnOk result (all.new ≡
+        all.old ++ housed types.now start roots.now free.old place.now ∷ []) }
+    ensures free { OnOk result (free.new ≡ behind types.now start roots.now free.old place.now) }
+{
+    let h = housed(types, start, roots, *free, place)?;
+    let other = behind(roots, start, *free, h)?;
+    all.push(h)?;
+    *free = other;
+    Ok(())
+}
+
+// The same of places, one after another.
+fn put_all_housed(
+    types: &TypeTable,
+    start: bool,
+    roots: &[u32],
+    all: &mut Items<Housed>,
+    free: &mut Free,
+    places: &[FlatPlace],
+) -> Result<(), Memory>
+    requires { HaveForms types.now }
+    ensures all { OnOk result (all.new ≡
+        all.old ++ all_housed types.now start roots.now free.old places.now) }
+    ensures free { OnOk result (free.new ≡
+        behind_all types.now start roots.now free.old places.now) }
+{
+    for place in places {
+        put_housed(types, start, roots, all, free, place)?;
+    }
+    Ok(())
 }
 
 /// The layout of a procedure, where the data of globals begins at a byte.
@@ -143,21 +187,19 @@ pub fn layout_of(
     requires { HaveForms types.now }
     ensures { IfOk result (λ own. own ≡ layout_of types.now start datum proc.now) }
 {
-    let listed = roots_in(alloc, proc.lines.as_slice())?;
+    let lines = proc.lines.as_slice();
+    let listed = roots_in(alloc, lines)?;
     let roots = listed.as_slice();
-    let mut all = Items::new(alloc);
+    let places = proc.places.as_slice();
+    let mut homes = Items::new(alloc);
     let mut free = Free {
         variable: OWN_FROM,
         byte: 0,
         datum,
     };
-    let places = proc.places.as_slice();
-    for place in places {
-        let h = housed(types, start, roots, free, place)?;
-        free = behind(roots, start, free, h)?;
-        all.push(h)?;
-    }
-    let runs = !proc.lines.as_slice().is_empty();
+    put_all_housed(types, start, roots, &mut homes, &mut free, places)?;
+    let all = places_of(alloc, homes)?;
+    let runs = !lines.is_empty();
     Ok(Layout { all, free, runs })
 }
 
@@ -172,10 +214,11 @@ pub fn layouts(
     ensures { IfOk result (λ all. all ≡ layouts types.now datum procs.now) }
 {
     let mut all = Items::new(alloc);
-    let mut left = procs.len();
-    for proc in procs {
-        left -= 1;
-        all.push(layout_of(alloc, types, left == 0, datum, proc)?)?;
+    let mut left = procs;
+    while let Some((proc, rest)) = left.split_first() {
+        let own = layout_of(alloc, types, rest.is_empty(), datum, proc)?;
+        all.push(own)?;
+        left = rest;
     }
     Ok(all)
 }
@@ -189,7 +232,8 @@ pub fn is_declared(kind: PlaceKind) -> bool
     )
 }
 
-fn is_sort(sort: Sort, kind: PlaceKind) -> bool
+/// Whether a line that seeks one of a sort may find this kind.
+pub fn is_sort(sort: Sort, kind: PlaceKind) -> bool
     ensures { result ≡ is_sort sort kind }
 {
     match sort {
@@ -215,51 +259,10 @@ pub fn nowhere() -> Housed
     }
 }
 
-/// The first place of some kinds with a number. Lines that fit name no other.
-pub fn found(all: &[Housed], sort: Sort, number: u32) -> Housed
-    ensures { result ≡ found (is_sort sort) number all.now }
-{
-    for h in all {
-        if h.number == number && is_sort(sort, h.kind) {
-            return *h;
-        }
-    }
-    nowhere()
-}
-
 pub fn is_param(kind: PlaceKind) -> bool
     ensures { result ≡ is_param kind }
 {
     matches!(kind, PlaceKind::Param(_))
-}
-
-// How many parameters there are.
-fn count_params(all: &[Housed]) -> Result<u32, Memory>
-    ensures { IfOk result (λ n. n ≡ length (params_in all.now)) }
-{
-    let mut n = 0;
-    for h in all {
-        if is_param(h.kind) {
-            n = sum(n, 1)?;
-        }
-    }
-    Ok(n)
-}
-
-/// The parameter that has so many behind it.
-pub fn param_before(behind: u32, all: &[Housed]) -> Result<Housed, Memory>
-    ensures { IfOk result (λ h. h ≡ param_before behind all.now) }
-{
-    let mut left = count_params(all)?;
-    for h in all {
-        if is_param(h.kind) {
-            left -= 1;
-            if left == behind {
-                return Ok(*h);
-            }
-        }
-    }
-    Ok(nowhere())
 }
 
 /// The place of the result.

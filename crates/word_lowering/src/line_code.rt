@@ -1,12 +1,12 @@
 // The word code of each line.
-ghost use Rattle.std.specs.Prelude.{◌≡◌, ◌+◌, ◌*◌, map, IfOk, OnOk};
+ghost use Rattle.std.specs.Prelude.{◌≡◌, ◌+◌, ◌*◌, length, map, IfOk, OnOk};
 ghost use Rattle.mid_code.specs.Codes.{block_plain};
 ghost use Rattle.word_lowering.specs.Emission.{Puts};
 ghost use Rattle.word_lowering.specs.LineCode.{bool_code, char_code, name_code, literal_code};
 ghost use Rattle.word_lowering.specs.LineCode.{ordinal_code, line_code, lines_code};
 ghost use Rattle.word_lowering.specs.Scope.{around_of};
 ghost use Rattle.word_lowering.specs.Stored.{HaveForms, entry_at, base_at};
-ghost use Rattle.word_lowering.specs.Texts.{names_before};
+ghost use Rattle.word_lowering.specs.Texts.{names_before, texts_of};
 
 use crate::calls::{emit_call, emit_exit, emit_return};
 use crate::homes::{FIRST, SECOND, THIRD};
@@ -22,7 +22,7 @@ use crate::spots::{
     address, argument, branch, call, compute, constant, emit, emit_clears, emit_moves, load, sum,
 };
 use crate::stored::{base_at, count_in, entry_at};
-use crate::texts::{FALSE_AT, LINE_END_AT, is_line_end, names_before, text_bytes};
+use crate::texts::{FALSE_AT, LINE_END_AT, fewer, is_line_end, names_before, text_bytes, text_of};
 use crate::values::{emit_constant, emit_construct, emit_parts};
 use arc_base::{Items, Memory, Stream};
 use mid_code::{BlockLine, Line, Test, WordInstr, WordOperation};
@@ -205,10 +205,6 @@ fn emit_outside(
 {
     match line {
         Line::Write { from, ty } => emit_ordinal(code, x, *ty, x.held(*from)),
-        Line::WriteText { bytes } => {
-            let at = sum(x.setting.literals, text_bytes(rest)?)?;
-            emit_literal(code, at, bytes.as_slice())
-        }
         Line::Quit { status } => emit(
             code,
             &[WordInstr::Exit {
@@ -311,8 +307,8 @@ fn emit_on_locations(
     }
 }
 
-/// The code of a line that has these lines behind it.
-pub fn emit_line(
+// The code of a line that has these lines behind it, but for that of a text.
+fn emit_line(
     code: &mut Items<WordInstr>,
     x: &Scope,
     line: &Line,
@@ -344,6 +340,28 @@ pub fn emit_line(
     }
 }
 
+// The same of any line, where the texts of the lines behind it have so many bytes.
+fn emit_next(
+    code: &mut Items<WordInstr>,
+    x: &Scope,
+    line: &BlockLine,
+    rest: &[BlockLine],
+    texts: u32,
+) -> Result<(), Memory>
+    requires forms { HaveForms x.now.types.now }
+    requires texts { texts ≡ length (texts_of (map block_plain rest.now)) }
+    ensures { OnOk result (Puts code.old code.new
+        (line_code (around_of x.now) (block_plain line.now) (map block_plain rest.now))) }
+{
+    match line {
+        BlockLine::Plain(Line::WriteText { bytes }) => {
+            let at = sum(x.setting.literals, texts)?;
+            emit_literal(code, at, bytes.as_slice())
+        }
+        BlockLine::Plain(line) => emit_line(code, x, line, rest),
+    }
+}
+
 /// The code of lines.
 pub fn emit_lines(code: &mut Items<WordInstr>, x: &Scope, lines: &[BlockLine]) -> Result<(), Memory>
     requires { HaveForms x.now.types.now }
@@ -351,8 +369,11 @@ pub fn emit_lines(code: &mut Items<WordInstr>, x: &Scope, lines: &[BlockLine]) -
         (lines_code (around_of x.now) (map block_plain lines.now))) }
 {
     let mut left = lines;
-    while let Some((BlockLine::Plain(line), rest)) = left.split_first() {
-        emit_line(code, x, line, rest)?;
+    let mut texts = text_bytes(lines)?;
+    while let Some((line, rest)) = left.split_first() {
+        let behind = fewer(texts, text_of(line));
+        emit_next(code, x, line, rest, behind)?;
+        texts = behind;
         left = rest;
     }
     Ok(())

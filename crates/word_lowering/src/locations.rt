@@ -11,7 +11,7 @@ ghost use Rattle.word_lowering.specs.Spots.{moves, clears};
 ghost use Rattle.word_lowering.specs.Stored.{HaveForms, part_at, count_in, entry_at, element_bytes};
 
 use crate::homes::{FIRST, Home, Housed, THIRD};
-use crate::layouts::{nowhere, param_before};
+use crate::layouts::nowhere;
 use crate::operations::INDEX;
 use crate::routines::SWAP;
 use crate::scope::{Scope, label_before, variable_of};
@@ -158,8 +158,30 @@ fn param_for(x: &Scope, rest: &[BlockLine]) -> Result<Housed, Memory>
 {
     let behind = arguments_behind(rest)?;
     match callee_behind(rest) {
-        Some(proc) => param_before(behind, x.places_of(proc)),
+        Some(proc) => Ok(x.param(proc, behind)),
         None => Ok(nowhere()),
+    }
+}
+
+// An argument that goes somewhere, in code that may have a label of its own.
+fn emit_argument_to(
+    code: &mut Items<WordInstr>,
+    x: &Scope,
+    label: u32,
+    to: Home,
+    from: Housed,
+) -> Result<(), Memory>
+    ensures { OnOk result (Puts code.old code.new
+        (argument_code (around_of x.now) label to from)) }
+{
+    match to {
+        Home::Variable(v) => emit(code, &[argument(v, variable_of(from))]),
+        Home::Placed(at) => {
+            let at = sum(x.own.free.byte, at)?;
+            emit(code, &[WordInstr::Place { to: FIRST, at }])?;
+            emit_handed(code, label, from.bytes, spot_of(from))
+        }
+        Home::Static(_) => Ok(()),
     }
 }
 
@@ -174,13 +196,7 @@ pub fn emit_argument(
         (param_for (around_of x.now) (callee_behind (map block_plain rest.now))
         (arguments_behind (map block_plain rest.now))).home from)) }
 {
-    match param_for(x, rest)?.home {
-        Home::Variable(v) => emit(code, &[argument(v, variable_of(from))]),
-        Home::Placed(at) => {
-            let at = sum(x.own.free.byte, at)?;
-            emit(code, &[WordInstr::Place { to: FIRST, at }])?;
-            emit_handed(code, label_before(rest)?, from.bytes, spot_of(from))
-        }
-        Home::Static(_) => Ok(()),
-    }
+    let to = param_for(x, rest)?;
+    let label = label_before(rest)?;
+    emit_argument_to(code, x, label, to.home, from)
 }

@@ -11,7 +11,7 @@ ghost use Rattle.word_lowering.specs.Scope.{around_of};
 ghost use Rattle.word_lowering.specs.Stored.{HaveForms};
 
 use crate::calls::proc_number;
-use crate::homes::{FIRST, Housed, LEFT, Layout, NEXT, ONE, OWN_FROM};
+use crate::homes::{Housed, LEFT, Layout, NEXT, ONE, OWN_FROM};
 use crate::layouts::{kept_in, layouts, result_in};
 use crate::line_code::emit_lines;
 use crate::may_lower::may_lower;
@@ -234,7 +234,7 @@ fn start_scope<'a>(
         types,
         layouts,
         own,
-        globals: own.all.as_slice(),
+        globals: &own.all,
         setting,
     })
 }

@@ -1,12 +1,14 @@
 // What is around the lines of a procedure.
 ghost use Rattle.std.specs.Prelude.{◌≡◌, map, IfOk};
 ghost use Rattle.mid_code.specs.Codes.{block_plain};
+ghost use Rattle.word_lowering.specs.Layouts.{param_before};
 ghost use Rattle.word_lowering.specs.LineCode.{own_label, label_before, value, location, own_place};
 ghost use Rattle.word_lowering.specs.LineCode.{place, held, led, layout_at, variable_of};
 ghost use Rattle.word_lowering.specs.Scope.{around_of};
 
 use crate::homes::{FIRST, Home, Housed, Layout, Sort};
-use crate::layouts::found;
+use crate::layouts::nowhere;
+use crate::places::Places;
 use crate::setting::Setting;
 use crate::spots::sum;
 use arc_base::Memory;
@@ -22,7 +24,7 @@ pub struct Scope<'a> {
     /// The procedure's own layout.
     pub own: &'a Layout,
     /// The places of the start code.
-    pub globals: &'a [Housed],
+    pub globals: &'a Places,
     pub setting: Setting,
 }
 
@@ -31,21 +33,21 @@ impl Scope<'_> {
     pub fn value(&self, t: u32) -> Housed
         ensures { result ≡ value (around_of self.now) t }
     {
-        found(self.own.all.as_slice(), Sort::Value, t)
+        self.own.all.found(Sort::Value, t)
     }
 
     /// A temporary with a location.
     pub fn location(&self, t: u32) -> Housed
         ensures { result ≡ location (around_of self.now) t }
     {
-        found(self.own.all.as_slice(), Sort::Location, t)
+        self.own.all.found(Sort::Location, t)
     }
 
     /// A declared place with a value of its own.
     pub fn own_place(&self, p: u32) -> Housed
         ensures { result ≡ own_place (around_of self.now) p }
     {
-        found(self.own.all.as_slice(), Sort::Own, p)
+        self.own.all.found(Sort::Own, p)
     }
 
     /// A declared place.
@@ -53,9 +55,9 @@ impl Scope<'_> {
         ensures { result ≡ place (around_of self.now) p global }
     {
         if global {
-            found(self.globals, Sort::Global, p)
+            self.globals.found(Sort::Global, p)
         } else {
-            found(self.own.all.as_slice(), Sort::Declared, p)
+            self.own.all.found(Sort::Declared, p)
         }
     }
 
@@ -66,6 +68,16 @@ impl Scope<'_> {
         match self.layouts.get(proc as usize) {
             Some(layout) => layout.all.as_slice(),
             None => &[],
+        }
+    }
+
+    /// The parameter of a procedure that has so many behind it.
+    pub fn param(&self, proc: u32, behind: u32) -> Housed
+        ensures { result ≡ param_before behind (layout_at (around_of self.now) proc).all }
+    {
+        match self.layouts.get(proc as usize) {
+            Some(layout) => layout.all.param_before(behind),
+            None => nowhere(),
         }
     }
 

@@ -1,5 +1,5 @@
 // The data of word code.
-ghost use Rattle.std.specs.Prelude.{◌≡◌, ◌+◌, ◌++◌, length, map, replicate, IfOk, OnOk};
+ghost use Rattle.std.specs.Prelude.{◌≡◌, ◌+◌, ◌-◌, ◌++◌, length, map, replicate, IfOk, OnOk};
 ghost use Rattle.mid_code.specs.Codes.{block_plain};
 ghost use Rattle.mid_code.specs.Sizes.{is_line_end};
 ghost use Rattle.rv32_isa.specs.Words.{word_bytes};
@@ -144,6 +144,17 @@ pub fn more(n: u32, text: &[u8]) -> Result<u32, Memory>
         return Err(Memory);
     }
     sum(n, len as u32)
+}
+
+/// A number without the bytes of a text, or 0 where it is less.
+pub fn fewer(n: u32, text: &[u8]) -> u32
+    ensures { result ≡ n - length text.now }
+{
+    let len = text.len();
+    if len > n as usize {
+        return 0;
+    }
+    n - len as u32
 }
 
 // The names of an entry.

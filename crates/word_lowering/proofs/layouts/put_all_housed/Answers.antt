@@ -1,0 +1,15 @@
+use Rattle.std.proofs.Common.{arith}
+use Rattle.word_lowering.proofs.NextHome.{last_home, last_behind}
+use Rattle.word_lowering.proofs.layouts.put_all_housed.Goals as goal
+
+pub returns-clause-all : goal.returns-clause-all
+returns-clause-all c =
+    let a = c.args in
+    let at = c.loop-place in
+    last_home a.types.now a.start a.roots.now a.places.now at.place-index at.all _ at.free (omega (arith, c.loop-place-test.false)) at.invariant.all
+
+pub returns-clause-free : goal.returns-clause-free
+returns-clause-free c =
+    let a = c.args in
+    let at = c.loop-place in
+    last_behind a.types.now a.start a.roots.now a.places.now at.place-index _ at.free (omega (arith, c.loop-place-test.false)) at.invariant.free

@@ -1,0 +1,66 @@
+-- Looking up places among those of a procedure. No public contract speaks of it.
+use Rattle.std.specs.Prelude.{ℕ, suc, nat_eq, Bool, true, false, ◌&&◌, if◌then◌else◌, List, [], ◌∷◌, length, Option, Some, None}
+use Rattle.nim_types.specs.declared.types.TheConstants.{WORD_BYTES}
+use Rattle.nim_core.specs.declared.program.Mode.TheVariants.{Var}
+use Rattle.mid_code.specs.declared.place.PlaceKind.{PlaceKind}
+use Rattle.mid_code.specs.declared.place.PlaceKind.TheVariants as K
+use Rattle.mid_code.specs.Fits.{is_value, is_location, is_own, is_declared, is_global}
+use Rattle.word_lowering.specs.declared.homes.TheConstants.{FIRST}
+use Rattle.word_lowering.specs.declared.homes.Home.{Home}
+use Rattle.word_lowering.specs.declared.homes.Home.TheVariants.{Variable}
+use Rattle.word_lowering.specs.declared.homes.Housed.{Housed}
+use Rattle.word_lowering.specs.declared.homes.Sort.{Sort}
+use Rattle.word_lowering.specs.declared.homes.Sort.TheVariants.{Value, Location, Own, Declared, Global}
+
+-- what isn't there; no line of code that fits names it
+abbrev pub nowhere : Housed
+nowhere = record { number = 0; kind = K.Temp; ty = 0; bytes = WORD_BYTES; is_word = true; home = Variable FIRST }
+
+-- the kinds among which a line seeks a place
+abbrev pub is_sort : Sort → PlaceKind → Bool
+is_sort Value kind = is_value kind
+is_sort Location kind = is_location kind
+is_sort Own kind = is_own kind
+is_sort Declared kind = is_declared kind
+is_sort Global kind = is_global kind
+
+-- the first place of some kind with a number
+abbrev pub found : (PlaceKind → Bool) → ℕ → List Housed → Housed
+found is_kind n [] = nowhere
+found is_kind n (h ∷ hs) = if nat_eq h.number n && is_kind h.kind then h else found is_kind n hs
+
+abbrev pub is_param : PlaceKind → Bool
+is_param (K.Param mode) = true
+is_param kind = false
+
+abbrev pub is_result : PlaceKind → Bool
+is_result K.Result = true
+is_result kind = false
+
+abbrev pub params_in : List Housed → List Housed
+params_in [] = []
+params_in (h ∷ hs) = if is_param h.kind then h ∷ params_in hs else params_in hs
+
+abbrev pub result_in : List Housed → Option Housed
+result_in [] = None
+result_in (h ∷ hs) = if is_result h.kind then Some h else result_in hs
+
+-- the parameter that has so many behind it
+abbrev pub param_before : (behind : ℕ) → List Housed → Housed
+param_before behind [] = nowhere
+param_before behind (h ∷ hs) = if is_param h.kind && nat_eq (length (params_in hs)) behind then h else param_before behind hs
+
+-- a place that holds an address, and not a value
+abbrev pub is_address : PlaceKind → Bool
+is_address K.Location = true
+is_address (K.Param Var) = true
+is_address kind = false
+
+-- how many parameters are in variables
+abbrev pub kept_by : Home → ℕ → ℕ
+kept_by (Variable v) n = suc n
+kept_by home n = n
+
+abbrev pub kept_in : List Housed → ℕ
+kept_in [] = 0
+kept_in (h ∷ hs) = kept_by h.home (kept_in hs)
