@@ -1,5 +1,5 @@
 -- What the stages do, one behind the other.
-use Rattle.std.proofs.Common.{◌≡◌, ◌≤◌, ℕ, ◌+◌, ◌*◌, List, [], length, refl, sym, subst, ◌∙◌, arith, true, Result, Ok, Err}
+use Rattle.std.proofs.Common.{◌≡◌, ◌≤◌, ℕ, ◌+◌, ◌*◌, List, [], length, refl, sym, ap, subst, ◌∙◌, arith, true, Result, Ok, Err}
 use Rattle.std.specs.Prelude.{IfOk, IfErr}
 use Rattle.arc_base.specs.Event.{Event}
 use Rattle.arc_base.specs.Behaviour.{Behaviour, Agrees, Sound}
@@ -22,10 +22,9 @@ use Rattle.owned_code.specs.Owning.{IsOwned}
 use Rattle.goto_exceptions.specs.Branches.{IsBranched}
 use Rattle.reg_scan.specs.declared.homes.Homes.{Homes}
 use Rattle.rv32_codegen.specs.Layout.{DoesCode, IsFault}
-use Rattle.rv32_codegen.specs.Lowering.{AllHomes, AlwaysDoes, CanRun}
-use Rattle.rv32_codegen.specs.Stack.{stack_need}
+use Rattle.rv32_codegen.specs.Lowering.{AlwaysDoes, CanRun}
 use Rattle.word_lowering.specs.Lowers.{Lowers}
-use Rattle.core_compiler.specs.Compile.{live_objects, DoesProgram}
+use Rattle.core_compiler.specs.Compile.{live_objects, IsLaidOut, DoesProgram}
 use Rattle.rv32_codegen.specs.Lowering.{most_bytes}
 use Rattle.rv32_codegen.specs.declared.layout.LayFault.{LayFault}
 use Rattle.rv32_codegen.specs.declared.layout.LayFault.TheVariants.{TooLarge, Memory}
@@ -36,15 +35,17 @@ abbrev pub AgreesLaw : Type 0
 AgreesLaw = (low mid high : Behaviour Event) → Agrees low mid → Agrees mid high → Agrees low high
 
 abbrev pub PaceLaw : Type 0
-PaceLaw = (c d k l : ℕ) (low mid high : Behaviour Event) → 1 ≤ d → PacedFrom c k low mid → PacedFrom d l mid high → PacedFrom (c * d) (l + k) low high
+PaceLaw = (c d k l : ℕ) (low mid high : Behaviour Event) → 1 ≤ d → PacedFrom c k low mid → PacedFrom d l mid high →
+    PacedFrom (c * d) (l + k) low high
 
-pub of_three : {T E : Type 0} (r : Result T E) (P Q R S : T → Type 0) → ((x : T) → P x → Q x → R x → S x) → IfOk r P → IfOk r Q → IfOk r R → IfOk r S
+pub of_three : {T E : Type 0} (r : Result T E) (P Q R S : T → Type 0) → ((x : T) → P x → Q x → R x → S x) →
+    IfOk r P → IfOk r Q → IfOk r R → IfOk r S
 of_three (Ok x) P Q R S so p q r = so x p q r
 of_three (Err e) P Q R S so p q r = tt
 
 -- code that isn't laid out for its size
-pub fault_is : {T : Type 0} (words : WordCode) (bytes : ℕ) → bytes ≤ most_bytes words.procs → (r : Result T LayFault) → IfErr r (λ fault. IsFault bytes fault) →
-    IfErr r (λ fault. IsTooLarge words fault)
+pub fault_is : {T : Type 0} (words : WordCode) (bytes : ℕ) → bytes ≤ most_bytes words.procs → (r : Result T LayFault) →
+    IfErr r (λ fault. IsFault bytes fault) → IfErr r (λ fault. IsTooLarge words fault)
 fault_is words bytes few (Ok x) h = tt
 fault_is words bytes few (Err (TooLarge n)) h = (h.1, omega (arith, h.0, few))
 fault_is words bytes few (Err Memory) h = tt
@@ -114,28 +115,24 @@ module _ (law : AgreesLaw) (pace : PaceLaw) where
         let upper = does live_objects laid.0 heap image.stack input (λ s t e f. refl) laid.1 can sound in
         pace 2 32 1 1 _ _ _ (omega arith) (laid.2 input (sound_low upper.agrees)).1 upper.paced
 
-    pub image_of_code : image.heap ≡ heap → AllHomes words.procs homes → image.stack ≡ stack_need words.procs homes →
-        length image.code ≤ most_bytes words.procs → (have_no_hooks words.procs ≡ true → image.hooks ≡ []) → IsImageOf words heap image
-    image_of_code same all need few hooks = record {
-      agrees = image_agrees;
-      paced = image_paced;
-      heap_is = same;
-      stack = (homes, all, need);
-      code = few;
-      hooks = hooks;
-    }
+    pub image_of_code : IsLaidOut words homes heap image → length image.code ≤ most_bytes words.procs →
+        (have_no_hooks words.procs ≡ true → image.hooks ≡ []) → IsImageOf words homes heap image
+    image_of_code is few hooks = record { agrees = image_agrees; paced = image_paced; laid = is; code = few; hooks = hooks }
 
   -- ---- the whole
 
-  module _ (program : Program) (table : List TypeDef) (flat : Flat) (words : WordCode) (heap : ℕ) (image : Image)
+  module _ (program : Program) (table : List TypeDef) (flat : Flat) (words : WordCode) (homes : List Homes) (heap : ℕ) (image : Image)
       (few : heap ≤ 16777216) (sound : (plan : Plan) (input : List ℕ) → Sound (meaning program plan heap input))
-      (top : IsFlatOf table program flat) (middle : AreWordsOf table flat words) (low : IsImageOf words heap image) where
+      (top : IsFlatOf table program flat) (middle : AreWordsOf table flat words) (low : IsImageOf words homes heap image) where
+    between : (plan : Plan) (input : List ℕ) → Agrees (word_meaning live_objects words heap image.stack input) (meaning program plan heap input)
+    between plan input =
+        let upper = top.agrees plan heap input in
+        law _ _ _ (middle.agrees plan heap image.stack input few (sound_low upper)) upper
+
     does_agree : (plan : Plan) (input : List ℕ) → Agrees (machine live_objects image input) (meaning program plan heap input)
     does_agree plan input =
-        let upper = top.agrees plan heap input in
-        let between = middle.agrees plan heap image.stack input few (sound_low upper) in
-        let both = law _ _ _ between upper in
-        law _ _ _ (low.agrees input (sound_low both)) both
+        let mid = between plan input in
+        law _ _ _ (low.agrees input (sound_low mid)) mid
 
     does_paced : (plan : Plan) (input : List ℕ) → PacedFrom 12288 4 (machine live_objects image input) (meaning program plan heap input)
     does_paced plan input =
@@ -149,6 +146,7 @@ module _ (law : AgreesLaw) (pace : PaceLaw) where
       agrees = does_agree;
       paced = does_paced;
       in_time = λ plan input. in_time live_objects image input (meaning program plan heap input) (does_paced plan input);
-      heap_is = low.heap_is;
+      stack = record { words = words; homes = homes; agrees = between; laid = low.laid };
+      heap_is = ap (λ i. i.heap) low.laid.made;
       hooks = low.hooks (middle.hooks top.hooks);
     }

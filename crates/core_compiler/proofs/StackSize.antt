@@ -113,8 +113,5 @@ stack_most procs homes all h =
     let behind = chain_most (chain procs (λ p. frame_for procs homes p.number) (length procs)) 40 (chain_frames procs homes all h (length procs)) procs in
     omega (arith, room, chains, frame, behind)
 
-pub stack_least : (procs : List WordProc) (homes : List Homes) → 65536 ≤ stack_need procs homes
-stack_least procs homes = omega arith
-
 pub stack_whole : (procs : List WordProc) (homes : List Homes) → stack_need procs homes % 16 ≡ 0
 stack_whole procs homes = omega arith

@@ -23,13 +23,12 @@ use Rattle.rv32_codegen.specs.declared.label_code.TheConstants.{CODE_PACE}
 use Rattle.rv32_codegen.specs.declared.layout.TheConstants.{LAYOUT_PACE, MOST_CODE_BYTES}
 use Rattle.rv32_codegen.specs.declared.layout.LayFault.{LayFault}
 use Rattle.rv32_codegen.specs.declared.layout.LayFault.TheVariants.{TooLarge, Memory}
-use Rattle.rv32_codegen.specs.Lowering.{AllHomes, most_bytes}
-use Rattle.rv32_codegen.specs.Stack.{stack_need}
+use Rattle.rv32_codegen.specs.Lowering.{most_bytes}
 use Rattle.reg_scan.specs.declared.homes.Homes.{Homes}
 use Rattle.word_lowering.specs.declared.lowering.TheConstants.{WORD_PACE, ROUTINES_WEIGHT}
 use Rattle.word_lowering.specs.Stored.{HaveForms}
 use Rattle.word_lowering.specs.Lowers.{AreSmall}
-use Rattle.core_compiler.specs.Compile.{live_objects}
+use Rattle.core_compiler.specs.Compile.{live_objects, IsLaidOut}
 
 -- ---- a typed program and its flat code
 
@@ -64,14 +63,13 @@ pub record AreWordsOf (table : List TypeDef) (flat : Flat) (words : WordCode) : 
 
 -- ---- word code and its image
 
--- the image does what word code does, which is never at a fault, with the image's own stack: as much as the code's calls need
-pub record IsImageOf (words : WordCode) (heap : ℕ) (image : Image) : Type 0 where
+-- the image does what word code does, which is never at a fault, and its stack is exactly what that needs with these homes of its variables
+pub record IsImageOf (words : WordCode) (homes : List Homes) (heap : ℕ) (image : Image) : Type 0 where
   pub agrees : (input : List ℕ) → Sound (word_meaning live_objects words heap image.stack input) →
       Agrees (machine live_objects image input) (word_meaning live_objects words heap image.stack input)
   pub paced : (input : List ℕ) → Sound (word_meaning live_objects words heap image.stack input) →
       PacedFrom (LAYOUT_PACE * CODE_PACE) 2 (machine live_objects image input) (word_meaning live_objects words heap image.stack input)
-  pub heap_is : image.heap ≡ heap
-  pub stack : (homes : List Homes) × AllHomes words.procs homes × (image.stack ≡ stack_need words.procs homes)
+  pub laid : IsLaidOut words homes heap image
   pub code : length image.code ≤ most_bytes words.procs
   pub hooks : have_no_hooks words.procs ≡ true → image.hooks ≡ []
 

@@ -1,6 +1,7 @@
 // From word code to its image: homes for its variables, label code, the stack, and the layout.
-ghost use Rattle.std.specs.Prelude.{◌≤◌, IfOk, IfErr};
+ghost use Rattle.std.specs.Prelude.{◌≤◌, List, IfOk, IfErr};
 ghost use Rattle.rv32_isa.specs.Image.{image_of};
+ghost use Rattle.reg_scan.specs.declared.homes.Homes.{Homes as HomesOf};
 ghost use Rattle.rv32_codegen.specs.Lowering.{AllHomes};
 ghost use Rattle.word_lowering.specs.Lowers.{AreSmall};
 ghost use Rattle.core_compiler.specs.Stages.{CanLayOut, IsImageOf, IsTooLarge};
@@ -25,17 +26,30 @@ fn homes_of(alloc: Global, procs: &[WordProc]) -> Result<Items<Homes>, Memory>
     Ok(all)
 }
 
-/// The image of word code: it does what that does, on the stack that its calls may need.
-pub fn image_of_words(alloc: Global, words: &WordCode, heap: u32) -> Result<Image, LayFault>
+// The image of word code whose variables have these homes: it does what the word code does, and its
+// stack is exactly what the calls need with these homes.
+fn image_by(alloc: Global, words: &WordCode, homes: &[Homes], heap: u32) -> Result<Image, LayFault>
+    requires homes { AllHomes words.now.procs homes.now }
     requires can { CanLayOut words.now }
     requires heap { heap ≤ 16777216 }
-    ensures is { IfOk result (λ image. IsImageOf words.now heap (image_of image)) }
+    ensures is { IfOk result (λ image. IsImageOf words.now homes.now heap (image_of image)) }
     ensures fault { IfErr result (λ fault. IsTooLarge words.now fault) }
 {
-    let homes = homes_of(alloc, words.procs.as_slice())?;
-    let lines = code(alloc, words, homes.as_slice())?;
-    let stack = stack_need(alloc, words, homes.as_slice())?;
+    let lines = code(alloc, words, homes)?;
+    let stack = stack_need(alloc, words, homes)?;
     agreement();
     layouts();
     lay_out(alloc, &lines, words.statics.as_slice(), heap, stack)
+}
+
+/// The image of word code, with homes for its variables.
+pub fn image_of_words(alloc: Global, words: &WordCode, heap: u32) -> Result<Image, LayFault>
+    requires can { CanLayOut words.now }
+    requires heap { heap ≤ 16777216 }
+    ensures is { IfOk result (λ image.
+        (homes : List HomesOf) × IsImageOf words.now homes heap (image_of image)) }
+    ensures fault { IfErr result (λ fault. IsTooLarge words.now fault) }
+{
+    let homes = homes_of(alloc, words.procs.as_slice())?;
+    image_by(alloc, words, homes.as_slice(), heap)
 }

@@ -6,7 +6,7 @@ use Rattle.nim_plan.specs.declared.plan.Plan.{Plan}
 use Rattle.rv32_isa.specs.Words.{word_bytes}
 use Rattle.rv32_isa.specs.declared.image.Image.{Image as RustImage}
 use Rattle.rv32_isa.specs.Image.{IsImage, image_of}
-use Rattle.elf32.specs.Elf.{File, IsFile, Ordered, words, counted, hook_words, site_words, sink_words, skip_words, description, note_of}
+use Rattle.elf32.specs.Elf.{File, IsFile, Ordered, counted, hook_words, site_words, sink_words, skip_words, description, note_of}
 use Rattle.source_compiler.specs.Compile.{empty_plan}
 
 -- an image without hooks, and no plan

@@ -22,7 +22,7 @@ use Rattle.source_compiler.specs.declared.source.TheConstants.{SOURCE_MOST}
 use Rattle.source_compiler.specs.Source.{Module, alone, Reads, Refuses}
 use Rattle.core_compiler.specs.declared.program.TheConstants.{IMAGE_PACE, IMAGE_LATE}
 use Rattle.core_compiler.specs.Limits.{build_limits}
-use Rattle.core_compiler.specs.Compile.{live_objects, EndsInTime}
+use Rattle.core_compiler.specs.Compile.{live_objects, EndsInTime, HasNeededStack}
 use Rattle.source_compiler.specs.Limits.{Limits}
 
 -- the plan of a program without sites
@@ -31,7 +31,8 @@ empty_plan = record { sites = []; sinks = []; skips = [] }
 
 -- THE HEADLINE. The modules are one typed program, which can be compiled. For every input and every number of steps the machine on the
 -- file's image agrees with the meaning of the program under the file's plan and this heap, in bytes; its work is in proportion, and where
--- the meaning ends the machine has ended in time. The file is one that can be written, its plan is empty, and there are no hooks.
+-- the meaning ends the machine has ended in time. The stack is exactly what the image's calls need. The file is one that can be written,
+-- its plan is empty, and there are no hooks.
 pub record Compiled (modules : List Module) (heap : ℕ) (file : File) : Type 0 where
   pub program : Program
   pub reads : Reads modules program
@@ -41,6 +42,7 @@ pub record Compiled (modules : List Module) (heap : ℕ) (file : File) : Type 0 
   pub agrees : (input : List ℕ) → Agrees (machine live_objects file.image input) (meaning program file.plan heap input)
   pub paced : (input : List ℕ) → PacedFrom IMAGE_PACE IMAGE_LATE (machine live_objects file.image input) (meaning program file.plan heap input)
   pub in_time : (input : List ℕ) → EndsInTime (machine live_objects file.image input) (meaning program file.plan heap input)
+  pub stack : HasNeededStack program heap file.image
   pub plan : file.plan ≡ empty_plan
   pub heap_is : file.image.heap ≡ heap
   pub hooks : file.image.hooks ≡ []

@@ -43,15 +43,17 @@ returns-in-Ok-clause-answers c =
     let few : code_weight (map flat_placed c.in_ok-flat.flat.procs) ≤ 30 * program_parts program = c.in_ok-flat.ensures.flat.weight in
     let weighs : word_weight c.in_ok-words.words.procs ≤ code_weight (map flat_placed c.in_ok-flat.flat.procs) + 100 = c.in_ok-words.ensures.weight in
     let bound = bound_is program c.in_ok-flat.flat c.in_ok-words.words.procs few weighs in
-    let code = c.in-Ok.ensures.is.code in
+    let code = c.in-Ok.ensures.is.1.code in
     (length image.code, code_fits program (length image.code) c.in_ok-flat.ensures.answers image.code_most, (refl, omega (arith, code, bound)))
 
 pub returns-in-Ok-clause-does : goal.returns-in-Ok-clause-does
 returns-in-Ok-clause-does c =
     let table = c.args.program.now.types in
     let program = program_in c.args.program.now in
-    does_program c.agreement.ensures.law c.agreement.ensures.pace program table c.in_ok-flat.flat c.in_ok-words.words c.args.heap (image_of c.in-Ok.image)
-    c.requires (λ plan input. c.meanings.ensures.sound program plan c.args.heap input) c.in_ok-flat.ensures.flat c.in_ok-words.ensures c.in-Ok.ensures.is
+    let is = c.in-Ok.ensures.is in
+    does_program c.agreement.ensures.law c.agreement.ensures.pace program table c.in_ok-flat.flat c.in_ok-words.words is.0 c.args.heap
+    (image_of c.in-Ok.image) c.requires (λ plan input. c.meanings.ensures.sound program plan c.args.heap input) c.in_ok-flat.ensures.flat
+    c.in_ok-words.ensures is.1
 
 pub returns-in-Err-TooLarge-clause-answers : goal.returns-in-Err-TooLarge-clause-answers
 returns-in-Err-TooLarge-clause-answers c =

@@ -79,6 +79,7 @@ returns-clause-compiled c =
       agrees = λ input. does.agrees c.new.result input;
       paced = λ input. does.paced c.new.result input;
       in_time = λ input. does.in_time c.new.result input;
+      stack = does.stack;
       plan = plan;
       heap_is = does.heap_is;
       hooks = does.hooks;
