@@ -1,0 +1,5 @@
+mod Entries
+mod Kept
+mod OneMore
+mod Orders
+mod Search
