@@ -23,6 +23,7 @@ UNITS = 5_000_000
 
 STEPS_WORD = '--steps='
 STEPS_SPENT = 'StepsSpent'
+REFUSED = 'Refused'
 SPENT_LINE = 'nimarc: steps spent\n'
 SOURCE_FILE = 't.nim:'
 LINE_END = '\u23ce'
@@ -49,11 +50,17 @@ def typing_difference(row: Row) -> Optional[str]:
     return None if wanted == got else 'wanted %s, got %s' % (wanted, got)
 
 
+def refused_call(row: Row) -> Optional[str]:
+    """Of a call that is refused, `65 Refused E21 FrameTooLarge 2:1`, the answer `2:1: E21`."""
+    call = row.parts.get('call', '').split()
+    return '%s: %s' % (call[4], call[2]) if call[1:2] == [REFUSED] else None
+
+
 def frames_difference(row: Row) -> Optional[str]:
     """What differs in a row of procedures that are too large."""
-    if 'answer' not in row.parts:
+    wanted = wanted_answer(row, 'answer') if 'answer' in row.parts else refused_call(row)
+    if wanted is None:
         return plain_difference(row)
-    wanted = wanted_answer(row, 'answer')
     got = frames.answer(row.parts['source'])
     return None if wanted == got else 'wanted %s, got %s' % (wanted, got)
 
