@@ -1,6 +1,7 @@
 mod TypeRows
 mod TypeNumbers
 mod Adding
+mod Writing
 mod ExprAdding
 mod StmtAdding
 mod Taking

@@ -33,8 +33,9 @@ use Rattle.expr_lowering.specs.Places.{declared, counter, value, expr_places, pa
 use Rattle.expr_lowering.specs.Places.{all_places, init_places, arg_places, each_places, block_places, branch_places, arm_places}
 use Rattle.expr_lowering.specs.Views.{types_of, result_of}
 use Rattle.expr_lowering.specs.PlaceViews.{part_places, own_places, other_adds, count_adds, each_adds, first_adds, given_if}
+use Rattle.expr_lowering.specs.Written.{Adds}
 use Rattle.expr_lowering.proofs.Taking.{drop_next}
-use Rattle.expr_lowering.proofs.Adding.{two, three, as_words, with_rest}
+use Rattle.expr_lowering.proofs.Writing.{adds_two, adds_as}
 
 -- three lists, of which the first two are joined, or the last two
 front : {X : Type 0} (x y z : List X) → x ++ (y ++ z) ≡ (x ++ y) ++ z
@@ -167,166 +168,171 @@ module _ (a : Around) (kind : PlaceKind) where
   all stmts = block_places (types_of a) (result_of a) kind (stmts_of (types_of a) stmts)
 
   -- one more statement of a block
-  pub block_next : (old new whole : List FlatPlace) (xs : List RustStmt) (i : ℕ) (x : RustStmt) → i < length xs → x ≡ get_or xs i x →
-      old ++ all (drop i xs) ≡ whole → new ≡ old ++ first_adds a kind (stmt_before (types_of a) x Empty) → new ++ all (drop (i + 1) xs) ≡ whole
-  block_next old new whole xs i x l e h f =
+  pub block_next : (old at new : Option (List FlatPlace)) (whole : List FlatPlace) (xs : List RustStmt) (i : ℕ) (x : RustStmt) →
+      i < length xs → x ≡ get_or xs i x →
+      ((end : Option (List FlatPlace)) → Adds at end (all (drop i xs)) → Adds old end whole) →
+      Adds at new (first_adds a kind (stmt_before (types_of a) x Empty)) →
+      (end : Option (List FlatPlace)) → Adds new end (all (drop (i + 1) xs)) → Adds old end whole
+  block_next old at new whole xs i x l e h f end g =
       let rest = stmts_of (types_of a) (drop (i + 1) xs) in
       let next = ap all (drop_next xs i x l e) ∙ stmt_ahead x rest in
-      with_rest old (first_adds a kind (stmt_before (types_of a) x Empty)) (all (drop (i + 1) xs)) new whole (ap (λ z. old ++ z) (sym next) ∙ h) f
+      h end (adds_as (first_adds a kind (stmt_before (types_of a) x Empty) ++ all (drop (i + 1) xs)) (all (drop i xs)) (adds_two f g) (sym next))
 
 -- ---- what each step adds, in front of what the whole says
 
 module _ (ts : List Ty) where
-  pub expr_adds : (e : Expr) (old b c : List FlatPlace) → b ≡ old ++ part_places ts e → c ≡ b ++ own_places ts e → c ≡ old ++ expr_places ts e
-  expr_adds e old b c f g = as_words old (part_places ts e ++ own_places ts e) (expr_places ts e) c
-      (two old (part_places ts e) (own_places ts e) b c f g) (own_is ts e)
+  pub expr_adds : (e : Expr) (old b c : Option (List FlatPlace)) → Adds old b (part_places ts e) → Adds b c (own_places ts e) →
+      Adds old c (expr_places ts e)
+  expr_adds e old b c f g = adds_as (part_places ts e ++ own_places ts e) (expr_places ts e) (adds_two f g) (sym (own_is ts e))
 
   module _ (whole : RustExpr) where
     -- what is added is of the parts of the whole
-    in_whole : (x : List FlatPlace) (e : RustExpr) (old new : List FlatPlace) → whole ≡ e → part_places ts (expr_of ts e) ≡ x →
-        new ≡ old ++ x → new ≡ old ++ part_places ts (expr_of ts whole)
-    in_whole x e old new w g f = as_words old x (part_places ts (expr_of ts whole)) new f (ap (λ e. part_places ts (expr_of ts e)) w ∙ g)
+    in_whole : (x : List FlatPlace) (e : RustExpr) (old new : Option (List FlatPlace)) → whole ≡ e → part_places ts (expr_of ts e) ≡ x →
+        Adds old new x → Adds old new (part_places ts (expr_of ts whole))
+    in_whole x e old new w g f = adds_as x (part_places ts (expr_of ts whole)) f (sym (ap (λ e. part_places ts (expr_of ts e)) w ∙ g))
 
-    pub make_adds : (node : Node) (ty : ℕ) (parts : Vec RustExpr Global) (old new : List FlatPlace) → whole ≡ E.Make node ty parts →
-        new ≡ old ++ all_places ts (exprs_of ts parts.items) → new ≡ old ++ part_places ts (expr_of ts whole)
+    pub make_adds : (node : Node) (ty : ℕ) (parts : Vec RustExpr Global) (old new : Option (List FlatPlace)) → whole ≡ E.Make node ty parts →
+        Adds old new (all_places ts (exprs_of ts parts.items)) → Adds old new (part_places ts (expr_of ts whole))
     make_adds node ty parts old new w f =
         in_whole (all_places ts (exprs_of ts parts.items)) (E.Make node ty parts) old new w (ap (part_places ts) (made ts node ty parts)) f
 
-    pub construct_adds : (node : Node) (ty : ℕ) (parts : Vec RustInit Global) (old new : List FlatPlace) → whole ≡ E.Construct node ty parts →
-        new ≡ old ++ init_places ts (inits_of ts parts.items) → new ≡ old ++ part_places ts (expr_of ts whole)
+    pub construct_adds : (node : Node) (ty : ℕ) (parts : Vec RustInit Global) (old new : Option (List FlatPlace)) → whole ≡ E.Construct node ty parts →
+        Adds old new (init_places ts (inits_of ts parts.items)) → Adds old new (part_places ts (expr_of ts whole))
     construct_adds node ty parts old new w f =
         in_whole (init_places ts (inits_of ts parts.items)) (E.Construct node ty parts) old new w (ap (part_places ts) (constructed ts node ty parts)) f
 
-    pub call_adds : (node : Node) (ty : Option ℕ) (proc : ℕ) (args : Vec RustArg Global) (old new : List FlatPlace) →
+    pub call_adds : (node : Node) (ty : Option ℕ) (proc : ℕ) (args : Vec RustArg Global) (old new : Option (List FlatPlace)) →
         whole ≡ E.Call node ty proc args →
-        new ≡ old ++ arg_places ts (args_of ts args.items) → new ≡ old ++ part_places ts (expr_of ts whole)
+        Adds old new (arg_places ts (args_of ts args.items)) → Adds old new (part_places ts (expr_of ts whole))
     call_adds node ty proc args old new w f =
         in_whole (arg_places ts (args_of ts args.items)) (E.Call node ty proc args) old new w (ap (part_places ts) (called ts node ty proc args)) f
 
-    pub echo_adds : (node : Node) (operands : Vec RustExpr Global) (old new : List FlatPlace) → whole ≡ E.Echo node operands →
-        new ≡ old ++ all_places ts (exprs_of ts operands.items) → new ≡ old ++ part_places ts (expr_of ts whole)
+    pub echo_adds : (node : Node) (operands : Vec RustExpr Global) (old new : Option (List FlatPlace)) → whole ≡ E.Echo node operands →
+        Adds old new (all_places ts (exprs_of ts operands.items)) → Adds old new (part_places ts (expr_of ts whole))
     echo_adds node operands old new w f =
         in_whole (all_places ts (exprs_of ts operands.items)) (E.Echo node operands) old new w (ap (part_places ts) (echoed ts node operands)) f
 
-    pub if_adds : (node : Node) (ty : Option ℕ) (choices : Vec RustChoice Global) (otherwise : _) (other : RustExpr) (old b c : List FlatPlace) →
+    pub if_adds : (node : Node) (ty : Option ℕ) (choices : Vec RustChoice Global) (otherwise : _) (other : RustExpr) (old b c : Option (List FlatPlace)) →
         whole ≡ E.If node ty choices otherwise → other ≡ otherwise.value →
-        b ≡ old ++ choice_places ts (choices_of ts choices.items) → c ≡ b ++ expr_places ts (expr_of ts other) →
-        c ≡ old ++ part_places ts (expr_of ts whole)
+        Adds old b (choice_places ts (choices_of ts choices.items)) → Adds b c (expr_places ts (expr_of ts other)) →
+        Adds old c (part_places ts (expr_of ts whole))
     if_adds node ty choices otherwise other old b c w o f g =
         let x = choice_places ts (choices_of ts choices.items) in
         let y = expr_places ts (expr_of ts otherwise.value) in
         in_whole (x ++ y) (E.If node ty choices otherwise) old c w (ap (part_places ts) (chosen_by ts node ty choices otherwise))
-        (two old x y b c f (g ∙ ap (λ (e : RustExpr). b ++ expr_places ts (expr_of ts e)) o))
+        (adds_two f (adds_as (expr_places ts (expr_of ts other)) y g (ap (λ (e : RustExpr). expr_places ts (expr_of ts e)) o)))
 
     pub case_adds : (node : Node) (ty : Option ℕ) (selector : _) (picks : Vec RustPick Global) (other : _) (value : RustExpr)
-        (old b c d : List FlatPlace) →
+        (old b c d : Option (List FlatPlace)) →
         whole ≡ E.Case node ty selector picks other → value ≡ selector.value →
-        b ≡ old ++ expr_places ts (expr_of ts value) → c ≡ b ++ pick_places ts (picks_of ts picks.items) →
-        d ≡ c ++ other_adds ts (option_map (λ e. expr_of ts e.value) other) →
-        d ≡ old ++ part_places ts (expr_of ts whole)
+        Adds old b (expr_places ts (expr_of ts value)) → Adds b c (pick_places ts (picks_of ts picks.items)) →
+        Adds c d (other_adds ts (option_map (λ e. expr_of ts e.value) other)) →
+        Adds old d (part_places ts (expr_of ts whole))
     case_adds node ty selector picks other value old b c d w v f g h =
         let x = expr_places ts (expr_of ts selector.value) in
         let y = pick_places ts (picks_of ts picks.items) in
         let z = other_adds ts (option_map (λ e. expr_of ts e.value) other) in
         in_whole (x ++ (y ++ z)) (E.Case node ty selector picks other) old d w (case_is ts node ty selector picks other)
-        (three old x y z b c d (f ∙ ap (λ (e : RustExpr). old ++ expr_places ts (expr_of ts e)) v) g h)
+        (adds_two (adds_as (expr_places ts (expr_of ts value)) x f (ap (λ (e : RustExpr). expr_places ts (expr_of ts e)) v)) (adds_two g h))
 
-    pub quit_adds : (node : Node) (status : _) (old new : List FlatPlace) → whole ≡ E.Quit node status →
-        new ≡ old ++ other_adds ts (option_map (λ e. expr_of ts e.value) status) → new ≡ old ++ part_places ts (expr_of ts whole)
+    pub quit_adds : (node : Node) (status : _) (old new : Option (List FlatPlace)) → whole ≡ E.Quit node status →
+        Adds old new (other_adds ts (option_map (λ e. expr_of ts e.value) status)) → Adds old new (part_places ts (expr_of ts whole))
     quit_adds node status old new w f =
         in_whole (other_adds ts (option_map (λ e. expr_of ts e.value) status)) (E.Quit node status) old new w (quit_is ts node status) f
 
-    pub step_adds : (node : Node) (operator : Operator) (path : RustPath) (value : _) (old b c : List FlatPlace) →
+    pub step_adds : (node : Node) (operator : Operator) (path : RustPath) (value : _) (old b c : Option (List FlatPlace)) →
         whole ≡ E.Step node operator path value →
-        b ≡ old ++ altered_places ts (path_of ts path) → c ≡ b ++ other_adds ts (option_map (λ e. expr_of ts e.value) value) →
-        c ≡ old ++ part_places ts (expr_of ts whole)
+        Adds old b (altered_places ts (path_of ts path)) → Adds b c (other_adds ts (option_map (λ e. expr_of ts e.value) value)) →
+        Adds old c (part_places ts (expr_of ts whole))
     step_adds node operator path value old b c w f g =
         let x = altered_places ts (path_of ts path) in
         let y = other_adds ts (option_map (λ e. expr_of ts e.value) value) in
-        in_whole (x ++ y) (E.Step node operator path value) old c w (step_is ts node operator path value) (two old x y b c f g)
+        in_whole (x ++ y) (E.Step node operator path value) old c w (step_is ts node operator path value) (adds_two f g)
 
 module _ (a : Around) (kind : PlaceKind) (whole : RustStmt) where
   abbrev first : RustStmt → List FlatPlace
   first s = first_adds a kind (stmt_before (types_of a) s Empty)
 
   -- what is added is that of the whole
-  in_stmt : (x : List FlatPlace) (s : RustStmt) (old new : List FlatPlace) → whole ≡ s → first s ≡ x → new ≡ old ++ x → new ≡ old ++ first whole
-  in_stmt x s old new w g f = as_words old x (first whole) new f (ap first w ∙ g)
+  in_stmt : (x : List FlatPlace) (s : RustStmt) (old new : Option (List FlatPlace)) → whole ≡ s → first s ≡ x →
+      Adds old new x → Adds old new (first whole)
+  in_stmt x s old new w g f = adds_as x (first whole) f (sym (ap first w ∙ g))
 
-  pub assign_places : (s : RustStmt) (old new : List FlatPlace) → whole ≡ s → new ≡ old ++ first s → new ≡ old ++ first whole
-  assign_places s old new w f = as_words old (first s) (first whole) new f (ap first w)
+  pub assign_places : (s : RustStmt) (old new : Option (List FlatPlace)) → whole ≡ s → Adds old new (first s) → Adds old new (first whole)
+  assign_places s old new w f = adds_as (first s) (first whole) f (sym (ap first w))
 
-  pub discard_places : (node : Node) (value : Option RustExpr) (old new : List FlatPlace) → whole ≡ S.Discard node value →
-      new ≡ old ++ other_adds (types_of a) (option_map (expr_of (types_of a)) value) → new ≡ old ++ first whole
+  pub discard_places : (node : Node) (value : Option RustExpr) (old new : Option (List FlatPlace)) → whole ≡ S.Discard node value →
+      Adds old new (other_adds (types_of a) (option_map (expr_of (types_of a)) value)) → Adds old new (first whole)
   discard_places node value old new w f =
       in_stmt (other_adds (types_of a) (option_map (expr_of (types_of a)) value)) (S.Discard node value) old new w (discard_is a kind node value) f
 
-  pub return_places : (node : Node) (value : Option RustExpr) (old new : List FlatPlace) → whole ≡ S.Return node value →
-      new ≡ old ++ given_if a (option_map (expr_of (types_of a)) value) → new ≡ old ++ first whole
+  pub return_places : (node : Node) (value : Option RustExpr) (old new : Option (List FlatPlace)) → whole ≡ S.Return node value →
+      Adds old new (given_if a (option_map (expr_of (types_of a)) value)) → Adds old new (first whole)
   return_places node value old new w f =
       in_stmt (given_if a (option_map (expr_of (types_of a)) value)) (S.Return node value) old new w (return_is a kind node value) f
 
-  pub declare_places : (node : Node) (place : PlaceDecl) (value : Option RustExpr) (old b c : List FlatPlace) → whole ≡ S.Declare node place value →
-      b ≡ old ++ declared (types_of a) kind (declared_of (types_of a) place) →
-      c ≡ b ++ other_adds (types_of a) (option_map (expr_of (types_of a)) value) → c ≡ old ++ first whole
+  pub declare_places : (node : Node) (place : PlaceDecl) (value : Option RustExpr) (old b c : Option (List FlatPlace)) →
+      whole ≡ S.Declare node place value →
+      Adds old b (declared (types_of a) kind (declared_of (types_of a) place)) →
+      Adds b c (other_adds (types_of a) (option_map (expr_of (types_of a)) value)) → Adds old c (first whole)
   declare_places node place value old b c w f g =
       let x = declared (types_of a) kind (declared_of (types_of a) place) in
       let y = other_adds (types_of a) (option_map (expr_of (types_of a)) value) in
-      in_stmt (x ++ y) (S.Declare node place value) old c w (declare_is a kind node place value) (two old x y b c f g)
+      in_stmt (x ++ y) (S.Declare node place value) old c w (declare_is a kind node place value) (adds_two f g)
 
-  pub if_places : (node : Node) (branches : Vec RustBranch Global) (otherwise : Vec RustStmt Global) (old b c : List FlatPlace) →
+  pub if_places : (node : Node) (branches : Vec RustBranch Global) (otherwise : Vec RustStmt Global) (old b c : Option (List FlatPlace)) →
       whole ≡ S.If node branches otherwise →
-      b ≡ old ++ branch_places (types_of a) (result_of a) (branches_of (types_of a) branches.items) →
-      c ≡ b ++ block_places (types_of a) (result_of a) K.Local (stmts_of (types_of a) otherwise.items) → c ≡ old ++ first whole
+      Adds old b (branch_places (types_of a) (result_of a) (branches_of (types_of a) branches.items)) →
+      Adds b c (block_places (types_of a) (result_of a) K.Local (stmts_of (types_of a) otherwise.items)) → Adds old c (first whole)
   if_places node branches otherwise old b c w f g =
       let x = branch_places (types_of a) (result_of a) (branches_of (types_of a) branches.items) in
       let y = block_places (types_of a) (result_of a) K.Local (stmts_of (types_of a) otherwise.items) in
       in_stmt (x ++ y) (S.If node branches otherwise) old c w
-      (ap (first_adds a kind) (decided (types_of a) node Empty branches otherwise)) (two old x y b c f g)
+      (ap (first_adds a kind) (decided (types_of a) node Empty branches otherwise)) (adds_two f g)
 
   pub case_places : (node : Node) (selector : RustExpr) (arms : Vec RustArm Global) (otherwise : Vec RustStmt Global)
-      (old b c d : List FlatPlace) →
+      (old b c d : Option (List FlatPlace)) →
       whole ≡ S.Case node selector arms otherwise →
-      b ≡ old ++ expr_places (types_of a) (expr_of (types_of a) selector) →
-      c ≡ b ++ arm_places (types_of a) (result_of a) (arms_of (types_of a) arms.items) →
-      d ≡ c ++ block_places (types_of a) (result_of a) K.Local (stmts_of (types_of a) otherwise.items) → d ≡ old ++ first whole
+      Adds old b (expr_places (types_of a) (expr_of (types_of a) selector)) →
+      Adds b c (arm_places (types_of a) (result_of a) (arms_of (types_of a) arms.items)) →
+      Adds c d (block_places (types_of a) (result_of a) K.Local (stmts_of (types_of a) otherwise.items)) → Adds old d (first whole)
   case_places node selector arms otherwise old b c d w f g h =
       let x = expr_places (types_of a) (expr_of (types_of a) selector) in
       let y = arm_places (types_of a) (result_of a) (arms_of (types_of a) arms.items) in
       let z = block_places (types_of a) (result_of a) K.Local (stmts_of (types_of a) otherwise.items) in
       in_stmt (x ++ (y ++ z)) (S.Case node selector arms otherwise) old d w
-      (ap (first_adds a kind) (selected (types_of a) node Empty selector arms otherwise)) (three old x y z b c d f g h)
+      (ap (first_adds a kind) (selected (types_of a) node Empty selector arms otherwise)) (adds_two f (adds_two g h))
 
-  pub while_places : (node : Node) (condition : RustExpr) (body : Vec RustStmt Global) (old b c : List FlatPlace) →
+  pub while_places : (node : Node) (condition : RustExpr) (body : Vec RustStmt Global) (old b c : Option (List FlatPlace)) →
       whole ≡ S.While node condition body →
-      b ≡ old ++ expr_places (types_of a) (expr_of (types_of a) condition) →
-      c ≡ b ++ block_places (types_of a) (result_of a) K.Local (stmts_of (types_of a) body.items) → c ≡ old ++ first whole
+      Adds old b (expr_places (types_of a) (expr_of (types_of a) condition)) →
+      Adds b c (block_places (types_of a) (result_of a) K.Local (stmts_of (types_of a) body.items)) → Adds old c (first whole)
   while_places node condition body old b c w f g =
       let x = expr_places (types_of a) (expr_of (types_of a) condition) in
       let y = block_places (types_of a) (result_of a) K.Local (stmts_of (types_of a) body.items) in
       in_stmt (x ++ y) (S.While node condition body) old c w
-      (ap (first_adds a kind) (repeated (types_of a) node Empty condition body)) (two old x y b c f g)
+      (ap (first_adds a kind) (repeated (types_of a) node Empty condition body)) (adds_two f g)
 
-  pub count_places : (node : Node) (place : PlaceDecl) (bounds : Bounds) (body : Vec RustStmt Global) (old b c : List FlatPlace) →
+  pub count_places : (node : Node) (place : PlaceDecl) (bounds : Bounds) (body : Vec RustStmt Global) (old b c : Option (List FlatPlace)) →
       whole ≡ S.Count node place bounds body →
-      b ≡ old ++ count_adds (types_of a) node (declared_of (types_of a) place) (expr_of (types_of a) bounds.first) (expr_of (types_of a) bounds.last) →
-      c ≡ b ++ block_places (types_of a) (result_of a) K.Local (stmts_of (types_of a) body.items) → c ≡ old ++ first whole
+      Adds old b (count_adds (types_of a) node (declared_of (types_of a) place) (expr_of (types_of a) bounds.first) (expr_of (types_of a) bounds.last)) →
+      Adds b c (block_places (types_of a) (result_of a) K.Local (stmts_of (types_of a) body.items)) → Adds old c (first whole)
   count_places node place bounds body old b c w f g =
       let ts = types_of a in
       let x = count_adds ts node (declared_of ts place) (expr_of ts bounds.first) (expr_of ts bounds.last) in
       let y = block_places ts (result_of a) K.Local (stmts_of ts body.items) in
       in_stmt (x ++ y) (S.Count node place bounds body) old c w
       (ap (first_adds a kind) (counted ts node Empty place bounds body) ∙
-      count_front ts node (declared_of ts place) (expr_of ts bounds.first) (expr_of ts bounds.last) y) (two old x y b c f g)
+      count_front ts node (declared_of ts place) (expr_of ts bounds.first) (expr_of ts bounds.last) y) (adds_two f g)
 
-  pub each_places_of : (node : Node) (place : PlaceDecl) (path : RustPath) (body : Vec RustStmt Global) (old b c : List FlatPlace) →
+  pub each_places_of : (node : Node) (place : PlaceDecl) (path : RustPath) (body : Vec RustStmt Global) (old b c : Option (List FlatPlace)) →
       whole ≡ S.Each node place path body →
-      b ≡ old ++ each_adds (types_of a) node (declared_of (types_of a) place) (path_of (types_of a) path) →
-      c ≡ b ++ block_places (types_of a) (result_of a) K.Local (stmts_of (types_of a) body.items) → c ≡ old ++ first whole
+      Adds old b (each_adds (types_of a) node (declared_of (types_of a) place) (path_of (types_of a) path)) →
+      Adds b c (block_places (types_of a) (result_of a) K.Local (stmts_of (types_of a) body.items)) → Adds old c (first whole)
   each_places_of node place path body old b c w f g =
       let ts = types_of a in
       let x = each_adds ts node (declared_of ts place) (path_of ts path) in
       let y = block_places ts (result_of a) K.Local (stmts_of ts body.items) in
       in_stmt (x ++ y) (S.Each node place path body) old c w
       (ap (first_adds a kind) (gone_over ts node Empty place path body) ∙
-      each_front ts node (declared_of ts place) (path_of ts path) y) (two old x y b c f g)
+      each_front ts node (declared_of ts place) (path_of ts path) y) (adds_two f g)

@@ -1,4 +1,5 @@
 pub mod Numbering
+pub mod Written
 pub mod ExprLines
 pub mod StmtLines
 pub mod Places

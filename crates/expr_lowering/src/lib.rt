@@ -29,6 +29,7 @@ mod single;
 mod stmts;
 mod sum_stmts;
 mod sums;
+mod written;
 
 pub use examples::flatten_examples;
 pub use frames::{MOST_BYTES, MOST_LEVELS};

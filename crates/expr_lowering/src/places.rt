@@ -1,24 +1,26 @@
 // The places of expressions.
-ghost use Rattle.std.specs.Prelude.{◌≡◌, ◌++◌, OnOk, option_map};
+ghost use Rattle.std.specs.Prelude.{option_map};
 ghost use Rattle.nim_core.specs.View.{expr_of, path_of, exprs_of, inits_of, args_of, choices_of};
 ghost use Rattle.nim_core.specs.View.{picks_of};
 ghost use Rattle.expr_lowering.specs.Places.{expr_places, read_places, path_places, altered_places};
 ghost use Rattle.expr_lowering.specs.Places.{all_places, init_places, arg_places, choice_places};
 ghost use Rattle.expr_lowering.specs.Places.{pick_places};
 ghost use Rattle.expr_lowering.specs.Views.{types_of};
+ghost use Rattle.expr_lowering.specs.Written.{Adds};
 ghost use Rattle.expr_lowering.specs.PlaceViews.{part_places, own_places, other_adds, arg_adds};
 
 use crate::around::Around;
 use crate::nodes::node_of;
 use crate::place::{add_counter, add_location_if, add_typed, add_value_if};
-use arc_base::{Items, Memory};
+use crate::written::Written;
 use mid_code::{FlatPlace, PlaceKind};
 use nim_core::{Arg, Choice, Expr, Init, Path, Pick, type_of};
 
 // The place of an expression itself.
-fn add_own(places: &mut Items<FlatPlace>, around: &Around, expr: &Expr) -> Result<(), Memory>
-    ensures { OnOk result (places.new ≡ places.old
-        ++ own_places (types_of around.now) (expr_of (types_of around.now) expr.now)) }
+#[tactic(auto, using(crate::proofs::Writing::adds_none))]
+fn add_own(places: &mut Written<FlatPlace>, around: &Around, expr: &Expr)
+    ensures { Adds places.old places.new
+        (own_places (types_of around.now) (expr_of (types_of around.now) expr.now)) }
 {
     match expr {
         Expr::Ordinal { node, ty, .. }
@@ -48,11 +50,11 @@ fn add_own(places: &mut Items<FlatPlace>, around: &Around, expr: &Expr) -> Resul
         },
         Expr::Step { node, value, .. } => match value {
             None => add_counter(places, *node, node.number),
-            Some(_) => Ok(()),
+            Some(_) => {}
         },
         Expr::Quit { status, .. } => match status {
-            None => Ok(()),
-            Some(_) => Ok(()),
+            None => {}
+            Some(_) => {}
         },
         Expr::Text { .. }
         | Expr::Read { .. }
@@ -66,29 +68,30 @@ fn add_own(places: &mut Items<FlatPlace>, around: &Around, expr: &Expr) -> Resul
         | Expr::Echo { .. }
         | Expr::Add { .. }
         | Expr::SetLen { .. }
-        | Expr::Swap { .. } => Ok(()),
+        | Expr::Swap { .. } => {}
     }
 }
 
 /// Adds the places of an expression.
 #[cycle(places)]
-pub fn add_expr(places: &mut Items<FlatPlace>, around: &Around, expr: &Expr) -> Result<(), Memory>
-    ensures { OnOk result (places.new ≡ places.old
-        ++ expr_places (types_of around.now) (expr_of (types_of around.now) expr.now)) }
+pub fn add_expr(places: &mut Written<FlatPlace>, around: &Around, expr: &Expr)
+    ensures { Adds places.old places.new
+        (expr_places (types_of around.now) (expr_of (types_of around.now) expr.now)) }
 {
-    add_parts(places, around, expr)?;
+    add_parts(places, around, expr);
     add_own(places, around, expr)
 }
 
 // The places of an expression's parts.
 #[cycle(places)]
-fn add_parts(places: &mut Items<FlatPlace>, around: &Around, expr: &Expr) -> Result<(), Memory>
-    ensures { OnOk result (places.new ≡ places.old
-        ++ part_places (types_of around.now) (expr_of (types_of around.now) expr.now)) }
+#[tactic(auto, using(crate::proofs::Writing::adds_two, crate::proofs::Writing::adds_none))]
+fn add_parts(places: &mut Written<FlatPlace>, around: &Around, expr: &Expr)
+    ensures { Adds places.old places.new
+        (part_places (types_of around.now) (expr_of (types_of around.now) expr.now)) }
 {
     match expr {
         Expr::Ordinal { .. } | Expr::Text { .. } | Expr::Constant { .. } | Expr::Default { .. } =>
-            Ok(()),
+            {}
         Expr::Read { path } => add_read(places, around, path),
         Expr::Measure { path, .. } | Expr::Move { path, .. } => add_path(places, around, path),
         Expr::Unary { operand, .. } | Expr::Convert { operand, .. } => {
@@ -98,7 +101,7 @@ fn add_parts(places: &mut Items<FlatPlace>, around: &Around, expr: &Expr) -> Res
         | Expr::Compare { left, right, .. }
         | Expr::Both { left, right, .. }
         | Expr::Either { left, right, .. } => {
-            add_expr(places, around, &**left)?;
+            add_expr(places, around, &**left);
             add_expr(places, around, &**right)
         }
         Expr::Make { parts, .. } => add_all(places, around, parts),
@@ -109,7 +112,7 @@ fn add_parts(places: &mut Items<FlatPlace>, around: &Around, expr: &Expr) -> Res
             otherwise,
             ..
         } => {
-            add_choices(places, around, branches)?;
+            add_choices(places, around, branches);
             add_expr(places, around, &**otherwise)
         }
         Expr::Case {
@@ -118,36 +121,36 @@ fn add_parts(places: &mut Items<FlatPlace>, around: &Around, expr: &Expr) -> Res
             otherwise,
             ..
         } => {
-            add_expr(places, around, &**selector)?;
-            add_picks(places, around, branches)?;
+            add_expr(places, around, &**selector);
+            add_picks(places, around, branches);
             add_other(places, around, otherwise)
         }
         Expr::Echo { operands, .. } => add_all(places, around, operands),
         Expr::Quit { status, .. } => add_other(places, around, status),
         Expr::Step { path, value, .. } => {
-            add_altered(places, around, path)?;
+            add_altered(places, around, path);
             add_other(places, around, value)
         }
         Expr::Swap { left, right, .. } => {
-            add_path(places, around, left)?;
+            add_path(places, around, left);
             add_path(places, around, right)
         }
-        _ => Err(Memory),
+        _ => places.lose(),
     }
 }
 
 // The places of a path whose value is read.
 #[cycle(places)]
-fn add_read(places: &mut Items<FlatPlace>, around: &Around, path: &Path) -> Result<(), Memory>
-    ensures { OnOk result (places.new ≡ places.old
-        ++ read_places (types_of around.now) (path_of (types_of around.now) path.now)) }
+fn add_read(places: &mut Written<FlatPlace>, around: &Around, path: &Path)
+    ensures { Adds places.old places.new
+        (read_places (types_of around.now) (path_of (types_of around.now) path.now)) }
 {
     match path {
         Path::Variable { node, ty, .. } => add_typed(places, around, *node, PlaceKind::Temp, *ty),
         Path::Fresh { value } => add_expr(places, around, &**value),
         Path::Field { node, ty, base, .. } => {
-            add_path(places, around, &**base)?;
-            add_typed(places, around, *node, PlaceKind::Location, *ty)?;
+            add_path(places, around, &**base);
+            add_typed(places, around, *node, PlaceKind::Location, *ty);
             add_typed(places, around, *node, PlaceKind::Temp, *ty)
         }
         Path::Element {
@@ -156,9 +159,9 @@ fn add_read(places: &mut Items<FlatPlace>, around: &Around, path: &Path) -> Resu
             base,
             index,
         } => {
-            add_path(places, around, &**base)?;
-            add_expr(places, around, &**index)?;
-            add_typed(places, around, *node, PlaceKind::Location, *ty)?;
+            add_path(places, around, &**base);
+            add_expr(places, around, &**index);
+            add_typed(places, around, *node, PlaceKind::Location, *ty);
             add_typed(places, around, *node, PlaceKind::Temp, *ty)
         }
     }
@@ -166,9 +169,9 @@ fn add_read(places: &mut Items<FlatPlace>, around: &Around, path: &Path) -> Resu
 
 /// Adds the places of a path that is looked up.
 #[cycle(places)]
-pub fn add_path(places: &mut Items<FlatPlace>, around: &Around, path: &Path) -> Result<(), Memory>
-    ensures { OnOk result (places.new ≡ places.old
-        ++ path_places (types_of around.now) (path_of (types_of around.now) path.now)) }
+pub fn add_path(places: &mut Written<FlatPlace>, around: &Around, path: &Path)
+    ensures { Adds places.old places.new
+        (path_places (types_of around.now) (path_of (types_of around.now) path.now)) }
 {
     match path {
         Path::Variable { node, ty, .. } => add_typed(
@@ -179,11 +182,11 @@ pub fn add_path(places: &mut Items<FlatPlace>, around: &Around, path: &Path) -> 
             *ty,
         ),
         Path::Fresh { value } => {
-            add_expr(places, around, &**value)?;
+            add_expr(places, around, &**value);
             add_location_if(places, around, node_of(&**value), type_of(&**value))
         }
         Path::Field { node, ty, base, .. } => {
-            add_path(places, around, &**base)?;
+            add_path(places, around, &**base);
             add_typed(places, around, *node, PlaceKind::Location, *ty)
         }
         Path::Element {
@@ -192,8 +195,8 @@ pub fn add_path(places: &mut Items<FlatPlace>, around: &Around, path: &Path) -> 
             base,
             index,
         } => {
-            add_path(places, around, &**base)?;
-            add_expr(places, around, &**index)?;
+            add_path(places, around, &**base);
+            add_expr(places, around, &**index);
             add_typed(places, around, *node, PlaceKind::Location, *ty)
         }
     }
@@ -201,26 +204,22 @@ pub fn add_path(places: &mut Items<FlatPlace>, around: &Around, path: &Path) -> 
 
 /// Adds the places of a path that is read and written.
 #[cycle(places)]
-pub fn add_altered(
-    places: &mut Items<FlatPlace>,
-    around: &Around,
-    path: &Path,
-) -> Result<(), Memory>
-    ensures { OnOk result (places.new ≡ places.old
-        ++ altered_places (types_of around.now) (path_of (types_of around.now) path.now)) }
+pub fn add_altered(places: &mut Written<FlatPlace>, around: &Around, path: &Path)
+    ensures { Adds places.old places.new
+        (altered_places (types_of around.now) (path_of (types_of around.now) path.now)) }
 {
     match path {
         Path::Variable { node, ty, .. } => add_typed(places, around, *node, PlaceKind::Temp, *ty),
         Path::Fresh { value } => {
             let ty = type_of(&**value);
             let node = node_of(&**value);
-            add_expr(places, around, &**value)?;
-            add_location_if(places, around, node, ty)?;
+            add_expr(places, around, &**value);
+            add_location_if(places, around, node, ty);
             add_value_if(places, around, node, ty)
         }
         Path::Field { node, ty, base, .. } => {
-            add_path(places, around, &**base)?;
-            add_typed(places, around, *node, PlaceKind::Location, *ty)?;
+            add_path(places, around, &**base);
+            add_typed(places, around, *node, PlaceKind::Location, *ty);
             add_typed(places, around, *node, PlaceKind::Temp, *ty)
         }
         Path::Element {
@@ -229,58 +228,52 @@ pub fn add_altered(
             base,
             index,
         } => {
-            add_path(places, around, &**base)?;
-            add_expr(places, around, &**index)?;
-            add_typed(places, around, *node, PlaceKind::Location, *ty)?;
+            add_path(places, around, &**base);
+            add_expr(places, around, &**index);
+            add_typed(places, around, *node, PlaceKind::Location, *ty);
             add_typed(places, around, *node, PlaceKind::Temp, *ty)
         }
     }
 }
 
 #[cycle(places)]
-fn add_other(
-    places: &mut Items<FlatPlace>,
-    around: &Around,
-    other: &Option<Box<Expr>>,
-) -> Result<(), Memory>
-    ensures { OnOk result (places.new ≡ places.old ++ other_adds (types_of around.now)
-        (option_map (λ e. expr_of (types_of around.now) e.value) other.now)) }
+#[tactic(auto, using(crate::proofs::Writing::adds_none))]
+fn add_other(places: &mut Written<FlatPlace>, around: &Around, other: &Option<Box<Expr>>)
+    ensures { Adds places.old places.new
+        (other_adds (types_of around.now) (option_map (λ e. expr_of (types_of around.now) e.value) other.now)) }
 {
     match other {
-        None => Ok(()),
+        None => {}
         Some(value) => add_expr(places, around, &**value),
     }
 }
 
 #[cycle(places)]
-fn add_all(places: &mut Items<FlatPlace>, around: &Around, exprs: &Vec<Expr>) -> Result<(), Memory>
-    ensures { OnOk result (places.new ≡ places.old
-        ++ all_places (types_of around.now) (exprs_of (types_of around.now) exprs.now.items)) }
+#[tactic(auto, using(crate::proofs::Writing::adds_two, crate::proofs::Writing::adds_none))]
+fn add_all(places: &mut Written<FlatPlace>, around: &Around, exprs: &Vec<Expr>)
+    ensures { Adds places.old places.new
+        (all_places (types_of around.now) (exprs_of (types_of around.now) exprs.now.items)) }
 {
     for expr in exprs {
-        add_expr(places, around, expr)?;
+        add_expr(places, around, expr);
     }
-    Ok(())
 }
 
 #[cycle(places)]
-fn add_inits(
-    places: &mut Items<FlatPlace>,
-    around: &Around,
-    inits: &Vec<Init>,
-) -> Result<(), Memory>
-    ensures { OnOk result (places.new ≡ places.old
-        ++ init_places (types_of around.now) (inits_of (types_of around.now) inits.now.items)) }
+#[tactic(auto, using(crate::proofs::Writing::adds_two, crate::proofs::Writing::adds_none))]
+fn add_inits(places: &mut Written<FlatPlace>, around: &Around, inits: &Vec<Init>)
+    ensures { Adds places.old places.new
+        (init_places (types_of around.now) (inits_of (types_of around.now) inits.now.items)) }
 {
     for init in inits {
-        add_expr(places, around, &init.value)?;
+        add_expr(places, around, &init.value);
     }
-    Ok(())
 }
 
 #[cycle(places)]
-fn add_arg(places: &mut Items<FlatPlace>, around: &Around, arg: &Arg) -> Result<(), Memory>
-    ensures { OnOk result (places.new ≡ places.old ++ arg_adds (types_of around.now) arg.now) }
+fn add_arg(places: &mut Written<FlatPlace>, around: &Around, arg: &Arg)
+    ensures { Adds places.old places.new
+        (arg_adds (types_of around.now) arg.now) }
 {
     match arg {
         Arg::Value(value) => add_expr(places, around, value),
@@ -289,44 +282,35 @@ fn add_arg(places: &mut Items<FlatPlace>, around: &Around, arg: &Arg) -> Result<
 }
 
 #[cycle(places)]
-fn add_args(places: &mut Items<FlatPlace>, around: &Around, args: &Vec<Arg>) -> Result<(), Memory>
-    ensures { OnOk result (places.new ≡ places.old
-        ++ arg_places (types_of around.now) (args_of (types_of around.now) args.now.items)) }
+#[tactic(auto, using(crate::proofs::Writing::adds_two, crate::proofs::Writing::adds_none))]
+fn add_args(places: &mut Written<FlatPlace>, around: &Around, args: &Vec<Arg>)
+    ensures { Adds places.old places.new
+        (arg_places (types_of around.now) (args_of (types_of around.now) args.now.items)) }
 {
     for arg in args {
-        add_arg(places, around, arg)?;
+        add_arg(places, around, arg);
     }
-    Ok(())
 }
 
 #[cycle(places)]
-fn add_choices(
-    places: &mut Items<FlatPlace>,
-    around: &Around,
-    choices: &Vec<Choice>,
-) -> Result<(), Memory>
-    ensures { OnOk result (places.new ≡ places.old
-        ++ choice_places (types_of around.now)
-        (choices_of (types_of around.now) choices.now.items)) }
+#[tactic(auto, using(crate::proofs::Writing::adds_two, crate::proofs::Writing::adds_none))]
+fn add_choices(places: &mut Written<FlatPlace>, around: &Around, choices: &Vec<Choice>)
+    ensures { Adds places.old places.new
+        (choice_places (types_of around.now) (choices_of (types_of around.now) choices.now.items)) }
 {
     for choice in choices {
-        add_expr(places, around, &choice.condition)?;
-        add_expr(places, around, &choice.value)?;
+        add_expr(places, around, &choice.condition);
+        add_expr(places, around, &choice.value);
     }
-    Ok(())
 }
 
 #[cycle(places)]
-fn add_picks(
-    places: &mut Items<FlatPlace>,
-    around: &Around,
-    picks: &Vec<Pick>,
-) -> Result<(), Memory>
-    ensures { OnOk result (places.new ≡ places.old
-        ++ pick_places (types_of around.now) (picks_of (types_of around.now) picks.now.items)) }
+#[tactic(auto, using(crate::proofs::Writing::adds_two, crate::proofs::Writing::adds_none))]
+fn add_picks(places: &mut Written<FlatPlace>, around: &Around, picks: &Vec<Pick>)
+    ensures { Adds places.old places.new
+        (pick_places (types_of around.now) (picks_of (types_of around.now) picks.now.items)) }
 {
     for pick in picks {
-        add_expr(places, around, &pick.value)?;
+        add_expr(places, around, &pick.value);
     }
-    Ok(())
 }

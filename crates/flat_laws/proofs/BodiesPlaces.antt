@@ -23,7 +23,7 @@ use Rattle.flat_laws.proofs.DeclaredPlaces.{body_declared}
 use Rattle.flat_laws.proofs.LocalKinds.{body_locals}
 use Rattle.flat_laws.proofs.StartKinds.{start_kinds}
 use Rattle.flat_laws.proofs.BodyNumbers.{body_apart, start_apart}
-use Rattle.flat_laws.proofs.PlaceOrigins.{places_from}
+use Rattle.flat_laws.proofs.PlaceOrigins.{places_from, for_local, for_global}
 use Rattle.flat_laws.proofs.PlainStmts.{block_plain, code_plain, body_plain}
 use Rattle.flat_laws.proofs.DeclaredTypes.{block_listed, code_listed, body_listed}
 use Rattle.flat_laws.proofs.FlatPlaces.{has_places}
@@ -52,7 +52,7 @@ module _ (types : List Ty) (program : Program) (tabled : Tabled (record { types 
       let kinds = body_locals types program params gives body t in
       let plain = body_plain here.known params K.Local body p
       (block_plain body.result here tabled (body_of gives) body.stmts u.1 (neither _ _ p).1) in
-      let from = places_from types (nodes_in_block body.stmts) params K.Local body refl (record { get = λ x m. m }) in
+      let from = places_from types (nodes_in_block body.stmts) params K.Local body for_local (record { get = λ x m. m }) in
       let listed = body_listed program.globals types params body heads (block_listed program.globals here (body_of gives) body.stmts u.1) in
       has_places known can_copy copied (body_places types params K.Local body) plain (nodes_in_block body.stmts) (rising body rises) all from
       (places_of_body program.globals params body) (body_declared types program.globals params K.Local body refl kinds) listed
@@ -69,7 +69,7 @@ module _ (types : List Ty) (program : Program) (tabled : Tabled (record { types 
       let v = both_of _ _ u.0 in
       let rises = (both_of _ _ v.0).0 in
       let plain = body_plain here.known [] K.Global body p (code_plain body.result here tabled body.stmts u.1 (neither _ _ p).1) in
-      let from = places_from types (nodes_in_block body.stmts) [] K.Global body refl (record { get = λ x m. m }) in
+      let from = places_from types (nodes_in_block body.stmts) [] K.Global body for_global (record { get = λ x m. m }) in
       let listed = body_listed program.globals types [] body (no_head body.result v.1) (code_listed program.globals here body.stmts u.1) in
       has_places known can_copy copied (body_places types [] K.Global body) plain (nodes_in_block body.stmts) (rising body rises) all from
       (places_of_body program.globals [] body) (body_declared types program.globals [] K.Global body refl (start_kinds types program t)) listed

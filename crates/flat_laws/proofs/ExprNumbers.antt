@@ -23,7 +23,8 @@ use Rattle.expr_lowering.specs.Places.{value, value_if, location, location_if, c
 use Rattle.expr_lowering.specs.Places.{init_places, arg_places, choice_places, pick_places}
 use Rattle.flat_laws.proofs.Typed.{both_of, rise_least, rise_first, rise_split}
 use Rattle.flat_laws.proofs.Apart.{In, of_node, Kept, kept_none, kept_wider, N, one_place, two_places, then_places, turned_places}
-use Rattle.flat_laws.proofs.ExprParts.{part_places, own_places, parts_own}
+use Rattle.expr_lowering.specs.PlaceViews.{part_places, own_places}
+use Rattle.flat_laws.proofs.ExprParts.{parts_own}
 
 module _ (types : List Ty) where
   module _ (is_so : PlaceKind → Bool) (apart : is_so K.Location ≡ true → is_so K.Temp ≡ true → ⊥) where
@@ -135,9 +136,9 @@ module _ (types : List Ty) where
         let n = number_of e in
         let at = location_if types (node_of e) (type_of e) in
         record {
-          here = subst (λ ps. K_of lo hi ps) (sym (parts_own types e f)) (behind n lo hi (part_places types e) (own_places types e) c l k o.alone);
+          here = subst (λ ps. K_of lo hi ps) (sym (parts_own types e)) (behind n lo hi (part_places types e) (own_places types e) c l k o.alone);
           led = λ g. subst (λ ps. K_of lo hi ps)
-              (sym (ap (λ ps. ps ++ at) (parts_own types e f) ∙ append_assoc (part_places types e) (own_places types e) at))
+              (sym (ap (λ ps. ps ++ at) (parts_own types e) ∙ append_assoc (part_places types e) (own_places types e) at))
               (behind n lo hi (part_places types e) (own_places types e ++ at) c l k o.led);
         }
 

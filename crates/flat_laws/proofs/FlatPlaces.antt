@@ -24,7 +24,7 @@ use Rattle.flat_laws.proofs.Sane.{Listed}
 use Rattle.flat_laws.proofs.NodeNumbers.{number, one_node, below}
 use Rattle.flat_laws.proofs.DeclaredPlaces.{as_place, as_places}
 use Rattle.flat_laws.proofs.PlaceTypes.{ArePlain, are_places, no_resource}
-use Rattle.flat_laws.proofs.PlaceOrigins.{OfNode, FromNode, From}
+use Rattle.flat_laws.proofs.PlaceOrigins.{OfNode, Origin, FromNode, Undeclared, value_undeclared}
 use Rattle.flat_laws.proofs.PlainTypes.{PlainPlaces}
 use Rattle.flat_laws.proofs.DeclaredTypes.{AreListed}
 use Rattle.flat_laws.proofs.BodyNumbers.{AreApart}
@@ -66,12 +66,6 @@ named_node (y ∷ ys) n x e = at (nat_eq y.node.number n) refl (named_node ys n 
     at false f rest e = let r = rest e in (inr r.0, r.1)
 
 -- ---- kinds
-
-value_undeclared : (kind : PlaceKind) → is_value kind ≡ true → is_declared kind ≡ false
-value_undeclared K.Temp h = refl
-value_undeclared K.Counter h = refl
-value_undeclared K.Location h = refl
-value_undeclared kind h = absurd (both_ways false refl h)
 
 location_undeclared : (kind : PlaceKind) → is_location kind ≡ true → is_declared kind ≡ false
 location_undeclared K.Temp h = refl
@@ -122,7 +116,7 @@ module _ (known : Known) (can_copy : Ty → Bool) (copied : (ty : Ty) → is_hoo
   -- ---- temporaries
 
   module _ (nodes : List TypedNode) (rises : rise_to 0 MOST_NODES (map number nodes) ≡ true)
-      (listed : (node : Node) (ty : Ty) → Member (typed node (Some ty)) nodes → Listed known.types ty) (from : From known.types nodes places) where
+      (listed : (node : Node) (ty : Ty) → Member (typed node (Some ty)) nodes → Listed known.types ty) (from : Undeclared known.types nodes places) where
     of_type : (p : FlatPlace) → FromNode known.types nodes p → Member p places → (o : OfNode known.types nodes p) → (x : TypedNode) →
         x ≡ o.from →
         (ty : Option Ty) → x.ty ≡ ty → IsOfType known can_copy p x.node.at ty
@@ -160,18 +154,17 @@ module _ (known : Known) (can_copy : Ty → Bool) (copied : (ty : Ty) → is_hoo
     of_node : (p : FlatPlace) → Member p places → is_declared p.kind ≡ false → (o : Option TypedNode) → node_named nodes p.number ≡ o →
         IsOfNode known can_copy p o
     of_node p m undeclared None e = tt
-    of_node p m undeclared (Some x) e = at (FromNode.origin f)
+    of_node p m undeclared (Some x) e = at (f.origin undeclared)
       where
         f : FromNode known.types nodes p
-        f = from.get p m
+        f = from.get p m undeclared
 
         q : Member x nodes × (x.node.number ≡ p.number)
         q = named_node nodes p.number x e
 
-        at : (is_declared p.kind ≡ true) ⊎ ((COUNTERS ≤ p.number) ⊎ OfNode known.types nodes p) → IsOfType known can_copy p x.node.at x.ty
-        at (inl d) = absurd (both_ways (is_declared p.kind) undeclared d)
-        at (inr (inl c)) = absurd (omega (arith, c, most_nodes, q.1, below 0 MOST_NODES nodes rises x q.0))
-        at (inr (inr o)) = of_type p f m o x (one_node 0 MOST_NODES nodes rises x o.from q.0 o.there (q.1 ∙ o.number)) x.ty refl
+        at : Origin known.types nodes p → IsOfType known can_copy p x.node.at x.ty
+        at (inl c) = absurd (omega (arith, c, most_nodes, q.1, below 0 MOST_NODES nodes rises x q.0))
+        at (inr o) = of_type p f m o x (one_node 0 MOST_NODES nodes rises x o.from q.0 o.there (q.1 ∙ o.number)) x.ty refl
 
     of_nodes : (ps : List FlatPlace) → ((p : FlatPlace) → Member p ps → Member p places × (is_declared p.kind ≡ false)) →
         AreOfNodes known can_copy ps nodes

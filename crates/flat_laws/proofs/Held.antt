@@ -11,6 +11,7 @@ use Rattle.nim_core.specs.Program as T
 use Rattle.nim_core.specs.Program.{Body, Program, Stmts}
 use Rattle.nim_core.specs.Marks.{Member, block_nodes}
 use Rattle.nim_core.specs.Values.{Value}
+use Rattle.mid_code.specs.declared.place.PlaceKind.{PlaceKind}
 use Rattle.mid_code.specs.declared.place.PlaceKind.TheVariants as K
 use Rattle.mid_code.specs.declared.place.FlatPlace.{FlatPlace}
 use Rattle.mid_code.specs.declared.flat.FlatProc.{FlatProc}
@@ -34,7 +35,7 @@ use Rattle.flat_laws.proofs.Calls.{Fixed, known_of, Fitting}
 use Rattle.flat_laws.proofs.Programs.{fixed_of}
 use Rattle.flat_laws.proofs.SaneBodies.{Holding}
 use Rattle.flat_laws.proofs.NodeNumbers.{number, block_numbers, one_node, below}
-use Rattle.flat_laws.proofs.Origins.{Origin, body_from, body_taken, for_local, for_global}
+use Rattle.flat_laws.proofs.PlaceOrigins.{Origin, Undeclared, value_undeclared, places_from, body_taken, for_local, for_global}
 
 -- ---- a value's place, by its number
 
@@ -50,12 +51,17 @@ found known (p ∷ ps) n s e = at (nat_eq p.number n && is_value p.kind) refl (f
     at true f rest e = let b = and_parts _ _ f in (p, inl refl, eqb-true p.number n b.0, b.1, some_same _ _ e)
     at false f rest e = let r = rest e in (r.0, inr r.1, r.2, r.3, r.4)
 
+-- a place's shape is its type's, but for a counter's
+uncounted : (kind : PlaceKind) (s : Shape) → (kind ≡ K.Counter → ⊥) → shape_by_kind kind s ≡ s
+uncounted K.Counter s apart = absurd (apart refl)
+uncounted kind s apart = refl
+
 most_nodes : MOST_NODES ≤ COUNTERS
 most_nodes = omega arith
 
 -- it has the shape of the node's type
 module _ (known : Known) (stmts : Stmts) (places : List FlatPlace)
-    (from : (p : FlatPlace) → Member p places → is_value p.kind ≡ true → Origin known.types (nodes_in_block stmts) p)
+    (from : Undeclared known.types (nodes_in_block stmts) places)
     (rises : rise_to 0 MOST_NODES (block_nodes stmts) ≡ true) where
   abbrev all : List TypedNode
   all = nodes_in_block stmts
@@ -65,7 +71,10 @@ module _ (known : Known) (stmts : Stmts) (places : List FlatPlace)
 
   typed_shape : (node : Node) (ty : Ty) → Member (typed node (Some ty)) all → Listed known.types ty → (s : Shape) →
       shape_named known is_value places node.number ≡ Some s → s ≡ shape_of known.facts ty
-  typed_shape node ty m is s e = let q = found known places node.number s e in at q (from q.0 q.1 q.3)
+  typed_shape node ty m is s e =
+      let q = found known places node.number s e in
+      let u = value_undeclared q.0.kind q.3 in
+      at q ((from.get q.0 q.1 u).origin u)
     where
       at : (q : Found known places node.number s) → Origin known.types all q.0 → s ≡ shape_of known.facts ty
       at q (inl above) =
@@ -73,7 +82,7 @@ module _ (known : Known) (stmts : Stmts) (places : List FlatPlace)
       at q (inr of) =
           let same = one_node 0 MOST_NODES all rising of.from (typed node (Some ty)) of.there m (sym of.number ∙ q.2) in
           let place = of.is ty (ap (λ (x : TypedNode). x.ty) same) in
-          sym q.4 ∙ (ap (λ k. shape_by_kind k (shape_of known.facts (type_at known.types q.0.ty))) place.0
+          sym q.4 ∙ (uncounted q.0.kind (shape_of known.facts (type_at known.types q.0.ty)) place.2
           ∙ (ap (λ n. shape_of known.facts (type_at known.types n)) place.1 ∙ ap (λ t. shape_of known.facts t) is))
 
 -- ---- programs
@@ -126,7 +135,7 @@ module _ (types : List Ty) (plan : Plan) (program : Program) (ops : Operations (
 
   -- a value of a node is of its type
   of_type : (body : Body) (places : List FlatPlace) (s : FlatProc) → s.places ≡ places →
-      ((p : FlatPlace) → Member p places → is_value p.kind ≡ true → Origin types (nodes_in_block body.stmts) p) → IsNumbered types body →
+      Undeclared types (nodes_in_block body.stmts) places → IsNumbered types body →
       (node : Node) (ty : Ty) → Member (typed node (Some ty)) (nodes_in_block body.stmts) → (v : Value) →
       HasShapeOf x ops called start are_called (called_fit x ops called start fits) (start_fit x ops called start fits) s node.number v →
       has_shape v (shape_of program.facts ty) ≡ true
@@ -139,12 +148,12 @@ module _ (types : List Ty) (plan : Plan) (program : Program) (ops : Operations (
   holding = record {
     of_bodies = λ ns n proc body e has node ty h m v fit at.
         of_type body _ (flat_body types program.facts proc.params proc.at (Some body)) refl
-        (body_from types (nodes_in_block body.stmts) proc.params K.Local body for_local (record { get = λ x m. m })) (bodies n proc body e has) node ty h v
+        (places_from types (nodes_in_block body.stmts) proc.params K.Local body for_local (record { get = λ x m. m })) (bodies n proc body e has) node ty h v
         (holds_value x ops called start are_called (called_fit x ops called start fits) (start_fit x ops called start fits) ns n
         (flat_body types program.facts proc.params proc.at (Some body)) m node.number v (code_of n proc body e has) fit at);
     of_start = λ node ty h m v fit at.
         of_type program.start _ start refl
-        (body_from types (nodes_in_block program.start.stmts) [] K.Global program.start for_global (record { get = λ x m. m })) start_numbered node ty h v
+        (places_from types (nodes_in_block program.start.stmts) [] K.Global program.start for_global (record { get = λ x m. m })) start_numbered node ty h v
         (holds_start x ops called start are_called (called_fit x ops called start fits) (start_fit x ops called start fits) m node.number v fit at);
     counted = λ n proc body e has ns m to node point k fit at.
         counted x ops called start are_called (called_fit x ops called start fits) (start_fit x ops called start fits) ns n

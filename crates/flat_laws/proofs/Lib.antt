@@ -56,7 +56,6 @@ mod FitState
 mod FitRules
 mod FitGives
 mod NodeNumbers
-mod Origins
 mod FitLines
 mod FitEach
 mod FitLevels

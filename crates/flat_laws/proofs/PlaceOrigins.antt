@@ -1,9 +1,12 @@
--- Where the places of a body come from: each temporary is a node's, of its type, or a loop's.
-use Rattle.std.proofs.Common.{◌≡◌, ℕ, ◌≤◌, ◌⊎◌, inl, inr, ⊎_elim, Bool, true, false, List, [], ◌∷◌, ◌++◌, Option, Some, None}
-use Rattle.std.proofs.Common.{refl, sym, ap, subst, arith}
+-- Where the places of a body come from: each temporary is a node's, of its type, or a loop's; and arguments are for parameters alone.
+use Rattle.std.proofs.Common.{◌≡◌, ℕ, suc, ◌≤◌, ◌⊎◌, inl, inr, ⊎_elim, Bool, true, false, List, [], ◌∷◌, ◌++◌, Option, Some}
+use Rattle.std.proofs.Common.{None, refl, sym, ap, ◌∙◌, subst, arith}
 use Rattle.std.specs.Prelude.{if◌then◌else◌, length}
+use Rattle.std.proofs.lemmas.Bool.{both_ways}
 use Rattle.nim_types.specs.Types.{Ty}
 use Rattle.nim_core.specs.declared.expr.Node.{Node}
+use Rattle.nim_core.specs.declared.program.Mode.{Mode}
+use Rattle.nim_core.specs.declared.program.Mode.TheVariants.{Plain, Sink, Var}
 use Rattle.nim_core.specs.Program as T
 use Rattle.nim_core.specs.Program.{Expr, Exprs, Path, Inits, Args, Choices, Picks, Declared, Stmt, Stmts, Branches, Param, Body, node_of, type_of}
 use Rattle.nim_core.specs.SelfAssignment.{is_itself, is_result}
@@ -11,6 +14,9 @@ use Rattle.nim_core.specs.Marks.{Member}
 use Rattle.mid_code.specs.declared.place.PlaceKind.{PlaceKind}
 use Rattle.mid_code.specs.declared.place.PlaceKind.TheVariants as K
 use Rattle.mid_code.specs.declared.place.FlatPlace.{FlatPlace}
+use Rattle.mid_code.specs.Scene.{Known}
+use Rattle.mid_code.specs.Shapes.{Shape}
+use Rattle.mid_code.specs.Fits.{is_declared, is_value, Passed, param_of, taken_by, shape_at}
 use Rattle.mid_code.specs.TypedNodes.{TypedNode, typed, untyped, nodes_in, nodes_in_all, nodes_in_path, nodes_in_inits, nodes_in_args, nodes_in_choices}
 use Rattle.mid_code.specs.TypedNodes.{nodes_in_picks, nodes_in_stmt, nodes_in_block, nodes_in_branches, nodes_in_arms}
 use Rattle.expr_lowering.specs.declared.numbers.TheConstants.{COUNTERS}
@@ -20,7 +26,6 @@ use Rattle.expr_lowering.specs.Places.{assigned_places, all_places, init_places,
 use Rattle.expr_lowering.specs.Places.{stmt_places, block_places, branch_places, arm_places, param_places, result_places, body_places}
 use Rattle.flat_laws.proofs.Options.{none_some, some_same}
 use Rattle.flat_laws.proofs.Typed.{member_left, member_right, own_node}
-use Rattle.mid_code.specs.Fits.{is_declared}
 use Rattle.flat_laws.proofs.Members.{member_both}
 
 temp_apart : K.Temp ≡ K.Counter → ⊥
@@ -28,6 +33,32 @@ temp_apart e = cc
 
 location_apart : K.Location ≡ K.Counter → ⊥
 location_apart e = cc
+
+pub value_undeclared : (kind : PlaceKind) → is_value kind ≡ true → is_declared kind ≡ false
+value_undeclared K.Temp h = refl
+value_undeclared K.Counter h = refl
+value_undeclared kind h = absurd (both_ways false refl h)
+
+-- a kind of place that no argument is for
+abbrev TakesNone : PlaceKind → Type 0
+TakesNone kind = (s : Option Shape) (rest : List Passed) → param_of kind s rest ≡ rest
+
+-- declared, and no parameter
+pub record IsInner (kind : PlaceKind) : Type 0 where
+  pub declared : is_declared kind ≡ true
+  pub takes : TakesNone kind
+
+pub for_local : IsInner K.Local
+for_local = record { declared = refl; takes = λ s rest. refl }
+
+pub for_global : IsInner K.Global
+for_global = record { declared = refl; takes = λ s rest. refl }
+
+for_var : IsInner K.ForVar
+for_var = record { declared = refl; takes = λ s rest. refl }
+
+for_result : IsInner K.Result
+for_result = record { declared = refl; takes = λ s rest. refl }
 
 module _ (types : List Ty) (whole : List TypedNode) where
   -- of a node, and of its type where it gives a value
@@ -37,15 +68,25 @@ module _ (types : List Ty) (whole : List TypedNode) where
     pub number : p.number ≡ from.node.number
     pub is : (ty : Ty) → from.ty ≡ Some ty → (p.at ≡ from.node.at) × (p.ty ≡ type_number types ty) × (p.kind ≡ K.Counter → ⊥)
 
-  -- a declared place, a number of a loop over elements, or a temporary of a node; nothing is to be done with its value
+  -- of a place that isn't declared: a number of a loop over elements, or of a node
+  abbrev pub Origin : FlatPlace → Type 0
+  Origin p = (COUNTERS ≤ p.number) ⊎ OfNode p
+
+  -- any place but a parameter: nothing is to be done with its value
   pub record FromNode (p : FlatPlace) : Type 0 where
-    pub origin : (is_declared p.kind ≡ true) ⊎ ((COUNTERS ≤ p.number) ⊎ OfNode p)
+    pub origin : is_declared p.kind ≡ false → Origin p
+    pub takes : TakesNone p.kind
     pub hooked : p.hooked ≡ false
     pub resource : p.resource ≡ false
     pub copies : p.copies ≡ true
 
-  pub record From (ps : List FlatPlace) : Type 0 where
+  -- all of a list
+  record From (ps : List FlatPlace) : Type 0 where
     pub get : (p : FlatPlace) → Member p ps → FromNode p
+
+  -- those of a list that aren't declared
+  pub record Undeclared (ps : List FlatPlace) : Type 0 where
+    pub get : (p : FlatPlace) → Member p ps → is_declared p.kind ≡ false → FromNode p
 
   pub record Within (xs : List TypedNode) : Type 0 where
     pub get : (x : TypedNode) → Member x xs → Member x whole
@@ -93,58 +134,71 @@ module _ (types : List Ty) (whole : List TypedNode) where
     copies = true;
   }
 
-  typed_from : (node : Node) (kind : PlaceKind) (ty : Ty) → (kind ≡ K.Counter → ⊥) → Member (typed node (Some ty)) whole →
+  typed_from : (node : Node) (kind : PlaceKind) (ty : Ty) → (kind ≡ K.Counter → ⊥) → TakesNone kind → Member (typed node (Some ty)) whole →
       From (place_of node kind ty ∷ [])
-  typed_from node kind ty apart m = one (place_of node kind ty) (record {
-    origin = inr (inr (record {
+  typed_from node kind ty apart takes m = one (place_of node kind ty) (record {
+    origin = λ u. inr (record {
       from = typed node (Some ty);
       there = m;
       number = refl;
       is = λ s e. (refl, ap (λ s. type_number types s) (some_same ty s e), apart);
-    }));
+    });
+    takes = takes;
     hooked = refl;
     resource = refl;
     copies = refl;
   })
 
   value_from : (node : Node) (ty : Ty) → Member (typed node (Some ty)) whole → From (value types node ty)
-  value_from node ty m = typed_from node K.Temp ty temp_apart m
+  value_from node ty m = typed_from node K.Temp ty temp_apart (λ s rest. refl) m
 
   value_if_from : (node : Node) (o : Option Ty) → Member (typed node o) whole → From (value_if types node o)
   value_if_from node None m = no_places
   value_if_from node (Some ty) m = value_from node ty m
 
   location_from : (node : Node) (ty : Ty) → Member (typed node (Some ty)) whole → From (location types node ty)
-  location_from node ty m = typed_from node K.Location ty location_apart m
+  location_from node ty m = typed_from node K.Location ty location_apart (λ s rest. refl) m
 
   location_if_from : (node : Node) (o : Option Ty) → Member (typed node o) whole → From (location_if types node o)
   location_if_from node None m = no_places
   location_if_from node (Some ty) m = location_from node ty m
 
   -- of a node that gives no value
-  untyped_from : (p : FlatPlace) (node : Node) → Member (untyped node) whole → p.number ≡ node.number → p.hooked ≡ false →
-      p.resource ≡ false →
-      p.copies ≡ true → From (p ∷ [])
-  untyped_from p node m e hooked resource copies = one p (record {
-    origin = inr (inr (record { from = untyped node; there = m; number = e; is = λ s e. absurd (none_some s e) }));
+  untyped_from : (p : FlatPlace) (node : Node) → Member (untyped node) whole → p.number ≡ node.number → TakesNone p.kind →
+      p.hooked ≡ false → p.resource ≡ false → p.copies ≡ true → From (p ∷ [])
+  untyped_from p node m e takes hooked resource copies = one p (record {
+    origin = λ u. inr (record { from = untyped node; there = m; number = e; is = λ s e. absurd (none_some s e) });
+    takes = takes;
     hooked = hooked;
     resource = resource;
     copies = copies;
   })
 
   counter_from : (node : Node) → Member (untyped node) whole → From (counter node node.number)
-  counter_from node m = untyped_from _ node m refl refl refl refl
+  counter_from node m = untyped_from _ node m refl (λ s rest. refl) refl refl refl
 
   above : (node : Node) (n : ℕ) → COUNTERS ≤ n → From (counter node n)
-  above node n le = one _ (record { origin = inr (inl le); hooked = refl; resource = refl; copies = refl })
+  above node n le = one _ (record {
+    origin = λ u. inl le;
+    takes = λ s rest. refl;
+    hooked = refl;
+    resource = refl;
+    copies = refl;
+  })
 
-  declared_from : (kind : PlaceKind) → is_declared kind ≡ true → (d : Declared) → From (declared types kind d)
-  declared_from kind inner d = one _ (record { origin = inl inner; hooked = refl; resource = refl; copies = refl })
+  declared_from : (kind : PlaceKind) → IsInner kind → (d : Declared) → From (declared types kind d)
+  declared_from kind inner d = one _ (record {
+    origin = λ u. absurd (both_ways (is_declared kind) u inner.declared);
+    takes = inner.takes;
+    hooked = refl;
+    resource = refl;
+    copies = refl;
+  })
 
   each_from : (node : Node) (variable : Declared) → Member (untyped node) whole → From (each_places types node variable)
   each_from node variable m =
       behind (counter_from node m) (behind (above node (counter_of node.number) (omega arith)) (behind (above node (length_of node.number) (omega arith))
-      (untyped_from (place_of node K.Location variable.of) node m refl refl refl refl)))
+      (untyped_from (place_of node K.Location variable.of) node m refl (λ s rest. refl) refl refl refl)))
 
   -- ---- expressions
 
@@ -279,24 +333,23 @@ module _ (types : List Ty) (whole : List TypedNode) where
           (right_in (nodes_in_path path) (nodes_in value) (tail w)))
       stmt_from (T.Append node path value) w = no_places
       stmt_from (T.Branch node branches otherwise) w = behind (branches_from branches (left_in (nodes_in_branches branches) (nodes_in_block otherwise)
-          (tail w))) (block_from K.Local refl otherwise (right_in (nodes_in_branches branches) (nodes_in_block otherwise) (tail w)))
+          (tail w))) (block_from K.Local for_local otherwise (right_in (nodes_in_branches branches) (nodes_in_block otherwise) (tail w)))
       stmt_from (T.Select node selector branches otherwise) w = behind (expr_from selector (left_in (nodes_in selector)
           (nodes_in_arms branches ++ nodes_in_block otherwise) (tail w))) (behind (arms_from branches (left_in (nodes_in_arms branches)
           (nodes_in_block otherwise) (right_in (nodes_in selector) (nodes_in_arms branches ++ nodes_in_block otherwise) (tail w))))
-          (block_from K.Local refl otherwise (right_in (nodes_in_arms branches) (nodes_in_block otherwise) (right_in (nodes_in selector)
+          (block_from K.Local for_local otherwise (right_in (nodes_in_arms branches) (nodes_in_block otherwise) (right_in (nodes_in selector)
           (nodes_in_arms branches ++ nodes_in_block otherwise) (tail w)))))
       stmt_from (T.While node condition body) w = behind (expr_from condition (left_in (nodes_in condition) (nodes_in_block body) (tail w)))
-          (block_from K.Local refl body (right_in (nodes_in condition) (nodes_in_block body) (tail w)))
-      stmt_from (T.Count node variable first last inclusive body) w = behind (declared_from K.ForVar refl variable) (behind (expr_from first (left_in
+          (block_from K.Local for_local body (right_in (nodes_in condition) (nodes_in_block body) (tail w)))
+      stmt_from (T.Count node variable first last inclusive body) w = behind (declared_from K.ForVar for_var variable) (behind (expr_from first (left_in
           (nodes_in first) (nodes_in last) (left_in (nodes_in first ++ nodes_in last) (nodes_in_block body) (tail w)))) (behind (expr_from last (right_in
           (nodes_in first) (nodes_in last) (left_in (nodes_in first ++ nodes_in last) (nodes_in_block body) (tail w)))) (behind (counter_from node
-          (own w)) (block_from K.Local refl body (right_in (nodes_in first ++ nodes_in last) (nodes_in_block body) (tail w))))))
-      stmt_from (T.Each node variable path body) w = behind (declared_from K.ForVar refl variable) (behind (path_from path (left_in (nodes_in_path path)
-          (nodes_in_block body) (tail w))) (behind (each_from node variable (own w)) (block_from K.Local refl body (right_in (nodes_in_path path)
+          (own w)) (block_from K.Local for_local body (right_in (nodes_in first ++ nodes_in last) (nodes_in_block body) (tail w))))))
+      stmt_from (T.Each node variable path body) w = behind (declared_from K.ForVar for_var variable) (behind (path_from path (left_in (nodes_in_path path)
+          (nodes_in_block body) (tail w))) (behind (each_from node variable (own w)) (block_from K.Local for_local body (right_in (nodes_in_path path)
           (nodes_in_block body) (tail w)))))
 
-      pub block_from : (kind : PlaceKind) (inner : is_declared kind ≡ true) (x : Stmts) → Within (nodes_in_block x) →
-          From (block_places types result kind x)
+      block_from : (kind : PlaceKind) (inner : IsInner kind) (x : Stmts) → Within (nodes_in_block x) → From (block_places types result kind x)
       block_from kind inner T.Empty w = no_places
       block_from kind inner (T.Then first rest) w = behind (stmt_from first (left_in (nodes_in_stmt first) (nodes_in_block rest) w))
           (block_from kind inner rest (right_in (nodes_in_stmt first) (nodes_in_block rest) w))
@@ -307,26 +360,61 @@ module _ (types : List Ty) (whole : List TypedNode) where
       branches_from : (x : Branches) → Within (nodes_in_branches x) → From (branch_places types result x)
       branches_from T.NoBranch w = no_places
       branches_from (T.ABranch condition body rest) w = behind (expr_from condition (left_in (nodes_in condition)
-          (nodes_in_block body ++ nodes_in_branches rest) w)) (behind (block_from K.Local refl body (left_in (nodes_in_block body)
+          (nodes_in_block body ++ nodes_in_branches rest) w)) (behind (block_from K.Local for_local body (left_in (nodes_in_block body)
           (nodes_in_branches rest) (right_in (nodes_in condition) (nodes_in_block body ++ nodes_in_branches rest) w))) (branches_from rest (right_in
           (nodes_in_block body) (nodes_in_branches rest) (right_in (nodes_in condition) (nodes_in_block body ++ nodes_in_branches rest) w))))
 
       arms_from : (x : T.Arms) → Within (nodes_in_arms x) → From (arm_places types result x)
       arms_from T.NoArm w = no_places
-      arms_from (T.AnArm labels body rest) w = behind (block_from K.Local refl body (left_in (nodes_in_block body) (nodes_in_arms rest) w))
+      arms_from (T.AnArm labels body rest) w = behind (block_from K.Local for_local body (left_in (nodes_in_block body) (nodes_in_arms rest) w))
           (arms_from rest (right_in (nodes_in_block body) (nodes_in_arms rest) w))
 
   -- ---- bodies
 
   result_from : (o : Option Declared) → From (result_places types o)
   result_from None = no_places
-  result_from (Some d) = declared_from K.Result refl d
+  result_from (Some d) = declared_from K.Result for_result d
 
-  params_from : (params : List Param) → From (param_places types params)
-  params_from [] = no_places
-  params_from (p ∷ params) = behind (declared_from (K.Param p.mode) refl p.place) (params_from params)
+  -- all but the parameters
+  rest_from : (kind : PlaceKind) (body : Body) → IsInner kind → Within (nodes_in_block body.stmts) →
+      From (result_places types body.result ++ block_places types body.result kind body.stmts)
+  rest_from kind body inner w = behind (result_from body.result) (block_from body.result kind inner body.stmts w)
 
-  pub places_from : (params : List Param) (kind : PlaceKind) (body : Body) → is_declared kind ≡ true → Within (nodes_in_block body.stmts) →
-      From (body_places types params kind body)
-  places_from params kind body inner w =
-      behind (params_from params) (behind (result_from body.result) (block_from body.result kind inner body.stmts w))
+  params_declared : (params : List Param) (p : FlatPlace) → Member p (param_places types params) → is_declared p.kind ≡ true
+  params_declared [] p m = absurd m
+  params_declared (q ∷ params) p (inl e) = ap (λ (p : FlatPlace). is_declared p.kind) e
+  params_declared (q ∷ params) p (inr m) = params_declared params p m
+
+  pub places_from : (params : List Param) (kind : PlaceKind) (body : Body) → IsInner kind → Within (nodes_in_block body.stmts) →
+      Undeclared (body_places types params kind body)
+  places_from params kind body inner w = record { get = at }
+    where
+      at : (p : FlatPlace) → Member p (body_places types params kind body) → is_declared p.kind ≡ false → FromNode p
+      at p m u =
+          ⊎_elim (λ a. absurd (both_ways (is_declared p.kind) u (params_declared params p a)))
+          (λ b. From.get (rest_from kind body inner w) p b)
+          (member_both p (param_places types params) (result_places types body.result ++ block_places types body.result kind body.stmts) m)
+
+-- ---- parameters
+
+none_taken : (known : Known) (ps : List FlatPlace) → ((p : FlatPlace) → Member p ps → TakesNone p.kind) → taken_by known ps ≡ []
+none_taken known [] h = refl
+none_taken known (p ∷ ps) h = h p (inl refl) (Some (shape_at known p)) (taken_by known ps) ∙ none_taken known ps (λ q m. h q (inr m))
+
+params_taken : (known : Known) (types : List Ty) (params : List Param) (rest : List FlatPlace) → taken_by known rest ≡ [] →
+    length (taken_by known (param_places types params ++ rest)) ≡ length params
+params_taken known types [] rest h = ap length h
+params_taken known types (p ∷ params) rest h = at p.mode (params_taken known types params rest h)
+  where
+    at : (mode : Mode) → length (taken_by known (param_places types params ++ rest)) ≡ length params →
+        length (taken_by known ((declared types (K.Param mode) p.place ++ param_places types params) ++ rest)) ≡ suc (length params)
+    at Plain e = ap suc e
+    at Sink e = ap suc e
+    at Var e = ap suc e
+
+-- a body takes as many arguments as it has parameters
+pub body_taken : (known : Known) (types : List Ty) (params : List Param) (kind : PlaceKind) (body : Body) → IsInner kind →
+    length (taken_by known (body_places types params kind body)) ≡ length params
+body_taken known types params kind body inner =
+    params_taken known types params _ (none_taken known _
+    (λ p m. (From.get (rest_from types (nodes_in_block body.stmts) kind body inner (record { get = λ x m. m })) p m).takes))

@@ -1,30 +1,37 @@
-use Rattle.std.proofs.Common.{◌≡◌, ◌++◌, drop}
+use Rattle.std.proofs.Common.{List, Option, drop}
 use Rattle.nim_core.specs.View.{exprs_of, inits_of, args_of, choices_of, picks_of}
 use Rattle.expr_lowering.specs.Places.{all_places, init_places, arg_places, choice_places, pick_places}
 use Rattle.expr_lowering.specs.Views.{types_of}
+use Rattle.mid_code.specs.declared.place.FlatPlace.{FlatPlace}
+use Rattle.expr_lowering.specs.Written.{Adds}
 use Rattle.expr_lowering.proofs.places.+places.Given as goal
 
 abbrev pub invariant-add_all-loop-expr : goal.invariant-add_all-loop-expr
 invariant-add_all-loop-expr l =
-    l.places ++ all_places (types_of l.around) (exprs_of (types_of l.around) (drop l.expr-index l.exprs.items)) ≡
-    l.fn.places ++ all_places (types_of l.around) (exprs_of (types_of l.around) l.exprs.items)
+    (new : Option (List FlatPlace)) →
+    Adds l.places new (all_places (types_of l.around) (exprs_of (types_of l.around) (drop l.expr-index l.exprs.items))) →
+    Adds l.fn.places new (all_places (types_of l.around) (exprs_of (types_of l.around) l.exprs.items))
 
 abbrev pub invariant-add_inits-loop-init : goal.invariant-add_inits-loop-init
 invariant-add_inits-loop-init l =
-    l.places ++ init_places (types_of l.around) (inits_of (types_of l.around) (drop l.init-index l.inits.items)) ≡
-    l.fn.places ++ init_places (types_of l.around) (inits_of (types_of l.around) l.inits.items)
+    (new : Option (List FlatPlace)) →
+    Adds l.places new (init_places (types_of l.around) (inits_of (types_of l.around) (drop l.init-index l.inits.items))) →
+    Adds l.fn.places new (init_places (types_of l.around) (inits_of (types_of l.around) l.inits.items))
 
 abbrev pub invariant-add_args-loop-arg : goal.invariant-add_args-loop-arg
 invariant-add_args-loop-arg l =
-    l.places ++ arg_places (types_of l.around) (args_of (types_of l.around) (drop l.arg-index l.args.items)) ≡
-    l.fn.places ++ arg_places (types_of l.around) (args_of (types_of l.around) l.args.items)
+    (new : Option (List FlatPlace)) →
+    Adds l.places new (arg_places (types_of l.around) (args_of (types_of l.around) (drop l.arg-index l.args.items))) →
+    Adds l.fn.places new (arg_places (types_of l.around) (args_of (types_of l.around) l.args.items))
 
 abbrev pub invariant-add_choices-loop-choice : goal.invariant-add_choices-loop-choice
 invariant-add_choices-loop-choice l =
-    l.places ++ choice_places (types_of l.around) (choices_of (types_of l.around) (drop l.choice-index l.choices.items)) ≡
-    l.fn.places ++ choice_places (types_of l.around) (choices_of (types_of l.around) l.choices.items)
+    (new : Option (List FlatPlace)) →
+    Adds l.places new (choice_places (types_of l.around) (choices_of (types_of l.around) (drop l.choice-index l.choices.items))) →
+    Adds l.fn.places new (choice_places (types_of l.around) (choices_of (types_of l.around) l.choices.items))
 
 abbrev pub invariant-add_picks-loop-pick : goal.invariant-add_picks-loop-pick
 invariant-add_picks-loop-pick l =
-    l.places ++ pick_places (types_of l.around) (picks_of (types_of l.around) (drop l.pick-index l.picks.items)) ≡
-    l.fn.places ++ pick_places (types_of l.around) (picks_of (types_of l.around) l.picks.items)
+    (new : Option (List FlatPlace)) →
+    Adds l.places new (pick_places (types_of l.around) (picks_of (types_of l.around) (drop l.pick-index l.picks.items))) →
+    Adds l.fn.places new (pick_places (types_of l.around) (picks_of (types_of l.around) l.picks.items))
