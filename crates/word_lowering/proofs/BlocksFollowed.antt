@@ -4,7 +4,7 @@ use Rattle.arc_base.specs.Event.{Event}
 use Rattle.arc_base.specs.Behaviour.{Behaviour, Agrees, Sound}
 use Rattle.arc_base.specs.Pace.{Paced}
 use Rattle.arc_base.specs.Stepping.{Next, behaviour}
-use Rattle.arc_base.specs.Simulation.{Steps, Does, AreOf}
+use Rattle.arc_base.specs.Simulation.{Does, AreOf}
 use Rattle.arc_base.proofs.ForCallers.{agrees_by_pairs, paced_by_pairs}
 use Rattle.rv32_isa.specs.Machine.{Lives}
 use Rattle.nim_types.specs.declared.types.TypeDef.{TypeDef}
@@ -24,7 +24,7 @@ use Rattle.word_lowering.specs.Lowered.{lowered}
 use Rattle.word_lowering.specs.MayLower.{may_lower}
 use Rattle.word_lowering.specs.Lowers.{AreSmall, HasNoObjects, Lowers}
 use Rattle.word_lowering.proofs.NamedProcs.{is_formed}
-use Rattle.word_lowering.proofs.SmallProcs.{are_small, no_circles, unhooked}
+use Rattle.word_lowering.proofs.SmallProcs.{are_small, no_circles, chains, unhooked}
 use Rattle.word_lowering.proofs.CodeWeights.{weight_is}
 use Rattle.word_lowering.proofs.DataSizes.{data_whole, data_sized, data_within}
 use Rattle.word_lowering.proofs.Cells.{MemoryLaw, Sized}
@@ -104,24 +104,17 @@ module _ (live : Lives) (none : HasNoObjects live) (table : List TypeDef) (block
     first_lines : Begins table blocks heap stack input live
     first_lines = begins table blocks heap stack input is_table have formed may p ps some memory live
 
-    first_steps : Steps low_step first_lines.steps low_first [] 3 (low table blocks first_lines.both)
-    first_steps = record {
-      work = first_lines.runs.work;
-      within = (let h = first_lines.runs.within in let f = first_lines.few in omega (arith, h, f));
-      by = first_lines.runs.by;
-    }
-
     agrees_run : Sound (behaviour high_step high_first) → Agrees (behaviour low_step low_first) (behaviour high_step high_first)
     agrees_run ok =
         subst (λ t. Agrees (behaviour low_step low_first) (behaviour high_step t)) first_lines.same
-        (agrees_by_pairs low_step high_step (pairs x) (lines_left x) WORD_PACE 3 follows (omega arith) low_first (first_lines.both, first_lines.good)
-        first_lines.steps first_steps (subst (λ t. Sound (behaviour high_step t)) (sym first_lines.same) ok))
+        (agrees_by_pairs low_step high_step (pairs x) (lines_left x) WORD_PACE 0 follows (omega arith) low_first (first_lines.both, first_lines.good)
+        0 first_lines.runs (subst (λ t. Sound (behaviour high_step t)) (sym first_lines.same) ok))
 
     paced_run : Sound (behaviour high_step high_first) → Paced WORD_PACE (behaviour low_step low_first) (behaviour high_step high_first)
     paced_run ok =
         subst (λ t. Paced WORD_PACE (behaviour low_step low_first) (behaviour high_step t)) first_lines.same
-        (paced_by_pairs low_step high_step (pairs x) (lines_left x) WORD_PACE 3 follows (omega arith) low_first (first_lines.both, first_lines.good)
-        first_lines.steps first_steps (subst (λ t. Sound (behaviour high_step t)) (sym first_lines.same) ok))
+        (paced_by_pairs low_step high_step (pairs x) (lines_left x) WORD_PACE 0 follows (omega arith) low_first (first_lines.both, first_lines.good)
+        0 first_lines.runs (subst (λ t. Sound (behaviour high_step t)) (sym first_lines.same) ok))
 
   -- the same of code that is well formed
   if_sound : (P : Behaviour Event → Behaviour Event → Type 0)
@@ -155,6 +148,7 @@ lowers table blocks is_table have may law =
       paced = λ live heap stack input none most ok. paced live none table blocks is_table have may law heap stack input most ok;
       formed = is_formed table blocks may;
       no_circle = no_circles (lowered table blocks).procs small (omega arith);
+      chain = chains (lowered table blocks).procs small;
       small = small;
       weight = weight_is table blocks;
       whole = data_whole table blocks;

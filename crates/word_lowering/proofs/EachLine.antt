@@ -101,7 +101,8 @@ module _ (x : Basis) (traps : TrapsStop x) (literals : LiteralsThere x) (alike_p
         count_line x traps g rest counter last inclusive more y (free (L.Count counter last inclusive more) y refl)
     line_settles (L.Argument from) y = argument_line x g rest from y
     line_settles (L.ArgumentAt from) y = argument_at_line x g rest from y
-    line_settles (L.Call to proc) y = call_settles x traps g rest proc to y (enters_line x traps g rest to proc y (callee x traps g rest to proc y).orderly)
+    line_settles (L.Call to proc) y =
+        call_settles x traps g rest proc to y (λ h z. enters_line x traps h rest to proc z (callee x traps h rest to proc z).orderly)
     line_settles (L.Return result) y = return_line x g rest result y (free (L.Return result) y refl)
     line_settles (L.Write from ty) y = writes g rest from ty y (free (L.Write from ty) y refl)
     line_settles (L.WriteText text) y = write_text_line x literals g rest text y (free (L.WriteText text) y refl)

@@ -1,51 +1,41 @@
 -- Places by their numbers, and parameters by how many stand behind them.
-use Rattle.std.proofs.Common.{◌≡◌, ℕ, zero, suc, ◌+◌, ◌-◌, ◌<◌, ◌≤◌, Bool, true, false, List, [], ◌∷◌, length, drop, get_or, refl, sym, ap, subst}
+use Rattle.std.proofs.Common.{◌≡◌, ℕ, zero, suc, ◌+◌, ◌-◌, ◌<◌, ◌≤◌, Bool, true, false, List, [], ◌∷◌, length, drop, get_or, refl, sym, ap}
 use Rattle.std.proofs.Common.{◌∙◌, arith, ⊎_elim, Some}
 use Rattle.std.specs.Prelude.{nat_eq, ◌&&◌, if◌then◌else◌}
-use Rattle.std.specs.List.{slice_index_or}
 use Rattle.std.specs.HashMap.{HashMap, get}
 use Rattle.std.specs.Map.{lookup}
 use Rattle.std.proofs.lemmas.Bool.{cases_lt, cond-true, cond-false, eq-eqb, ne_eqb}
 use Rattle.std.proofs.lemmas.List.{drop_more, drop_all}
 use Rattle.mid_code.specs.declared.place.PlaceKind.{PlaceKind}
 use Rattle.word_lowering.specs.declared.homes.Housed.{Housed}
-use Rattle.word_lowering.specs.declared.places.Tables.{Tables}
 use Rattle.word_lowering.specs.Lookups.{nowhere, found, is_param, params_in, param_before}
-use Rattle.word_lowering.specs.Places.{place_or, Finds, AreFound}
+use Rattle.word_lowering.specs.Places.{from_there, Leads}
 
--- ---- tables
+-- ---- numbers
 
-module _ {S : Type 0} (is_kind : PlaceKind → Bool) where
-  pub none_put : (table : HashMap ℕ Housed S) → table.entries ≡ [] → Finds is_kind [] table
-  none_put table h n = ap (λ es. place_or (lookup (nat_eq n) es)) h
+module _ {S : Type 0} (all : List Housed) where
+  pub first_leads : (index : HashMap ℕ ℕ S) → index.entries ≡ [] → Leads index (drop (length all) all) all
+  first_leads index e = λ n is_kind.
+      ap (λ es. found is_kind n (from_there (lookup (nat_eq n) es) all)) e
+      ∙ sym (ap (λ (hs : List Housed). found is_kind n hs) (drop_all (length all) all (omega arith)))
 
-  -- a place before the others, which is of the kind or isn't
-  pub one_put : (h : Housed) (all : List Housed) (old new : HashMap ℕ Housed S) → is_kind h.kind ≡ true
-      → ((n : ℕ) → get nat_eq new n ≡ (if nat_eq h.number n then Some h else get nat_eq old n)) → Finds is_kind all old
-      → Finds is_kind (h ∷ all) new
-  one_put h all old new t put finds n = ap place_or (put n) ∙ by (nat_eq h.number n) (is_kind h.kind) t
+  -- one place before those that are left
+  pub next_leads : (i : ℕ) (h d : Housed) (old new : HashMap ℕ ℕ S) → i < length all → h ≡ get_or all i d
+      → ((n : ℕ) → get nat_eq new n ≡ (if nat_eq h.number n then Some i else get nat_eq old n)) → Leads old (drop (i + 1) all) all
+      → Leads new (drop i all) all
+  next_leads i h d old new lt e put leads = λ n is_kind.
+      ap (λ o. found is_kind n (from_there o all)) (put n) ∙ by n is_kind (nat_eq h.number n) refl
     where
-      by : (b s : Bool) → s ≡ true → place_or (if b then Some h else get nat_eq old n) ≡ (if b && s then h else found is_kind n all)
-      by true true e = refl
-      by true false e = cc
-      by false s e = finds n
+      is : drop i all ≡ h ∷ drop (i + 1) all
+      is = drop_more all i d lt ∙ ap (λ (y : Housed). y ∷ drop (i + 1) all) (sym e)
 
-  pub one_skipped : (h : Housed) (all : List Housed) (table : HashMap ℕ Housed S) → is_kind h.kind ≡ false → Finds is_kind all table
-      → Finds is_kind (h ∷ all) table
-  one_skipped h all table f finds n = finds n ∙ by (nat_eq h.number n) (is_kind h.kind) f
-    where
-      by : (b s : Bool) → s ≡ false → found is_kind n all ≡ (if b && s then h else found is_kind n all)
-      by true true e = cc
-      by true false e = refl
-      by false s e = refl
-
-pub first_found : (all : List Housed) (tables : Tables) → AreFound [] tables → AreFound (drop (length all) all) tables
-first_found all tables h = subst (λ l. AreFound l tables) (sym (drop_all (length all) all (omega arith))) h
-
-pub next_found : (all : List Housed) (i : ℕ) (h d : Housed) (old new : Tables) → i < length all → h ≡ slice_index_or all i d
-    → AreFound (drop (i + 1) all) old → (AreFound (drop (i + 1) all) old → AreFound (h ∷ drop (i + 1) all) new) → AreFound (drop i all) new
-next_found all i h d old new lt e before put =
-    subst (λ l. AreFound l new) (sym (drop_more all i d lt ∙ ap (λ y. y ∷ drop (i + 1) all) (sym e))) (put before)
+      by : (n : ℕ) (is_kind : PlaceKind → Bool) (b : Bool) → nat_eq h.number n ≡ b
+          → found is_kind n (from_there (if b then Some i else get nat_eq old n) all) ≡ found is_kind n (drop i all)
+      by n is_kind true s = refl
+      by n is_kind false s =
+          leads n is_kind
+          ∙ sym (ap (λ (hs : List Housed). found is_kind n hs) is
+          ∙ ap (λ (b : Bool). if b && is_kind h.kind then h else found is_kind n (drop (i + 1) all)) s)
 
 -- ---- parameters
 

@@ -67,6 +67,7 @@ mod ReturnLines
 mod CallerGets
 mod CallersHold
 mod CaseLines
+mod CheckRuns
 mod Clears
 mod PartRuns
 mod MakeLines

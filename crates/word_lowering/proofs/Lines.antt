@@ -41,7 +41,7 @@ use Rattle.word_lowering.proofs.Cells.{MemoryLaw}
 use Rattle.word_lowering.proofs.Runs.{Runs, none as no_run}
 use Rattle.word_lowering.proofs.Sites.{Body, room, Housing, in_variable, by_address, in_places, in_data, InMemory, Site, AmongSites, next_base, data_end}
 use Rattle.word_lowering.proofs.Sites.{Linked, sigs, globals_of}
-use Rattle.word_lowering.proofs.Scenes.{Name, of_value, Call, site_of, house, IsThere}
+use Rattle.word_lowering.proofs.Scenes.{Name, of_value, Call, site_of, house, IsThere, Holding}
 use Rattle.word_lowering.proofs.SitesApart.{houses, site_at}
 use Rattle.word_lowering.proofs.Keeping.{AmongCalls, call, Edit, nowhere, Worlds, worlds_same, Kept, New, holding_kept, all_kept}
 use Rattle.word_lowering.proofs.OrdinalRuns.{AllSame}
@@ -98,6 +98,10 @@ changed g rest temps vars m words awaits w has = record {
   awaits = awaits;
   waiting = g.waiting;
 }
+
+-- with other variables
+abbrev pub with_vars : Both → Vars → Both
+with_vars g vars = record g { call = call g.call.site g.call.temps vars }
 
 abbrev pub starts : Both → Line → List BlockLine → Both
 starts g line rest = with_rest g (block_line.Plain line ∷ rest)
@@ -224,29 +228,13 @@ module _ (x : Basis) where
         sites_among (d ∷ cs) c (inl e) = inl (ap site_of e)
         sites_among (d ∷ cs) c (inr i) = inr (sites_among cs c i)
 
-    -- nothing changes but variables for what comes between, and what follows
-    pub good_same : (free : y.passed ≡ []) (vars : Vars) (awaits : ℕ) (after : List BlockLine) → AllSame g.call.vars vars → StandAt x.table x.blocks
-        (body_of g) [] after
-        → IsGood (changed g after g.call.temps vars g.memory g.words awaits g.world g.has)
-    good_same free vars awaits after same stands = record {
-      linked = y.linked;
-      memory = y.memory;
-      hold = (
+    -- where no variable of a place changes
+    pub holding_same : (vars : Vars) → AllSame g.call.vars vars
+        → Holding x.table x.blocks g.memory g.world g.has all_sites (call g.call.site g.call.temps vars)
+    holding_same vars same =
         holding_kept x.table x.blocks x.small all_sites y.linked above (of_value 0) g.memory g.memory (nowhere refl) g.world g.world g.has g.has
-            (worlds_same x.table x.blocks x.small all_sites y.linked above (of_value 0) g.world g.has) all_sites g.call.site g.call.temps g.call.temps
-            g.call.vars vars (inl refl) (λ r j. j) kept (λ e. absurd (omega (arith, e))) y.hold.0,
-        y.hold.1,
-      );
-      frames = y.frames;
-      levels = y.levels;
-      passed = [];
-      stands = stands;
-      gave = nothing_given x.table x.blocks g.memory g.memory all_sites g.has g.has g.words g.words (g.call.site.base + room (body_of g)) g.given y.passed
-          (params_for x.table x.blocks (body_of g) (callee_behind (map block_plain (block_line.Plain line ∷ rest))))
-          (params_for x.table x.blocks (body_of g) (callee_behind (map block_plain after))) free y.gave;
-      waits = y.waits;
-      answers = y.answers;
-    }
+        (worlds_same x.table x.blocks x.small all_sites y.linked above (of_value 0) g.world g.has) all_sites g.call.site g.call.temps g.call.temps
+        g.call.vars vars (inl refl) (λ r j. j) kept (λ e. absurd (omega (arith, e))) y.hold.0
       where
         -- the place of no call
         above : Site
@@ -268,6 +256,39 @@ module _ (x : Basis) where
           still = λ t v h. (v, h);
           variables = λ f u there a home. same.others u (high_home f u there home);
           left = same.left;
-          one = same.one;
           next = same.next;
         }
+
+    -- the same line, with other variables for what comes between: arguments that wait stay
+    abbrev pub good_between : (vars : Vars) → AllSame g.call.vars vars → IsGood (starts (with_vars g vars) line rest)
+    good_between vars same = record {
+      linked = y.linked;
+      memory = y.memory;
+      hold = (holding_same vars same, y.hold.1);
+      frames = y.frames;
+      levels = y.levels;
+      passed = y.passed;
+      stands = y.stands;
+      gave = y.gave;
+      waits = y.waits;
+      answers = y.answers;
+    }
+
+    -- nothing changes but variables for what comes between, and what follows
+    pub good_same : (free : y.passed ≡ []) (vars : Vars) (awaits : ℕ) (after : List BlockLine) → AllSame g.call.vars vars → StandAt x.table x.blocks
+        (body_of g) [] after
+        → IsGood (changed g after g.call.temps vars g.memory g.words awaits g.world g.has)
+    good_same free vars awaits after same stands = record {
+      linked = y.linked;
+      memory = y.memory;
+      hold = (holding_same vars same, y.hold.1);
+      frames = y.frames;
+      levels = y.levels;
+      passed = [];
+      stands = stands;
+      gave = nothing_given x.table x.blocks g.memory g.memory all_sites g.has g.has g.words g.words (g.call.site.base + room (body_of g)) g.given y.passed
+          (params_for x.table x.blocks (body_of g) (callee_behind (map block_plain (block_line.Plain line ∷ rest))))
+          (params_for x.table x.blocks (body_of g) (callee_behind (map block_plain after))) free y.gave;
+      waits = y.waits;
+      answers = y.answers;
+    }

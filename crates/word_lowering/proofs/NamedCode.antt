@@ -22,7 +22,7 @@ use Rattle.mid_code.specs.declared.word.WordInstr.TheVariants.{Label, Constant, 
 use Rattle.mid_code.specs.declared.word.WordInstr.TheVariants.{Call}
 use Rattle.mid_code.specs.declared.word.WordInstr.TheVariants.{Return, Write, Exit}
 use Rattle.mid_code.specs.Words.{are_named, all_named}
-use Rattle.word_lowering.specs.declared.homes.TheConstants.{LEFT, ONE, NEXT, FIRST, SECOND, THIRD, FOURTH, FIFTH, OWN_FROM}
+use Rattle.word_lowering.specs.declared.homes.TheConstants.{LEFT, NEXT, FIRST, SECOND, THIRD, FOURTH, FIFTH, OWN_FROM}
 use Rattle.word_lowering.specs.declared.homes.Home.{Home}
 use Rattle.word_lowering.specs.declared.homes.Home.TheVariants.{Variable, Placed, Static}
 use Rattle.word_lowering.specs.declared.homes.Housed.{Housed}
@@ -66,9 +66,6 @@ module _ (vars : ℕ) (many : OWN_FROM ≤ vars) where
   -- ---- the variables that each procedure has
   pub left_is : LEFT < vars
   left_is = omega (arith, many)
-
-  pub one_is : ONE < vars
-  one_is = omega (arith, many)
 
   pub next_is : NEXT < vars
   next_is = omega (arith, many)

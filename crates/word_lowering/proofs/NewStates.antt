@@ -1,5 +1,5 @@
 -- A call that begins: its result is at its default then, and both states belong together.
-use Rattle.std.proofs.Common.{◌≡◌, ◌≢◌, ◌⊎◌, inl, inr, ℕ, suc, ◌+◌, ◌<◌, ◌≤◌, List, [], ◌∷◌}
+use Rattle.std.proofs.Common.{◌≡◌, ◌≢◌, ◌⊎◌, inl, inr, ℕ, suc, ◌+◌, ◌*◌, ◌<◌, ◌≤◌, List, [], ◌∷◌}
 use Rattle.std.proofs.Common.{◌++◌, length, Option, Some, None, true, false}
 use Rattle.std.proofs.Common.{refl, sym, ap, subst, ◌∙◌, arith, length-append}
 use Rattle.std.specs.Prelude.{slice_get, nat_eq, nat_le, nat_lt, ◌&&◌}
@@ -26,7 +26,7 @@ use Rattle.word_lowering.specs.Layouts.{params_in, result_in, is_address}
 use Rattle.word_lowering.specs.Spots.{clears}
 use Rattle.word_lowering.specs.Lowered.{result_cleared}
 use Rattle.word_lowering.proofs.LineFits.{may_get_some}
-use Rattle.word_lowering.proofs.InMemory.{AllZero, blank_zero}
+use Rattle.word_lowering.proofs.InMemory.{AllZero, bytes_some, blank_zero}
 use Rattle.word_lowering.proofs.Runs.{Runs, at, none as no_run}
 use Rattle.word_lowering.proofs.RoutineCalls.{awaiting}
 use Rattle.word_lowering.proofs.Sites.{looks, Site, Linked, sigs, globals_of}
@@ -147,7 +147,7 @@ module _ (x : Basis) (traps : TrapsStop x) (g : Both) (rest : List BlockLine) (t
       pub awaits : ℕ
       pub good : IsGood x (ended vars_then memory words awaits)
       pub steps : ℕ
-      pub few : steps ≤ 9 + slot_bytes (slots_of x.table c.body)
+      pub few : steps ≤ 8 + 2 * slot_bytes (slots_of x.table c.body)
       pub runs : Runs x.live (procs x.table x.blocks) steps
           (at (within x.table x.blocks (begun vars [])) g.memory (result_cleared (result_in c.body.own.all) k) vars no_words)
           (at (awaiting (within x.table x.blocks (begun vars [])) awaits) memory k vars_then words)
@@ -284,7 +284,6 @@ module _ (x : Basis) (traps : TrapsStop x) (g : Both) (rest : List BlockLine) (t
         still = λ t v h. (v, h);
         variables = λ h u there away home. by h u there home away;
         left = cleared.left;
-        one = cleared.one;
         next = cleared.next;
       }
         where
@@ -346,7 +345,7 @@ module _ (x : Basis) (traps : TrapsStop x) (g : Both) (rest : List BlockLine) (t
         awaits = cleared.awaits;
         good = good_ended;
         steps = cleared.steps;
-        few = (let h = cleared.few in let s = ap slot_bytes f.slots in omega (arith, h, s));
+        few = (let h = cleared.few in let s = ap slot_bytes f.slots in let b = bytes_some start_value in omega (arith, h, s, b));
         runs = subst (λ o. Runs x.live (procs x.table x.blocks) cleared.steps
             (at (within x.table x.blocks (begun vars [])) g.memory (result_cleared o k) vars no_words)
             (at (awaiting (within x.table x.blocks (begun vars [])) cleared.awaits) cleared.memory k cleared.vars cleared.words)) (sym is_result)

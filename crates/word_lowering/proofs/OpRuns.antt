@@ -8,25 +8,23 @@ use Rattle.mid_code.specs.declared.word.WordInstr.TheVariants.{Label, Constant, 
 use Rattle.mid_code.specs.declared.word.WordProc.{WordProc}
 use Rattle.mid_code.specs.Memory.{Memory}
 use Rattle.mid_code.specs.Words.{computed, holds, Vars, put, from_label}
-use Rattle.word_lowering.specs.declared.homes.TheConstants.{OWN_FROM}
+use Rattle.word_lowering.specs.declared.homes.TheConstants.{LEFT, NEXT, FIRST, OWN_FROM}
 use Rattle.word_lowering.proofs.Runs.{Runs, then_runs, Within, at, run_label, run_constant, run_copy, run_compute, run_past, run_off}
 use Rattle.word_lowering.proofs.OrdinalRuns.{put_here, put_other, put_low, AllBut, AllSame, but_one, Gives, Leads}
 use Rattle.word_lowering.proofs.Moves.{all_same, same_more}
 
 -- a variable for what comes between gets a word
-pub same_put : (v : Vars) (s n : ℕ) → 3 ≤ s → s < OWN_FROM → AllSame v (put v s n)
+pub same_put : (v : Vars) (s n : ℕ) → FIRST ≤ s → s < OWN_FROM → AllSame v (put v s n)
 same_put v s n low high = record {
   others = λ u h. put_low v s n u high h;
-  left = put_other v s n 0 (λ e. absurd (omega (arith, e, low)));
-  one = put_other v s n 1 (λ e. absurd (omega (arith, e, low)));
-  next = put_other v s n 2 (λ e. absurd (omega (arith, e, low)));
+  left = put_other v s n LEFT (λ e. absurd (omega (arith, e, low)));
+  next = put_other v s n NEXT (λ e. absurd (omega (arith, e, low)));
 }
 
 pub same_but : (u v w : Vars) (to : ℕ) → AllSame u v → AllBut v to w → AllBut u to w
 same_but u v w to x y = record {
   others = λ n h ne. y.others n h ne ∙ x.others n h;
   left = y.left ∙ x.left;
-  one = y.one ∙ x.one;
   next = y.next ∙ x.next;
 }
 
@@ -67,7 +65,7 @@ module _ (live : Lives) (procs : List WordProc) (c : Within) (m : Memory) (g : V
 
   -- lines before
   module _ (lines k : List WordInstr) (v : Vars) (to n steps : ℕ) where
-    pub behind_constant : (s i : ℕ) → 3 ≤ s → s < OWN_FROM → GivesOf lines (put v s i) to n k steps → GivesOf (Constant s i ∷ lines) v to n k
+    pub behind_constant : (s i : ℕ) → FIRST ≤ s → s < OWN_FROM → GivesOf lines (put v s i) to n k steps → GivesOf (Constant s i ∷ lines) v to n k
         (1 + steps)
     behind_constant s i low high x = record {
       vars = x.vars;
@@ -76,7 +74,7 @@ module _ (live : Lives) (procs : List WordProc) (c : Within) (m : Memory) (g : V
       runs = then_runs live procs (run_constant live procs c m lines v g s i) x.runs;
     }
 
-    pub behind_computed : (s : ℕ) (operation : WordOperation) (left right a b : ℕ) → 3 ≤ s → s < OWN_FROM → v left ≡ Some a → v right ≡ Some b
+    pub behind_computed : (s : ℕ) (operation : WordOperation) (left right a b : ℕ) → FIRST ≤ s → s < OWN_FROM → v left ≡ Some a → v right ≡ Some b
         → GivesOf lines (put v s (computed operation a b)) to n k steps → GivesOf (Compute s operation left right ∷ lines) v to n k (1 + steps)
     behind_computed s operation left right a b low high e f x = record {
       vars = x.vars;
@@ -126,7 +124,7 @@ module _ (live : Lives) (procs : List WordProc) (c : Within) (m : Memory) (g : V
     leads_past steps test left right label a b e f h x =
         record { vars = x.vars; same = x.same; runs = then_runs live procs (run_past live procs c m lines v g test left right label e f h) x.runs }
 
-    pub leads_constant : (steps s i : ℕ) → 3 ≤ s → s < OWN_FROM → LeadsOf lines (put v s i) there steps → LeadsOf (Constant s i ∷ lines) v there
+    pub leads_constant : (steps s i : ℕ) → FIRST ≤ s → s < OWN_FROM → LeadsOf lines (put v s i) there steps → LeadsOf (Constant s i ∷ lines) v there
         (1 + steps)
     leads_constant steps s i low high x = record {
       vars = x.vars;
@@ -134,7 +132,7 @@ module _ (live : Lives) (procs : List WordProc) (c : Within) (m : Memory) (g : V
       runs = then_runs live procs (run_constant live procs c m lines v g s i) x.runs;
     }
 
-    pub leads_computed : (steps s : ℕ) (operation : WordOperation) (left right a b : ℕ) → 3 ≤ s → s < OWN_FROM → v left ≡ Some a → v right
+    pub leads_computed : (steps s : ℕ) (operation : WordOperation) (left right a b : ℕ) → FIRST ≤ s → s < OWN_FROM → v left ≡ Some a → v right
         ≡ Some b
         → LeadsOf lines (put v s (computed operation a b)) there steps → LeadsOf (Compute s operation left right ∷ lines) v there (1 + steps)
     leads_computed steps s operation left right a b low high e f x = record {

@@ -17,7 +17,7 @@ use Rattle.mid_code.specs.declared.word.WordInstr.TheVariants.{Copy}
 use Rattle.mid_code.specs.declared.word.WordProc.{WordProc}
 use Rattle.mid_code.specs.Memory.{Memory}
 use Rattle.mid_code.specs.Words.{Vars, put, from_label}
-use Rattle.word_lowering.specs.declared.homes.TheConstants.{FIRST, SECOND, THIRD, OWN_FROM}
+use Rattle.word_lowering.specs.declared.homes.TheConstants.{LEFT, NEXT, FIRST, SECOND, THIRD, OWN_FROM}
 use Rattle.word_lowering.specs.Operations.{word, sum_code, difference_code, product_code, unless_differ}
 use Rattle.word_lowering.proofs.Arithmetic.{signed_word, product_within, sign_word, added_is, sum_fits, subtracted_is, difference_fits, product_is}
 use Rattle.word_lowering.proofs.Arithmetic.{product_fits}
@@ -72,24 +72,21 @@ sign_small n h = by (sign_word n h)
 -- the variables for places are as before but for one, and so are those that count calls
 pub record AllBut (v : Vars) (to : ℕ) (w : Vars) : Type 0 where
   pub others : (u : ℕ) → OWN_FROM ≤ u → u ≢ to → w u ≡ v u
-  pub left : w 0 ≡ v 0
-  pub one : w 1 ≡ v 1
-  pub next : w 2 ≡ v 2
+  pub left : w LEFT ≡ v LEFT
+  pub next : w NEXT ≡ v NEXT
 
 -- all variables for places are as before
 pub record AllSame (v w : Vars) : Type 0 where
   pub others : (u : ℕ) → OWN_FROM ≤ u → w u ≡ v u
-  pub left : w 0 ≡ v 0
-  pub one : w 1 ≡ v 1
-  pub next : w 2 ≡ v 2
+  pub left : w LEFT ≡ v LEFT
+  pub next : w NEXT ≡ v NEXT
 
 -- a variable for a place gets a word
 pub but_one : (v w : Vars) (to n : ℕ) → OWN_FROM ≤ to → AllSame v w → AllBut v to (put w to n)
 but_one v w to n high same = record {
   others = λ u h apart. put_other w to n u apart ∙ same.others u h;
-  left = put_high w to n 0 high (omega arith) ∙ same.left;
-  one = put_high w to n 1 high (omega arith) ∙ same.one;
-  next = put_high w to n 2 high (omega arith) ∙ same.next;
+  left = put_high w to n LEFT high (omega arith) ∙ same.left;
+  next = put_high w to n NEXT high (omega arith) ∙ same.next;
 }
 
 module _ (live : Lives) (procs : List WordProc) (c : Within) (m : Memory) (g : Vars) where
@@ -124,7 +121,6 @@ module _ (live : Lives) (procs : List WordProc) (c : Within) (m : Memory) (g : V
           (one_if (is_less_signed (word y) 0)) u
           (omega arith) (omega arith) (omega arith) (omega arith) h;
       left = refl;
-      one = refl;
       next = refl;
     }
 
@@ -183,7 +179,6 @@ module _ (live : Lives) (procs : List WordProc) (c : Within) (m : Memory) (g : V
           (one_if (is_less_signed (word y) 0)) u
           (omega arith) (omega arith) (omega arith) (omega arith) h;
       left = refl;
-      one = refl;
       next = refl;
     }
 
@@ -242,7 +237,6 @@ module _ (live : Lives) (procs : List WordProc) (c : Within) (m : Memory) (g : V
           (shifted_right_signed (low_product (word x) (word y)) 31) u
           (omega arith) (omega arith) (omega arith) (omega arith) h;
       left = refl;
-      one = refl;
       next = refl;
     }
 

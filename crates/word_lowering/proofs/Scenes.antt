@@ -12,7 +12,7 @@ use Rattle.mid_code.specs.Words.{Vars}
 use Rattle.mid_code.specs.Scene.{Where, Located, Within, Temps, Filled}
 use Rattle.mid_code.specs.Shapes.{Shape, has_shape}
 use Rattle.mid_code.specs.Fits.{is_value, is_location, is_declared, is_own}
-use Rattle.word_lowering.specs.declared.homes.TheConstants.{LEFT, ONE, NEXT}
+use Rattle.word_lowering.specs.declared.homes.TheConstants.{LEFT, NEXT}
 use Rattle.word_lowering.specs.declared.homes.Home.{Home}
 use Rattle.word_lowering.specs.declared.homes.Home.TheVariants.{Variable, Placed, Static}
 use Rattle.word_lowering.specs.declared.homes.Housed.{Housed}
@@ -22,10 +22,10 @@ use Rattle.word_lowering.specs.Layouts.{found, is_address}
 use Rattle.word_lowering.specs.Spots.{spot_of}
 use Rattle.word_lowering.specs.Operations.{word}
 use Rattle.word_lowering.specs.LineCode.{variable_of}
-use Rattle.word_lowering.specs.Lowered.{calls_in}
+use Rattle.word_lowering.specs.Lowered.{calls_to_memory}
 use Rattle.word_lowering.proofs.InMemory.{IsAt}
 use Rattle.word_lowering.proofs.ShapePaths.{PathTo}
-use Rattle.word_lowering.proofs.Sites.{Site, AmongSites, lines_of, looks, There, InMemory}
+use Rattle.word_lowering.proofs.Sites.{Site, AmongSites, lines_of, around, looks, There, InMemory}
 
 -- ---- where values are
 
@@ -144,8 +144,7 @@ module _ (table : List TypeDef) (blocks : Blocks) where
   -- the variables that count calls
   pub record Counts (s : Site) (vars : Vars) : Type 0 where
     pub left : s.body.start ≡ false → vars LEFT ≡ Some s.left
-    pub calls : calls_in (lines_of s.body) ≡ true
-        → (vars LEFT ≡ Some s.left) × (vars ONE ≡ Some 1) × (vars NEXT ≡ Some (subtracted s.left 1))
+    pub next : s.body.start ≡ false → calls_to_memory (around table blocks s.body) (lines_of s.body) ≡ true → vars NEXT ≡ Some (subtracted s.left 1)
 
   pub record Holding (m : Memory) (w : World) (has : Filled) (sites : List Site) (c : Call) : Type 0 where
     pub items : (name : Name) (x : Value) → HasValue w has c name x → IsItem m c name x

@@ -15,7 +15,7 @@ use Rattle.mid_code.specs.declared.word.WordInstr.TheVariants.{Return, Read, Wri
 use Rattle.mid_code.specs.declared.word.WordProc.{WordProc}
 use Rattle.mid_code.specs.Codes.{AreNone, block_hooks}
 use Rattle.mid_code.specs.Running.{last_of}
-use Rattle.mid_code.specs.Sizes.{uncounted_length, chain_length, has_no_circle}
+use Rattle.mid_code.specs.Sizes.{uncounted_length, chain_length, longest_chain, has_no_circle}
 use Rattle.mid_code.specs.Words.{is_counted, from_proc, most_called, most_chain, is_no_hook, have_no_hooks}
 use Rattle.word_lowering.specs.declared.homes.Layout.{Layout}
 use Rattle.word_lowering.specs.declared.texts.TheConstants.{FIXED_BYTES}
@@ -177,6 +177,9 @@ pub no_circles : (procs : List WordProc) → AreSmall procs → 1 ≤ length pro
 no_circles procs small some =
     let h = most_short (chain_length (suc (length procs)) procs) (chain_short (suc (length procs)) procs small) procs in
     le-leb _ (length procs) (omega (arith, h, some))
+
+pub chains : (procs : List WordProc) → AreSmall procs → longest_chain procs ≤ 1
+chains procs small = most_short (chain_length (length procs) procs) (chain_short (length procs) procs small) procs
 
 -- ---- hooks
 

@@ -1,5 +1,5 @@
--- The start of word code: by at most three lines it comes to the first one of block code, and both states belong together there.
-use Rattle.std.proofs.Common.{◌≡◌, ℕ, ◌≤◌, List, [], ◌∷◌, ◌++◌, map, None, true, false, refl, sym, ap, subst}
+-- The start of word code: it is at the first line of block code, and both states belong together there.
+use Rattle.std.proofs.Common.{◌≡◌, ℕ, List, [], ◌∷◌, ◌++◌, map, None, true, false, refl, sym, ap, subst}
 use Rattle.std.proofs.Common.{◌∙◌}
 use Rattle.std.proofs.lemmas.Bool.{and_parts, false≢true}
 use Rattle.rv32_isa.specs.Machine.{Lives}
@@ -11,22 +11,22 @@ use Rattle.mid_code.specs.declared.block.BlockProc.{BlockProc}
 use Rattle.mid_code.specs.declared.block.Blocks.{Blocks}
 use Rattle.mid_code.specs.Memory.{Memory}
 use Rattle.mid_code.specs.Scene.{known_in}
-use Rattle.mid_code.specs.Words.{no_words, start as word_start}
+use Rattle.mid_code.specs.Words.{start as word_start}
 use Rattle.mid_code.specs.Codes.{block_label, block_does, block_proc, block_procs, is_blocks, result_in as slots_of}
 use Rattle.mid_code.specs.Fits.{result_at, params_at, results_at, are_none}
 use Rattle.mid_code.specs.Running.{Proc, no_proc as no_run_proc, last_of, start_of, frame_of, has_first, beginning, at_first}
 use Rattle.word_lowering.specs.declared.homes.Layout.{Layout}
 use Rattle.word_lowering.specs.Layouts.{result_in}
 use Rattle.word_lowering.specs.Texts.{literals_at}
-use Rattle.word_lowering.specs.Lowered.{no_proc, start_layout, calls_in, lowered}
+use Rattle.word_lowering.specs.Lowered.{no_proc, start_layout, lowered}
 use Rattle.word_lowering.specs.MayLower.{may_lower}
 use Rattle.word_lowering.specs.Stored.{HaveForms}
 use Rattle.word_lowering.proofs.Runs.{Runs}
-use Rattle.word_lowering.proofs.Sites.{Body, lines_of, data_end, globals_of, ResultIs, IsBody}
-use Rattle.word_lowering.proofs.Related.{Both, procs, code_behind, within, low, high, MemoryGood, Good}
+use Rattle.word_lowering.proofs.Sites.{Body, data_end, globals_of, ResultIs, IsBody}
+use Rattle.word_lowering.proofs.Related.{Both, procs, low, high, MemoryGood, Good}
 use Rattle.word_lowering.proofs.FirstMemory.{first_memory}
 use Rattle.word_lowering.proofs.ProcCodes.{start_laid, start_places, start_is_body}
-use Rattle.word_lowering.proofs.StartPair.{starts_up, no_results, first_pair, first_good, first_runs}
+use Rattle.word_lowering.proofs.StartPair.{no_results, first_pair, first_good, first_runs}
 
 none_behind : (xs ys : List ℕ) → are_none (xs ++ ys) ≡ true → ys ≡ []
 none_behind [] [] h = refl
@@ -54,9 +54,7 @@ module _ (table : List TypeDef) (blocks : Blocks) (heap stack : ℕ) (input : Li
   pub record Begins (live : Lives) : Type 0 where
     pub both : Both
     pub good : Good table blocks first both
-    pub steps : ℕ
-    pub few : steps ≤ 3
-    pub runs : Runs live (procs table blocks) steps (word_start (lowered table blocks) heap stack input) (low table blocks both)
+    pub runs : Runs live (procs table blocks) 0 (word_start (lowered table blocks) heap stack input) (low table blocks both)
     pub same : high table blocks both ≡ at_first block_label (block_does (known_in table)) (block_procs (known_in table) blocks)
 
   module _ (is_table : IsTable table) (have : HaveForms table) (formed : is_blocks (known_in table) blocks ≡ true) (may : may_lower table blocks ≡ true)
@@ -84,15 +82,10 @@ module _ (table : List TypeDef) (blocks : Blocks) (heap stack : ℕ) (input : Li
     pub begins : (live : Lives) → Begins live
     unfolding word_start
     begins live =
-        let g : Both = first_pair table blocks start_body start_is refl input first memory no_words in
-        let s = starts_up live (procs table blocks) (within table blocks g) first no_words
-        (code_behind table blocks start_body start_body.proc.lines) (calls_in (lines_of start_body)) in
         record {
-          both = first_pair table blocks start_body start_is refl input first memory s.vars;
-          good = first_good table blocks start_body start_is refl input first memory s.vars s.counts no_result.1;
-          steps = s.steps;
-          few = s.few;
-          runs = first_runs table blocks start_body start_is refl input first memory s.vars s.counts no_result.1 live s.steps no_place s.runs;
+          both = first_pair table blocks start_body start_is refl input first memory;
+          good = first_good table blocks start_body start_is refl input first memory no_result.1;
+          runs = first_runs table blocks start_body start_is refl input first memory no_result.1 live no_place;
           same = ap (λ (q : Proc BlockLine). record {
             now = beginning q 0 ACTIVE_CALLS;
             waiting = [];

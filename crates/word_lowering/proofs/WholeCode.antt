@@ -19,8 +19,6 @@ use Rattle.word_lowering.specs.Routines.{and_routines}
 use Rattle.word_lowering.specs.Texts.{texts_of, texts_in, padded, data_in}
 use Rattle.word_lowering.specs.Lowered.{word_proc, with_own, if_runs, word_procs, no_proc, all_layouts, around_start, lowered}
 use Rattle.word_lowering.specs.declared.may_lower.TheConstants.{MOST_DATA}
-use Rattle.word_lowering.specs.declared.texts.TheConstants.{FIXED_BYTES}
-use Rattle.word_lowering.specs.Layouts.{layouts}
 use Rattle.word_lowering.specs.MayLower.{defs_may, procs_may, may_lower}
 use Rattle.word_lowering.specs.Lowers.{Lowers}
 use Rattle.word_lowering.specs.Stored.{HaveForms}
@@ -102,20 +100,19 @@ module _ (table : List TypeDef) (blocks : Blocks) where
       ∙ ap made_by a
 
   -- from the slices that the code has
-  pub whole_by : (slice : List BlockProc) (all slices : List Layout) (own : Layout) (start : BlockProc) (x : Around) (p : WordProc)
-      (first second third : List WordProc) (statics bytes : List ℕ)
-      → slice ≡ blocks.procs → all ≡ layouts table FIXED_BYTES slice → slices ≡ all
+  pub whole_by : (slice : List BlockProc) (slices : List Layout) (own : Layout) (start : BlockProc) (x : Around)
+      (procs : List WordProc) (statics bytes : List ℕ)
+      → slice ≡ blocks.procs → slices ≡ all_layouts table blocks.procs
       → slice_get slices (length slices - 1) ≡ Some own → slice_get slice (length slice - 1) ≡ Some start
-      → x ≡ around_start table slices own → p ≡ word_proc x 0 start → first ≡ [] ++ p ∷ [] → Puts first second and_routines
-      → third ≡ second ++ word_procs x 0 x.layouts slice → statics ≡ padded (data_in table own.free.datum slice)
+      → x ≡ around_start table slices own → procs ≡ word_proc x 0 start ∷ and_routines (word_procs x 0 x.layouts slice)
+      → statics ≡ padded (data_in table own.free.datum slice)
       → bytes ≡ statics → (procs_may table slices slice && (nat_le (length bytes) MOST_DATA && defs_may table)) ≡ true
-      → IsTable table → HaveForms table → MemoryLaw → Lowers table blocks (both third statics)
-  whole_by slice all slices own start x p first second third statics bytes s a l o f around e g puts h d b may is_table have law =
-      let there : slices ≡ all_layouts table blocks.procs = l ∙ a ∙ ap (λ ps. layouts table FIXED_BYTES ps) s in
-      let is : ◌≡◌ {A = WordCode} (both third statics) (lowered table blocks) =
-      whole slices own start x third statics there (last_is no_layout slices own o)
+      → IsTable table → HaveForms table → MemoryLaw → Lowers table blocks (both procs statics)
+  whole_by slice slices own start x procs statics bytes s there o f around h d b may is_table have law =
+      let is : ◌≡◌ {A = WordCode} (both procs statics) (lowered table blocks) =
+      whole slices own start x procs statics there (last_is no_layout slices own o)
       (ap (λ ps. last_of no_proc ps) (sym s) ∙ last_is no_proc slice start f) around
-      (procs_are x start blocks.procs p first second third e g puts (h ∙ ap (λ ps. second ++ word_procs x 0 x.layouts ps) s))
+      (h ∙ ap (λ ps. word_proc x 0 start ∷ and_routines (word_procs x 0 x.layouts ps)) s)
       (d ∙ ap (λ ps. padded (data_in table own.free.datum ps)) s) in
       let tested : may_lower table blocks ≡ true =
       sym (ap (λ ls. procs_may table ls slice && (nat_le (length bytes) MOST_DATA && defs_may table)) there

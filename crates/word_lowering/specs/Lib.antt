@@ -9,6 +9,7 @@ pub mod Texts
 pub mod Routines
 pub mod LineCode
 pub mod Scope
+pub mod Ahead
 pub mod Lowered
 pub mod MayLower
 pub mod Lowers

@@ -1,9 +1,8 @@
 -- The word code of block code as a whole: the start code first, then the routines, then the procedures in their order. No public contract
 -- speaks of it.
-use Rattle.std.specs.Prelude.{ℕ, suc, nat_eq, ◌+◌, ◌-◌, Bool, true, false, ◌||◌, if◌then◌else◌}
+use Rattle.std.specs.Prelude.{ℕ, suc, nat_eq, ◌+◌, Bool, true, false, ◌||◌, if◌then◌else◌}
 use Rattle.std.specs.Prelude.{List, [], ◌∷◌, length, map, Option, Some, None}
 use Rattle.nim_types.specs.declared.types.TypeDef.{TypeDef}
-use Rattle.nim_core.specs.declared.program.TheConstants.{ACTIVE_CALLS}
 use Rattle.nim_core.specs.declared.expr.UnaryOperator.{UnaryOperator}
 use Rattle.nim_core.specs.declared.expr.UnaryOperator.TheVariants as unary
 use Rattle.nim_core.specs.declared.expr.Operator.{Operator}
@@ -23,7 +22,7 @@ use Rattle.mid_code.specs.declared.word.WordProc.{WordProc}
 use Rattle.mid_code.specs.declared.word.WordCode.{WordCode}
 use Rattle.mid_code.specs.Codes.{block_plain}
 use Rattle.mid_code.specs.Running.{last_of}
-use Rattle.word_lowering.specs.declared.homes.TheConstants.{LEFT, ONE, NEXT, FIRST, OWN_FROM}
+use Rattle.word_lowering.specs.declared.homes.TheConstants.{LEFT, NEXT, FIRST, OWN_FROM}
 use Rattle.word_lowering.specs.declared.homes.Housed.{Housed}
 use Rattle.word_lowering.specs.declared.homes.Layout.{Layout}
 use Rattle.word_lowering.specs.declared.texts.TheConstants.{FIXED_BYTES}
@@ -32,27 +31,28 @@ use Rattle.word_lowering.specs.Spots.{clears}
 use Rattle.word_lowering.specs.Operations.{trap_label}
 use Rattle.word_lowering.specs.Texts.{padded, names_at, literals_at, texts_in, data_in}
 use Rattle.word_lowering.specs.Routines.{trap_number, and_routines}
-use Rattle.word_lowering.specs.LineCode.{Around, no_layout, lines_code, proc_number}
+use Rattle.word_lowering.specs.LineCode.{Around, no_layout, is_to_memory, lines_code, proc_number}
 
 -- ---- procedures
 
--- one of the lines is a call
 abbrev pub is_call : Line → Bool
 is_call (L.Call to proc) = true
 is_call line = false
 
-abbrev pub calls_in : List Line → Bool
-calls_in [] = false
-calls_in (line ∷ rest) = is_call line || calls_in rest
+-- one of the lines is a call whose result goes to memory
+abbrev pub is_call_to_memory : Around → Line → Bool
+is_call_to_memory x (L.Call to proc) = is_to_memory x to
+is_call_to_memory x line = false
 
--- what a procedure that calls others has in its variables from the beginning
-abbrev pub counts_code : (start : Bool) → List WordInstr → List WordInstr
-counts_code true k = Constant ONE 1 ∷ Constant LEFT ACTIVE_CALLS ∷ Constant NEXT (ACTIVE_CALLS - 1) ∷ k
-counts_code false k = Constant ONE 1 ∷ Compute NEXT operation.Subtract LEFT ONE ∷ k
+abbrev pub calls_to_memory : Around → List Line → Bool
+calls_to_memory x [] = false
+calls_to_memory x (line ∷ rest) = is_call_to_memory x line || calls_to_memory x rest
 
-abbrev pub first_code : (calls start : Bool) → List WordInstr → List WordInstr
-first_code true start k = counts_code start k
+-- how many calls may be active behind the next one, where such a call needs it
+abbrev pub first_code : (memory start : Bool) → List WordInstr → List WordInstr
 first_code false start k = k
+first_code true true k = k
+first_code true false k = Constant FIRST 1 ∷ Compute NEXT operation.Subtract LEFT FIRST ∷ k
 
 -- the result is at its default
 abbrev pub result_cleared : Option Housed → List WordInstr → List WordInstr
@@ -105,7 +105,7 @@ kind_of (Some hook) = kind.Hook hook.kind hook.of
 
 abbrev pub code_of : Around → List Line → List WordInstr
 code_of x lines =
-    first_code (calls_in lines) x.setting.start (result_cleared (result_in x.own.all) (lines_code x lines (last_code lines [])))
+    first_code (calls_to_memory x lines) x.setting.start (result_cleared (result_in x.own.all) (lines_code x lines (last_code lines [])))
 
 abbrev pub kind_in : (start : Bool) → Option HookOf → ProcKind
 kind_in true hook = kind.Counted

@@ -13,9 +13,9 @@ use Rattle.mid_code.specs.declared.word.WordProc.{WordProc}
 use Rattle.mid_code.specs.declared.word.WordCode.{WordCode}
 use Rattle.mid_code.specs.Codes.{AreNone, block_placed, block_hooks, block_meaning}
 use Rattle.mid_code.specs.Memory.{Memory, as_state}
-use Rattle.mid_code.specs.Sizes.{code_weight, word_weight, data_bytes, has_no_circle}
+use Rattle.mid_code.specs.Sizes.{code_weight, word_weight, data_bytes, longest_chain, has_no_circle}
 use Rattle.mid_code.specs.Words.{is_counted, most_called, have_no_hooks, is_word_code, word_meaning}
-use Rattle.word_lowering.specs.declared.lowering.TheConstants.{WORD_PACE, MOST_HEAP, ROUTINES_WEIGHT, ROUTINE_VARIABLES, MORE_DATA}
+use Rattle.word_lowering.specs.declared.lowering.TheConstants.{WORD_PACE, MOST_HEAP, ROUTINES_WEIGHT, ROUTINE_VARIABLES, ROUTINE_CHAIN, MORE_DATA}
 use Rattle.word_lowering.specs.declared.may_lower.TheConstants.{MOST_ROOM, MOST_VARS, MOST_DATA}
 
 -- what doesn't count has no places and few variables, and calls nothing
@@ -49,6 +49,7 @@ pub record Lowers (table : List TypeDef) (blocks : Blocks) (code : WordCode) : T
   pub formed : is_word_code code ≡ true
   -- frames and places of 2,001 calls have room in a machine's stack
   pub no_circle : has_no_circle code.procs ≡ true
+  pub chain : longest_chain code.procs ≤ ROUTINE_CHAIN
   pub small : AreSmall code.procs
   -- its lines, and one for each procedure, by what block code weighs
   pub weight : word_weight code.procs ≤ code_weight (map block_placed blocks.procs) + ROUTINES_WEIGHT

@@ -1,31 +1,20 @@
 -- The places of a procedure by their numbers, and its parameters. No public contract speaks of it.
-use Rattle.std.specs.Prelude.{◌≡◌, ℕ, nat_eq, Bool, List, Option, Some, None}
+use Rattle.std.specs.Prelude.{◌≡◌, ℕ, nat_eq, Bool, List, [], drop, Option, Some, None}
 use Rattle.std.specs.HashMap.{HashMap, get}
 use Rattle.mid_code.specs.declared.place.PlaceKind.{PlaceKind}
 use Rattle.word_lowering.specs.declared.homes.Housed.{Housed}
-use Rattle.word_lowering.specs.declared.homes.Sort.TheVariants.{Value, Location, Own, Declared, Global}
-use Rattle.word_lowering.specs.declared.places.Tables.{Tables}
-use Rattle.word_lowering.specs.Lookups.{nowhere, is_sort, found, params_in}
+use Rattle.word_lowering.specs.Lookups.{found, params_in}
 
-abbrev pub place_or : Option Housed → Housed
-place_or None = nowhere
-place_or (Some h) = h
+-- the places from a position on
+abbrev pub from_there : Option ℕ → List Housed → List Housed
+from_there None all = []
+from_there (Some i) all = drop i all
 
-abbrev pub or_nowhere : {S : Type 0} → HashMap ℕ Housed S → ℕ → Housed
-or_nowhere table n = place_or (get nat_eq table n)
+-- whoever goes on from where a number's first place stands finds what is found among those that are left
+abbrev pub Leads : {S : Type 0} → HashMap ℕ ℕ S → (left all : List Housed) → Type 0
+Leads index left all = (n : ℕ) (is_kind : PlaceKind → Bool) → found is_kind n (from_there (get nat_eq index n) all) ≡ found is_kind n left
 
--- for each number the first place of some kind
-abbrev pub Finds : {S : Type 0} → (PlaceKind → Bool) → List Housed → HashMap ℕ Housed S → Type 0
-Finds is_kind all table = (n : ℕ) → or_nowhere table n ≡ found is_kind n all
-
-pub record AreFound (all : List Housed) (tables : Tables) : Type 0 where
-  pub values : Finds (is_sort Value) all tables.values
-  pub locations : Finds (is_sort Location) all tables.locations
-  pub own : Finds (is_sort Own) all tables.own
-  pub declared : Finds (is_sort Declared) all tables.declared
-  pub globals : Finds (is_sort Global) all tables.globals
-
--- the parameters and the tables of some places
-pub record AreIndexed (all params : List Housed) (tables : Tables) : Type 0 where
+-- the parameters of some places, and where each number's first one stands
+pub record AreIndexed {S : Type 0} (all params : List Housed) (index : HashMap ℕ ℕ S) : Type 0 where
   pub given : params ≡ params_in all
-  pub found : AreFound all tables
+  pub leads : Leads index all all

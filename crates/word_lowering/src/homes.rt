@@ -7,30 +7,28 @@ use nim_types::TypeId;
 /// parameter of each procedure.
 pub const LEFT: u32 = 0;
 
-/// The variable that holds 1 in a procedure that calls others.
-pub const ONE: u32 = 1;
-
-/// The variable of how many calls may still be active behind one that this procedure makes.
-pub const NEXT: u32 = 2;
+/// The variable of how many calls may still be active behind one that this procedure makes, where it
+/// has a call whose result goes to memory.
+pub const NEXT: u32 = 1;
 
 /// A variable for what comes between; the address to which something goes.
-pub const FIRST: u32 = 3;
+pub const FIRST: u32 = 2;
 
 /// Another one; the address from which something comes.
-pub const SECOND: u32 = 4;
+pub const SECOND: u32 = 3;
 
 /// Another one; how many bytes there are.
-pub const THIRD: u32 = 5;
+pub const THIRD: u32 = 4;
 
 /// Another one.
-pub const FOURTH: u32 = 6;
+pub const FOURTH: u32 = 5;
 
 /// Another one.
-pub const FIFTH: u32 = 7;
+pub const FIFTH: u32 = 6;
 
 /// The first variable that a procedure has for its own places: from here on come its parameters,
 /// and then all others.
-pub const OWN_FROM: u32 = 8;
+pub const OWN_FROM: u32 = 7;
 
 /// Where something of block code is in word code.
 #[derive(Clone, Copy)]

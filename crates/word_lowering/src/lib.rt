@@ -1,6 +1,7 @@
 //! Block code becomes word code: values in places and temporaries become words and bytes in memory.
 #![tactic(auto)]
 
+mod ahead;
 mod calls;
 mod homes;
 mod layouts;
@@ -20,7 +21,9 @@ mod texts;
 mod values;
 
 pub use homes::{Free, Home, Housed, Layout, Sort};
-pub use lowering::{MORE_DATA, MOST_HEAP, ROUTINE_VARIABLES, ROUTINES_WEIGHT, WORD_PACE, words};
+pub use lowering::{
+    MORE_DATA, MOST_HEAP, ROUTINE_CHAIN, ROUTINE_VARIABLES, ROUTINES_WEIGHT, WORD_PACE, words,
+};
 pub use may_lower::{MOST_DATA, MOST_ROOM, MOST_VARS};
 pub use places::Places;
 pub use scope::Scope;

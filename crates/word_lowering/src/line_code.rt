@@ -1,13 +1,15 @@
 // The word code of each line.
-ghost use Rattle.std.specs.Prelude.{◌≡◌, ◌+◌, ◌*◌, length, map, IfOk, OnOk};
+ghost use Rattle.std.specs.Prelude.{◌≡◌, ◌+◌, ◌*◌, map, IfOk, OnOk};
 ghost use Rattle.mid_code.specs.Codes.{block_plain};
+ghost use Rattle.word_lowering.specs.Ahead.{IsAhead};
 ghost use Rattle.word_lowering.specs.Emission.{Puts};
 ghost use Rattle.word_lowering.specs.LineCode.{bool_code, char_code, name_code, literal_code};
 ghost use Rattle.word_lowering.specs.LineCode.{ordinal_code, line_code, lines_code};
 ghost use Rattle.word_lowering.specs.Scope.{around_of};
 ghost use Rattle.word_lowering.specs.Stored.{HaveForms, entry_at, base_at};
-ghost use Rattle.word_lowering.specs.Texts.{names_before, texts_of};
+ghost use Rattle.word_lowering.specs.Texts.{names_before};
 
+use crate::ahead::{Ahead, ahead_of, behind_first};
 use crate::calls::{emit_call, emit_exit, emit_return};
 use crate::homes::{FIRST, SECOND, THIRD};
 use crate::locations::{
@@ -22,7 +24,7 @@ use crate::spots::{
     address, argument, branch, call, compute, constant, emit, emit_clears, emit_moves, load, sum,
 };
 use crate::stored::{base_at, count_in, entry_at};
-use crate::texts::{FALSE_AT, LINE_END_AT, fewer, is_line_end, names_before, text_bytes, text_of};
+use crate::texts::{FALSE_AT, LINE_END_AT, is_line_end, names_before};
 use crate::values::{emit_constant, emit_construct, emit_parts};
 use arc_base::{Items, Memory, Stream};
 use mid_code::{BlockLine, Line, Test, WordInstr, WordOperation};
@@ -143,7 +145,7 @@ fn emit_literal(code: &mut Items<WordInstr>, at: u32, text: &[u8]) -> Result<(),
 
 // ---- lines
 
-// Control, arguments and calls.
+// Control and calls.
 fn emit_control(
     code: &mut Items<WordInstr>,
     x: &Scope,
@@ -184,8 +186,6 @@ fn emit_control(
             let (i, n, m) = (x.held(*counter), x.held(*last), x.held(*more));
             emit_count(code, label, i, n, *inclusive, m)
         }
-        Line::Argument { from } => emit_argument(code, x, rest, x.value(*from)),
-        Line::ArgumentAt { from } => emit_argument(code, x, rest, x.location(*from)),
         Line::Call { to, proc } => emit_call(code, x, *proc, *to),
         Line::Return { result } => emit_return(code, x, *result),
         _ => Err(Memory),
@@ -307,7 +307,7 @@ fn emit_on_locations(
     }
 }
 
-// The code of a line that has these lines behind it, but for that of a text.
+// The code of a line that has these lines behind it, but for that of a text and of an argument.
 fn emit_line(
     code: &mut Items<WordInstr>,
     x: &Scope,
@@ -340,23 +340,29 @@ fn emit_line(
     }
 }
 
-// The same of any line, where the texts of the lines behind it have so many bytes.
+// The same of any line, where the lines behind it say this.
 fn emit_next(
     code: &mut Items<WordInstr>,
     x: &Scope,
     line: &BlockLine,
     rest: &[BlockLine],
-    texts: u32,
+    ahead: Ahead,
 ) -> Result<(), Memory>
     requires forms { HaveForms x.now.types.now }
-    requires texts { texts ≡ length (texts_of (map block_plain rest.now)) }
+    requires ahead { IsAhead (map block_plain rest.now) ahead }
     ensures { OnOk result (Puts code.old code.new
         (line_code (around_of x.now) (block_plain line.now) (map block_plain rest.now))) }
 {
     match line {
         BlockLine::Plain(Line::WriteText { bytes }) => {
-            let at = sum(x.setting.literals, texts)?;
+            let at = sum(x.setting.literals, ahead.texts)?;
             emit_literal(code, at, bytes.as_slice())
+        }
+        BlockLine::Plain(Line::Argument { from }) => {
+            emit_argument(code, x, rest, ahead, x.value(*from))
+        }
+        BlockLine::Plain(Line::ArgumentAt { from }) => {
+            emit_argument(code, x, rest, ahead, x.location(*from))
         }
         BlockLine::Plain(line) => emit_line(code, x, line, rest),
     }
@@ -369,11 +375,11 @@ pub fn emit_lines(code: &mut Items<WordInstr>, x: &Scope, lines: &[BlockLine]) -
         (lines_code (around_of x.now) (map block_plain lines.now))) }
 {
     let mut left = lines;
-    let mut texts = text_bytes(lines)?;
+    let mut ahead = ahead_of(lines)?;
     while let Some((line, rest)) = left.split_first() {
-        let behind = fewer(texts, text_of(line));
+        let behind = behind_first(ahead, line, rest)?;
         emit_next(code, x, line, rest, behind)?;
-        texts = behind;
+        ahead = behind;
         left = rest;
     }
     Ok(())

@@ -1,6 +1,7 @@
 // The word code of locations, and of arguments.
-ghost use Rattle.std.specs.Prelude.{◌≡◌, map, IfOk, OnOk};
+ghost use Rattle.std.specs.Prelude.{◌≡◌, map, OnOk};
 ghost use Rattle.mid_code.specs.Codes.{block_plain};
+ghost use Rattle.word_lowering.specs.Ahead.{IsAhead};
 ghost use Rattle.word_lowering.specs.Emission.{Puts};
 ghost use Rattle.word_lowering.specs.LineCode.{label_before, part_code, item_code, swap_code};
 ghost use Rattle.word_lowering.specs.LineCode.{measure_word, callee_behind, arguments_behind};
@@ -10,6 +11,7 @@ ghost use Rattle.word_lowering.specs.Scope.{around_of};
 ghost use Rattle.word_lowering.specs.Spots.{moves, clears};
 ghost use Rattle.word_lowering.specs.Stored.{HaveForms, part_at, count_in, entry_at, element_bytes};
 
+use crate::ahead::Ahead;
 use crate::homes::{FIRST, Home, Housed, THIRD};
 use crate::layouts::nowhere;
 use crate::operations::INDEX;
@@ -21,7 +23,7 @@ use crate::spots::{
 };
 use crate::stored::{count_in, element_bytes, part_at};
 use arc_base::{Items, Memory};
-use mid_code::{BlockLine, Line, Test, WordInstr, WordOperation};
+use mid_code::{BlockLine, Test, WordInstr, WordOperation};
 use nim_core::Measure;
 
 // The address of a part, so many bytes behind that of the whole.
@@ -124,42 +126,13 @@ pub fn measure_word(measure: Measure, count: u32) -> u32
     }
 }
 
-// The procedure that the next call calls.
-fn callee_behind(rest: &[BlockLine]) -> Option<u32>
-    ensures { result ≡ callee_behind (map block_plain rest.now) }
+// Where an argument goes that has so many behind it.
+fn param_for(x: &Scope, callee: Option<u32>, behind: u32) -> Housed
+    ensures { result ≡ param_for (around_of x.now) callee behind }
 {
-    for line in rest {
-        if let BlockLine::Plain(Line::Call { proc, .. }) = line {
-            return Some(*proc);
-        }
-    }
-    None
-}
-
-// How many arguments are given before it.
-fn arguments_behind(rest: &[BlockLine]) -> Result<u32, Memory>
-    ensures { IfOk result (λ n. n ≡ arguments_behind (map block_plain rest.now)) }
-{
-    let mut n = 0;
-    for line in rest {
-        match line {
-            BlockLine::Plain(Line::Call { .. }) => return Ok(n),
-            BlockLine::Plain(Line::Argument { .. } | Line::ArgumentAt { .. }) => n = sum(1, n)?,
-            _ => {}
-        }
-    }
-    Ok(n)
-}
-
-// Where an argument goes that has these lines behind it.
-fn param_for(x: &Scope, rest: &[BlockLine]) -> Result<Housed, Memory>
-    ensures { IfOk result (λ h. h ≡ param_for (around_of x.now)
-        (callee_behind (map block_plain rest.now)) (arguments_behind (map block_plain rest.now))) }
-{
-    let behind = arguments_behind(rest)?;
-    match callee_behind(rest) {
-        Some(proc) => Ok(x.param(proc, behind)),
-        None => Ok(nowhere()),
+    match callee {
+        Some(proc) => x.param(proc, behind),
+        None => nowhere(),
     }
 }
 
@@ -189,14 +162,16 @@ pub fn emit_argument(
     code: &mut Items<WordInstr>,
     x: &Scope,
     rest: &[BlockLine],
+    ahead: Ahead,
     from: Housed,
 ) -> Result<(), Memory>
+    requires { IsAhead (map block_plain rest.now) ahead }
     ensures { OnOk result (Puts code.old code.new (argument_code (around_of x.now)
         (label_before (map block_plain rest.now))
         (param_for (around_of x.now) (callee_behind (map block_plain rest.now))
         (arguments_behind (map block_plain rest.now))).home from)) }
 {
-    let to = param_for(x, rest)?;
+    let to = param_for(x, ahead.callee, ahead.arguments);
     let label = label_before(rest)?;
     emit_argument_to(code, x, label, to.home, from)
 }

@@ -1,17 +1,18 @@
 // From block code to word code.
-ghost use Rattle.std.specs.Prelude.{◌≡◌, ◌++◌, map, IfOk, OnOk};
+ghost use Rattle.std.specs.Prelude.{◌≡◌, ◌∷◌, ◌++◌, map, IfOk, OnOk};
 ghost use Rattle.mid_code.specs.Codes.{block_plain};
 ghost use Rattle.word_lowering.specs.Emission.{Puts};
 ghost use Rattle.word_lowering.specs.LineCode.{proc_number};
-ghost use Rattle.word_lowering.specs.Lowered.{is_call, calls_in, first_code};
+ghost use Rattle.word_lowering.specs.Lowered.{is_call_to_memory, calls_to_memory, first_code};
 ghost use Rattle.word_lowering.specs.Lowered.{result_cleared, kind_of, kind_in, code_of, word_proc};
-ghost use Rattle.word_lowering.specs.Lowered.{with_own, if_runs, word_procs, around_start};
+ghost use Rattle.word_lowering.specs.Lowered.{with_own, if_runs, word_procs, all_layouts, around_start};
 ghost use Rattle.word_lowering.specs.Lowers.{Lowers};
+ghost use Rattle.word_lowering.specs.Routines.{and_routines};
 ghost use Rattle.word_lowering.specs.Scope.{around_of};
 ghost use Rattle.word_lowering.specs.Stored.{HaveForms};
 
-use crate::calls::proc_number;
-use crate::homes::{Housed, LEFT, Layout, NEXT, ONE, OWN_FROM};
+use crate::calls::{is_to_memory, proc_number};
+use crate::homes::{FIRST, Housed, LEFT, Layout, NEXT, OWN_FROM};
 use crate::layouts::{kept_in, layouts, result_in};
 use crate::line_code::emit_lines;
 use crate::may_lower::may_lower;
@@ -26,7 +27,6 @@ use mid_code::{
     BlockLine, BlockProc, Blocks, HookOf, Line, ProcKind, WordCode, WordInstr, WordOperation,
     WordProc,
 };
-use nim_core::ACTIVE_CALLS;
 use nim_types::TypeTable;
 use rv32_isa::memories;
 use std::alloc::Global;
@@ -41,51 +41,53 @@ pub const ROUTINES_WEIGHT: u32 = 100;
 /// How many variables a routine may have.
 pub const ROUTINE_VARIABLES: u32 = 9;
 
+/// How many calls stand in a chain at most, each made by the one before it, of procedures whose calls
+/// don't count: routines call nothing.
+pub const ROUTINE_CHAIN: u32 = 1;
+
 /// Data has at most so many bytes beside those of globals, of names of enums and of texts.
 pub const MORE_DATA: u32 = 4_092;
 
 /// The greatest heap of a machine.
 pub const MOST_HEAP: u32 = 16_777_216;
 
-fn is_call(line: &BlockLine) -> bool
-    ensures { result ≡ is_call (block_plain line.now) }
+// Whether a line is a call whose result goes to memory.
+fn is_call_to_memory(x: &Scope, line: &BlockLine) -> bool
+    ensures { result ≡ is_call_to_memory (around_of x.now) (block_plain line.now) }
 {
-    matches!(line, BlockLine::Plain(Line::Call { .. }))
+    match line {
+        BlockLine::Plain(Line::Call { to, .. }) => is_to_memory(x, *to),
+        _ => false,
+    }
 }
 
-fn calls_in(lines: &[BlockLine]) -> bool
-    ensures { result ≡ calls_in (map block_plain lines.now) }
+fn calls_to_memory(x: &Scope, lines: &[BlockLine]) -> bool
+    ensures { result ≡ calls_to_memory (around_of x.now) (map block_plain lines.now) }
 {
     for line in lines {
-        if is_call(line) {
+        if is_call_to_memory(x, line) {
             return true;
         }
     }
     false
 }
 
-// What a procedure that calls others has in its variables from the beginning.
-fn emit_first(code: &mut Items<WordInstr>, calls: bool, start: bool) -> Result<(), Memory>
-    ensures { OnOk result (Puts code.old code.new (first_code calls start)) }
+// How many calls may be active behind the next one, where a call whose result goes to memory needs
+// it.
+fn emit_first(code: &mut Items<WordInstr>, memory: bool, start: bool) -> Result<(), Memory>
+    ensures { OnOk result (Puts code.old code.new (first_code memory start)) }
 {
-    if !calls {
+    if !memory {
         return Ok(());
     }
     if start {
-        return emit(
-            code,
-            &[
-                constant(ONE, 1),
-                constant(LEFT, ACTIVE_CALLS),
-                constant(NEXT, ACTIVE_CALLS - 1),
-            ],
-        );
+        return Ok(());
     }
     emit(
         code,
         &[
-            constant(ONE, 1),
-            compute(NEXT, WordOperation::Subtract, LEFT, ONE),
+            constant(FIRST, 1),
+            compute(NEXT, WordOperation::Subtract, LEFT, FIRST),
         ],
     )
 }
@@ -105,7 +107,7 @@ fn code_of(alloc: Global, x: &Scope, lines: &[BlockLine]) -> Result<Items<WordIn
     ensures { IfOk result (λ code. code ≡ code_of (around_of x.now) (map block_plain lines.now)) }
 {
     let mut code = Items::new(alloc);
-    emit_first(&mut code, calls_in(lines), x.setting.start)?;
+    emit_first(&mut code, calls_to_memory(x, lines), x.setting.start)?;
     emit_result(&mut code, result_in(x.own.all.as_slice()))?;
     emit_lines(&mut code, x, lines)?;
     emit_last(&mut code, lines)?;
@@ -215,6 +217,24 @@ fn push_procs(
     Ok(())
 }
 
+// All procedures: the start code, the routines, and the others.
+fn all_procs(
+    alloc: Global,
+    x: &Scope,
+    start: &BlockProc,
+    procs: &[BlockProc],
+) -> Result<Items<WordProc>, Memory>
+    requires { HaveForms x.now.types.now }
+    ensures { IfOk result (λ all. all ≡ word_proc (around_of x.now) 0 start.now
+        ∷ and_routines (word_procs (around_of x.now) 0 x.now.layouts.now procs.now)) }
+{
+    let mut all = Items::new(alloc);
+    all.push(word_proc(alloc, x, 0, start)?)?;
+    push_routines(alloc, &mut all)?;
+    push_procs(alloc, &mut all, x, procs)?;
+    Ok(all)
+}
+
 // What is around the start code.
 fn start_scope<'a>(
     types: &'a TypeTable,
@@ -239,19 +259,20 @@ fn start_scope<'a>(
     })
 }
 
-/// The word code of block code.
-///
-/// `Memory` comes too where a procedure takes more places, or all take more data, than the machine
-/// has, and where block code is such as no program makes (specs/MayLower.antt).
-pub fn words(alloc: Global, blocks: &Blocks, types: &TypeTable) -> Result<WordCode, Memory>
-    requires { HaveForms types.now }
+// The word code of block code whose procedures have these layouts.
+fn words_of(
+    alloc: Global,
+    blocks: &Blocks,
+    types: &TypeTable,
+    layouts: &[Layout],
+) -> Result<WordCode, Memory>
+    requires forms { HaveForms types.now }
+    requires layouts { layouts.now ≡ all_layouts types.now blocks.now.procs }
     ensures { IfOk result (λ code. Lowers types.now blocks.now code) }
 {
     memories();
     let _types = types.count();
     let procs = blocks.procs.as_slice();
-    let all = layouts(alloc, types, FIXED_BYTES, procs)?;
-    let layouts = all.as_slice();
     let Some(own) = layouts.last() else {
         return Err(Memory);
     };
@@ -263,12 +284,18 @@ pub fn words(alloc: Global, blocks: &Blocks, types: &TypeTable) -> Result<WordCo
         return Err(Memory);
     }
     let x = start_scope(types, layouts, own)?;
-    let mut code = Items::new(alloc);
-    code.push(word_proc(alloc, &x, 0, start)?)?;
-    push_routines(alloc, &mut code)?;
-    push_procs(alloc, &mut code, &x, procs)?;
-    Ok(WordCode {
-        procs: code,
-        statics,
-    })
+    let procs = all_procs(alloc, &x, start, procs)?;
+    Ok(WordCode { procs, statics })
+}
+
+/// The word code of block code.
+///
+/// `Memory` comes too where a procedure takes more places, or all take more data, than the machine
+/// has, and where block code is such as no program makes (specs/MayLower.antt).
+pub fn words(alloc: Global, blocks: &Blocks, types: &TypeTable) -> Result<WordCode, Memory>
+    requires { HaveForms types.now }
+    ensures { IfOk result (λ code. Lowers types.now blocks.now code) }
+{
+    let all = layouts(alloc, types, FIXED_BYTES, blocks.procs.as_slice())?;
+    words_of(alloc, blocks, types, all.as_slice())
 }

@@ -1,8 +1,9 @@
 // The places and temporaries of a procedure, found by their numbers.
-ghost use Rattle.std.specs.Prelude.{◌≡◌, ◌∷◌, [], List, IfOk, OnOk};
+ghost use Rattle.std.specs.Prelude.{◌≡◌, List, drop, nat_eq, IfOk};
+ghost use Rattle.std.specs.HashMap.{get};
 ghost use Rattle.word_lowering.specs.declared.homes.Housed.{Housed as House};
 ghost use Rattle.word_lowering.specs.Lookups.{is_sort, found, params_in, param_before};
-ghost use Rattle.word_lowering.specs.Places.{Finds, AreFound, or_nowhere};
+ghost use Rattle.word_lowering.specs.Places.{from_there, Leads};
 
 use crate::homes::{Housed, Sort};
 use crate::layouts::{is_param, is_sort, nowhere};
@@ -11,25 +12,15 @@ use std::alloc::Global;
 use std::collections::HashMap;
 use std::marker::Model;
 
-// The first place of each number, of one sort.
-type Table = HashMap<u32, Housed>;
-
-/// The first place of each number, sort by sort.
-#[derive(Drop)]
-pub(crate) struct Tables {
-    values: Table,
-    locations: Table,
-    own: Table,
-    declared: Table,
-    globals: Table,
-}
+// Where the first place with a number stands.
+type Index = HashMap<u32, usize>;
 
 /// The places and temporaries of a procedure, in their order. Contracts see them as a list.
 #[derive(Drop)]
 pub struct Places {
     all: Items<Housed>,
     params: Items<Housed>,
-    tables: Tables,
+    index: Index,
 }
 
 impl Model for Places {
@@ -42,79 +33,56 @@ impl Model for Places {
 
     ghost use Rattle.word_lowering.specs.Places.{AreIndexed};
 
-    ghost invariant = { λ p. AreIndexed p.all p.params p.tables };
-}
-
-// A place before some others.
-fn put(table: &mut Table, sort: Sort, place: Housed) -> Result<(), Memory>
-    ensures { OnOk result ((all : List House) → Finds (is_sort sort) all table.old →
-        Finds (is_sort sort) (place ∷ all) table.new) }
-{
-    if is_sort(sort, place.kind) {
-        table.insert(place.number, place)?;
-    }
-    Ok(())
-}
-
-fn look(table: &Table, number: u32) -> Housed
-    ensures { result ≡ or_nowhere (table.now) number }
-{
-    match table.get(&number) {
-        Some(place) => *place,
-        None => nowhere(),
-    }
-}
-
-impl Tables {
-    fn new(alloc: Global) -> Tables
-        ensures { AreFound [] result }
-    {
-        Tables {
-            values: HashMap::new(alloc),
-            locations: HashMap::new(alloc),
-            own: HashMap::new(alloc),
-            declared: HashMap::new(alloc),
-            globals: HashMap::new(alloc),
-        }
-    }
-
-    // A place before some others.
-    fn put(&mut self, place: Housed) -> Result<(), Memory>
-        ensures { OnOk result ((all : List House) → AreFound all self.old →
-            AreFound (place ∷ all) self.new) }
-    {
-        put(&mut self.values, Sort::Value, place)?;
-        put(&mut self.locations, Sort::Location, place)?;
-        put(&mut self.own, Sort::Own, place)?;
-        put(&mut self.declared, Sort::Declared, place)?;
-        put(&mut self.globals, Sort::Global, place)
-    }
-
-    fn found(&self, sort: Sort, number: u32) -> Housed
-        ensures { (all : List House) → AreFound all self.now →
-            result ≡ found (is_sort sort) number all }
-    {
-        match sort {
-            Sort::Value => look(&self.values, number),
-            Sort::Location => look(&self.locations, number),
-            Sort::Own => look(&self.own, number),
-            Sort::Declared => look(&self.declared, number),
-            Sort::Global => look(&self.globals, number),
-        }
-    }
+    ghost invariant = { λ p. AreIndexed p.all p.params p.index };
 }
 
 // The first of several places with a number counts, so they are gone over from their end.
-fn tables_of(alloc: Global, all: &[Housed]) -> Result<Tables, Memory>
-    ensures { IfOk result (λ tables. AreFound all.now tables) }
+fn index_of(alloc: Global, all: &[Housed]) -> Result<Index, Memory>
+    ensures { IfOk result (λ index. Leads index all.now all.now) }
 {
-    let mut tables = Tables::new(alloc);
+    let mut index = HashMap::new(alloc);
     let mut i = all.len();
     while i > 0 {
         i -= 1;
-        tables.put(all[i])?;
+        index.insert(all[i].number, i)?;
     }
-    Ok(tables)
+    Ok(index)
+}
+
+fn place_at(index: &Index, number: u32) -> Option<usize>
+    ensures { result ≡ get nat_eq index.now number }
+{
+    match index.get(&number) {
+        Some(at) => Some(*at),
+        None => None,
+    }
+}
+
+fn rest_from(all: &[Housed], at: usize) -> &[Housed]
+    ensures { result.now ≡ drop at all.now }
+{
+    if at < all.len() { &all[at..] } else { &[] }
+}
+
+// The places from the first one with a number on.
+fn start(all: &[Housed], at: Option<usize>) -> &[Housed]
+    ensures { result.now ≡ from_there at all.now }
+{
+    match at {
+        Some(at) => rest_from(all, at),
+        None => &[],
+    }
+}
+
+fn found(all: &[Housed], sort: Sort, number: u32) -> Housed
+    ensures { result ≡ found (is_sort sort) number all.now }
+{
+    for h in all {
+        if h.number == number && is_sort(sort, h.kind) {
+            return *h;
+        }
+    }
+    nowhere()
 }
 
 // The parameters among some places.
@@ -146,12 +114,8 @@ pub fn places_of(alloc: Global, all: Items<Housed>) -> Result<Places, Memory>
     ensures { IfOk result (λ places. places ≡ all) }
 {
     let params = params_in(alloc, all.as_slice())?;
-    let tables = tables_of(alloc, all.as_slice())?;
-    Ok(Places {
-        all,
-        params,
-        tables,
-    })
+    let index = index_of(alloc, all.as_slice())?;
+    Ok(Places { all, params, index })
 }
 
 impl Places {
@@ -166,7 +130,8 @@ impl Places {
     pub fn found(&self, sort: Sort, number: u32) -> Housed
         ensures { result ≡ found (is_sort sort) number self.now }
     {
-        self.tables.found(sort, number)
+        let at = place_at(&self.index, number);
+        found(start(self.all.as_slice(), at), sort, number)
     }
 
     /// The parameter that has so many behind it.

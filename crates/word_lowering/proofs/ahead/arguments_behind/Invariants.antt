@@ -1,7 +1,7 @@
 use Rattle.std.proofs.Common.{◌≡◌, ◌+◌, drop, map}
 use Rattle.mid_code.specs.Codes.{block_plain}
 use Rattle.word_lowering.specs.LineCode.{arguments_behind}
-use Rattle.word_lowering.proofs.locations.arguments_behind.Given as goal
+use Rattle.word_lowering.proofs.ahead.arguments_behind.Given as goal
 
 -- with what is left, it is all
 abbrev pub invariant-loop-line : goal.invariant-loop-line
