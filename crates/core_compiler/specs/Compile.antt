@@ -14,7 +14,7 @@ use Rattle.mid_code.specs.declared.word.WordCode.{WordCode}
 use Rattle.mid_code.specs.Words.{word_meaning}
 use Rattle.reg_scan.specs.declared.homes.Homes.{Homes}
 use Rattle.rv32_codegen.specs.Layout.{laid_out}
-use Rattle.rv32_codegen.specs.Lowering.{AllHomes, AlwaysDoes}
+use Rattle.rv32_codegen.specs.Lowering.{AllHomes, AlwaysDoes, MakeFrames}
 use Rattle.rv32_codegen.specs.Stack.{stack_need}
 use Rattle.core_compiler.specs.declared.program.TheConstants.{IMAGE_PACE, IMAGE_LATE, TIME_PACE, TIME_LATE}
 
@@ -34,11 +34,12 @@ EndsInTime low high = (n status : ℕ) (live : Live) → (high n).phase ≡ Ende
 -- ---- the stack
 
 -- The image lays out label code that does what word code does where its variables have these homes, on each stack that is at least what
--- these homes need; and its own stack is exactly that.
+-- these homes need; the frames that it makes are those of these homes; and its own stack is exactly what they need.
 pub record IsLaidOut (words : WordCode) (homes : List Homes) (heap : ℕ) (image : Image) : Type 0 where
   pub right : AllHomes words.procs homes
   pub lines : List LabelLine
   pub does : AlwaysDoes lines words homes
+  pub frames : MakeFrames lines words.procs homes
   pub made : image ≡ laid_out lines words.statics heap image.stack
   pub stack : image.stack ≡ stack_need words.procs homes
 

@@ -22,7 +22,7 @@ use Rattle.rv32_isa.specs.declared.label.LabelLine.TheVariants.{Do}
 use Rattle.rv32_isa.specs.Image.{stack_at}
 use Rattle.rv32_isa.specs.State.{State, skip, readable, writable, filled}
 use Rattle.rv32_isa.specs.Values.{added}
-use Rattle.rv32_isa.specs.Steps.{signed12, size_of, found, low_bytes, loaded, stored, act, written}
+use Rattle.rv32_isa.specs.Steps.{signed12, size_of, found, low_bytes, loaded, stored, act}
 use Rattle.rv32_isa.specs.Steps as leads
 use Rattle.rv32_isa.specs.Machine.{Answers, answered, stream_of}
 use Rattle.rv32_isa.specs.LabelsMeaning.{LabelRun, did, led, replied, step}

@@ -20,6 +20,7 @@ mod Start
 mod Depth
 mod HomeFrames
 mod Whole
+mod MadeFrames
 mod Taken
 mod LayoutUp
 mod LayoutSizes

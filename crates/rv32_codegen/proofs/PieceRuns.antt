@@ -61,7 +61,7 @@ pub record Saves (regs new : List ℕ) (frame base : ℕ) : Type 0 where
   pub other : (r : ℕ) → r ≢ 7 → get_or new r 0 ≡ get_or regs r 0
 
 -- twelve bits with their sign that are the word
-near_is : (value : ℕ) → value < 2 ^ 32 → is_near value ≡ true → signed12 (lower value) ≡ value
+pub near_is : (value : ℕ) → value < 2 ^ 32 → is_near value ≡ true → signed12 (lower value) ≡ value
 near_is value fits near =
     let lt = ltb-true ((value + 2048) % 2 ^ 32) 4096 near in
     cond_both (nat_lt (value % 4096) 2048) (value % 4096) (value % 4096 + 2 ^ 32 - 4096) (λ n. n ≡ value)

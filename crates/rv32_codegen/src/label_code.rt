@@ -5,7 +5,8 @@ ghost use Rattle.rv32_isa.specs.Labels.{AreLines, has_instruction, hooks_lead};
 ghost use Rattle.mid_code.specs.Words.{have_no_hooks, is_word_code};
 ghost use Rattle.rv32_codegen.specs.Code as spec;
 ghost use Rattle.rv32_codegen.specs.Layout.{all_far, enters_no_hook, size};
-ghost use Rattle.rv32_codegen.specs.Lowering.{AllHomes, AlwaysDoes, most_lines, most_bytes};
+ghost use Rattle.rv32_codegen.specs.Lowering.{AllHomes, AlwaysDoes, MakeFrames};
+ghost use Rattle.rv32_codegen.specs.Lowering.{most_lines, most_bytes};
 
 use crate::lines::emit_lines;
 use crate::pieces::{emit, emit_sum, negative, push};
@@ -111,12 +112,14 @@ fn emit_code(alloc: Global, words: &WordCode, homes: &[Homes]) -> Result<LabelCo
 }
 
 /// Label code that does, under all addresses of its marks that rise, what the word code does: over
-/// the word code's data, and with each stack that is at least what `stack_need` gives.
+/// the word code's data, and with each stack that is at least what `stack_need` gives. Where a
+/// procedure begins, it makes the frame of its homes.
 ///
 /// There are homes for each procedure, in order.
 pub fn code(alloc: Global, words: &WordCode, homes: &[Homes]) -> Result<LabelCode, Memory>
     requires { AllHomes words.now.procs homes.now }
     ensures does { IfOk result (λ lines. AlwaysDoes lines words.now homes.now) }
+    ensures frames { IfOk result (λ lines. MakeFrames lines words.now.procs homes.now) }
     ensures fits { IfOk result (λ lines. AreLines lines) }
     ensures some { IfOk result (λ lines. has_instruction lines ≡ true) }
     ensures leads { is_word_code words.now ≡ true →

@@ -34,7 +34,7 @@ pub const LINE_BYTES: u64 = 8;
 pub const LAYOUT_PACE: u32 = 2;
 
 /// Why label code isn't laid out.
-#[derive(Clone, Copy, Debug, Drop, PartialEq, Eq, Error)]
+#[derive(Clone, Copy, Debug, Drop, Error)]
 pub enum LayFault {
     /// The code has so many bytes, which are more than 524,288.
     #[error("the code has {0} bytes")]

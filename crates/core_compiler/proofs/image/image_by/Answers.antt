@@ -40,7 +40,14 @@ returns-clause-is c =
       stack_least = omega (arith, same, need);
       stack_most = omega (arith, same, need, most);
     })
-    (record { lines = lines; right = c.requires.homes; does = c.in_ok-lines.ensures.does; made = made; stack = same ∙ need })
+    (record {
+      lines = lines;
+      right = c.requires.homes;
+      does = c.in_ok-lines.ensures.does;
+      frames = c.in_ok-lines.ensures.frames;
+      made = made;
+      stack = same ∙ need;
+    })
     (omega (arith, size, c.layouts.ensures.shorter lines, c.in_ok-lines.ensures.bytes))
     (λ none. ap (λ i. i.hooks) is ∙ c.layouts.ensures.unhooked lines c.as_slice.result.now heap given (c.in_ok-lines.ensures.unhooked none)))
     c.lay_out.ensures.is c.lay_out.ensures.agrees c.lay_out.ensures.size
