@@ -9,7 +9,7 @@ use std::alloc::Global;
 use std::marker::Model;
 
 /// The name of a file: a list of bytes, which contracts see as one.
-#[derive(Debug, Drop)]
+#[derive(Drop)]
 pub struct FileName {
     name: Bytes,
 }
@@ -40,7 +40,7 @@ impl FileName {
 }
 
 /// What the compiler answers to a command.
-#[derive(Debug, Drop)]
+#[derive(Drop)]
 pub enum Answer {
     /// The command did all of it.
     Done,

@@ -21,7 +21,7 @@ use nim_core::{Proc, Stmt};
 use std::alloc::Global;
 
 /// The text in order, as far as what needs the whole of it asks.
-#[derive(Clone, Copy, Debug, PartialEq, Eq)]
+#[derive(Clone, Copy)]
 pub enum Item {
     /// The first declaration, at the word `proc`, of a procedure that needs a body.
     Announces { proc: u32, at: Place },

@@ -2,7 +2,7 @@
 use arc_base::Place;
 
 /// A use of a global or a procedure.
-#[derive(Clone, Copy, Debug, PartialEq, Eq)]
+#[derive(Clone, Copy)]
 pub enum Occurrence {
     /// A global, by its place, read or written.
     Global { place: u32 },

@@ -9,7 +9,7 @@ use crate::arguments::{Arguments, HEAP_MOST, Places, read_arguments};
 pub const STEPS_DEFAULT: u32 = 1_000_000_000;
 
 /// What is to be done. Sizes are in bytes. Steps are instructions of the machine, or units of a meaning.
-#[derive(Clone, Copy, Debug)]
+#[derive(Clone, Copy)]
 pub enum Command<'a> {
     /// The module of the file `main` is to be read, and refused where it is no program.
     Check {

@@ -22,7 +22,7 @@ use expr_parts::scope::{Parameter, Procedure, What};
 use nim_types::{TypeId, TypeTable};
 
 /// What a declaration completes.
-#[derive(Clone, Copy, Debug, PartialEq, Eq)]
+#[derive(Clone, Copy)]
 pub enum Completion {
     /// It is the first one.
     Nothing,

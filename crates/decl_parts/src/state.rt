@@ -11,7 +11,7 @@ use nim_core::PlaceDecl;
 use nim_types::{TypeId, TypeTable};
 
 /// The code that a statement stands in.
-#[derive(Clone, Copy, Debug, PartialEq, Eq)]
+#[derive(Clone, Copy)]
 pub enum Inside {
     ModuleCode,
     /// The body of a procedure, with the type of its result.
@@ -19,7 +19,7 @@ pub enum Inside {
 }
 
 /// What stands around a statement.
-#[derive(Clone, Copy, Debug, PartialEq, Eq)]
+#[derive(Clone, Copy)]
 pub struct Around {
     pub inside: Inside,
     /// Whether it stands at the outermost level of its module.

@@ -9,7 +9,7 @@ use thiserror::Error;
 
 /// What a file says: an image, the version of its note, and the plan that the image was made under. A file that can be written
 /// has version 1, a heap of at least 4,096 bytes, and lists in strictly increasing order in its plan.
-#[derive(Debug, Drop)]
+#[derive(Drop)]
 pub struct ElfFile {
     pub image: Image,
     /// 1.
@@ -18,7 +18,7 @@ pub struct ElfFile {
 }
 
 /// The first part of bytes that is not as a file has it.
-#[derive(Clone, Copy, Debug, Drop, PartialEq, Eq, Error)]
+#[derive(Clone, Copy, Debug, Drop, Error)]
 pub enum ElfFault {
     /// 1: fewer bytes than the headers have.
     #[error("the file is too short")]
@@ -65,7 +65,7 @@ impl ElfFault {
 }
 
 /// Why bytes were not read.
-#[derive(Clone, Copy, Debug, Drop, PartialEq, Eq, Error)]
+#[derive(Clone, Copy, Debug, Drop, Error)]
 pub enum ElfStop {
     /// They are no file, by this fault.
     #[error("{0}")]

@@ -12,14 +12,14 @@ use arc_base::Stop;
 use nim_types::TypeDef;
 
 /// Ordinals from one to another that isn't below it.
-#[derive(Clone, Copy, Debug, PartialEq, Eq)]
+#[derive(Clone, Copy)]
 pub struct Range {
     pub low: i32,
     pub high: i32,
 }
 
 /// The values of an ordinal type; none where the last is below the first.
-#[derive(Clone, Copy, Debug, PartialEq, Eq)]
+#[derive(Clone, Copy)]
 pub struct Span {
     pub from: i64,
     pub to: i64,

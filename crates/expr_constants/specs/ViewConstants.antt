@@ -1,15 +1,13 @@
 -- What the code's values of constants stand for. It serves proofs: no public contract speaks of it but that of `value_in`.
 use Rattle.std.specs.Prelude.{ℕ, suc, ◌^◌, ◌-◌, ℤ, pos, negsuc, unsigned_abs, Bool, true, false, List, [], ◌∷◌, ◌++◌}
-use Rattle.std.specs.Prelude.{length, map, nat_eq, int_le, if◌then◌else◌, Option, Some, None, Ok, Vec}
+use Rattle.std.specs.Prelude.{length, map, nat_eq, if◌then◌else◌, Option, Some, None, Vec}
 use Rattle.std.specs.declared.alloc.Global.{Global}
 use Rattle.nim_types.specs.Types.{Ty, Facts}
 use Rattle.nim_types.specs.declared.types.TypeDef.{TypeDef}
 use Rattle.nim_types.specs.declared.types.TypeDef.TheVariants as D
 use Rattle.nim_types.specs.Table.{type_at}
 use Rattle.nim_core.specs.declared.expr.Literal.{Literal as RustLiteral}
-use Rattle.arc_base.specs.declared.place.Place.{Place}
-use Rattle.expr_rules.specs.Answers.{Answer, not_typed}
-use Rattle.nim_core.specs.Program.{Label, Ordinals, Literal, Literals, Number, Characters, NoLiteral, ALiteral}
+use Rattle.nim_core.specs.Program.{Literal, Literals, Number, Characters, NoLiteral, ALiteral}
 use Rattle.nim_core.specs.View.{literal_of, literals_of}
 use Rattle.expr_constants.specs.declared.evaluated.Evaluated.{Evaluated as RustEvaluated}
 use Rattle.expr_constants.specs.declared.evaluated.Evaluated.TheVariants as V
@@ -83,11 +81,6 @@ abbrev pub field_values : Facts → List Ty → ℕ → List ℕ → List (ℕ �
 field_values facts ts i [] given = NoLiteral
 field_values facts ts i (p ∷ ps) given =
     ALiteral (given_or i given (default_literal facts (type_at ts p))) (field_values facts ts (suc i) ps given)
-
--- ---- labels
-
-abbrev pub range_by : Place → ℤ → ℤ → Answer Label
-range_by at a b = if int_le a b then Ok (Ordinals a b) else not_typed at
 
 -- ---- parts of tuples
 

@@ -4,11 +4,11 @@ ghost use Rattle.arc_base.specs.Refusal.{Answers, and_then};
 ghost use Rattle.nim_types.specs.Types.{Ty, Facts};
 ghost use Rattle.nim_types.specs.Table.{type_at};
 ghost use Rattle.nim_core.specs.View.{expr_of, label_of, literal_of};
-ghost use Rattle.expr_rules.specs.Choices.{label_by, label_value, range_of};
+ghost use Rattle.expr_rules.specs.Choices.{label_by, label_value};
 ghost use Rattle.expr_rules.specs.Constants.{constant_rule, if_comes, value_in};
 ghost use Rattle.expr_rules.specs.Names.{length_by, length_limit, length_rule};
 ghost use Rattle.expr_parts.specs.View.{Under, valued_of};
-ghost use Rattle.expr_constants.specs.ViewConstants.{evaluated_of, range_by};
+ghost use Rattle.expr_constants.specs.ViewConstants.{evaluated_of};
 
 use crate::evaluated::Evaluated;
 use crate::evaluation::value_in;
@@ -110,31 +110,6 @@ pub fn label_value(
     let label = constant_label(alloc, types, at, &value.expr);
     drop(value);
     label
-}
-
-/// The values from that of one label to that of another, which isn't below it.
-pub fn range_of(at: Place, first: &Label, last: &Label) -> Result<Label, Stop>
-    ensures { Answers label_of (range_of at (label_of first.now) (label_of last.now)) result }
-{
-    match first {
-        Label::Ordinals { low, .. } => {
-            let from = *low;
-            match last {
-                Label::Ordinals { low, .. } => range(at, from, *low),
-                Label::Text(_) => Err(refusal(Code::NotTyped, at)),
-            }
-        }
-        Label::Text(_) => Err(refusal(Code::NotTyped, at)),
-    }
-}
-
-fn range(at: Place, low: i32, high: i32) -> Result<Label, Stop>
-    ensures { Answers label_of (range_by at low high) result }
-{
-    if low > high {
-        return Err(refusal(Code::NotTyped, at));
-    }
-    Ok(Label::Ordinals { low, high })
 }
 
 // ---- lengths of arrays

@@ -19,7 +19,7 @@ use nim_core::Expr;
 use nim_types::{TypeId, TypeTable};
 
 /// What is known of the values of branches.
-#[derive(Clone, Copy, Debug, PartialEq, Eq)]
+#[derive(Clone, Copy)]
 pub enum Branching {
     /// There is no branch yet.
     Undecided(Want),

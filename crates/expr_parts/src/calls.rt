@@ -41,7 +41,7 @@ pub fn fits(types: &TypeTable, params: &[Parameter], operands: &[Operand]) -> bo
 }
 
 /// Which declaration a call of a name means.
-#[derive(Clone, Copy, Debug, PartialEq, Eq)]
+#[derive(Clone, Copy)]
 pub enum Chosen {
     /// No procedure fits.
     Nothing,

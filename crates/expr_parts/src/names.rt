@@ -116,7 +116,7 @@ pub fn check_count(at: Place, name: &[u8], single: bool) -> Result<(), Stop>
 }
 
 /// What makes types of others.
-#[derive(Clone, Copy, Debug, PartialEq, Eq)]
+#[derive(Clone, Copy)]
 pub enum Former {
     Sequences,
     Arrays,

@@ -57,7 +57,7 @@ pub fn unary(
 }
 
 /// What an operator means on operands of two types.
-#[derive(Clone, Copy, Debug, PartialEq, Eq)]
+#[derive(Clone, Copy)]
 pub enum Meaning {
     /// An operation whose value has the type of the left operand.
     Computes(Operator),

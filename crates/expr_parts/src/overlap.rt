@@ -12,7 +12,7 @@ use nim_core::{Arg, Path};
 use std::alloc::Global;
 
 /// A step of a path behind its root.
-#[derive(Clone, Copy, Debug, PartialEq, Eq)]
+#[derive(Clone, Copy)]
 pub enum Step {
     Field(u32),
     Element,

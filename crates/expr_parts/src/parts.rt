@@ -163,7 +163,7 @@ fn is_field(field: &FieldName, name: &[u8], is_home: bool) -> bool
 }
 
 /// A field of an object or a part of a tuple: its number and its type.
-#[derive(Clone, Copy, Debug, PartialEq, Eq)]
+#[derive(Clone, Copy)]
 pub struct Found {
     pub number: u32,
     pub ty: TypeId,

@@ -14,7 +14,7 @@ use nim_types::TypeId;
 use std::alloc::Global;
 
 /// A parameter of a procedure.
-#[derive(Clone, Copy, Debug, PartialEq, Eq)]
+#[derive(Clone, Copy)]
 pub struct Parameter {
     pub mode: Mode,
     pub ty: TypeId,
@@ -74,7 +74,7 @@ pub struct Decl {
 }
 
 /// The numbers of the types that no source declares.
-#[derive(Clone, Copy, Debug, PartialEq, Eq)]
+#[derive(Clone, Copy)]
 pub struct Kinds {
     pub int: TypeId,
     pub bool: TypeId,

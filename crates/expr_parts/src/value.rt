@@ -3,7 +3,6 @@ ghost use Rattle.std.specs.Prelude.{◌≡◌, List, map, IfOk, IfErr};
 ghost use Rattle.arc_base.specs.declared.place.Stop.TheVariants as Stop;
 ghost use Rattle.arc_base.specs.Refusal.{Answers};
 ghost use Rattle.nim_types.specs.Types.{Ty};
-ghost use Rattle.expr_rules.specs.Builtins.{write_rule};
 ghost use Rattle.expr_rules.specs.Typed.{accepted_by};
 ghost use Rattle.expr_parts.specs.View.{valued_of, if_allowed};
 
@@ -30,7 +29,7 @@ pub struct Value {
 }
 
 /// The type that the place of an expression gives.
-#[derive(Clone, Copy, Debug, PartialEq, Eq)]
+#[derive(Clone, Copy)]
 pub enum Want {
     Nothing,
     /// That of a place which gets the value itself.
@@ -64,13 +63,6 @@ pub fn allow(holds: bool, code: Code, at: Place) -> Result<(), Stop>
         return Err(refusal(code, at));
     }
     Ok(())
-}
-
-/// Refuses a value that is written and can't be.
-pub fn check_writable(value: &Value) -> Result<(), Stop>
-    ensures { (ts : List Ty) → Answers (λ _. tt) (write_rule (valued_of ts value.now)) result }
-{
-    allow(value.writable, Code::NotAssignable, node_of(&value.expr).at)
 }
 
 /// A value that is what is asked for, else no rule fits at it.

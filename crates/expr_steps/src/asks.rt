@@ -22,7 +22,7 @@ use nim_types::{TypeDef, TypeId, TypeTable};
 use std::alloc::Global;
 
 /// What is asked of values, beside the types of the parts or fields that are left.
-#[derive(Clone, Copy, Debug, PartialEq, Eq)]
+#[derive(Clone, Copy)]
 pub enum Asks {
     Anything,
     /// A value of the type, for a place that gets the value itself.

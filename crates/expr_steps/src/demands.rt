@@ -25,7 +25,7 @@ use nim_tree::{BinaryOp, Expr as Tree};
 use std::alloc::Global;
 
 /// What is demanded of operands.
-#[derive(Clone, Copy, Debug, PartialEq, Eq)]
+#[derive(Clone, Copy)]
 pub enum Demand {
     /// Values alone.
     Closed,
@@ -381,7 +381,7 @@ pub fn receiver_demand(
 // ---- what a term is under a demand
 
 /// What a term is under a demand.
-#[derive(Clone, Copy, Debug, PartialEq, Eq)]
+#[derive(Clone, Copy)]
 pub enum Special {
     Ordinary,
     /// `@[]`, at its place.

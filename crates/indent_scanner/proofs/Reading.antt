@@ -15,7 +15,7 @@ use Rattle.indent_scanner.specs.declared.here.Here.{Here}
 use Rattle.indent_scanner.specs.declared.piece.Piece.TheVariants.{Gap, Found, Refused}
 use Rattle.indent_scanner.specs.Pieces.{Begins}
 use Rattle.indent_scanner.specs.Tokens.{over_gap, over_token, token_at, TokensFrom, ends, gap, token, RefusedFrom, here_it_is, behind_gap, behind_token, LiesIn}
-use Rattle.indent_scanner.specs.Tokens.{Fits, IsInner, HasByte, token_bytes, PlaceFits, mark_length, first_place, refusal, Tokens, IsRefused, IsEnded}
+use Rattle.indent_scanner.specs.Tokens.{Fits, IsInner, HasByte, PlaceFits, mark_length, first_place, refusal, Tokens, IsRefused, IsEnded}
 use Rattle.indent_scanner.proofs.Rows.{begins_once}
 
 -- ---- what tokens from here on say of the piece here
@@ -131,7 +131,6 @@ pub record Kept (source : List ℕ) (start : ℕ) (done : List Token) : Type 0 w
   pub inside : All (LiesIn source) done
   pub inner : All IsInner done
   pub some : All HasByte done
-  pub bytes : token_bytes done ≤ start
   pub placed : All PlaceFits done
 
 pub kept_further : (source : List ℕ) (start next : ℕ) (done : List Token) → start ≤ next → Kept source start done → Kept source next done
@@ -140,13 +139,8 @@ kept_further source start next done le k = record {
   inside = k.inside;
   inner = k.inner;
   some = k.some;
-  bytes = omega (arith, le, k.bytes);
   placed = k.placed;
 }
-
-bytes_push : (done : List Token) (t : Token) → token_bytes (done ++ t ∷ []) ≡ token_bytes done + t.len
-bytes_push [] t = omega arith
-bytes_push (d ∷ done) t = let e = bytes_push done t in omega (arith, e)
 
 module _ (source : List ℕ) (done more : List Token) (t : Token) (here : Here) (kind : Tok) (n : ℕ) (left : List ℕ) (more_is : more ≡ done ++ t ∷ [])
     (token_is : t ≡ token_at here kind n left) where
@@ -156,9 +150,6 @@ module _ (source : List ℕ) (done more : List Token) (t : Token) (here : Here) 
   pub more_count : (count : ℕ) → length done ≤ count → length more ≤ count + 1
   more_count count le = let e = ap length more_is ∙ length-append done (t ∷ []) in omega (arith, e, le)
 
-  pub more_bytes : token_bytes more ≡ token_bytes done + n
-  more_bytes = ap token_bytes more_is ∙ bytes_push done t ∙ ap (λ k. token_bytes done + k) (ap (λ x. x.len) token_is)
-
   pub place_fits : Fits here → PlaceFits (token_at here kind n left)
   place_fits f = record { first_line = f.first_line; first_column = f.first_column; line = f.line; column = f.column; indent = f.spaces }
 
@@ -166,13 +157,12 @@ module _ (source : List ℕ) (done more : List Token) (t : Token) (here : Here) 
   pub kept_token : (next : ℕ) → next ≡ here.start + n → Kept source here.start done → Fits here → kind ≢ End → 1 ≤ n → here.start + n ≤ length source
       → Kept source next more
   kept_token next is k f inner one room =
-      let count = more_count here.start k.count in let bytes = more_bytes in
+      let count = more_count here.start k.count in
       record {
         count = omega (arith, count, one, is);
         inside = one_more (LiesIn source) k.inside (record { inside = room });
         inner = one_more IsInner k.inner inner;
         some = one_more HasByte k.some (λ e. one);
-        bytes = omega (arith, bytes, is, k.bytes);
         placed = one_more PlaceFits k.placed (place_fits f);
       }
 

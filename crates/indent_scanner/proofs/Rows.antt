@@ -1,5 +1,6 @@
 -- The pieces of the table are those that the forms tell.
-use Rattle.std.proofs.Common.{◌≡◌, ℕ, zero, suc, ◌+◌, ◌-◌, ◌<◌, inl, inr, List, [], ◌∷◌, take, get_or, true, false, refl, sym, ap, subst, ◌∙◌, arith}
+use Rattle.std.proofs.Common.{◌≡◌, ℕ, zero, suc, ◌+◌, ◌-◌, ◌<◌, inl, inr, List, [], ◌∷◌, take, get_or}
+use Rattle.std.proofs.Common.{true, false, refl, sym, ap, subst, ◌∙◌, arith}
 use Rattle.std.specs.Prelude.{Option, Some, None, cond, nat_lt, pos, ◌==◌, ◌&&◌}
 use Rattle.std.proofs.lemmas.Bool.{eqb-true, leb-true, le-leb}
 use Rattle.arc_base.specs.declared.place.Code.TheVariants.{BadByte, BadLiteral, IntTooLarge}
@@ -38,15 +39,18 @@ use Rattle.indent_scanner.proofs.Beginnings.{ByForm, takes_once}
 -- ---- fronts that are whole, and forms
 
 takes_front : (P : ℕ → Type 0) (s : Shape) (b : ℕ) (rest : List ℕ) (n : ℕ) (p : Piece) → Matches P s rest → Longest P n
-    → ((k : ℕ) (t : Shape) → n ≡ suc k → form s k rest ≡ Some t → is_whole t ≡ true → p ≡ piece_of t (suc k) (b ∷ rest)) → Takes (Shaped s) b rest p
+    → ((k : ℕ) (t : Shape) → n ≡ suc k → form s k rest ≡ Some t → is_whole t ≡ true → p ≡ piece_of t (suc k) (b ∷ rest))
+    → Takes (Shaped s) b rest p
 takes_front P s b rest n p m l tells = let r = longest_to P s rest m n l in inl (r.0, r.1, r.3, (let f = r.3 in tells r.0 r.1 r.2 f.reached f.whole))
 
-takes_none : (P : ℕ → Type 0) (s : Shape) (b : ℕ) (rest : List ℕ) (p : Piece) → Matches P s rest → ((n : ℕ) → P n → ⊥) → p ≡ Refused (code_of s) 0
+takes_none : (P : ℕ → Type 0) (s : Shape) (b : ℕ) (rest : List ℕ) (p : Piece) → Matches P s rest → ((n : ℕ) → P n → ⊥)
+    → p ≡ Refused (code_of s) 0
     → Takes (Shaped s) b rest p
 takes_none P s b rest p m no_front e = inr (none_to P s rest m no_front, e)
 
 from_takes : (P : ℕ → Type 0) (s : Shape) (b : ℕ) (rest : List ℕ) (p : Piece) → Matches P s rest
-    → ((k : ℕ) (t : Shape) → Longest P (suc k) → form s k rest ≡ Some t → is_whole t ≡ true → FirstPiece b rest (piece_of t (suc k) (b ∷ rest)))
+    → ((k : ℕ) (t : Shape) → Longest P (suc k) → form s k rest ≡ Some t → is_whole t ≡ true
+    → FirstPiece b rest (piece_of t (suc k) (b ∷ rest)))
     → (((n : ℕ) → P n → ⊥) → FirstPiece b rest (Refused (code_of s) 0)) → Takes (Shaped s) b rest p → FirstPiece b rest p
 from_takes P s b rest p m some none (inl x) = subst (FirstPiece b rest) (sym x.3)
     (let f = x.2 in some x.0 x.1 (longest_from P s rest m x.0 x.1 f) f.reached f.whole)
@@ -103,7 +107,8 @@ pub quoted_first : (b n : ℕ) (rest : List ℕ) → Front IsQuoted (b ∷ rest)
 quoted_first b zero rest f = (let w = f.whole in let e = w.is in let g : ⊥ = cc in absurd g)
 quoted_first b (suc n) rest f = let w = f.whole in same_byte b 96 _ (take n rest) (sym w.is) refl
 
-nested_head : (b : ℕ) (rest whole : List ℕ) → whole ≡ b ∷ rest → IsNestedComment whole → ((b == 35) ≡ true) × ((get_or rest 0 0 == 91) ≡ true)
+nested_head : (b : ℕ) (rest whole : List ℕ) → whole ≡ b ∷ rest → IsNestedComment whole
+    → ((b == 35) ≡ true) × ((get_or rest 0 0 == 91) ≡ true)
 nested_head b rest _ e (nested_comment bytes h) =
     let tail : 91 ∷ bytes ≡ rest = cc in
     (same_byte b 35 (91 ∷ bytes) rest e refl, ap (λ x. get_or x 0 0 == 91) (sym tail))
@@ -128,7 +133,8 @@ word_no_name n k b rest WordUnder is other = refl
 word_no_name n k b rest BrokenWord is other = refl
 word_no_name n k b rest _ is other = absurd is
 
-name_by_form : (b n : ℕ) (rest : List ℕ) → Longest (Front IsWord (b ∷ rest)) n → IsName (take n (b ∷ rest)) → ByForm (b ∷ rest) (word_piece n (b ∷ rest))
+name_by_form : (b n : ℕ) (rest : List ℕ) → Longest (Front IsWord (b ∷ rest)) n → IsName (take n (b ∷ rest))
+    → ByForm (b ∷ rest) (word_piece n (b ∷ rest))
 name_by_form b n rest l name =
     let letter = word_first b n rest l.holds in
     shaped b rest _ Word (O.opens_letter b rest letter)
@@ -137,7 +143,8 @@ name_by_form b n rest l name =
     let f = form_of_name k rest (omega (arith, le, is)) (subst (λ x. IsName (take x (b ∷ rest))) is name).1 in
     ap (λ x. word_piece x (b ∷ rest)) is ∙ sym (ap (λ x. piece_of x (suc k) (b ∷ rest)) (some_same _ e f))))
 
-bad_name_by_form : (b n : ℕ) (rest : List ℕ) → Longest (Front IsWord (b ∷ rest)) n → (IsName (take n (b ∷ rest)) → ⊥) → ByForm (b ∷ rest) (Refused BadByte 0)
+bad_name_by_form : (b n : ℕ) (rest : List ℕ) → Longest (Front IsWord (b ∷ rest)) n → (IsName (take n (b ∷ rest)) → ⊥)
+    → ByForm (b ∷ rest) (Refused BadByte 0)
 bad_name_by_form b n rest l bad =
     let letter = word_first b n rest l.holds in
     shaped b rest _ Word (O.opens_letter b rest letter)
@@ -145,7 +152,8 @@ bad_name_by_form b n rest l bad =
     (λ k t is e w. word_no_name (suc k) k b rest t (word_form k rest t e)
     (λ same. bad (subst (λ x. IsName (take x (b ∷ rest))) (sym is) (letter, name_of_form k rest (e ∙ ap (λ x. Some x) same))))))
 
-word_here : (b k : ℕ) (rest : List ℕ) (t : Shape) → is_letter b ≡ true → IsWordForm t → Longest (Front IsWord (b ∷ rest)) (suc k) → form Word k rest ≡ Some t
+word_here : (b k : ℕ) (rest : List ℕ) (t : Shape) → is_letter b ≡ true → IsWordForm t → Longest (Front IsWord (b ∷ rest)) (suc k)
+    → form Word k rest ≡ Some t
     → FirstPiece b rest (piece_of t (suc k) (b ∷ rest))
 word_here b k rest Word letter is l e = name_here (suc k) l (letter, name_of_form k rest e)
 word_here b k rest WordUnder letter is l e =
@@ -207,12 +215,14 @@ integer_by_form b n value rest l integer =
     ap (λ x. int_piece value x (b ∷ rest)) is ∙ int_capped value (suc k) (b ∷ rest)
     ∙ sym (number_piece t (cap value) (suc k) (b ∷ rest) (number_form k rest s.0 t number e) told)))
 
-bad_number : (b k : ℕ) (rest : List ℕ) (s t : Shape) (o : Option ℕ) → value_in t ≡ o → is_digit b ≡ true → Starts b s → IsNumberForm t → form s k rest ≡ Some t
+bad_number : (b k : ℕ) (rest : List ℕ) (s t : Shape) (o : Option ℕ) → value_in t ≡ o → is_digit b ≡ true → Starts b s
+    → IsNumberForm t → form s k rest ≡ Some t
     → ((value : ℕ) → IsInteger (b ∷ take k rest) value → ⊥) → Refused BadLiteral 0 ≡ piece_of t (suc k) (b ∷ rest)
 bad_number b k rest s t None told digit starts number e bad = sym (number_none t (suc k) (b ∷ rest) number told)
 bad_number b k rest s t (Some got) told digit starts number e bad = let h = integer_from b got k rest s t digit starts e told in absurd (bad h.0 h.1)
 
-bad_integer_by_form : (b n : ℕ) (rest : List ℕ) → Longest (Front IsNumeral (b ∷ rest)) n → ((value : ℕ) → IsInteger (take n (b ∷ rest)) value → ⊥)
+bad_integer_by_form : (b n : ℕ) (rest : List ℕ) → Longest (Front IsNumeral (b ∷ rest)) n
+    → ((value : ℕ) → IsInteger (take n (b ∷ rest)) value → ⊥)
     → ByForm (b ∷ rest) (Refused BadLiteral 0)
 bad_integer_by_form b n rest l bad =
     let digit = numeral_first b n rest l.holds in let s = starting b in let number = starts_number b s.0 s.1 in
@@ -240,7 +250,8 @@ from_number b rest p s digit starts x =
 
 -- ---- comments
 
-line_by_form : (b n : ℕ) (rest : List ℕ) → (byte_at rest 0 == 91) ≡ false → Longest (Front IsLineComment (b ∷ rest)) n → ByForm (b ∷ rest) (Gap true n)
+line_by_form : (b n : ℕ) (rest : List ℕ) → (byte_at rest 0 == 91) ≡ false → Longest (Front IsLineComment (b ∷ rest)) n
+    → ByForm (b ∷ rest) (Gap true n)
 line_by_form b n rest next l =
     let hash = line_first b n rest l.holds in
     shaped b rest _ Line (O.opens_line b rest hash next)
@@ -251,19 +262,22 @@ line_here : (b k : ℕ) (rest : List ℕ) (t : Shape) → (byte_at rest 0 == 91)
     → FirstPiece b rest (piece_of t (suc k) (b ∷ rest))
 line_here b k rest t next l e = subst (λ x. FirstPiece b rest (piece_of x (suc k) (b ∷ rest))) (sym e) (line_comment_here (suc k) next l)
 
-from_line : (b : ℕ) (rest : List ℕ) (p : Piece) → (b == 35) ≡ true → (byte_at rest 0 == 91) ≡ false → Takes (Shaped Line) b rest p → FirstPiece b rest p
+from_line : (b : ℕ) (rest : List ℕ) (p : Piece) → (b == 35) ≡ true → (byte_at rest 0 == 91) ≡ false → Takes (Shaped Line) b rest p
+    → FirstPiece b rest p
 from_line b rest p hash next x = from_takes (Front IsLineComment (b ∷ rest)) Line b rest p (line_matches b rest hash)
     (λ k t l e w. line_here b k rest t next l (line_form k rest t e))
     (λ none. absurd (none 1 (one_front IsLineComment b rest (hash, pass_none is_line_byte)))) x
 
-nested_by_form : (b n : ℕ) (rest : List ℕ) (p : Piece) → Longest (Front IsNestedComment (b ∷ rest)) n → Checked in_comment n (b ∷ rest) (Gap true n) p
+nested_by_form : (b n : ℕ) (rest : List ℕ) (p : Piece) → Longest (Front IsNestedComment (b ∷ rest)) n
+    → Checked in_comment n (b ∷ rest) (Gap true n) p
     → ByForm (b ∷ rest) p
 nested_by_form b n rest p l c =
     let first = nested_first b n rest l.holds in
     shaped b rest p (Nested 0 L.Hash) (O.opens_nested b rest first.0 first.1)
     (takes_front (Front IsNestedComment (b ∷ rest)) (Nested 0 L.Hash) b rest n p (nested_matches b rest first.0 first.1) l
     (λ k t is e w. checked_is NestedWhole n (b ∷ rest) (Gap true n) p l.holds.inside c
-    ∙ ap (λ x. if_clean (stray_in NestedWhole x (b ∷ rest)) (Gap true x)) is ∙ sym (ap (λ x. piece_of x (suc k) (b ∷ rest)) (nested_form k rest t e w))))
+    ∙ ap (λ x. if_clean (stray_in NestedWhole x (b ∷ rest)) (Gap true x)) is
+    ∙ sym (ap (λ x. piece_of x (suc k) (b ∷ rest)) (nested_form k rest t e w))))
 
 from_nested : (b : ℕ) (rest : List ℕ) (p : Piece) → (b == 35) ≡ true → (byte_at rest 0 == 91) ≡ true → Takes (Shaped (Nested 0 L.Hash)) b rest p
     → FirstPiece b rest p
@@ -286,7 +300,8 @@ char_by_form b n value rest p l char c =
     ∙ ap (λ x. if_clean (stray_in (CharWhole value) x (b ∷ rest)) (Found (T.Char value) x)) is
     ∙ sym (ap (λ x. piece_of x (suc k) (b ∷ rest)) (some_same _ e f))))
 
-a_char_here : (b k value : ℕ) (rest : List ℕ) (t : Shape) → (b == 39) ≡ true → Longest (Front SomeChar (b ∷ rest)) (suc k) → form (Inside Q.Char None) k rest
+a_char_here : (b k value : ℕ) (rest : List ℕ) (t : Shape) → (b == 39) ≡ true → Longest (Front SomeChar (b ∷ rest)) (suc k)
+    → form (Inside Q.Char None) k rest
     ≡ Some t → t ≡ CharWhole value → FirstPiece b rest (piece_of t (suc k) (b ∷ rest))
 a_char_here b k value rest t quote l e is = subst (λ x. FirstPiece b rest (piece_of x (suc k) (b ∷ rest))) (sym is)
     (char_here (suc k) value l (reads_char b value k rest quote (e ∙ ap (λ x. Some x) is))
@@ -304,9 +319,11 @@ text_by_form b n rest p single l c =
     shaped b rest p (Inside Q.Text None) (O.opens_text b rest quote single)
     (takes_front (Front SomeText (b ∷ rest)) (Inside Q.Text None) b rest n p (text_matches b rest quote) l
     (λ k t is e w. checked_is TextWhole n (b ∷ rest) (Found T.Text n) p l.holds.inside c
-    ∙ ap (λ x. if_clean (stray_in TextWhole x (b ∷ rest)) (Found T.Text x)) is ∙ sym (ap (λ x. piece_of x (suc k) (b ∷ rest)) (text_form k rest t e w))))
+    ∙ ap (λ x. if_clean (stray_in TextWhole x (b ∷ rest)) (Found T.Text x)) is
+    ∙ sym (ap (λ x. piece_of x (suc k) (b ∷ rest)) (text_form k rest t e w))))
 
-from_text : (b : ℕ) (rest : List ℕ) (p : Piece) → (b == 34) ≡ true → is_triple rest ≡ false → Takes (Shaped (Inside Q.Text None)) b rest p → FirstPiece b rest p
+from_text : (b : ℕ) (rest : List ℕ) (p : Piece) → (b == 34) ≡ true → is_triple rest ≡ false
+    → Takes (Shaped (Inside Q.Text None)) b rest p → FirstPiece b rest p
 from_text b rest p quote single x = from_takes (Front SomeText (b ∷ rest)) (Inside Q.Text None) b rest p (text_matches b rest quote)
     (λ k t l e w. subst (λ x. FirstPiece b rest (piece_of x (suc k) (b ∷ rest))) (sym (text_form k rest t e w))
     (text_here (suc k) single l (checked_from TextWhole (suc k) (b ∷ rest) (Found T.Text (suc k)) l.holds.inside)))
@@ -338,7 +355,8 @@ run_by_form b n rest l =
     (takes_front (IsRun (b ∷ rest)) (Single b) b rest n _ (run_matches b rest first) l
     (λ k t is e w. ap (λ x. run_piece x (b ∷ rest)) is ∙ sym (run_is k b rest t e)))
 
-one_run : (b : ℕ) (rest : List ℕ) → in_run false b (byte_at rest 0) ≡ true → (k : ℕ) → k < 1 → in_run (behind_dot (b ∷ rest) k) (byte_at (b ∷ rest) k)
+one_run : (b : ℕ) (rest : List ℕ) → in_run false b (byte_at rest 0) ≡ true → (k : ℕ) → k < 1
+    → in_run (behind_dot (b ∷ rest) k) (byte_at (b ∷ rest) k)
     (byte_at (b ∷ rest) (suc k)) ≡ true
 one_run b rest first zero lt = first
 one_run b rest first (suc k) lt = (let f : ⊥ = omega arith in absurd f)

@@ -119,11 +119,6 @@ pub record IsEnded (tokens : List Token) : Type 0 where
 abbrev pub HasByte : Token → Type 0
 HasByte t = t.kind ≢ End → 1 ≤ t.len
 
--- how many bytes tokens have together
-abbrev pub token_bytes : List Token → ℕ
-token_bytes [] = 0
-token_bytes (t ∷ tokens) = t.len + token_bytes tokens
-
 -- lines and columns begin at 1 and are at most the bytes before the token and one more; the indent is at most the bytes
 -- before it
 pub record PlaceFits (token : Token) : Type 0 where

@@ -7,7 +7,7 @@ use crate::bytes::byte_at;
 use crate::token::{Tok, Token};
 
 /// A place in a source, between pieces.
-#[derive(Clone, Copy, Debug, PartialEq, Eq)]
+#[derive(Clone, Copy)]
 pub struct Here {
     /// The bytes before it.
     pub start: u32,

@@ -16,7 +16,7 @@ use crate::words::key_of;
 use arc_base::Code;
 
 /// A piece of a source.
-#[derive(Clone, Copy, Debug, PartialEq, Eq)]
+#[derive(Clone, Copy)]
 pub enum Piece {
     /// Bytes between tokens, of a comment or not: how many.
     Gap(bool, usize),
@@ -27,7 +27,7 @@ pub enum Piece {
 }
 
 /// How a piece begins.
-#[derive(Clone, Copy, Debug, PartialEq, Eq)]
+#[derive(Clone, Copy)]
 pub enum Opening {
     /// It is this piece.
     Known(Piece),

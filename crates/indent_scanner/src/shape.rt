@@ -11,14 +11,14 @@ use crate::bytes::{
 };
 
 /// What ends a literal.
-#[derive(Clone, Copy, Debug, PartialEq, Eq)]
+#[derive(Clone, Copy)]
 pub enum Quote {
     Char,
     Text,
 }
 
 /// What the last byte of a comment that nests is for the next one.
-#[derive(Clone, Copy, Debug, PartialEq, Eq)]
+#[derive(Clone, Copy)]
 pub enum Last {
     Other,
     Hash,
@@ -26,7 +26,7 @@ pub enum Last {
 }
 
 /// What is read so far of a piece.
-#[derive(Clone, Copy, Debug, PartialEq, Eq)]
+#[derive(Clone, Copy)]
 pub enum Shape {
     /// A name.
     Word,

@@ -1,8 +1,8 @@
 // From a source to its tokens.
-ghost use Rattle.std.specs.Prelude.{◌≡◌, ◌≢◌, ◌≤◌, ◌<◌, ◌+◌, ◌-◌, ◌^◌, [], List, All, length, IfOk, IfErr};
+ghost use Rattle.std.specs.Prelude.{◌≡◌, ◌≤◌, ◌<◌, ◌+◌, ◌-◌, ◌^◌, List, All, length, IfOk, IfErr};
 ghost use Rattle.arc_base.specs.Stops.{OnRefusal};
 ghost use Rattle.indent_scanner.specs.declared.token.Token.{Token as One};
-ghost use Rattle.indent_scanner.specs.Tokens.{Tokens, IsRefused, IsEnded, HasByte, token_bytes, StandsIn, PlaceFits, LiesIn, refusal};
+ghost use Rattle.indent_scanner.specs.Tokens.{Tokens, IsRefused, IsEnded, HasByte, StandsIn, PlaceFits, LiesIn, refusal};
 ghost use Rattle.indent_scanner.specs.Meaning.{IsSpelledIn};
 
 use crate::here::{Here, first_place, mark_length, over_gap, over_token, token_at};
@@ -43,7 +43,6 @@ pub fn scan(alloc: Global, source: &[u8], module: u32) -> Result<Items<Token>, S
     ensures count { IfOk result (λ tokens. length tokens ≤ length source.now + 1) }
     ensures ended { IfOk result (λ tokens. IsEnded tokens) }
     ensures some { IfOk result (λ tokens. All HasByte tokens) }
-    ensures bytes { IfOk result (λ tokens. token_bytes tokens ≤ length source.now) }
     ensures fits { IfOk result (λ tokens. All PlaceFits tokens) }
     ensures refused { IfErr result (λ stop. OnRefusal stop (IsRefused source.now «module»)) }
     ensures none { IfErr result (λ stop. OnRefusal stop (λ _ _. (tokens : List One) → Tokens source.now tokens → ⊥)) }

@@ -3,7 +3,7 @@ ghost use Rattle.std.specs.Prelude.{◌≡◌};
 ghost use Rattle.indent_scanner.specs.Words.{is_left_out};
 
 /// A keyword: the first ones are in use, and those from `Addr` on are left out of the language.
-#[derive(Clone, Copy, Debug, PartialEq, Eq)]
+#[derive(Clone, Copy, Debug)]
 pub enum Key {
     And,
     As,
@@ -113,7 +113,7 @@ impl Key {
 }
 
 /// What a token is.
-#[derive(Clone, Copy, Debug, PartialEq, Eq)]
+#[derive(Clone, Copy, Debug)]
 pub enum Tok {
     /// A name that is a keyword.
     Key(Key),
@@ -140,7 +140,7 @@ pub enum Tok {
 }
 
 /// A token, and where it stands.
-#[derive(Clone, Copy, Debug, PartialEq, Eq)]
+#[derive(Clone, Copy)]
 pub struct Token {
     /// What it is.
     pub kind: Tok,

@@ -2,7 +2,7 @@
 use arc_base::Items;
 
 /// Where a path begins.
-#[derive(Clone, Copy, PartialEq, Eq)]
+#[derive(Clone, Copy)]
 pub enum Root {
     /// A declared place, by its number.
     Place(u32),
@@ -13,7 +13,7 @@ pub enum Root {
 }
 
 /// A step of a path.
-#[derive(Clone, Copy, PartialEq, Eq)]
+#[derive(Clone, Copy)]
 pub enum Step {
     /// A field of an object or a part of a tuple, by its number from 0.
     Field(u32),

@@ -19,7 +19,7 @@ pub const MOST_ARGUMENTS: u32 = 12_288;
 pub const HOOK_KINDS: u32 = 4;
 
 /// An operation on two words, as the machine's instruction of that name does it.
-#[derive(Clone, Copy, PartialEq, Eq)]
+#[derive(Clone, Copy)]
 pub enum WordOperation {
     /// The sum, modulo 2^32.
     Add,
@@ -52,7 +52,7 @@ pub enum WordOperation {
 }
 
 /// A comparison of two words.
-#[derive(Clone, Copy, PartialEq, Eq)]
+#[derive(Clone, Copy)]
 pub enum Test {
     /// They are equal.
     Equal,
@@ -70,7 +70,7 @@ pub enum Test {
 
 /// A line of word code. Variables are numbers, each call has its own, and a variable that got no
 /// word yet can't be read.
-#[derive(Clone, Copy, PartialEq, Eq)]
+#[derive(Clone, Copy)]
 pub enum WordInstr {
     /// A point to which jumps of this procedure lead.
     Label {
@@ -162,7 +162,7 @@ pub enum WordInstr {
 }
 
 /// What is counted and seen of the calls of a procedure.
-#[derive(Clone, Copy, PartialEq, Eq)]
+#[derive(Clone, Copy)]
 pub enum ProcKind {
     /// Its calls count for the limit of active calls: the start code, and what a program declares.
     Counted,

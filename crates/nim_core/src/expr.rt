@@ -3,7 +3,7 @@ use arc_base::{Bytes, Items, Place};
 use nim_types::TypeId;
 
 /// A node of the program: a statement or an expression.
-#[derive(Clone, Copy, Debug, PartialEq, Eq)]
+#[derive(Clone, Copy)]
 pub struct Node {
     /// Its number, in order of text. An expression comes before its operands, also where both begin
     /// at one token.
@@ -13,7 +13,7 @@ pub struct Node {
 }
 
 /// An operation on one operand.
-#[derive(Clone, Copy, Debug, PartialEq, Eq)]
+#[derive(Clone, Copy)]
 pub enum UnaryOperator {
     /// `+` of an int
     Plus,
@@ -27,7 +27,7 @@ pub enum UnaryOperator {
 
 /// An operation on two operands that gives a value of their type: on ints, and `BitAnd`, `BitOr`
 /// and `BitXor` on bools too, where `and` and `or` of bools stop early and are no such operation.
-#[derive(Clone, Copy, Debug, PartialEq, Eq)]
+#[derive(Clone, Copy)]
 pub enum Operator {
     /// `+`
     Add,
@@ -52,7 +52,7 @@ pub enum Operator {
 }
 
 /// A comparison of two operands of one type.
-#[derive(Clone, Copy, Debug, PartialEq, Eq)]
+#[derive(Clone, Copy)]
 pub enum Comparison {
     /// `==`
     Equal,
@@ -69,7 +69,7 @@ pub enum Comparison {
 }
 
 /// What is asked of the elements at a path.
-#[derive(Clone, Copy, Debug, PartialEq, Eq)]
+#[derive(Clone, Copy)]
 pub enum Measure {
     /// `len`
     Len,

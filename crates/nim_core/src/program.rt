@@ -19,7 +19,7 @@ pub struct PlaceDecl {
 }
 
 /// How a parameter takes its argument.
-#[derive(Clone, Copy, Debug, PartialEq, Eq)]
+#[derive(Clone, Copy)]
 pub enum Mode {
     Plain,
     /// `sink`

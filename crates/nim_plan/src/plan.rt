@@ -18,21 +18,21 @@ pub enum Act {
 }
 
 /// The act at a site, by the node's number.
-#[derive(Clone, Copy, Debug, PartialEq, Eq)]
+#[derive(Clone, Copy)]
 pub struct SiteAct {
     pub site: u32,
     pub act: Act,
 }
 
 /// A place that is not destroyed at an exit of its scope, by their numbers.
-#[derive(Clone, Copy, Debug, PartialEq, Eq)]
+#[derive(Clone, Copy)]
 pub struct SkipAt {
     pub place: u32,
     pub exit: u32,
 }
 
 /// The plan of a program. Each list is in increasing order.
-#[derive(Debug, Drop)]
+#[derive(Drop)]
 pub struct Plan {
     /// The acts, by site.
     pub sites: Items<SiteAct>,

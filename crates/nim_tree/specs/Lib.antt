@@ -2,4 +2,3 @@ pub mod Lists
 pub mod Terms
 pub mod Types
 pub mod Statements
-pub mod Weights

@@ -5,7 +5,7 @@ ghost use Rattle.nim_tree.specs.Terms.{term_of, parts_of, parts_in, place_of, le
 use arc_base::{Bytes, Place};
 
 /// An operator with one operand.
-#[derive(Clone, Copy, Debug, PartialEq, Eq)]
+#[derive(Clone, Copy)]
 pub enum UnaryOp {
     /// `-`
     Minus,
@@ -18,7 +18,7 @@ pub enum UnaryOp {
 }
 
 /// An operator with two operands.
-#[derive(Clone, Copy, Debug, PartialEq, Eq)]
+#[derive(Clone, Copy)]
 pub enum BinaryOp {
     /// `*`
     Times,
@@ -57,7 +57,7 @@ pub enum BinaryOp {
 }
 
 /// A branch of an `if` or `case` that is an expression: its condition, or its labels, and its value.
-#[derive(Debug, Drop)]
+#[derive(Drop)]
 #[cycle(expr)]
 pub struct Choice {
     /// The place of `if`, `elif` or `of`.
@@ -68,7 +68,7 @@ pub struct Choice {
 }
 
 /// An expression, each part with the place of its first token.
-#[derive(Debug, Drop)]
+#[derive(Drop)]
 #[cycle(expr)]
 pub enum Expr {
     /// An integer.

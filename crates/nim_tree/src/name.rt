@@ -2,7 +2,7 @@
 use arc_base::{Bytes, Place};
 
 /// A name, with the place of its token.
-#[derive(Debug, Drop)]
+#[derive(Drop)]
 pub struct Name {
     pub at: Place,
     /// The bytes that it is written with.
@@ -10,7 +10,7 @@ pub struct Name {
 }
 
 /// A name that is declared.
-#[derive(Debug, Drop)]
+#[derive(Drop)]
 pub struct Declared {
     pub at: Place,
     /// The bytes that it is written with, in backticks where it is `quoted`.
@@ -22,7 +22,7 @@ pub struct Declared {
 }
 
 /// What a pragma says.
-#[derive(Clone, Copy, Debug, PartialEq, Eq)]
+#[derive(Clone, Copy)]
 pub enum PragmaKind {
     /// `error`
     Error,
@@ -35,7 +35,7 @@ pub enum PragmaKind {
 }
 
 /// A pragma, with the place of its name.
-#[derive(Clone, Copy, Debug, PartialEq, Eq)]
+#[derive(Clone, Copy)]
 pub struct Pragma {
     pub at: Place,
     pub kind: PragmaKind,

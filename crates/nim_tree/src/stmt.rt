@@ -6,7 +6,7 @@ use crate::{Declared, Expr, Name, Pragma, TypeDef, TypeTree};
 use arc_base::{Bytes, Place};
 
 /// How an assignment combines the old value with the new one.
-#[derive(Clone, Copy, Debug, PartialEq, Eq)]
+#[derive(Clone, Copy)]
 pub enum AssignOp {
     /// `=`
     Set,
@@ -21,7 +21,7 @@ pub enum AssignOp {
 }
 
 /// What a definition binds its names to.
-#[derive(Clone, Copy, Debug, PartialEq, Eq)]
+#[derive(Clone, Copy)]
 pub enum Binding {
     Let,
     Var,
@@ -29,7 +29,7 @@ pub enum Binding {
 }
 
 /// The definition of names with one type and one value.
-#[derive(Debug, Drop)]
+#[derive(Drop)]
 pub struct Def {
     /// One or more.
     pub names: Vec<Declared>,
@@ -42,7 +42,7 @@ pub struct Def {
 }
 
 /// How a parameter takes its argument.
-#[derive(Clone, Copy, Debug, PartialEq, Eq)]
+#[derive(Clone, Copy)]
 pub enum ParamMode {
     Plain,
     /// `var`
@@ -52,7 +52,7 @@ pub enum ParamMode {
 }
 
 /// Parameters of one type.
-#[derive(Debug, Drop)]
+#[derive(Drop)]
 pub struct Param {
     /// One or more.
     pub names: Vec<Name>,
@@ -62,7 +62,7 @@ pub struct Param {
 }
 
 /// A procedure, but for its body.
-#[derive(Debug, Drop)]
+#[derive(Drop)]
 pub struct ProcHead {
     pub name: Declared,
     /// The names of its type parameters.
@@ -76,7 +76,7 @@ pub struct ProcHead {
 }
 
 /// What a `for` goes over.
-#[derive(Debug, Drop)]
+#[derive(Drop)]
 pub enum Over {
     /// The elements of a value.
     Each(Expr),
@@ -87,7 +87,7 @@ pub enum Over {
 }
 
 /// A branch of an `if` or `case`: its condition, or its labels, and its block.
-#[derive(Debug, Drop)]
+#[derive(Drop)]
 #[cycle(stmt)]
 pub struct Branch {
     /// The place of `if`, `elif` or `of`.
@@ -99,7 +99,7 @@ pub struct Branch {
 }
 
 /// A handler of a `try`: its exception types, of which none stands for all, and its block.
-#[derive(Debug, Drop)]
+#[derive(Drop)]
 #[cycle(stmt)]
 pub struct Handler {
     /// The place of `except`.
@@ -113,7 +113,7 @@ pub struct Handler {
 /// A statement, with the place of its first token.
 ///
 /// A block holds a statement at least, so an empty list stands for one that isn't there.
-#[derive(Debug, Drop)]
+#[derive(Drop)]
 #[cycle(stmt)]
 pub enum Stmt {
     /// `discard`, or `discard value`.
@@ -274,7 +274,7 @@ impl Stmt {
 }
 
 /// The tree of a module.
-#[derive(Debug, Drop)]
+#[derive(Drop)]
 pub struct Module {
     /// The names behind `import` of its own statements, in order.
     pub imports: Vec<Import>,
@@ -283,7 +283,7 @@ pub struct Module {
 }
 
 /// A module that is imported.
-#[derive(Debug, Drop)]
+#[derive(Drop)]
 pub struct Import {
     pub at: Place,
     /// The bytes that its name is written with.

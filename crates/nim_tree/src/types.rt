@@ -6,7 +6,7 @@ use crate::{Declared, Expr, Name};
 use arc_base::{Bytes, Place};
 
 /// A written type, with the place of its first token.
-#[derive(Debug, Drop)]
+#[derive(Drop)]
 #[cycle(types)]
 pub enum TypeTree {
     /// A name, and its arguments in brackets where it has any.
@@ -105,7 +105,7 @@ fn field_levels(fields: &[Field]) -> u32
 }
 
 /// Fields of one type.
-#[derive(Debug, Drop)]
+#[derive(Drop)]
 #[cycle(types)]
 pub struct Field {
     /// One or more.
@@ -115,7 +115,7 @@ pub struct Field {
 }
 
 /// What a declared type is.
-#[derive(Debug, Drop)]
+#[derive(Drop)]
 pub enum TypeBody {
     /// `object`, or `ref object`.
     Object {
@@ -140,7 +140,7 @@ pub enum TypeBody {
 }
 
 /// The declaration of a type.
-#[derive(Debug, Drop)]
+#[derive(Drop)]
 pub struct TypeDef {
     pub name: Declared,
     /// The names of its type parameters.

@@ -8,7 +8,7 @@ ghost use Rattle.nim_types.specs.Kept.{Stays, Stale, unknowns, stored_as};
 use crate::types::{LIST_BYTES, TypeDef, TypeId, WORD_BYTES};
 
 /// The bytes of a type, 4,294,967,295 where they are more, and whether it is hooked.
-#[derive(Clone, Copy, Debug, PartialEq, Eq)]
+#[derive(Clone, Copy)]
 pub struct Storage {
     pub bytes: u32,
     pub hooked: bool,

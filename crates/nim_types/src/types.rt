@@ -12,7 +12,7 @@ pub const WORD_BYTES: u32 = 4;
 pub const LIST_BYTES: u32 = 8;
 
 /// A field of an object.
-#[derive(Debug, Drop)]
+#[derive(Drop)]
 pub struct FieldName {
     /// Its name as declared.
     pub name: Bytes,
@@ -23,7 +23,7 @@ pub struct FieldName {
 /// A type by the numbers of its parts, and what its declaration says.
 ///
 /// Places are those of declarations; the line is 0 where no source declares the type.
-#[derive(Debug, Drop)]
+#[derive(Drop)]
 pub enum TypeDef {
     Int,
     Bool,

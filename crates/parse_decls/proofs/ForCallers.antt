@@ -7,8 +7,7 @@ pub use Rattle.parse_decls.proofs.Exprs.{term}
 pub use Rattle.parse_decls.proofs.Definitions.{definition, definition_block}
 pub use Rattle.parse_decls.proofs.Declarations.{declarations}
 pub use Rattle.parse_decls.proofs.Heads.{head}
-pub use Rattle.parse_decls.proofs.Spans.{names_takes, declarations_takes, head_takes, Takes, takes_then, declareds_takes, all_pragmas_takes, annotation_takes}
-pub use Rattle.parse_decls.proofs.Spans.{definition_takes}
+pub use Rattle.parse_decls.proofs.Spans.{names_takes, declarations_takes, head_takes, Takes, definition_takes, definition_block_takes}
 pub use Rattle.parse_decls.proofs.Coming.{told_fails, fails_by, fails_then, fails_stuck, fails_leads, leads_then, leads_unless, comes_leads, leads_suc}
 pub use Rattle.parse_decls.proofs.Coming.{leads_on, leads_if, leads_else, found, behind_at}
 pub use Rattle.parse_decls.proofs.Repeats.{Loop, loop_on, loop_fails, loop_ends}

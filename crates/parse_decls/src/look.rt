@@ -14,7 +14,7 @@ use nim_tree::{ParamMode, PragmaKind};
 use parse_exprs::{Bracket, Input, Layout, bracket_of, goes_on, is_name, is_punct, is_run};
 
 /// What a written type begins with.
-#[derive(Clone, Copy, Debug, PartialEq, Eq)]
+#[derive(Clone, Copy)]
 pub(crate) enum TypeLead {
     /// A name.
     Name,
@@ -29,7 +29,7 @@ pub(crate) enum TypeLead {
 }
 
 /// What the body of a declared type begins with.
-#[derive(Clone, Copy, Debug, PartialEq, Eq)]
+#[derive(Clone, Copy)]
 pub(crate) enum BodyLead {
     /// `object`
     Object,

@@ -138,7 +138,8 @@ faults_none : (why : Fault) (b : Bool) (x : Origin) (i : Layout) (ts : List Toke
 faults_none why true x i ts is e = f_no_level is (is_deep why e)
 faults_none why false x i ts is e = f_no_operand is (is_stuck why e)
 
-faults_empty : (why : Fault) (b : Bracket) (x : Origin) (i : Layout) (n : ℕ) (tok : Token) (ts : List Token) → b ≡ Round → bracket_at (tok ∷ ts) ≡ Some b
+faults_empty : (why : Fault) (b : Bracket) (x : Origin) (i : Layout) (n : ℕ) (tok : Token) (ts : List Token) → b ≡ Round
+    → bracket_at (tok ∷ ts) ≡ Some b
     → closes_at b ts ≡ true → why ≡ stuck_at ts → FaultsAtom x why i n (tok ∷ ts)
 faults_empty why b x i n tok ts is h c w =
     subst (λ b. bracket_at (tok ∷ ts) ≡ Some b → closes_at b ts ≡ true → FaultsAtom x why i n (tok ∷ ts)) (sym is) (λ h c. f_empty h c w) h c
@@ -166,7 +167,8 @@ faults_range why k x i n a ts (tok ∷ mid) d more e =
     ]
 
 mutual
-  pub faults_expr : (why : Fault) (k : ℕ) (x : Origin) (i : Layout) (n : ℕ) (ts : List Token) → run_expr k x i n ts ≡ bad (why_of why) → FaultsExpr x why i n ts
+  pub faults_expr : (why : Fault) (k : ℕ) (x : Origin) (i : Layout) (n : ℕ) (ts : List Token) → run_expr k x i n ts ≡ bad (why_of why)
+      → FaultsExpr x why i n ts
   faults_expr why zero x i n ts e = not_tired why e
   faults_expr why (suc k) x i n ts e = faults_lead why k (lead_at ts) x i n ts refl e
 
@@ -179,7 +181,8 @@ mutual
 
   -- ---- operators
 
-  faults_level : (why : Fault) (k : ℕ) (x : Origin) (i : Layout) (l n : ℕ) (ts : List Token) → run_level k x i l n ts ≡ bad (why_of why) → Faults x why i l n ts
+  faults_level : (why : Fault) (k : ℕ) (x : Origin) (i : Layout) (l n : ℕ) (ts : List Token) → run_level k x i l n ts ≡ bad (why_of why)
+      → Faults x why i l n ts
   faults_level why zero x i l n ts e = not_tired why e
   faults_level why (suc k) x i zero n ts e = f_tight (faults_unary why k x i n ts e)
   faults_level why (suc k) x i (suc l) n ts e =
@@ -209,7 +212,8 @@ mutual
         ]
       ]
 
-  faults_unary : (why : Fault) (k : ℕ) (x : Origin) (i : Layout) (n : ℕ) (ts : List Token) → run_unary k x i n ts ≡ bad (why_of why) → FaultsUnary x why i n ts
+  faults_unary : (why : Fault) (k : ℕ) (x : Origin) (i : Layout) (n : ℕ) (ts : List Token) → run_unary k x i n ts ≡ bad (why_of why)
+      → FaultsUnary x why i n ts
   faults_unary why zero x i n ts e = not_tired why e
   faults_unary why (suc k) x i zero ts e = faults_none why (operand_at x ts) x i ts refl e
   faults_unary why (suc k) x i (suc n) [] e = f_nothing (is_stuck why e)
@@ -239,7 +243,8 @@ mutual
 
   -- ---- what stands behind an atom
 
-  pub faults_primary : (why : Fault) (k : ℕ) (x : Origin) (i : Layout) (c : Bool) (n : ℕ) (ts : List Token) → run_primary k x i c (suc n) ts ≡ bad (why_of why)
+  pub faults_primary : (why : Fault) (k : ℕ) (x : Origin) (i : Layout) (c : Bool) (n : ℕ) (ts : List Token)
+      → run_primary k x i c (suc n) ts ≡ bad (why_of why)
       → FaultsPrimary x why i c n ts
   faults_primary why zero x i c n ts e = not_tired why e
   faults_primary why (suc k) x i c n ts e =
@@ -272,7 +277,8 @@ mutual
         ]
       ]
 
-  faults_applied : (why : Fault) (k : ℕ) (b : Option Bracket) (x : Origin) (i : Layout) (c : Bool) (n : ℕ) (a : Term) (ts : List Token) → bracket_at ts ≡ b
+  faults_applied : (why : Fault) (k : ℕ) (b : Option Bracket) (x : Origin) (i : Layout) (c : Bool) (n : ℕ) (a : Term) (ts : List Token)
+      → bracket_at ts ≡ b
       → suffix_at i c ts ≡ true → levels a ≤ n
       → run_applied k b x i n a ts ≡ bad (why_of why) → FaultsSuffixes x why i c n a ts
   faults_applied why zero b x i c n a ts is on few e = not_tired why e
@@ -318,17 +324,19 @@ mutual
           | inl s ↦ f_no_square at.is s.not (stuck_is why s.at)
           | inr on ↦ elim (unless_bad (square_at (next ∷ ts)) (next ∷ ts) _ on.same) as (λ w. FaultsAtom x why i n (tok ∷ next ∷ ts)) [
             | inl s ↦ f_not_square at.is on.is s.not (stuck_is why s.at)
-            | inr square ↦ elim (then_bad (run_enclosed k x Square false n (next ∷ ts)) _ square.same) as (λ w. FaultsAtom x why i n (tok ∷ next ∷ ts)) [
-              | inl g ↦ f_sequence at.is on.is square.is (faults_enclosed why k x Square false n next ts g)
-              | inr f ↦ got_bad f.next
-            ]
+            | inr square ↦ elim (then_bad (run_enclosed k x Square false n (next ∷ ts)) _ square.same) as (λ w.
+                FaultsAtom x why i n (tok ∷ next ∷ ts)) [
+                  | inl g ↦ f_sequence at.is on.is square.is (faults_enclosed why k x Square false n next ts g)
+                  | inr f ↦ got_bad f.next
+                ]
           ]
         ]
       ]
 
   -- ---- parts in brackets
 
-  faults_enclosed : (why : Fault) (k : ℕ) (x : Origin) (b : Bracket) (m : Bool) (n : ℕ) (tok : Token) (ts : List Token) → run_enclosed k x b m n (tok ∷ ts)
+  faults_enclosed : (why : Fault) (k : ℕ) (x : Origin) (b : Bracket) (m : Bool) (n : ℕ) (tok : Token) (ts : List Token)
+      → run_enclosed k x b m n (tok ∷ ts)
       ≡ bad (why_of why) → FaultsEnclosed x why b m n ts
   faults_enclosed why zero x b m n tok ts e = not_tired why e
   faults_enclosed why (suc k) x b m n tok ts e =
@@ -343,7 +351,8 @@ mutual
         ]
       ]
 
-  faults_list : (why : Fault) (k : ℕ) (x : Origin) (m : Bool) (n : ℕ) (ts : List Token) → run_list k x m n ts ≡ bad (why_of why) → FaultsListed x why m n ts
+  faults_list : (why : Fault) (k : ℕ) (x : Origin) (m : Bool) (n : ℕ) (ts : List Token) → run_list k x m n ts ≡ bad (why_of why)
+      → FaultsListed x why m n ts
   faults_list why zero x m n ts e = not_tired why e
   faults_list why (suc k) x m n ts e =
       elim (then_bad (run_part k x m n ts) _ e) as (λ w. FaultsListed x why m n ts) [
@@ -364,7 +373,8 @@ mutual
         | inr h ↦ got_bad h.same
       ]
 
-  faults_part : (why : Fault) (k : ℕ) (x : Origin) (m : Bool) (n : ℕ) (ts : List Token) → run_part k x m n ts ≡ bad (why_of why) → FaultsPart x why m n ts
+  faults_part : (why : Fault) (k : ℕ) (x : Origin) (m : Bool) (n : ℕ) (ts : List Token) → run_part k x m n ts ≡ bad (why_of why)
+      → FaultsPart x why m n ts
   faults_part why zero x m n ts e = not_tired why e
   faults_part why (suc k) x false n ts e = f_unnamed (faults_expr why k x Brackets n ts e)
   faults_part why (suc k) x true n [] e = f_no_name refl (is_stuck why e)
@@ -408,7 +418,8 @@ mutual
             ])
       ]
 
-  faults_tail : (why : Fault) (k : ℕ) (x : Origin) (i : Layout) (n : ℕ) (ts : List Token) → run_tail k x i n ts ≡ bad (why_of why) → FaultsTail x why i n ts
+  faults_tail : (why : Fault) (k : ℕ) (x : Origin) (i : Layout) (n : ℕ) (ts : List Token) → run_tail k x i n ts ≡ bad (why_of why)
+      → FaultsTail x why i n ts
   faults_tail why zero x i n ts e = not_tired why e
   faults_tail why (suc k) x i n ts e =
       elim (unless_bad (stays i ts) ts _ e) as (λ w. FaultsTail x why i n ts) [
@@ -422,7 +433,8 @@ mutual
         ]
       ]
 
-  faults_value : (why : Fault) (k : ℕ) (x : Origin) (i : Layout) (n : ℕ) (ts : List Token) → run_value k x i n ts ≡ bad (why_of why) → FaultsValue x why i n ts
+  faults_value : (why : Fault) (k : ℕ) (x : Origin) (i : Layout) (n : ℕ) (ts : List Token) → run_value k x i n ts ≡ bad (why_of why)
+      → FaultsValue x why i n ts
   faults_value why zero x i n ts e = not_tired why e
   faults_value why (suc k) x i n [] e = f_no_colon refl (is_stuck why e)
   faults_value why (suc k) x i n (tok ∷ ts) e =
@@ -434,7 +446,8 @@ mutual
         ]
       ]
 
-  faults_own_line : (why : Fault) (k : ℕ) (x : Origin) (i : Layout) (n : ℕ) (tok : Token) (ts : List Token) → colon_at i (tok ∷ ts) ≡ true → stays i ts ≡ false
+  faults_own_line : (why : Fault) (k : ℕ) (x : Origin) (i : Layout) (n : ℕ) (tok : Token) (ts : List Token) → colon_at i (tok ∷ ts) ≡ true
+      → stays i ts ≡ false
       → run_own_line k x i n ts ≡ bad (why_of why) → FaultsValue x why i n (tok ∷ ts)
   faults_own_line why zero x i n tok ts c off e = not_tired why e
   faults_own_line why (suc k) x i n tok ts c off e =
@@ -449,7 +462,8 @@ mutual
         ]
       ]
 
-  faults_elifs : (why : Fault) (k : ℕ) (x : Origin) (i : Layout) (n : ℕ) (some : Choices) (ts : List Token) → run_elifs k x i n some ts ≡ bad (why_of why)
+  faults_elifs : (why : Fault) (k : ℕ) (x : Origin) (i : Layout) (n : ℕ) (some : Choices) (ts : List Token)
+      → run_elifs k x i n some ts ≡ bad (why_of why)
       → FaultsElifs x why i n ts
   faults_elifs why zero x i n some ts e = not_tired why e
   faults_elifs why (suc k) x i n some [] e = got_bad e
@@ -463,7 +477,8 @@ mutual
         | inr h ↦ got_bad h.same
       ]
 
-  faults_else : (why : Fault) (k : ℕ) (x : Origin) (i : Layout) (n : ℕ) (ts : List Token) → run_else k x i n ts ≡ bad (why_of why) → FaultsElse x why i n ts
+  faults_else : (why : Fault) (k : ℕ) (x : Origin) (i : Layout) (n : ℕ) (ts : List Token) → run_else k x i n ts ≡ bad (why_of why)
+      → FaultsElse x why i n ts
   faults_else why zero x i n ts e = not_tired why e
   faults_else why (suc k) x i n [] e = f_no_else refl (is_stuck why e)
   faults_else why (suc k) x i n (tok ∷ ts) e =
@@ -472,7 +487,8 @@ mutual
         | inr g ↦ f_else_value g.is (faults_value why k x i n ts g.same)
       ]
 
-  faults_case : (why : Fault) (k : ℕ) (x : Origin) (i : Layout) (n : ℕ) (ts : List Token) → lead_at ts ≡ L.Case → run_case k x i n ts ≡ bad (why_of why)
+  faults_case : (why : Fault) (k : ℕ) (x : Origin) (i : Layout) (n : ℕ) (ts : List Token) → lead_at ts ≡ L.Case
+      → run_case k x i n ts ≡ bad (why_of why)
       → FaultsExpr x why i n ts
   faults_case why zero x i n ts is e = not_tired why e
   faults_case why (suc k) x i zero ts is e = f_no_case is (is_deep why e)
@@ -528,7 +544,8 @@ mutual
         ]
       ]
 
-  faults_labels : (why : Fault) (k : ℕ) (x : Origin) (i : Layout) (n : ℕ) (some : Parts) (ts : List Token) → run_labels k x i n some ts ≡ bad (why_of why)
+  faults_labels : (why : Fault) (k : ℕ) (x : Origin) (i : Layout) (n : ℕ) (some : Parts) (ts : List Token)
+      → run_labels k x i n some ts ≡ bad (why_of why)
       → FaultsLabels x why i n ts
   faults_labels why zero x i n some ts e = not_tired why e
   faults_labels why (suc k) x i n some [] e = got_bad e
@@ -541,7 +558,8 @@ mutual
         | inr h ↦ got_bad h.same
       ]
 
-  faults_label : (why : Fault) (k : ℕ) (x : Origin) (i : Layout) (n : ℕ) (ts : List Token) → run_label k x i n ts ≡ bad (why_of why) → FaultsLabel x why i n ts
+  faults_label : (why : Fault) (k : ℕ) (x : Origin) (i : Layout) (n : ℕ) (ts : List Token) → run_label k x i n ts ≡ bad (why_of why)
+      → FaultsLabel x why i n ts
   faults_label why zero x i n ts e = not_tired why e
   faults_label why (suc k) x i n ts e =
       elim (then_bad (run_expr k x i n ts) _ e) as (λ w. FaultsLabel x why i n ts) [
@@ -563,7 +581,8 @@ mutual
         | inr h ↦ got_bad h.same
       ]
 
-  faults_otherwise : (why : Fault) (k : ℕ) (x : Origin) (i : Layout) (n : ℕ) (at : Place) (s : Term) (tok : Token) (ts : List Token) (tests : Parts) (v : Term)
+  faults_otherwise : (why : Fault) (k : ℕ) (x : Origin) (i : Layout) (n : ℕ) (at : Place) (s : Term) (tok : Token) (ts : List Token)
+      (tests : Parts) (v : Term)
       (all : Choices) (mid end : List Token) → first_of_at i (tok ∷ ts) ≡ true
       → Done x (branch_layout i tok.indent) op_levels n (max (most_levels tests) (levels v)) (SpellsOf x (branch_layout i tok.indent) tests v ts mid) mid
       → Done x (branch_layout i tok.indent) op_levels n (levels_in all)

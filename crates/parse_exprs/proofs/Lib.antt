@@ -16,7 +16,6 @@ mod Coming
 mod Going
 mod Branching
 mod Finding
-mod Weighing
 mod Ending
 mod Deciding
 pub mod ForCallers

@@ -45,37 +45,37 @@ op_of_end : (b : Bool) (l : ℕ) (op : BinaryOp) (kind : Tok) (bytes : List ℕ)
 op_of_end true l op kind bytes e h = let k = subst (λ m. of_level l (op_of m bytes) ≡ Some op) e h in cc
 op_of_end false l op kind bytes e h = cc
 
-pub op_no_end : (x : Origin) (i : Layout) (l : ℕ) (op : BinaryOp) (tok : Token) (ts : List Token) → op_at x i l (tok ∷ ts) ≡ Some op → tok.kind ≡ T.End → ⊥
+op_no_end : (x : Origin) (i : Layout) (l : ℕ) (op : BinaryOp) (tok : Token) (ts : List Token) → op_at x i l (tok ∷ ts) ≡ Some op → tok.kind ≡ T.End → ⊥
 op_no_end x i l op tok ts h e = op_of_end (goes_on i tok.indent) l op tok.kind (spelling x tok) e h
 
-pub sign_no_end : (op : UnaryOp) (kind : Tok) (bytes : List ℕ) → sign_of kind bytes ≡ Some op → kind ≡ T.End → ⊥
+sign_no_end : (op : UnaryOp) (kind : Tok) (bytes : List ℕ) → sign_of kind bytes ≡ Some op → kind ≡ T.End → ⊥
 sign_no_end op kind bytes h e = let k = subst (λ m. sign_of m bytes ≡ Some op) e h in cc
 
-pub name_no_end : (kind : Tok) → kind ≡ T.Name → kind ≡ T.End → ⊥
+name_no_end : (kind : Tok) → kind ≡ T.Name → kind ≡ T.End → ⊥
 name_no_end kind h e = cc
 
-pub bracket_no_end : {b : Bracket} (kind : Tok) → bracket_of kind ≡ Some b → kind ≡ T.End → ⊥
+bracket_no_end : {b : Bracket} (kind : Tok) → bracket_of kind ≡ Some b → kind ≡ T.End → ⊥
 bracket_no_end kind h e = none_some (bracket_of kind) (ap bracket_of e) h
 
 -- a test that the end doesn't pass
-pub test_no_end : (test : Tok → Bool) (kind : Tok) → test T.End ≡ false → test kind ≡ true → kind ≡ T.End → ⊥
+test_no_end : (test : Tok → Bool) (kind : Tok) → test T.End ≡ false → test kind ≡ true → kind ≡ T.End → ⊥
 test_no_end test kind no_end h e = false_true (test kind) (ap test e ∙ no_end) h
 
-pub behind_no_end : (test : Tok → Bool) (b : Bool) (kind : Tok) → test T.End ≡ false → (b && test kind) ≡ true → kind ≡ T.End → ⊥
+behind_no_end : (test : Tok → Bool) (b : Bool) (kind : Tok) → test T.End ≡ false → (b && test kind) ≡ true → kind ≡ T.End → ⊥
 behind_no_end test b kind no_end h e = test_no_end test kind no_end (both_of b (test kind) h).1 e
 
-pub lead_no_end : {lead : _} (kind : Tok) → lead_of kind ≡ lead → (lead ≡ L.Operand → ⊥) → kind ≡ T.End → ⊥
+lead_no_end : {lead : _} (kind : Tok) → lead_of kind ≡ lead → (lead ≡ L.Operand → ⊥) → kind ≡ T.End → ⊥
 lead_no_end kind h f e = f (sym h ∙ ap lead_of e)
 
-pub single_no_end : (x : Origin) (tok : Token) (t : Term) → single x tok ≡ Some t → tok.kind ≡ T.End → ⊥
+single_no_end : (x : Origin) (tok : Token) (t : Term) → single x tok ≡ Some t → tok.kind ≡ T.End → ⊥
 single_no_end x tok t h e = none_some (single x tok) (ap (single_of (place_at x tok) (spelling x tok)) e) h
 
-pub punct_no_end : (kind : Tok) (b : ℕ) → kind ≡ T.Punct b → kind ≡ T.End → ⊥
+punct_no_end : (kind : Tok) (b : ℕ) → kind ≡ T.Punct b → kind ≡ T.End → ⊥
 punct_no_end kind b h e = cc
 
 -- ---- how many nodes there are
 
-pub unsome : {A : Type 0} {a b : A} → Some a ≡ Some b → a ≡ b
+unsome : {A : Type 0} {a b : A} → Some a ≡ Some b → a ≡ b
 unsome e = cc
 
 grouped_nodes : (b : Bracket) (m : Bool) (at : Place) (ps : Parts) (t : Term) → grouped b m at ps ≡ Some t → nodes t ≡ suc (nodes_in ps)

@@ -6,5 +6,4 @@ pub mod Gives
 pub mod Grammar
 pub mod Faults
 pub mod Parsed
-pub mod Counts
 pub mod Ends

@@ -20,7 +20,7 @@ use indent_scanner::{Tok, Token};
 use nim_tree::{BinaryOp, Expr, UnaryOp};
 
 /// What an expression begins with.
-#[derive(Clone, Copy, Debug, PartialEq, Eq)]
+#[derive(Clone, Copy)]
 pub enum Lead {
     /// `if`
     If,
@@ -31,7 +31,7 @@ pub enum Lead {
 }
 
 /// A bracket that opens.
-#[derive(Clone, Copy, Debug, PartialEq, Eq)]
+#[derive(Clone, Copy)]
 pub enum Bracket {
     /// `(`
     Round,

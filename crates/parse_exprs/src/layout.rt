@@ -1,7 +1,7 @@
 // Where an expression stands.
 
 /// Whether line ends count.
-#[derive(Clone, Copy, Debug, PartialEq, Eq)]
+#[derive(Clone, Copy)]
 pub enum Layout {
     /// Inside brackets they don't.
     Brackets,

@@ -18,7 +18,6 @@ pub use kinds::{
 };
 pub use layout::Layout;
 pub use parse::{
-    Parsed, callee, callees_run, deep_exprs, expr, expr_within, exprs_run, exprs_weigh, one_callee,
-    one_expr,
+    Parsed, callee, callees_run, deep_exprs, expr, expr_within, exprs_run, one_callee, one_expr,
 };
 pub use total::{expr_or_fault, exprs_end};

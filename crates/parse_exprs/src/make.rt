@@ -46,7 +46,7 @@ pub(crate) struct Branches {
 }
 
 // Why nothing was read.
-#[derive(Clone, Copy, Debug, PartialEq, Eq)]
+#[derive(Clone, Copy)]
 pub(crate) enum Stuck {
     /// The token of this number can't go on.
     Syntax(usize),

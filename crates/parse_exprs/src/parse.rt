@@ -1,11 +1,8 @@
 // The expression that begins at a token.
-ghost use Rattle.std.specs.Prelude.{◌≡◌, ℕ, ◌<◌, ◌+◌, All, ◌≤◌, ◌-◌, ◌^◌, IfOk, IfErr, length, drop, List, ◌↔◌};
+ghost use Rattle.std.specs.Prelude.{◌≡◌, ℕ, ◌<◌, ◌≤◌, ◌-◌, ◌^◌, IfOk, IfErr, length, drop, List, ◌↔◌};
 ghost use Rattle.arc_base.specs.Stops.{OnRefusal};
 ghost use Rattle.indent_scanner.specs.declared.token.Token.{Token as One};
-ghost use Rattle.indent_scanner.specs.Tokens.{HasByte, token_bytes};
 ghost use Rattle.nim_tree.specs.Terms.{Term, levels, nodes, term_of};
-ghost use Rattle.nim_tree.specs.Weights.{weight};
-ghost use Rattle.parse_exprs.specs.Counts.{count};
 ghost use Rattle.parse_exprs.specs.declared.layout.Layout.{Layout as Stands};
 ghost use Rattle.parse_exprs.specs.declared.layout.Layout.TheVariants.{Lines};
 ghost use Rattle.parse_exprs.specs.Look.{Origin, line_spaces};
@@ -28,7 +25,7 @@ use std::alloc::Global;
 const MOST_LEVELS: u32 = 64;
 
 /// A tree, and the number of the first token behind it.
-#[derive(Debug, Drop)]
+#[derive(Drop)]
 pub struct Parsed {
     pub tree: Expr,
     pub next: u32,
@@ -209,11 +206,4 @@ pub fn exprs_run()
 /// The same of an atom with what stands behind it, where a command may begin.
 pub fn callees_run()
     ensures { (x : Origin) (spaces : ℕ) → Agree (ReadsCallee x spaces) (CalleeFaults x spaces) (CalleeRun x spaces) 64 }
-{}
-
-/// A tree weighs no more than its tokens have bytes.
-pub fn exprs_weigh()
-    ensures exprs { (x : Origin) (layout : Stands) (t : Term) (ts rest : List One) → Reads x layout t ts rest → weight t + count rest ≤ count ts }
-    ensures callees { (x : Origin) (spaces : ℕ) (t : Term) (ts rest : List One) → ReadsCallee x spaces t ts rest → weight t + count rest ≤ count ts }
-    ensures bytes { (ts : List One) → All HasByte ts → count ts ≤ token_bytes ts }
 {}

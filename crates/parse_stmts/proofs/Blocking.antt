@@ -62,14 +62,17 @@ statement_none x n left some ts e = subst (λ (m : List Token). Settles (λ k. r
 
 led_on : (x : Origin) (n left : ℕ) (some : Statements) (tok : Token) (rest ts : List Token) (it : Lead) → ts ≡ tok ∷ rest → lead n tok rest ≡ it
     → Leads (λ k. run_led k it x n left some tok rest) (λ k. run_statement k x n left some ts)
-led_on x n left some tok rest ts it e f o h = settles_suc h (λ k. ap (run_statement (suc k) x n left some) e ∙ ap (λ i. run_led k i x n left some tok rest) f)
+led_on x n left some tok rest ts it e f o h =
+    settles_suc h (λ k. ap (run_statement (suc k) x n left some) e ∙ ap (λ i. run_led k i x n left some tok rest) f)
 
-pub statement_line : (x : Origin) (n left : ℕ) (some : Statements) (tok : Token) (rest ts : List Token) (it : Lead) → ts ≡ tok ∷ rest → lead n tok rest ≡ it
+pub statement_line : (x : Origin) (n left : ℕ) (some : Statements) (tok : Token) (rest ts : List Token) (it : Lead) → ts ≡ tok ∷ rest
+    → lead n tok rest ≡ it
     → it ≡ L.Line → Leads (λ k. run_line k x n some ts) (λ k. run_statement k x n left some ts)
 statement_line x n left some tok rest ts it e f g o h =
     led_on x n left some tok rest ts L.Line e (f ∙ g) o (settles_suc (settles_at (λ m k. run_line k x n some m) (sym e) h) (λ k. refl))
 
-compound_step : (x : Origin) (n left : ℕ) (some : Statements) (tok : Token) (rest : List Token) (it : Lead) → (it ≡ L.Line → ⊥) → chooses it ≡ false → (k : ℕ)
+compound_step : (x : Origin) (n left : ℕ) (some : Statements) (tok : Token) (rest : List Token) (it : Lead) → (it ≡ L.Line → ⊥)
+    → chooses it ≡ false → (k : ℕ)
     → run_led (suc k) it x n left some tok rest ≡ then_do (run_compound k it x n left tok rest) (λ s mid. got (and_statement some s) mid)
 compound_step x n left some tok rest L.Line f c k = absurd (f refl)
 compound_step x n left some tok rest L.If f c k = cc
@@ -82,7 +85,8 @@ compound_step x n left some tok rest L.Proc f c k = refl
 compound_step x n left some tok rest L.Type f c k = refl
 compound_step x n left some tok rest L.Section f c k = refl
 
-pub statement_compound : (x : Origin) (n left : ℕ) (some : Statements) (tok : Token) (rest ts : List Token) (it : Lead) → ts ≡ tok ∷ rest → lead n tok rest ≡ it
+pub statement_compound : (x : Origin) (n left : ℕ) (some : Statements) (tok : Token) (rest ts : List Token) (it : Lead) → ts ≡ tok ∷ rest
+    → lead n tok rest ≡ it
     → (it ≡ L.Line → ⊥) → chooses it ≡ false
     → Leads (λ k. then_do (run_compound k it x n left tok rest) (λ s mid. got (and_statement some s) mid)) (λ k. run_statement k x n left some ts)
 statement_compound x n left some tok rest ts it e f g c o h = led_on x n left some tok rest ts it e f o
@@ -94,7 +98,8 @@ choice_step x n left some tok rest L.If c k = refl
 choice_step x n left some tok rest L.Case c k = refl
 choice_step x n left some tok rest _ c k = cc
 
-pub statement_choice : (x : Origin) (n left : ℕ) (some : Statements) (tok : Token) (rest ts : List Token) (it : Lead) → ts ≡ tok ∷ rest → lead n tok rest ≡ it
+pub statement_choice : (x : Origin) (n left : ℕ) (some : Statements) (tok : Token) (rest ts : List Token) (it : Lead) → ts ≡ tok ∷ rest
+    → lead n tok rest ≡ it
     → chooses it ≡ true
     → Leads (λ k. then_do (run_alone k x n ts) (λ found mid. run_choice k found it x n left some tok rest mid)) (λ k. run_statement k x n left some ts)
 statement_choice x n left some tok rest ts it e f c o h = led_on x n left some tok rest ts it e f o
@@ -119,7 +124,8 @@ pub is_choice : (it : Lead) → (it ≡ L.If) ⊎ (it ≡ L.Case) → chooses it
 is_choice it (inl e) = ap chooses e
 is_choice it (inr e) = ap chooses e
 
-pub choice_is_alone : (x : Origin) (n left : ℕ) (some : Statements) (tok : Token) (whole rest mid : List Token) (it : Lead) (found : Option Expr) (value : Expr)
+pub choice_is_alone : (x : Origin) (n left : ℕ) (some : Statements) (tok : Token) (whole rest mid : List Token) (it : Lead)
+    (found : Option Expr) (value : Expr)
     (s : Statements)
     → Settles (λ k. run_alone k x n whole) (got (option_map term_of found) mid) → found ≡ Some value
     → s ≡ and_statement some (evaluates (place_of (term_of value)) (term_of value))
@@ -147,17 +153,20 @@ compound_line x n left tok rest ts it e f =
     subst (λ (i : Lead). Settles (λ k. run_compound k i x n left tok rest) (bad (stuck_at ts))) (sym f)
     (settles_suc settles_got (λ k. ap (λ (m : List Token). bad (stuck_at m)) (sym e)))
 
-pub compound_by : (x : Origin) (n left : ℕ) (tok : Token) (rest : List Token) (it to : Lead) → it ≡ to → Leads (λ k. run_compound k to x n left tok rest)
+pub compound_by : (x : Origin) (n left : ℕ) (tok : Token) (rest : List Token) (it to : Lead) → it ≡ to
+    → Leads (λ k. run_compound k to x n left tok rest)
     (λ k. run_compound k it x n left tok rest)
 compound_by x n left tok rest it to e o h = subst (λ (i : Lead). Settles (λ k. run_compound k i x n left tok rest) o) (sym e) h
 
 -- ---- blocks
 
-pub body_on : (x : Origin) (n left : ℕ) (ts rest : List Token) → colon_at (Lines n) ts ≡ true → behind ts ≡ rest → Leads (λ k. run_block k x n left rest)
+pub body_on : (x : Origin) (n left : ℕ) (ts rest : List Token) → colon_at (Lines n) ts ≡ true → behind ts ≡ rest
+    → Leads (λ k. run_block k x n left rest)
     (λ k. run_body k x n left ts)
 body_on x n left ts rest e b o h = settles_suc (settles_unless ts e (settles_at (λ m k. run_block k x n left m) b h)) (λ k. refl)
 
-pub body_stuck : (x : Origin) (n left : ℕ) (ts : List Token) → colon_at (Lines n) ts ≡ false → Settles (λ k. run_body k x n left ts) (bad (stuck_at ts))
+pub body_stuck : (x : Origin) (n left : ℕ) (ts : List Token) → colon_at (Lines n) ts ≡ false
+    → Settles (λ k. run_body k x n left ts) (bad (stuck_at ts))
 body_stuck x n left ts e = settles_suc (settles_stuck (λ k. run_block k x n left (behind ts)) ts e) (λ k. refl)
 
 pub block_none : (x : Origin) (n : ℕ) (ts : List Token) → opens_block x n ts ≡ false → Settles (λ k. run_block k x n 0 ts) (bad (stuck_at ts))
@@ -192,7 +201,8 @@ elifs_on x n left some all tok rest ts mid place e p b s o h = subst (λ (m : Li
     (settles_then (λ k all mid. run_elifs k x n left all mid) (subst (λ (q : Place). Settles (λ k. run_branch k x n left some q rest) (got all mid)) p s) h))
     (λ k. refl))
 
-pub elifs_fail : (x : Origin) (n left : ℕ) (some : Branches) (tok : Token) (rest ts : List Token) (place : Place) → ts ≡ tok ∷ rest → place ≡ place_at x tok
+pub elifs_fail : (x : Origin) (n left : ℕ) (some : Branches) (tok : Token) (rest ts : List Token) (place : Place) → ts ≡ tok ∷ rest
+    → place ≡ place_at x tok
     → branch_at (Lines n) is_elif ts ≡ true
     → (stop : Stop) → Fails (λ k. run_branch k x n left some place rest) x stop → Fails (λ k. run_elifs k x n left some ts) x stop
 elifs_fail x n left some tok rest ts place e p b stop h = fails_by (λ k. run_branch k x n left some place rest) (λ k. run_elifs k x n left some ts) x
@@ -207,7 +217,8 @@ elifs_end x n left some [] e o h = settles_suc h (λ k. refl)
 elifs_end x n left some (tok ∷ ts) e o h =
     settles_suc (settles_else (λ k. then_do (run_branch k x n left some (place_at x tok) ts) (λ all mid. run_elifs k x n left all mid)) e h) (λ k. refl)
 
-pub ofs_on : (x : Origin) (n left : ℕ) (some all : Branches) (tok : Token) (rest ts mid : List Token) (place : Place) → ts ≡ tok ∷ rest → place ≡ place_at x tok
+pub ofs_on : (x : Origin) (n left : ℕ) (some all : Branches) (tok : Token) (rest ts mid : List Token) (place : Place) → ts ≡ tok ∷ rest
+    → place ≡ place_at x tok
     → branch_at (Lines n) is_of ts ≡ true
     → Settles (λ k. run_of k x n left some place rest) (got all mid) → Leads (λ k. run_ofs k x n left all mid) (λ k. run_ofs k x n left some ts)
 ofs_on x n left some all tok rest ts mid place e p b s o h = subst (λ (m : List Token). Settles (λ k. run_ofs k x n left some m) o) (sym e)
@@ -215,13 +226,15 @@ ofs_on x n left some all tok rest ts mid place e p b s o h = subst (λ (m : List
     (settles_then (λ k all mid. run_ofs k x n left all mid) (subst (λ (q : Place). Settles (λ k. run_of k x n left some q rest) (got all mid)) p s) h))
     (λ k. refl))
 
-pub ofs_fail : (x : Origin) (n left : ℕ) (some : Branches) (tok : Token) (rest ts : List Token) (place : Place) → ts ≡ tok ∷ rest → place ≡ place_at x tok
+pub ofs_fail : (x : Origin) (n left : ℕ) (some : Branches) (tok : Token) (rest ts : List Token) (place : Place) → ts ≡ tok ∷ rest
+    → place ≡ place_at x tok
     → branch_at (Lines n) is_of ts ≡ true
     → (stop : Stop) → Fails (λ k. run_of k x n left some place rest) x stop → Fails (λ k. run_ofs k x n left some ts) x stop
 ofs_fail x n left some tok rest ts place e p b stop h = fails_by (λ k. run_of k x n left some place rest) (λ k. run_ofs k x n left some ts) x
     (λ why s. subst (λ (m : List Token). Settles (λ k. run_ofs k x n left some m) (bad why)) (sym e)
     (settles_suc (settles_if (λ k. got some (tok ∷ rest)) (ap (branch_at (Lines n) is_of) (sym e) ∙ b)
-    (settles_bad (λ k all mid. run_ofs k x n left all mid) (subst (λ (q : Place). Settles (λ k. run_of k x n left some q rest) (bad why)) p s))) (λ k. refl)))
+    (settles_bad (λ k all mid. run_ofs k x n left all mid)
+    (subst (λ (q : Place). Settles (λ k. run_of k x n left some q rest) (bad why)) p s))) (λ k. refl)))
     stop h
 
 pub ofs_end : (x : Origin) (n left : ℕ) (some : Branches) (ts : List Token) → branch_at (Lines n) is_of ts ≡ false
@@ -240,7 +253,8 @@ pub else_on : (x : Origin) (n left : ℕ) (ts rest : List Token) → branch_at (
     → Leads (λ k. run_body k x n left rest) (λ k. run_else k x n left ts)
 else_on x n left ts rest e b o h = settles_suc (settles_if (λ k. got empty ts) e (settles_at (λ m k. run_body k x n left m) b h)) (λ k. refl)
 
-pub else_none : (x : Origin) (n left : ℕ) (ts : List Token) → branch_at (Lines n) is_else ts ≡ false → Leads (λ k. got empty ts) (λ k. run_else k x n left ts)
+pub else_none : (x : Origin) (n left : ℕ) (ts : List Token) → branch_at (Lines n) is_else ts ≡ false
+    → Leads (λ k. got empty ts) (λ k. run_else k x n left ts)
 else_none x n left ts e o h = settles_suc (settles_else (λ k. run_body k x n left (behind ts)) e h) (λ k. refl)
 
 pub finally_on : (x : Origin) (n left : ℕ) (ts rest : List Token) → branch_at (Lines n) is_finally ts ≡ true → behind ts ≡ rest
@@ -253,7 +267,8 @@ finally_none x n left ts e o h = settles_suc (settles_else (λ k. run_body k x n
 
 -- ---- handlers
 
-pub handlers_fail : (x : Origin) (n left : ℕ) (some : Handlers) (tok : Token) (rest ts : List Token) → ts ≡ tok ∷ rest → branch_at (Lines n) is_except ts ≡ true
+pub handlers_fail : (x : Origin) (n left : ℕ) (some : Handlers) (tok : Token) (rest ts : List Token) → ts ≡ tok ∷ rest
+    → branch_at (Lines n) is_except ts ≡ true
     → (stop : Stop) → Fails (λ k. run_handler k x n left rest) x stop → Fails (λ k. run_handlers k x n left some ts) x stop
 handlers_fail x n left some tok rest ts e b stop h = fails_by (λ k. run_handler k x n left rest) (λ k. run_handlers k x n left some ts) x
     (λ why s. subst (λ (m : List Token). Settles (λ k. run_handlers k x n left some m) (bad why)) (sym e)
@@ -264,7 +279,8 @@ handlers_fail x n left some tok rest ts e b stop h = fails_by (λ k. run_handler
 pub handlers_on : (x : Origin) (n left : ℕ) (some : Handlers) (one : Caught) (tok : Token) (rest ts mid : List Token) → ts ≡ tok ∷ rest
     → branch_at (Lines n) is_except ts ≡ true
     → Settles (λ k. run_handler k x n left rest) (got one mid)
-    → Leads (λ k. if are_some one.names then run_handlers k x n left (and_caught some (place_at x tok) one) mid else got (and_caught some (place_at x tok) one)
+    → Leads (λ k. if are_some one.names then run_handlers k x n left (and_caught some (place_at x tok) one) mid
+    else got (and_caught some (place_at x tok) one)
     mid) (λ k. run_handlers k x n left some ts)
 handlers_on x n left some one tok rest ts mid e b s o h = subst (λ (m : List Token). Settles (λ k. run_handlers k x n left some m) o) (sym e)
     (settles_suc (settles_if (λ k. got some (tok ∷ rest)) (ap (branch_at (Lines n) is_except) (sym e) ∙ b)

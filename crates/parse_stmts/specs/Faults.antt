@@ -68,9 +68,11 @@ FaultsOperands x n = FaultsEach (comma_at (Lines n)) behind (IsValue x n) (Fault
 
 pub data FaultsPlain (x : Origin) (n : ℕ) (why : Why) : List Token → Type 0 where
   f_callee : {ts : List Token} → atom_at x ts ≡ true → FaultsCalled x n why ts → FaultsPlain x n why ts
-  f_operand : {a : Term} {ts mid : List Token} → atom_at x ts ≡ true → IsCalled x n a ts mid → operand_on x (Lines n) mid ≡ true → FaultsValue x n why mid
+  f_operand : {a : Term} {ts mid : List Token} → atom_at x ts ≡ true → IsCalled x n a ts mid → operand_on x (Lines n) mid ≡ true
+      → FaultsValue x n why mid
       → FaultsPlain x n why ts
-  f_operands : {a b : Term} {ts mid end : List Token} → atom_at x ts ≡ true → IsCalled x n a ts mid → operand_on x (Lines n) mid ≡ true → IsValue x n b mid end
+  f_operands : {a b : Term} {ts mid end : List Token} → atom_at x ts ≡ true → IsCalled x n a ts mid → operand_on x (Lines n) mid ≡ true
+      → IsValue x n b mid end
       → FaultsOperands x n why end → FaultsPlain x n why ts
   f_expression : {ts : List Token} → NoCommand x n ts → FaultsValue x n why ts → FaultsPlain x n why ts
   f_assigned : {op : AssignOp} {a : Term} {ts mid : List Token} → NoCommand x n ts → IsValue x n a ts mid
@@ -90,10 +92,12 @@ pub data FaultsSimple (x : Origin) (n : ℕ) (why : Why) : List Token → Type 0
 
 pub data FaultsLine (x : Origin) (n : ℕ) (why : Why) : List Token → Type 0 where
   f_simple : {ts : List Token} → FaultsSimple x n why ts → FaultsLine x n why ts
-  f_semicolon : {s : Statement} {ts mid : List Token} → IsSimple x n s ts mid → word_on n (is_punct 59) mid ≡ true → stays (Lines n) (behind mid) ≡ false
+  f_semicolon : {s : Statement} {ts mid : List Token} → IsSimple x n s ts mid → word_on n (is_punct 59) mid ≡ true
+      → stays (Lines n) (behind mid) ≡ false
       → why ≡ stuck_at (behind mid)
       → FaultsLine x n why ts
-  f_next_simple : {s : Statement} {ts mid : List Token} → IsSimple x n s ts mid → word_on n (is_punct 59) mid ≡ true → stays (Lines n) (behind mid) ≡ true
+  f_next_simple : {s : Statement} {ts mid : List Token} → IsSimple x n s ts mid → word_on n (is_punct 59) mid ≡ true
+      → stays (Lines n) (behind mid) ≡ true
       → FaultsLine x n why (behind mid)
       → FaultsLine x n why ts
 
@@ -101,7 +105,8 @@ pub data FaultsLine (x : Origin) (n : ℕ) (why : Why) : List Token → Type 0 w
 
 pub data FaultsLabel (x : Origin) (n : ℕ) (why : Why) : List Token → Type 0 where
   f_label : {ts : List Token} → FaultsValue x n why ts → FaultsLabel x n why ts
-  f_range : {a : Term} {ts mid : List Token} → IsValue x n a ts mid → dots_at x (Lines n) mid ≡ true → FaultsHere x n why (behind mid) → FaultsLabel x n why ts
+  f_range : {a : Term} {ts mid : List Token} → IsValue x n a ts mid → dots_at x (Lines n) mid ≡ true → FaultsHere x n why (behind mid)
+      → FaultsLabel x n why ts
 
 -- behind a label
 abbrev pub FaultsLabels : Origin → ℕ → Why → List Token → Type 0
@@ -109,8 +114,10 @@ FaultsLabels x n = FaultsEach (comma_at (Lines n)) behind (IsLabel x n) (FaultsL
 
 pub data FaultsCourse (x : Origin) (n : ℕ) (why : Why) : List Token → Type 0 where
   f_from : {ts : List Token} → FaultsHere x n why ts → FaultsCourse x n why ts
-  f_up_to : {a : Term} {ts mid : List Token} → IsHere x n a ts mid → dots_at x (Lines n) mid ≡ true → FaultsHere x n why (behind mid) → FaultsCourse x n why ts
-  f_below : {a : Term} {ts mid : List Token} → IsHere x n a ts mid → dots_at x (Lines n) mid ≡ false → below_at x n mid ≡ true → FaultsHere x n why (behind mid)
+  f_up_to : {a : Term} {ts mid : List Token} → IsHere x n a ts mid → dots_at x (Lines n) mid ≡ true → FaultsHere x n why (behind mid)
+      → FaultsCourse x n why ts
+  f_below : {a : Term} {ts mid : List Token} → IsHere x n a ts mid → dots_at x (Lines n) mid ≡ false → below_at x n mid ≡ true
+      → FaultsHere x n why (behind mid)
       → FaultsCourse x n why ts
 
 abbrev pub FaultsAlias : Origin → ℕ → Why → List Token → Type 0
@@ -124,20 +131,25 @@ mutual
     f_next_statement : {n left : ℕ} {some more : Statements} {ts mid : List Token} → stands_at n ts ≡ true → IsStatement x n left some more ts mid
         → FaultsStatements x why n left mid → FaultsStatements x why n left ts
     -- a line returns to no level, or something stands behind a statement
-    f_no_end : {n left : ℕ} {ts : List Token} → stands_at n ts ≡ false → ends_at n ts ≡ false → why ≡ stuck_at ts → FaultsStatements x why n left ts
+    f_no_end : {n left : ℕ} {ts : List Token} → stands_at n ts ≡ false → ends_at n ts ≡ false → why ≡ stuck_at ts
+        → FaultsStatements x why n left ts
 
   pub data FaultsStatement (x : Origin) (why : Why) : ℕ → ℕ → List Token → Type 0 where
-    f_one_line : {n left : ℕ} {tok : Token} {ts : List Token} → lead n tok ts ≡ L.Line → FaultsLine x n why (tok ∷ ts) → FaultsStatement x why n left (tok ∷ ts)
+    f_one_line : {n left : ℕ} {tok : Token} {ts : List Token} → lead n tok ts ≡ L.Line → FaultsLine x n why (tok ∷ ts)
+        → FaultsStatement x why n left (tok ∷ ts)
     -- an expression alone on its line has a level too many
-    f_alone : {n left : ℕ} {a : Term} {tok : Token} {ts rest : List Token} → chooses (lead n tok ts) ≡ true → IsAlone x n a (tok ∷ ts) rest → 64 < levels a
+    f_alone : {n left : ℕ} {a : Term} {tok : Token} {ts rest : List Token} → chooses (lead n tok ts) ≡ true → IsAlone x n a (tok ∷ ts) rest
+        → 64 < levels a
         → why ≡ too_deep (tok ∷ ts) → FaultsStatement x why n left (tok ∷ ts)
-    f_choice : {n left : ℕ} {tok : Token} {ts : List Token} → chooses (lead n tok ts) ≡ true → NotAlone x n (tok ∷ ts) → FaultsCompound x why n left (tok ∷ ts)
+    f_choice : {n left : ℕ} {tok : Token} {ts : List Token} → chooses (lead n tok ts) ≡ true → NotAlone x n (tok ∷ ts)
+        → FaultsCompound x why n left (tok ∷ ts)
         → FaultsStatement x why n left (tok ∷ ts)
     f_compound : {n left : ℕ} {tok : Token} {ts : List Token} → chooses (lead n tok ts) ≡ false → FaultsCompound x why n left (tok ∷ ts)
         → FaultsStatement x why n left (tok ∷ ts)
 
   pub data FaultsCompound (x : Origin) (why : Why) : ℕ → ℕ → List Token → Type 0 where
-    f_if : {n left : ℕ} {tok : Token} {ts : List Token} → lead n tok ts ≡ L.If → FaultsBranch x why n left ts → FaultsCompound x why n left (tok ∷ ts)
+    f_if : {n left : ℕ} {tok : Token} {ts : List Token} → lead n tok ts ≡ L.If → FaultsBranch x why n left ts
+        → FaultsCompound x why n left (tok ∷ ts)
     f_elifs : {n left : ℕ} {one : Branches} {tok : Token} {ts mid : List Token} → lead n tok ts ≡ L.If
         → IsBranch x n left no_branches (place_at x tok) one ts mid
         → FaultsElifs x why n left mid → FaultsCompound x why n left (tok ∷ ts)
@@ -147,8 +159,10 @@ mutual
     f_case : {n left : ℕ} {tok : Token} {ts : List Token} → lead n tok ts ≡ L.Case → FaultsHere x n why ts → FaultsCompound x why n left (tok ∷ ts)
     f_branches : {n left : ℕ} {a : Term} {tok : Token} {ts mid : List Token} → lead n tok ts ≡ L.Case → IsHere x n a ts mid
         → FaultsBranches x why n left (past_colon (Lines n) mid) → FaultsCompound x why n left (tok ∷ ts)
-    f_while : {n left : ℕ} {tok : Token} {ts : List Token} → lead n tok ts ≡ L.While → FaultsHere x n why ts → FaultsCompound x why n left (tok ∷ ts)
-    f_while_body : {n left : ℕ} {a : Term} {tok : Token} {ts mid : List Token} → lead n tok ts ≡ L.While → IsHere x n a ts mid → FaultsBody x why n left mid
+    f_while : {n left : ℕ} {tok : Token} {ts : List Token} → lead n tok ts ≡ L.While → FaultsHere x n why ts
+        → FaultsCompound x why n left (tok ∷ ts)
+    f_while_body : {n left : ℕ} {a : Term} {tok : Token} {ts mid : List Token} → lead n tok ts ≡ L.While → IsHere x n a ts mid
+        → FaultsBody x why n left mid
         → FaultsCompound x why n left (tok ∷ ts)
     f_for : {n left : ℕ} {tok : Token} {ts : List Token} → lead n tok ts ≡ L.For → FaultsName (name_on (Lines n)) why ts
         → FaultsCompound x why n left (tok ∷ ts)
@@ -158,25 +172,32 @@ mutual
     f_course : {n left : ℕ} {name : Name} {tok : Token} {ts mid : List Token} → lead n tok ts ≡ L.For → IsName x (Lines n) name ts mid
         → word_on n is_in mid ≡ true
         → FaultsCourse x n why (behind mid) → FaultsCompound x why n left (tok ∷ ts)
-    f_for_body : {n left : ℕ} {name : Name} {course : Course} {tok : Token} {ts mid end : List Token} → lead n tok ts ≡ L.For → IsName x (Lines n) name ts mid
+    f_for_body : {n left : ℕ} {name : Name} {course : Course} {tok : Token} {ts mid end : List Token} → lead n tok ts ≡ L.For
+        → IsName x (Lines n) name ts mid
         → word_on n is_in mid ≡ true → IsCourse x n course (behind mid) end → FaultsBody x why n left end → FaultsCompound x why n left (tok ∷ ts)
-    f_try : {n left : ℕ} {tok : Token} {ts : List Token} → lead n tok ts ≡ L.Try → FaultsBody x why n left ts → FaultsCompound x why n left (tok ∷ ts)
+    f_try : {n left : ℕ} {tok : Token} {ts : List Token} → lead n tok ts ≡ L.Try → FaultsBody x why n left ts
+        → FaultsCompound x why n left (tok ∷ ts)
     f_handlers : {n left : ℕ} {body : Statements} {tok : Token} {ts mid : List Token} → lead n tok ts ≡ L.Try → IsBody x n left body ts mid
         → FaultsHandlers x why n left mid
         → FaultsCompound x why n left (tok ∷ ts)
-    f_finally : {n left : ℕ} {body : Statements} {all : Handlers} {tok : Token} {ts mid end : List Token} → lead n tok ts ≡ L.Try → IsBody x n left body ts mid
+    f_finally : {n left : ℕ} {body : Statements} {all : Handlers} {tok : Token} {ts mid end : List Token} → lead n tok ts ≡ L.Try
+        → IsBody x n left body ts mid
         → MoreHandlers x n left no_handlers all mid end → FaultsFinally x why n left end → FaultsCompound x why n left (tok ∷ ts)
     -- neither a handler nor a `finally`
     f_try_alone : {n left : ℕ} {body last : Statements} {all : Handlers} {tok : Token} {ts mid end rest : List Token} → lead n tok ts ≡ L.Try
         → IsBody x n left body ts mid
-        → MoreHandlers x n left no_handlers all mid end → IsFinally x n left last end rest → (have_some all || hold_some last) ≡ false → why ≡ stuck_at rest
+        → MoreHandlers x n left no_handlers all mid end → IsFinally x n left last end rest → (have_some all || hold_some last) ≡ false
+        → why ≡ stuck_at rest
         → FaultsCompound x why n left (tok ∷ ts)
-    f_defer : {n left : ℕ} {tok : Token} {ts : List Token} → lead n tok ts ≡ L.Defer → FaultsBody x why n left ts → FaultsCompound x why n left (tok ∷ ts)
-    f_head : {n left : ℕ} {tok : Token} {ts : List Token} → lead n tok ts ≡ L.Proc → FaultsHead x (Lines n) why ts → FaultsCompound x why n left (tok ∷ ts)
+    f_defer : {n left : ℕ} {tok : Token} {ts : List Token} → lead n tok ts ≡ L.Defer → FaultsBody x why n left ts
+        → FaultsCompound x why n left (tok ∷ ts)
+    f_head : {n left : ℕ} {tok : Token} {ts : List Token} → lead n tok ts ≡ L.Proc → FaultsHead x (Lines n) why ts
+        → FaultsCompound x why n left (tok ∷ ts)
     f_proc_body : {n left : ℕ} {head : Head} {tok : Token} {ts mid : List Token} → lead n tok ts ≡ L.Proc → IsProcedure x n head ts mid
         → equals_at (Lines n) mid ≡ true
         → FaultsBlock x why n left (behind mid) → FaultsCompound x why n left (tok ∷ ts)
-    f_types : {n left : ℕ} {tok : Token} {ts : List Token} → lead n tok ts ≡ L.Type → FaultsDeclarations x n why ts → FaultsCompound x why n left (tok ∷ ts)
+    f_types : {n left : ℕ} {tok : Token} {ts : List Token} → lead n tok ts ≡ L.Type → FaultsDeclarations x n why ts
+        → FaultsCompound x why n left (tok ∷ ts)
     f_section : {n left : ℕ} {tok : Token} {ts : List Token} → lead n tok ts ≡ L.Section → FaultsDefinitionBlock x n why ts
         → FaultsCompound x why n left (tok ∷ ts)
 
@@ -188,7 +209,8 @@ mutual
   pub data FaultsBlock (x : Origin) (why : Why) : ℕ → ℕ → List Token → Type 0 where
     f_no_level : {n : ℕ} {ts : List Token} → opens_block x n ts ≡ true → why ≡ too_deep ts → FaultsBlock x why n zero ts
     f_no_start : {n : ℕ} {ts : List Token} → opens_block x n ts ≡ false → why ≡ stuck_at ts → FaultsBlock x why n zero ts
-    f_no_block : {n left : ℕ} {ts : List Token} → on_line_at ts ≡ false → deeper_at n ts ≡ false → why ≡ stuck_at ts → FaultsBlock x why n (suc left) ts
+    f_no_block : {n left : ℕ} {ts : List Token} → on_line_at ts ≡ false → deeper_at n ts ≡ false → why ≡ stuck_at ts
+        → FaultsBlock x why n (suc left) ts
     f_line_block : {n left : ℕ} {ts : List Token} → on_line_at ts ≡ true → FaultsLine x n why ts → FaultsBlock x why n (suc left) ts
     f_deeper_block : {n left : ℕ} {ts : List Token} → on_line_at ts ≡ false → deeper_at n ts ≡ true → FaultsStatements x why (level_at ts) left ts
         → FaultsBlock x why n (suc left) ts
@@ -235,9 +257,11 @@ mutual
   pub data FaultsHandler (x : Origin) (why : Why) : ℕ → ℕ → List Token → Type 0 where
     f_bare : {n left : ℕ} {ts : List Token} → colon_at (Lines n) ts ≡ true → FaultsBody x why n left ts → FaultsHandler x why n left ts
     f_names : {n left : ℕ} {ts : List Token} → colon_at (Lines n) ts ≡ false → FaultsNames x (Lines n) why ts → FaultsHandler x why n left ts
-    f_alias : {n left : ℕ} {names : List Name} {ts a : List Token} → colon_at (Lines n) ts ≡ false → Names x (Lines n) names ts a → FaultsAlias x n why a
+    f_alias : {n left : ℕ} {names : List Name} {ts a : List Token} → colon_at (Lines n) ts ≡ false → Names x (Lines n) names ts a
+        → FaultsAlias x n why a
         → FaultsHandler x why n left ts
-    f_handler_body : {n left : ℕ} {names : List Name} {alias : Option Name} {ts a b : List Token} → colon_at (Lines n) ts ≡ false → Names x (Lines n) names ts a
+    f_handler_body : {n left : ℕ} {names : List Name} {alias : Option Name} {ts a b : List Token} → colon_at (Lines n) ts ≡ false
+        → Names x (Lines n) names ts a
         → Alias x n alias a b
         → FaultsBody x why n left b → FaultsHandler x why n left ts
 

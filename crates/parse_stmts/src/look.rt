@@ -8,7 +8,7 @@ use parse_decls::deeper_at;
 use parse_exprs::Input;
 
 /// What a statement begins with.
-#[derive(Clone, Copy, Debug, PartialEq, Eq)]
+#[derive(Clone, Copy)]
 pub enum Lead {
     If,
     Case,
@@ -25,7 +25,7 @@ pub enum Lead {
 }
 
 /// What a simple statement begins with.
-#[derive(Clone, Copy, Debug, PartialEq, Eq)]
+#[derive(Clone, Copy)]
 pub enum Simple {
     Discard,
     Return,

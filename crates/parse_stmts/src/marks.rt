@@ -13,7 +13,7 @@ use indent_scanner::{Key, Tok, Token};
 use parse_exprs::{Input, Layout, branch_goes_on, goes_on, is_punct, is_run};
 
 /// A keyword inside a statement.
-#[derive(Clone, Copy, Debug, PartialEq, Eq)]
+#[derive(Clone, Copy)]
 pub(crate) enum Word {
     In,
     As,

@@ -4,9 +4,7 @@ ghost use Rattle.arc_base.specs.declared.place.Place.{Place as At};
 ghost use Rattle.arc_base.specs.declared.place.Stop.TheVariants.{Memory};
 ghost use Rattle.arc_base.specs.Stops.{OnRefusal};
 ghost use Rattle.indent_scanner.specs.declared.token.Token.{Token as One};
-ghost use Rattle.indent_scanner.specs.Tokens.{token_bytes};
 ghost use Rattle.nim_tree.specs.Statements.{Statements, tree_of, all_nodes, statements_of, imports_in};
-ghost use Rattle.nim_tree.specs.Weights.{weights};
 ghost use Rattle.parse_exprs.specs.Look.{Origin};
 ghost use Rattle.parse_exprs.specs.Parsed.{origin};
 ghost use Rattle.parse_exprs.specs.Input.{from_at, origin_of};
@@ -39,7 +37,6 @@ pub fn parse(alloc: Global, source: &[u8], tokens: &[Token], module: u32) -> Res
     ensures few { IfOk result (λ tree. HasFew (tree_of tree)) }
     ensures imports { IfOk result (λ tree. tree.imports.items ≡ imports_in (tree_of tree)) }
     ensures nodes { IfOk result (λ tree. all_nodes (tree_of tree) ≤ 8 * length tokens.now) }
-    ensures size { IfOk result (λ tree. weights (tree_of tree) ≤ token_bytes tokens.now) }
     ensures refused { IfErr result (λ stop. OnRefusal stop (IsRefused (origin source.now «module») tokens.now)) }
 {
     let input = Input {

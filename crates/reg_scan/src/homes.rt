@@ -11,7 +11,7 @@ use mid_code::WordProc;
 use std::alloc::Global;
 
 /// Where a variable is.
-#[derive(Clone, Copy, PartialEq, Eq)]
+#[derive(Clone, Copy)]
 pub enum Home {
     /// In a register, by its number.
     Reg(u32),

@@ -3,7 +3,7 @@ use crate::instr::Instr;
 use arc_base::Items;
 
 /// A comparison of two words.
-#[derive(Clone, Copy, PartialEq, Eq)]
+#[derive(Clone, Copy)]
 pub enum Test {
     /// They are equal.
     Equal,
@@ -20,7 +20,7 @@ pub enum Test {
 }
 
 /// The name of a label.
-#[derive(Clone, Copy, PartialEq, Eq)]
+#[derive(Clone, Copy)]
 pub enum LabelName {
     /// Where a procedure begins.
     Entry { procedure: u32 },
@@ -29,7 +29,7 @@ pub enum LabelName {
 }
 
 /// What the label of a user's hook carries.
-#[derive(Clone, Copy, PartialEq, Eq)]
+#[derive(Clone, Copy)]
 pub struct HookLabel {
     /// destroy 0, wasMoved 1, sink 2, copy 3.
     pub kind: u32,
@@ -38,7 +38,7 @@ pub struct HookLabel {
 }
 
 /// A line of label code. Registers are numbers below 32.
-#[derive(Clone, Copy, PartialEq, Eq)]
+#[derive(Clone, Copy)]
 pub enum LabelLine {
     /// A point to which jumps lead. Where it is that of a user's hook, whoever comes here calls the
     /// hook.

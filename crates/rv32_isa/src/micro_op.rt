@@ -15,7 +15,7 @@ use crate::values::{
 };
 
 /// How much is loaded or stored.
-#[derive(Clone, Copy, Debug, PartialEq, Eq)]
+#[derive(Clone, Copy)]
 pub enum Size {
     /// One byte.
     Byte,
@@ -26,7 +26,7 @@ pub enum Size {
 }
 
 /// What an instruction is to do, once its operands are read.
-#[derive(Clone, Copy, Debug, PartialEq, Eq)]
+#[derive(Clone, Copy)]
 pub enum MicroOp {
     /// Writes a register.
     Write { rd: u32, value: u32 },

@@ -9,7 +9,7 @@ use arc_base::Memory;
 use std::alloc::Global;
 
 // An instruction of the code, and its word.
-#[derive(Clone, Copy, Debug, PartialEq, Eq)]
+#[derive(Clone, Copy)]
 pub(crate) struct Decoded {
     pub(crate) instr: Instr,
     pub(crate) word: u32,

@@ -16,7 +16,7 @@ use std::alloc::Global;
 const VERSION: u32 = 1;
 
 /// Why a source was not compiled.
-#[derive(Clone, Copy, Debug, PartialEq, Eq)]
+#[derive(Clone, Copy)]
 pub enum NotCompiled {
     /// It has more than 1,048,576 bytes.
     TooLong,

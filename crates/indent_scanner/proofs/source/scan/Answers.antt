@@ -2,7 +2,7 @@ use Rattle.std.proofs.Common.{◌≤◌, ◌+◌, ◌-◌, length, take, drop, s
 use Rattle.std.proofs.lemmas.List.{take_rest}
 use Rattle.indent_scanner.specs.declared.token.Tok.TheVariants.{End}
 use Rattle.indent_scanner.specs.Tokens.{LiesIn, HasByte, PlaceFits}
-use Rattle.indent_scanner.proofs.Reading.{gap_turn, token_turn, gap_size, token_size, kept_further, kept_token, one_more, more_count, more_bytes, place_fits}
+use Rattle.indent_scanner.proofs.Reading.{gap_turn, token_turn, gap_size, token_size, kept_further, kept_token, one_more, more_count, place_fits}
 use Rattle.indent_scanner.proofs.Reading.{ends_so, nothing_left, tokens_are, is_refused, no_tokens}
 use Rattle.indent_scanner.proofs.Standing.{tokens_stand, tokens_spelled}
 use Rattle.indent_scanner.proofs.source.scan.Goals as goal
@@ -68,12 +68,6 @@ returns-clause-ended c = ends_so c.loop-comment.here c.loop-comment.rest.now c.l
 pub returns-clause-some : goal.returns-clause-some
 returns-clause-some c = one_more c.args.source.now c.loop-comment.tokens c.push-2.new.self c.token_at-2.result c.loop-comment.here End 0 c.loop-comment.rest.now
     c.in_ok-push.ensures.ok c.token_at-2.ensures HasByte c.loop-comment.invariant.kept.some (λ e. absurd (e refl))
-
-pub returns-clause-bytes : goal.returns-clause-bytes
-returns-clause-bytes c =
-    let e = more_bytes c.args.source.now c.loop-comment.tokens c.push-2.new.self c.token_at-2.result c.loop-comment.here End 0 c.loop-comment.rest.now
-    c.in_ok-push.ensures.ok c.token_at-2.ensures in
-    omega (arith, e, c.loop-comment.invariant.kept.bytes, c.loop-comment.invariant.size)
 
 pub returns-clause-fits : goal.returns-clause-fits
 returns-clause-fits c =

@@ -2,7 +2,7 @@ use Rattle.std.proofs.lemmas.Result.{err_from_is_err_and}
 use Rattle.parse_exprs.specs.Parsed.{origin}
 use Rattle.parse_stmts.proofs.Verdicts.{module_read, module_once}
 use Rattle.parse_stmts.proofs.Depth.{module_few}
-use Rattle.parse_stmts.proofs.Sizes.{module_nodes, module_weighs}
+use Rattle.parse_stmts.proofs.Sizes.{module_nodes}
 use Rattle.parse_stmts.proofs.Refusals.{module_refused}
 use Rattle.parse_stmts.proofs.tree.parse.Goals as goal
 
@@ -22,6 +22,3 @@ returns-clause-few c = module_few {x = origin c.args.source.now c.args.Â«moduleÂ
 
 pub returns-clause-nodes : goal.returns-clause-nodes
 returns-clause-nodes c = module_nodes (module_read c.in_ok-read.ensures.runs)
-
-pub returns-clause-size : goal.returns-clause-size
-returns-clause-size c = module_weighs c.requires.some (module_read c.in_ok-read.ensures.runs)
