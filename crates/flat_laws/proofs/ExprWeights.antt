@@ -1,7 +1,7 @@
 -- What flat code weighs: at most so much for each part of the program that is counted.
 --
 -- A piece of code weighs less than its parts allow, by so much that whatever stands around it may still be charged to it: 19 for an expression
--- (12 for an operand that is written), 18 for a path that is found once and 17 for one that is found twice, 24 for a statement (what
+-- (12 for an operand that is written), 18 for a path that is found once and 17 for one that is found twice, 21 for a statement (what
 -- stands around the lines of a procedure).
 use Rattle.std.proofs.Common.{◌≡◌, refl, ap, ◌∙◌, arith, ℕ, suc, ◌+◌, ◌*◌, ◌≤◌, Bool, true, false}
 use Rattle.std.proofs.Common.{List, [], ◌∷◌, ◌++◌, map, length, Option, Some, None}
@@ -175,7 +175,7 @@ module _ (types : List Ty) (facts : Facts) (origin : ℕ) where
   finds path = heavy (find_lines path)
 
   mutual
-    pub expr_weighs : (r : Bool) (e : Expr) → lines r e + 19 ≤ 30 * expr_parts e
+    pub expr_weighs : (r : Bool) (e : Expr) → lines r e + 19 ≤ 32 * expr_parts e
     expr_weighs r (T.Ordinal node ty z) = omega arith
     expr_weighs r (T.Text node ty bytes) = omega arith
     expr_weighs r (T.Constant node ty literal) =
@@ -221,7 +221,7 @@ module _ (types : List Ty) (facts : Facts) (origin : ℕ) where
         omega (arith, h, inits_weigh parts, filled_weighs r node)
     expr_weighs r (T.Call node ty proc args) =
         let h : lines r (T.Call node ty proc args)
-        ≡ heavy (arg_lines types facts origin args) + (heavy (given_lines node args) + (10 + heavy (root_filled r node))) = plus _ _ _ (behind _ _) in
+        ≡ heavy (arg_lines types facts origin args) + (heavy (given_lines node args) + (12 + heavy (root_filled r node))) = plus _ _ _ (behind _ _) in
         omega (arith, h, args_weigh node args, filled_weighs r node)
     expr_weighs r (T.If node ty branches otherwise) =
         let c = copied_weighs ty node (number_of otherwise) in
@@ -290,7 +290,7 @@ module _ (types : List Ty) (facts : Facts) (origin : ℕ) where
         plus _ _ _ (plus _ _ _ (plus _ _ _ (behind _ _))) in
         omega (arith, h, path_weighs left, find_some left, path_weighs right, find_some right)
 
-    read_weighs : (r : Bool) (path : Path) → heavy (read_lines types facts origin r path) + 19 ≤ 30 * path_parts path
+    read_weighs : (r : Bool) (path : Path) → heavy (read_lines types facts origin r path) + 19 ≤ 32 * path_parts path
     read_weighs r (T.Variable node ty place global) =
         let h : heavy (read_lines types facts origin r (T.Variable node ty place global)) ≡ 7 + heavy (root_filled r node) = refl in
         omega (arith, h, filled_weighs r node)
@@ -309,7 +309,7 @@ module _ (types : List Ty) (facts : Facts) (origin : ℕ) where
         + (finds (T.Element node ty base index) + (7 + heavy (root_filled r node))) = plus _ _ _ (behind _ _) in
         omega (arith, f, i, h, path_weighs base, find_some base, expr_weighs false index, filled_weighs r node)
 
-    pub path_weighs : (path : Path) → (indexes path + 2 * finds path) + 17 ≤ 30 * path_parts path
+    pub path_weighs : (path : Path) → (indexes path + 2 * finds path) + 17 ≤ 32 * path_parts path
     path_weighs (T.Variable node ty place global) = omega arith
     path_weighs (T.Fresh value) = let h = expr_weighs true value in omega (arith, h)
     path_weighs (T.Field node ty base field) =
@@ -321,14 +321,14 @@ module _ (types : List Ty) (facts : Facts) (origin : ℕ) where
         omega (arith, f, i, path_weighs base, expr_weighs false index)
 
     -- as parts of what is made
-    parts_weigh : (xs : Exprs) → heavy (all_lines types facts origin xs) + 7 * length (numbers_of xs) ≤ 30 * all_parts xs
+    parts_weigh : (xs : Exprs) → heavy (all_lines types facts origin xs) + 7 * length (numbers_of xs) ≤ 32 * all_parts xs
     parts_weigh T.NoExpr = omega arith
     parts_weigh (T.AnExpr first rest) =
         let h : heavy (all_lines types facts origin (T.AnExpr first rest)) ≡ lines false first + heavy (all_lines types facts origin rest) = behind _ _ in
         omega (arith, h, expr_weighs false first, parts_weigh rest)
 
     -- as operands that are written
-    all_weigh : (node : Node) (xs : Exprs) → heavy (all_lines types facts origin xs) + heavy (all_written types node xs) ≤ 30 * all_parts xs
+    all_weigh : (node : Node) (xs : Exprs) → heavy (all_lines types facts origin xs) + heavy (all_written types node xs) ≤ 32 * all_parts xs
     all_weigh node T.NoExpr = omega arith
     all_weigh node (T.AnExpr first rest) =
         let w = operand_weighs types node first in
@@ -337,14 +337,14 @@ module _ (types : List Ty) (facts : Facts) (origin : ℕ) where
         behind _ _ in
         omega (arith, h, k, w, expr_weighs false first, all_weigh node rest)
 
-    inits_weigh : (xs : Inits) → heavy (init_lines types facts origin xs) + 7 * length (fields_from xs) ≤ 30 * init_parts xs
+    inits_weigh : (xs : Inits) → heavy (init_lines types facts origin xs) + 7 * length (fields_from xs) ≤ 32 * init_parts xs
     inits_weigh T.NoInit = omega arith
     inits_weigh (T.AnInit field value rest) =
         let h : heavy (init_lines types facts origin (T.AnInit field value rest)) ≡ lines false value + heavy (init_lines types facts origin rest) =
         behind _ _ in
         omega (arith, h, expr_weighs false value, inits_weigh rest)
 
-    args_weigh : (node : Node) (xs : Args) → heavy (arg_lines types facts origin xs) + heavy (given_lines node xs) ≤ 30 * arg_parts xs
+    args_weigh : (node : Node) (xs : Args) → heavy (arg_lines types facts origin xs) + heavy (given_lines node xs) ≤ 32 * arg_parts xs
     args_weigh node T.NoArg = omega arith
     args_weigh node (T.ByValue value rest) =
         let h : heavy (arg_lines types facts origin (T.ByValue value rest)) ≡ lines false value + heavy (arg_lines types facts origin rest) = behind _ _ in
@@ -355,7 +355,7 @@ module _ (types : List Ty) (facts : Facts) (origin : ℕ) where
         let k : heavy (given_lines node (T.ByVar path rest)) ≡ finds path + (11 + heavy (given_lines node rest)) = behind _ _ in
         omega (arith, h, k, path_weighs path, find_some path, args_weigh node rest)
 
-    choices_weigh : (node : Node) (ty : Option Ty) (xs : Choices) → heavy (choice_lines types facts origin node ty xs) ≤ 30 * choice_parts xs
+    choices_weigh : (node : Node) (ty : Option Ty) (xs : Choices) → heavy (choice_lines types facts origin node ty xs) ≤ 32 * choice_parts xs
     choices_weigh node ty T.NoChoice = omega arith
     choices_weigh node ty (T.AChoice condition value rest) =
         let c = copied_weighs ty node (number_of value) in
@@ -372,7 +372,7 @@ module _ (types : List Ty) (facts : Facts) (origin : ℕ) where
         omega (arith, h, k, c, expr_weighs false condition, expr_weighs false value, choices_weigh node ty rest)
 
     picks_weigh : (node : Node) (ty : Option Ty) (selector : ℕ) (xs : Picks) →
-        heavy (pick_tests origin node selector xs) + heavy (pick_lines types facts origin node ty xs) ≤ 30 * pick_parts xs
+        heavy (pick_tests origin node selector xs) + heavy (pick_lines types facts origin node ty xs) ≤ 32 * pick_parts xs
     picks_weigh node ty selector T.NoPick = omega arith
     picks_weigh node ty selector (T.APick labels value rest) =
         let c = copied_weighs ty node (number_of value) in

@@ -60,8 +60,8 @@ module _ (table : List TypeDef) (program : Program) (flat : Flat) (has : HasFlat
   pub law_forms : (ty : ℕ) → (f : Form) × HasForm (facts_in table) (type_at types ty) f
   law_forms = table_forms table (subst (λ (facts : Facts). are_finite facts types ≡ true) has.facts (both_of _ _ has.typed).0)
 
-  pub law_weight : code_weight (map flat_placed flat.procs) ≤ 30 * program_parts program
-  law_weight = subst (λ (flat : Flat). code_weight (map flat_placed flat.procs) ≤ 30 * program_parts program) is (program_weighs types program)
+  pub law_weight : code_weight (map flat_placed flat.procs) ≤ 32 * program_parts program
+  law_weight = subst (λ (flat : Flat). code_weight (map flat_placed flat.procs) ≤ 32 * program_parts program) is (program_weighs types program)
 
   module _ (closed : IsClosed) where
     pub law_formed : is_flat (known_in table) flat ≡ true

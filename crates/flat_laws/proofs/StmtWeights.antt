@@ -85,7 +85,7 @@ module _ (types : List Ty) (facts : Facts) (origin : ℕ) where
     declared_is again out node place value rest = ap (λ n. 1 + n) (behind _ _ ∙ ap (λ n. n + heavy (block again out rest)) (behind _ _))
 
     mutual
-      stmt_weighs : (again out : ℕ) (s : Stmt) → heavy (stmt_lines types facts origin result again out s) + 24 ≤ 30 * stmt_parts s
+      stmt_weighs : (again out : ℕ) (s : Stmt) → heavy (stmt_lines types facts origin result again out s) + 21 ≤ 32 * stmt_parts s
       stmt_weighs again out (T.Eval node value) = let h = expr_weighs types facts origin false value in omega (arith, h)
       stmt_weighs again out (T.Discard node) = omega arith
       stmt_weighs again out (T.DiscardValue node value) = let h = expr_weighs types facts origin false value in omega (arith, h)
@@ -157,7 +157,7 @@ module _ (types : List Ty) (facts : Facts) (origin : ℕ) where
           ap (λ n. 1 + n) (plus _ _ _ (plus _ _ _ (ap (λ n. 3 + (1 + (2 + n))) (plus _ _ _ (behind _ _))))) in
           omega (arith, h, g, f, p, block_whole (label_of origin node.number Next) (label_of origin node.number End) body)
 
-      block_weighs : (again out : ℕ) (b : Stmts) → heavy (block again out b) ≤ 30 * block_parts b
+      block_weighs : (again out : ℕ) (b : Stmts) → heavy (block again out b) ≤ 32 * block_parts b
       block_weighs again out T.Empty = omega arith
       block_weighs again out (T.Then first rest) =
           let h : heavy (block again out (T.Then first rest)) ≡ heavy (stmt_lines types facts origin result again out first) + heavy (block again out rest) =
@@ -170,7 +170,7 @@ module _ (types : List Ty) (facts : Facts) (origin : ℕ) where
           let e = expr_weighs types facts origin false value in
           omega (arith, e, declared_is again out node place value rest, block_weighs again out rest)
 
-      block_whole : (again out : ℕ) (b : Stmts) → heavy (block again out b) + 24 ≤ 30 * or_one (block_parts b)
+      block_whole : (again out : ℕ) (b : Stmts) → heavy (block again out b) + 21 ≤ 32 * or_one (block_parts b)
       block_whole again out T.Empty = omega arith
       block_whole again out (T.Then first rest) =
           let h : heavy (block again out (T.Then first rest)) ≡ heavy (stmt_lines types facts origin result again out first) + heavy (block again out rest) =
@@ -185,7 +185,7 @@ module _ (types : List Ty) (facts : Facts) (origin : ℕ) where
           omega (arith, e, declared_is again out node place value rest, block_weighs again out rest)
 
       branches_weigh : (again out : ℕ) (node : Node) (xs : Branches) →
-          heavy (branch_lines types facts origin result again out node xs) ≤ 30 * branch_parts xs
+          heavy (branch_lines types facts origin result again out node xs) ≤ 32 * branch_parts xs
       branches_weigh again out node T.NoBranch = omega arith
       branches_weigh again out node (T.ABranch condition body rest) =
           let e = expr_weighs types facts origin false condition in
@@ -199,7 +199,7 @@ module _ (types : List Ty) (facts : Facts) (origin : ℕ) where
           omega (arith, h, k, e, block_weighs again out body, branches_weigh again out node rest)
 
       arms_weigh : (again out : ℕ) (node : Node) (selector : ℕ) (xs : Arms) →
-          heavy (arm_tests origin node selector xs) + heavy (arm_lines types facts origin result again out node xs) ≤ 30 * arm_parts xs
+          heavy (arm_tests origin node selector xs) + heavy (arm_lines types facts origin result again out node xs) ≤ 32 * arm_parts xs
       arms_weigh again out node selector T.NoArm = omega arith
       arms_weigh again out node selector (T.AnArm labels body rest) =
           let arm = label_of origin (first_of body) Arm in
@@ -214,27 +214,27 @@ module _ (types : List Ty) (facts : Facts) (origin : ℕ) where
 
 -- ---- bodies, procedures, programs
 
-around : (xs : List FlatLine) → proc_weight (map flat_line xs) ≤ 21 + heavy xs
+around : (xs : List FlatLine) → proc_weight (map flat_line xs) ≤ 18 + heavy xs
 around [] = omega arith
 around (x ∷ xs) = let h = heavy_is (x ∷ xs) in omega (arith, h)
 
 module _ (types : List Ty) (facts : Facts) where
-  body_weighs : (at : Place) (body : Body) → proc_weight (map flat_line (body_lines types facts at body)) ≤ 30 * body_parts body
+  body_weighs : (at : Place) (body : Body) → proc_weight (map flat_line (body_lines types facts at body)) ≤ 32 * body_parts body
   body_weighs at body =
       let h : heavy (body_lines types facts at body)
       ≡ heavy (block_lines types facts (first_of body.stmts) body.result 0 0 body.stmts) + 3 = behind _ _ in
       omega (arith, h, around (body_lines types facts at body), block_whole types facts (first_of body.stmts) body.result 0 0 body.stmts)
 
   proc_weighs : (params : List Param) (at : Place) (body : Option Body) →
-      proc_weight (flat_placed (flat_body types facts params at body)).lines ≤ 30 * parts_if body
+      proc_weight (flat_placed (flat_body types facts params at body)).lines ≤ 32 * parts_if body
   proc_weighs params at None = omega arith
   proc_weighs params at (Some body) = body_weighs at body
 
   procs_weigh : (procs : List Proc) (start : Body) →
       code_weight (map flat_placed (map (flat_proc types facts) procs ++ flat_start types facts start ∷ []))
-      ≤ 30 * (procs_parts procs + body_parts start)
+      ≤ 32 * (procs_parts procs + body_parts start)
   procs_weigh [] start = let h = body_weighs beginning start in omega (arith, h)
   procs_weigh (p ∷ procs) start = let h = proc_weighs p.params p.at p.body in omega (arith, h, procs_weigh procs start)
 
-pub program_weighs : (types : List Ty) (program : Program) → code_weight (map flat_placed (flat_of types program).procs) ≤ 30 * program_parts program
+pub program_weighs : (types : List Ty) (program : Program) → code_weight (map flat_placed (flat_of types program).procs) ≤ 32 * program_parts program
 program_weighs types program = procs_weigh types program.facts program.procs program.start

@@ -26,7 +26,7 @@ use nim_core::{ints, meanings};
 pub const FLAT_PACE: u32 = 12;
 
 /// The most that flat code weighs for each counted part of its program.
-pub const NODE_WEIGHT: u32 = 30;
+pub const NODE_WEIGHT: u32 = 32;
 
 /// The most bytes that the variables of a procedure of flat code take: three times those of a body
 /// that may be called.
@@ -63,7 +63,7 @@ pub fn flat_code()
     ensures places { (table : List TypeDef) (program : Program) (flat : Flat) →
         HasFlat table program flat → AllWithin (known_in table) MOST_PLACES flat.procs }
     // It has its program's places, and its points with the ways between them, whichever parameters
-    // count as `sink`; whatever lets values be copied that have nothing to do then.
+    // count as `sink`; where no call raises, and types without hooks can be copied.
     ensures points { (table : List TypeDef) (program : Program) (flat : Flat) →
         HasFlat table program flat → (can_copy : Ty → Bool) →
         ((ty : Ty) → is_hooked program.facts ty ≡ false → can_copy ty ≡ true) →

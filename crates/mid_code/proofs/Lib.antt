@@ -8,4 +8,5 @@ mod WaysByLists
 mod Same
 mod Weighing
 mod ShapeLemmas
+mod Chains
 pub mod ForCallers

@@ -1,5 +1,5 @@
 -- How much code there is, how many bytes the variables of a procedure take, and how many data: what passes bound.
-use Rattle.std.specs.Prelude.{ℕ, zero, suc, ◌+◌, ◌*◌, ◌/◌, pos, nat_eq, nat_le, Bool, false, if◌then◌else◌, List, [], ◌∷◌, length}
+use Rattle.std.specs.Prelude.{ℕ, suc, ◌+◌, ◌*◌, ◌/◌, pos, nat_eq, nat_le, Bool, false, if◌then◌else◌, List, [], ◌∷◌, length}
 use Rattle.std.specs.Ordering.{int_eq}
 use Rattle.nim_types.specs.declared.types.TheConstants.{WORD_BYTES}
 use Rattle.nim_types.specs.declared.types.TypeDef.{TypeDef}
@@ -18,7 +18,7 @@ use Rattle.mid_code.specs.Scene.{Known, known_in}
 use Rattle.mid_code.specs.Running.{Proc, last_of}
 use Rattle.mid_code.specs.Fits.{Placed, no_lines}
 use Rattle.mid_code.specs.declared.word.WordProc.{WordProc}
-use Rattle.mid_code.specs.Words.{is_counted, from_proc, most_called, most_chain}
+use Rattle.mid_code.specs.Words.{most_chain, chain, longest}
 
 -- a `var` parameter and a location are a word, whatever stands there; a global is no variable of its procedure
 abbrev pub kind_bytes : PlaceKind → (value : ℕ) → ℕ
@@ -103,7 +103,7 @@ weight (L.Count counter last inclusive more) = 8
 weight (L.Argument from) = 11
 weight (L.ArgumentAt from) = 11
 -- the test of how many calls are active, and the result
-weight (L.Call to proc) = 3 + move_weight
+weight (L.Call to proc) = 5 + move_weight
 weight (L.Return result) = 3
 -- the longest are those that write a member of an enum
 weight (L.Write from ty) = 12
@@ -115,10 +115,10 @@ abbrev pub lines_weight : List Line → ℕ
 lines_weight [] = 0
 lines_weight (line ∷ lines) = weight line + lines_weight lines
 
--- Around its lines a procedure has at most so many more, with one that stands for itself: what counts its calls, its result, and the ends
--- by traps.
+-- Around its lines a procedure has at most so many more, with one that stands for itself: the result at its default, and the ends by
+-- traps.
 abbrev pub around_weight : ℕ
-around_weight = 21
+around_weight = 18
 
 -- what has no lines is no procedure of word code
 abbrev pub proc_weight : List Line → ℕ
@@ -200,18 +200,16 @@ word_line_count (p ∷ procs) = length p.lines + word_line_count procs
 abbrev pub variable_bytes : WordProc → ℕ
 variable_bytes p = WORD_BYTES * p.vars + p.room
 
--- the length of a chain of calls, each of the next, of procedures whose calls don't count: that of the longest one of at most so many
-abbrev pub uncounted_length : (behind : ℕ → ℕ) → List WordProc → ℕ
-uncounted_length behind [] = 0
-uncounted_length behind (p ∷ procs) = if is_counted p.kind then 0 else suc (most_called behind p.lines)
+-- ---- chains of calls of procedures that don't count
 
-abbrev pub chain_length : ℕ → List WordProc → (number : ℕ) → ℕ
-chain_length zero procs number = 0
-chain_length (suc n) procs number = uncounted_length (chain_length n procs) (from_proc number procs)
+-- a procedure is one level of its chain
+abbrev pub level : WordProc → ℕ
+level p = 1
 
+-- the levels of the longest one
 abbrev pub longest_chain : List WordProc → ℕ
-longest_chain procs = most_chain (chain_length (length procs) procs) procs
+longest_chain procs = longest procs level
 
--- they call each other in no circle: no chain is longer than there are procedures
+-- they call each other in no circle: no chain has more levels than there are procedures
 abbrev pub has_no_circle : List WordProc → Bool
-has_no_circle procs = nat_le (most_chain (chain_length (suc (length procs)) procs) procs) (length procs)
+has_no_circle procs = nat_le (most_chain (chain procs level (suc (length procs))) procs) (length procs)

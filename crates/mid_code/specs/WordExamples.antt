@@ -7,8 +7,8 @@ use Rattle.rv32_isa.specs.declared.micro_op.Size.TheVariants.{Byte}
 use Rattle.mid_code.specs.declared.word.WordOperation.TheVariants.{Add, Less}
 use Rattle.mid_code.specs.declared.word.Test.TheVariants as test
 use Rattle.mid_code.specs.declared.word.WordInstr.{WordInstr}
-use Rattle.mid_code.specs.declared.word.WordInstr.TheVariants.{Label, Constant, Copy, Compute, Place, Datum, Load, Store, Jump, Branch, Argument, Call}
-use Rattle.mid_code.specs.declared.word.WordInstr.TheVariants.{Return, Read, Write, Exit}
+use Rattle.mid_code.specs.declared.word.WordInstr.TheVariants.{Label, Constant, Copy, Compute, Sum, Place, Datum, Load, Store, Jump, Branch}
+use Rattle.mid_code.specs.declared.word.WordInstr.TheVariants.{Argument, Call, Return, Read, Write, Exit}
 use Rattle.mid_code.specs.declared.word.ProcKind.{ProcKind}
 use Rattle.mid_code.specs.declared.word.ProcKind.TheVariants.{Counted, Uncounted, Hook}
 use Rattle.mid_code.specs.declared.word.WordProc.{WordProc}
@@ -77,13 +77,12 @@ overflowing = code_of (record sum_start { lines = Constant 0 2147483647 ∷ Argu
 
 -- reads at most four bytes of input to a place, and writes back what came, its first byte increased
 abbrev pub echoing : WordCode
-echoing = code_of (proc_of Counted 0 0 5 4
+echoing = code_of (proc_of Counted 0 0 4 4
     (Place 0 0
     ∷ Constant 1 4
     ∷ Read 2 0 1
     ∷ Load 3 0 Byte
-    ∷ Constant 4 1
-    ∷ Compute 3 Add 3 4
+    ∷ Sum 3 3 1
     ∷ Store 0 3 Byte
     ∷ Write Out 0 2
     ∷ Exit 2

@@ -20,8 +20,8 @@ use Rattle.mid_code.specs.declared.word.WordOperation.TheVariants.{Less as IsLes
 use Rattle.mid_code.specs.declared.word.Test.{Test}
 use Rattle.mid_code.specs.declared.word.Test.TheVariants as test
 use Rattle.mid_code.specs.declared.word.WordInstr.{WordInstr}
-use Rattle.mid_code.specs.declared.word.WordInstr.TheVariants.{Label, Constant, Copy, Compute, Place, Datum, Load, Store, Jump, Branch, Argument, Call}
-use Rattle.mid_code.specs.declared.word.WordInstr.TheVariants.{Return, Read, Write, Exit}
+use Rattle.mid_code.specs.declared.word.WordInstr.TheVariants.{Label, Constant, Copy, Compute, Sum, Place, Datum, Load, Store, Jump, Branch}
+use Rattle.mid_code.specs.declared.word.WordInstr.TheVariants.{Argument, Call, Return, Read, Write, Exit}
 use Rattle.mid_code.specs.declared.word.ProcKind.{ProcKind}
 use Rattle.mid_code.specs.declared.word.ProcKind.TheVariants as kind
 use Rattle.mid_code.specs.declared.word.WordProc.{WordProc}
@@ -117,6 +117,7 @@ does x (Label name) = Passes [] x
 does x (Constant to value) = sets x to value
 does x (Copy to from) = using (x.vars from) (λ a. sets x to a)
 does x (Compute to operation left right) = using (x.vars left) (λ a. using (x.vars right) (λ b. sets x to (computed operation a b)))
+does x (Sum to from value) = using (x.vars from) (λ a. sets x to (a + value))
 does x (Place to at) = sets x to (x.base + at)
 does x (Datum to at) = sets x to (x.data_at + at)
 does x (Load to address size) = using (x.vars address) (λ a. loads x to (number_at x.memory a size))
@@ -257,28 +258,45 @@ module _ (live : Lives) where
   abbrev pub step : List WordProc → WordState → Next Event WordState
   step procs s = step_lines procs s s.frame.left
 
--- ---- where places stand: those of so many calls that count, above each of them those of the longest chain of calls that don't, and some
--- for the arguments of one call more
+-- ---- chains of calls: each but the first is of a procedure that the one before it calls, and none counts
+
+-- the number of the procedure that a line calls
+abbrev pub callee_of : WordInstr → Option ℕ
+callee_of (Call to callee) = Some callee
+callee_of line = None
+
+-- what is taken by what is called, if anything is
+abbrev pub taken_for : (taken : ℕ → ℕ) → Option ℕ → ℕ
+taken_for taken None = 0
+taken_for taken (Some callee) = taken callee
 
 -- the most that one of the procedures takes that these lines call
 abbrev pub most_called : (taken : ℕ → ℕ) → List WordInstr → ℕ
 most_called taken [] = 0
-most_called taken (Call to callee ∷ lines) = max (taken callee) (most_called taken lines)
-most_called taken (line ∷ lines) = most_called taken lines
+most_called taken (line ∷ lines) = max (taken_for taken (callee_of line)) (most_called taken lines)
 
--- the places of a procedure that doesn't count, and of those that it calls
-abbrev pub uncounted_room : (taken : ℕ → ℕ) → List WordProc → ℕ
-uncounted_room taken [] = 0
-uncounted_room taken (p ∷ procs) = if is_counted p.kind then 0 else p.room + most_called taken p.lines
-
--- of a chain of at most so many procedures
-abbrev pub chain_room : ℕ → List WordProc → (number : ℕ) → ℕ
-chain_room zero procs number = 0
-chain_room (suc n) procs number = uncounted_room (chain_room n procs) (from_proc number procs)
-
+-- the most that one of the procedures takes that these procedures call
 abbrev pub most_chain : (taken : ℕ → ℕ) → List WordProc → ℕ
 most_chain taken [] = 0
 most_chain taken (p ∷ procs) = max (most_called taken p.lines) (most_chain taken procs)
+
+-- what the first of these procedures takes, if it doesn't count, with what it calls
+abbrev pub uncounted : (size : WordProc → ℕ) → (taken : ℕ → ℕ) → List WordProc → ℕ
+uncounted size taken [] = 0
+uncounted size taken (p ∷ procs) = if is_counted p.kind then 0 else size p + most_called taken p.lines
+
+module _ (procs : List WordProc) where
+  -- what a chain of at most so many takes, from the procedure of that number on
+  abbrev pub chain : (size : WordProc → ℕ) → ℕ → (number : ℕ) → ℕ
+  chain size zero number = 0
+  chain size (suc n) number = uncounted size (chain size n) (from_proc number procs)
+
+  -- the most that a chain takes which a procedure may call
+  abbrev pub longest : (size : WordProc → ℕ) → ℕ
+  longest size = most_chain (chain size (length procs)) procs
+
+-- ---- where places stand: those of so many calls that count, above each of them those of the longest chain of calls that don't, and some
+-- for the arguments of one call more
 
 -- the bytes of the largest places of a procedure
 abbrev pub most_room : List WordProc → ℕ
@@ -286,7 +304,7 @@ most_room [] = 0
 most_room (p ∷ procs) = max p.room (most_room procs)
 
 abbrev pub places_size : List WordProc → ℕ
-places_size procs = most_calls * (most_room procs + most_chain (chain_room (length procs) procs) procs) + SPARE_ROOM
+places_size procs = most_calls * (most_room procs + longest procs (λ p. p.room)) + SPARE_ROOM
 
 -- ---- word code that is well formed: its lines name variables of their procedures, procedures have numbers of their own, and the start
 -- code counts and is no hook
@@ -296,6 +314,7 @@ are_named vars (Label name) = true
 are_named vars (Constant to value) = nat_lt to vars
 are_named vars (Copy to from) = nat_lt to vars && nat_lt from vars
 are_named vars (Compute to operation left right) = nat_lt to vars && (nat_lt left vars && nat_lt right vars)
+are_named vars (Sum to from value) = nat_lt to vars && nat_lt from vars
 are_named vars (Place to at) = nat_lt to vars
 are_named vars (Datum to at) = nat_lt to vars
 are_named vars (Load to address size) = nat_lt to vars && nat_lt address vars

@@ -113,7 +113,7 @@ pub fn word_examples()
     ensures summing_work { (word_meaning none_live word.sum_code 0 65536 [] 100).work ≡ 57 }
     ensures overflowing { Comes_to (word_meaning none_live word.overflowing 0 65536 []) 30
         [] (codes "Error: overflow\n") 1 }
-    ensures echoing { Comes_to (word_meaning none_live word.echoing 0 65536 (codes "bat")) 9
+    ensures echoing { Comes_to (word_meaning none_live word.echoing 0 65536 (codes "bat")) 8
         (codes "cat") [] 3 }
     ensures joining { Comes_to (word_meaning none_live (joined word.calling word.writing) 0 65536 [])
         6 (codes "there\n") [] 6 }

@@ -93,6 +93,12 @@ pub enum WordInstr {
         left: u32,
         right: u32,
     },
+    /// Puts the sum of a variable and a constant, modulo 2^32, into a variable.
+    Sum {
+        to: u32,
+        from: u32,
+        value: u32,
+    },
     /// Puts the address of the byte `at` of this call's places into a variable.
     Place {
         to: u32,

@@ -3,8 +3,8 @@
 -- A variable is alive at lines where a way from them comes to a line that reads it, over lines that don't set it.
 use Rattle.std.specs.Prelude.{◌≡◌, ℕ, true, false, List, ◌∷◌, ◌⊎◌, Option, Some, None}
 use Rattle.mid_code.specs.declared.word.WordInstr.{WordInstr}
-use Rattle.mid_code.specs.declared.word.WordInstr.TheVariants.{Label, Constant, Copy, Compute, Place, Datum, Load, Store, Jump, Branch, Argument, Call}
-use Rattle.mid_code.specs.declared.word.WordInstr.TheVariants.{Return, Read, Write, Exit}
+use Rattle.mid_code.specs.declared.word.WordInstr.TheVariants.{Label, Constant, Copy, Compute, Sum, Place, Datum, Load, Store, Jump, Branch}
+use Rattle.mid_code.specs.declared.word.WordInstr.TheVariants.{Argument, Call, Return, Read, Write, Exit}
 use Rattle.mid_code.specs.Words.{from_label}
 use Rattle.reg_scan.specs.declared.effects.Effect.{Effect}
 
@@ -18,6 +18,7 @@ effect_of (Label name) = passing None None None
 effect_of (Constant to value) = passing None None (Some to)
 effect_of (Copy to from) = passing (Some from) None (Some to)
 effect_of (Compute to operation left right) = passing (Some left) (Some right) (Some to)
+effect_of (Sum to from value) = passing (Some from) None (Some to)
 effect_of (Place to at) = passing None None (Some to)
 effect_of (Datum to at) = passing None None (Some to)
 effect_of (Load to address size) = passing (Some address) None (Some to)

@@ -48,6 +48,7 @@ pub(crate) fn effect_of(line: WordInstr) -> Effect
             right,
             ..
         } => passing(Some(left), Some(right), Some(to)),
+        WordInstr::Sum { to, from, .. } => passing(Some(from), None, Some(to)),
         WordInstr::Place { to, .. } => passing(None, None, Some(to)),
         WordInstr::Datum { to, .. } => passing(None, None, Some(to)),
         WordInstr::Load { to, address, .. } => passing(Some(address), None, Some(to)),

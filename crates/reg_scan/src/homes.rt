@@ -19,8 +19,8 @@ pub enum Home {
     Frame(u32),
 }
 
-/// Where each variable is, and how many bytes the frame has: the return address, and the homes that
-/// are words of it.
+/// Where each variable is, and how many bytes the frame has: the return address, and a word for
+/// each variable, also for one that has a register.
 #[derive(Drop)]
 pub struct Homes {
     pub of: Items<Home>,

@@ -22,9 +22,9 @@ use Rattle.word_lowering.specs.Stored.{HaveForms}
 use Rattle.word_lowering.specs.Layouts.{is_empty}
 use Rattle.word_lowering.specs.Lowered.{lowered}
 use Rattle.word_lowering.specs.MayLower.{may_lower}
-use Rattle.word_lowering.specs.Lowers.{AreSmall, HasNoObjects, Lowers}
+use Rattle.word_lowering.specs.Lowers.{HasNoObjects, Lowers}
 use Rattle.word_lowering.proofs.NamedProcs.{is_formed}
-use Rattle.word_lowering.proofs.SmallProcs.{are_small, no_circles, chains, unhooked}
+use Rattle.word_lowering.proofs.SmallProcs.{are_small, no_circle, chain_short, unhooked}
 use Rattle.word_lowering.proofs.CodeWeights.{weight_is}
 use Rattle.word_lowering.proofs.DataSizes.{data_whole, data_sized, data_within}
 use Rattle.word_lowering.proofs.Cells.{MemoryLaw, Sized}
@@ -142,14 +142,13 @@ module _ (live : Lives) (none : HasNoObjects live) (table : List TypeDef) (block
 pub lowers : (table : List TypeDef) (blocks : Blocks) → IsTable table → HaveForms table → may_lower table blocks ≡ true → MemoryLaw
     → Lowers table blocks (lowered table blocks)
 lowers table blocks is_table have may law =
-    let small : AreSmall (lowered table blocks).procs = are_small table blocks may in
     record {
       agrees = λ live heap stack input none most ok. agrees live none table blocks is_table have may law heap stack input most ok;
       paced = λ live heap stack input none most ok. paced live none table blocks is_table have may law heap stack input most ok;
       formed = is_formed table blocks may;
-      no_circle = no_circles (lowered table blocks).procs small (omega arith);
-      chain = chains (lowered table blocks).procs small;
-      small = small;
+      no_circle = no_circle table blocks;
+      chain = chain_short table blocks;
+      small = are_small table blocks may;
       weight = weight_is table blocks;
       whole = data_whole table blocks;
       data_size = data_sized table blocks;

@@ -1,11 +1,9 @@
 -- The line that calls, but for what comes of a procedure with lines behind the check that it isn't one call too many.
-use Rattle.std.proofs.Common.{◌≡◌, ℕ, zero, suc, ◌+◌, ◌^◌, ◌<◌, ◌≤◌, List, [], ◌∷◌, ◌++◌, length, map, Option, Some, None, Bool, true, false}
-use Rattle.std.proofs.Common.{refl, sym, ap, subst}
-use Rattle.std.proofs.Common.{◌∙◌, arith}
+use Rattle.std.proofs.Common.{◌≡◌, ℕ, zero, suc, ◌+◌, ◌^◌, ◌<◌, ◌≤◌, List, [], ◌∷◌, length, map, Option, Some, None}
+use Rattle.std.proofs.Common.{Bool, true, false, refl, sym, ap, subst, ◌∙◌, arith}
 use Rattle.std.specs.Prelude.{slice_get, not}
-use Rattle.std.proofs.lemmas.Bool.{and_parts, or_left, or_right, false≢true}
+use Rattle.std.proofs.lemmas.Bool.{and_parts, false≢true}
 use Rattle.arc_base.specs.Simulation.{Does, AreOf}
-use Rattle.rv32_isa.specs.Values.{subtracted}
 use Rattle.nim_core.specs.declared.program.TheConstants.{ACTIVE_CALLS}
 use Rattle.nim_core.specs.Traps.{CallDepth}
 use Rattle.nim_core.specs.Values.{Slot}
@@ -20,10 +18,9 @@ use Rattle.mid_code.specs.Scene.{Calls, Traps}
 use Rattle.mid_code.specs.Fits.{Passed, Signature, all_pass, call_fits, gives_to, value as fits_value}
 use Rattle.mid_code.specs.Running.{scene_of, callable, called, found, entered, gives_nothing}
 use Rattle.mid_code.proofs.ForCallers.{never}
-use Rattle.word_lowering.specs.declared.homes.TheConstants.{LEFT, NEXT}
+use Rattle.word_lowering.specs.declared.homes.TheConstants.{LEFT, FIRST}
 use Rattle.word_lowering.specs.Layouts.{is_empty}
-use Rattle.word_lowering.specs.LineCode.{Around, called_code, callee_behind, is_to_memory, layout_at, next_variable}
-use Rattle.word_lowering.specs.Lowered.{is_call_to_memory, calls_to_memory}
+use Rattle.word_lowering.specs.LineCode.{called_code, callee_behind, layout_at}
 use Rattle.word_lowering.proofs.Options.{none_some}
 use Rattle.word_lowering.proofs.LineFits.{may_get_some}
 use Rattle.word_lowering.proofs.Runs.{Runs, at}
@@ -49,14 +46,6 @@ pub call_fits_is : (x : Basis) (b : Body) (given : List Passed) (to : Option ℕ
 call_fits_is x b given to None h = never h
 call_fits_is x b given to (Some s) h = let c = and_parts _ _ h in record { signature = s; is = refl; pass = c.0; gives = c.1 }
 
--- a procedure with a call whose result goes to memory
-calls_among : (z : Around) (before : List BlockLine) (line : Line) (rest : List BlockLine) → is_call_to_memory z line ≡ true
-    → calls_to_memory z (map block_plain (before ++ block_line.Plain line ∷ rest)) ≡ true
-calls_among z [] line rest h = or_left (is_call_to_memory z line) (calls_to_memory z (map block_plain rest)) h
-calls_among z (p ∷ before) line rest h =
-    or_right (is_call_to_memory z (block_plain p)) (calls_to_memory z (map block_plain (before ++ block_line.Plain line ∷ rest)))
-    (calls_among z before line rest h)
-
 none_wait : (sites : List Site) → is_empty sites ≡ true → length sites ≡ 0
 none_wait [] h = refl
 none_wait (s ∷ sites) h = absurd (false≢true h)
@@ -79,23 +68,12 @@ module _ (x : Basis) (traps : TrapsStop x) (g : Both) (rest : List BlockLine) (t
   pub callee : Callee x.table x.blocks proc call_fit.signature
   callee = x.callees proc call_fit.signature call_fit.is
 
-  -- whether the code is that of the start, and whether the result goes to memory
+  -- whether the code is that of the start
   abbrev pub start_here : Bool
   start_here = (body_of g).start
 
-  abbrev pub memory_here : Bool
-  memory_here = is_to_memory (around x.table x.blocks (body_of g)) to
-
-  -- the variable of how many calls may be active behind the new one
-  abbrev pub number_here : ℕ
-  number_here = next_variable start_here memory_here
-
   left_is : start_here ≡ false → g.call.vars LEFT ≡ Some g.call.site.left
-  left_is = y.hold.0.counts.left
-
-  next_is : start_here ≡ false → memory_here ≡ true → g.call.vars NEXT ≡ Some (subtracted g.call.site.left 1)
-  next_is s m = y.hold.0.counts.next s (subst (λ l. calls_to_memory (around x.table x.blocks (body_of g)) (map block_plain l) ≡ true) (sym y.stands.whole)
-      (calls_among (around x.table x.blocks (body_of g)) y.stands.before line rest m))
+  left_is = y.hold.0.left
 
   -- no call waits for the start code
   all_left : start_here ≡ true → g.call.site.left ≡ ACTIVE_CALLS
@@ -107,12 +85,11 @@ module _ (x : Basis) (traps : TrapsStop x) (g : Both) (rest : List BlockLine) (t
 
   -- one call may be active more
   pub run_checked : (left : ℕ) → g.call.site.left ≡ suc left
-      → Checked x.live (procs x.table x.blocks) (within x.table x.blocks g) g.memory g.words g.call.vars code_called start_here memory_here left
+      → Checked x.live (procs x.table x.blocks) (within x.table x.blocks g) g.memory g.words g.call.vars code_called start_here left
   run_checked left e =
       let small : suc left < 2 ^ 32 = omega (arith, y.linked.3, e) in
-      let less : subtracted (suc left) 1 ≡ left = omega (arith, small) in
-      checked x.live (procs x.table x.blocks) (within x.table x.blocks g) g.memory g.words g.call.vars code_called start_here memory_here left small
-      (λ s. sym e ∙ all_left s) (λ s. left_is s ∙ ap Some e) (λ s m. next_is s m ∙ ap (λ n. Some (subtracted n 1)) e ∙ ap Some less)
+      checked x.live (procs x.table x.blocks) (within x.table x.blocks g) g.memory g.words g.call.vars code_called start_here left small
+      (λ s. sym e ∙ all_left s) (λ s. left_is s ∙ ap Some e)
 
   -- none may
   no_left : g.call.site.left ≡ 0 → Settles x from rest (Traps CallDepth)
@@ -121,14 +98,13 @@ module _ (x : Basis) (traps : TrapsStop x) (g : Both) (rest : List BlockLine) (t
       by : (b : Bool) → start_here ≡ b → Settles x from rest (Traps CallDepth)
       by true s = absurd (let h = all_left s in omega (arith, e, h))
       by false s = trap_settles x traps g line rest y CallDepth refl (λ there stands. refused x.live (procs x.table x.blocks) (within x.table x.blocks g)
-          g.memory g.words g.call.vars code_called start_here memory_here there s (left_is s ∙ ap Some e)
-          (λ m. next_is s m ∙ ap (λ n. Some (subtracted n 1)) e) stands)
+          g.memory g.words g.call.vars code_called start_here there s (left_is s ∙ ap Some e) stands)
 
   -- What is to be said of a procedure with lines: what comes behind the check, from wherever some lines come to that.
   abbrev pub Enters : Type 0
-  Enters = (left : ℕ) → g.call.site.left ≡ suc left → g.call.vars number_here ≡ Some left
+  Enters = (left : ℕ) → g.call.site.left ≡ suc left → g.call.vars FIRST ≡ Some left
       → (l : BlockLine) (ls : List BlockLine) → callee.body.proc.lines ≡ l ∷ ls
-      → (s : WordState) (n : ℕ) → n ≤ 4
+      → (s : WordState) (n : ℕ) → n ≤ 3
       → Runs x.live (procs x.table x.blocks) n s (at (within x.table x.blocks g) g.memory code_called g.call.vars g.words)
       → Does (lower x) (AreOf (pairs x)) (lines_left x) 16 s (high x.table x.blocks from)
       (entered (high x.table x.blocks from) rest to (scene_of (high x.table x.blocks from)) left (block_proc (known x) callee.body.proc) (l ∷ ls))
@@ -157,7 +133,7 @@ module _ (x : Basis) (traps : TrapsStop x) (g : Both) (rest : List BlockLine) (p
   behind = with_vars g vars
 
   -- without lines: nothing comes of it
-  quiet_goes : (to : Option ℕ) (y : IsGood x (starts behind (L.Call to proc) rest)) (n : ℕ) → 0 < n → n ≤ 4
+  quiet_goes : (to : Option ℕ) (y : IsGood x (starts behind (L.Call to proc) rest)) (n : ℕ) → 0 < n → n ≤ 3
       → Runs x.live (procs x.table x.blocks) n (low x.table x.blocks (starts g (L.Call to proc) rest))
       (at (within x.table x.blocks g) g.memory (code_called x traps behind rest to proc y) vars g.words)
       → (callee x traps behind rest to proc y).body.proc.lines ≡ []
@@ -194,7 +170,7 @@ module _ (x : Basis) (traps : TrapsStop x) (g : Both) (rest : List BlockLine) (p
     (enters : (h : Both) (z : IsGood x (starts h (L.Call to proc) rest)) → Enters x traps h rest to proc z) where
   module _ (left : ℕ) (e : g.call.site.left ≡ suc left)
       (b : Checked x.live (procs x.table x.blocks) (within x.table x.blocks g) g.memory g.words g.call.vars (code_called x traps g rest to proc y)
-      (start_here x traps g rest to proc y) (memory_here x traps g rest to proc y) left) where
+      (start_here x traps g rest to proc y) left) where
     abbrev then : Both
     then = with_vars g b.vars
 

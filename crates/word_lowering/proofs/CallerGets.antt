@@ -13,7 +13,7 @@ use Rattle.mid_code.specs.Scene.{Returns as BlockReturns}
 use Rattle.mid_code.specs.Shapes.{has_shape}
 use Rattle.mid_code.specs.Running.{with_result}
 use Rattle.word_lowering.specs.declared.homes.Home.TheVariants.{Variable}
-use Rattle.word_lowering.specs.declared.homes.TheConstants.{FIRST, LEFT, NEXT, OWN_FROM}
+use Rattle.word_lowering.specs.declared.homes.TheConstants.{FIRST, LEFT, OWN_FROM}
 use Rattle.word_lowering.specs.Spots.{spot_of}
 use Rattle.word_lowering.proofs.Options.{some_same}
 use Rattle.word_lowering.proofs.Runs.{Runs}
@@ -65,7 +65,6 @@ module _ (x : Basis) (h : Both) (w : Waits) (ws : List Waits) (line : Line) (res
         still = λ t v k. (v, k);
         variables = λ f u there away home. same.others u (place_high x w.call.site y.linked.5.0 f u there home);
         left = same.left;
-        next = same.next;
       })
       (λ e. absurd (omega (arith, e)))
       (λ c i e. let b = waits_lower x h w ws line rest y c i in omega (arith, b, e))
@@ -93,10 +92,10 @@ module _ (x : Basis) (h : Both) (w : Waits) (ws : List Waits) (line : Line) (res
         → Edit x.table x.blocks x.small (sites_left x h w ws line rest y) (linked_left x h w ws line rest y) w.call.site (of_value t) h.memory m
         → ((f : Name) (u : ℕ) → IsThere x.table x.blocks w.call.site f → f ≢ of_value t → (house w.call.site f).home ≡ Variable u → vars u
         ≡ w.call.vars u)
-        → vars LEFT ≡ w.call.vars LEFT → vars NEXT ≡ w.call.vars NEXT
+        → vars LEFT ≡ w.call.vars LEFT
         → At m w.call.site.base vars (spot_of (house w.call.site (of_value t))) v
         → IsGood x (go temps_then vars m words awaits)
-    good_gets vars m words awaits memory edit variables left next at_place =
+    good_gets vars m words awaits memory edit variables left at_place =
         good_back x h w ws line rest y w.call.site (of_value t) temps_then vars m words awaits memory edit
         (record {
           values = λ u away. values_away u (other u away);
@@ -104,7 +103,6 @@ module _ (x : Basis) (h : Both) (w : Waits) (ws : List Waits) (line : Line) (res
           still = λ u a e. values_still u a e;
           variables = λ f u is away home. variables f u is (other_name f away) home;
           left = left;
-          next = next;
         })
         (λ e. record {
           item = λ u k. subst (λ z. IsItem x.table x.blocks m (call w.call.site temps_then vars) (of_value t) z) (value_here u k) (record {
@@ -136,7 +134,6 @@ module _ (x : Basis) (h : Both) (w : Waits) (ws : List Waits) (line : Line) (res
         (λ f n is ne k. put_other w.call.vars u (single_word v) n
         (variables_apart x.table x.blocks w.call.site (of_value t) f u n y.linked.5.0 there is (λ e. ne (sym e)) home k))
         (put_other w.call.vars u (single_word v) LEFT (λ e. absurd (omega (arith, high_u, e))))
-        (put_other w.call.vars u (single_word v) NEXT (λ e. absurd (omega (arith, high_u, e))))
         (subst (λ p. At h.memory w.call.site.base (put w.call.vars u (single_word v)) p v)
         (sym (spot_held (house w.call.site (of_value t)) u (value_plain (house w.call.site (of_value t)).kind there.kind) home))
         (put_same w.call.vars u (single_word v) small))

@@ -99,7 +99,6 @@ module _ (x : Basis) (g : Both) (line : Line) (rest : List BlockLine) (y : IsGoo
         edit = r.edit;
         variables = r.variables;
         left = r.left;
-        next = r.next;
         at_place = r.at_place;
         steps = r.steps;
         some = r.some;

@@ -204,33 +204,23 @@ module _ (x : Around) where
   result_weighs to (Some r) k = moved_weighs r.is_word r.bytes (spot_of to) (Lies (lines.left_at x.own.free.byte r.home)) k
 
   -- a call itself, and what brings its result
-  abbrev given_weight : (memory : Bool) → ℕ
-  given_weight true = 8
-  given_weight false = 1
-
-  entered_weighs : (proc : ℕ) (to : Housed) (spot : Spot) (k : List WordInstr)
-      → length (lines.entered_code x proc to spot k) ≤ given_weight (lines.is_in_memory spot) + length k
+  entered_weighs : (proc : ℕ) (to : Housed) (spot : Spot) (k : List WordInstr) → length (lines.entered_code x proc to spot k) ≤ 8 + length k
   entered_weighs proc to (Held v) k = omega arith
   entered_weighs proc to (Lies home) k = let h = result_weighs to (result_in (lines.layout_at x proc).all) k in omega (arith, h)
 
-  given_weighs : (proc : ℕ) (to : Option ℕ) (k : List WordInstr)
-      → length (lines.given_code x proc to k) ≤ given_weight (lines.is_to_memory x to) + length k
+  given_weighs : (proc : ℕ) (to : Option ℕ) (k : List WordInstr) → length (lines.given_code x proc to k) ≤ 8 + length k
   given_weighs proc None k = omega arith
   given_weighs proc (Some t) k = entered_weighs proc (lines.value x t) (spot_of (lines.value x t)) k
 
-  called_weighs : (proc : ℕ) (to : Option ℕ) (runs : Bool) (k : List WordInstr)
-      → length (lines.called_code x proc to runs k) ≤ suc (given_weight (lines.is_to_memory x to)) + length k
+  called_weighs : (proc : ℕ) (to : Option ℕ) (runs : Bool) (k : List WordInstr) → length (lines.called_code x proc to runs k) ≤ 9 + length k
   called_weighs proc to true k = let h = given_weighs proc to k in omega (arith, h)
   called_weighs proc None false k = omega arith
   called_weighs proc (Some t) false k = omega arith
 
-  -- what the check adds
-  call_weighs : (start memory : Bool) (called k : List WordInstr) → length called ≤ suc (given_weight memory) + length k
-      → length (lines.checked_code start memory called) ≤ 10 + length k
-  call_weighs true true called k h = omega (arith, h)
-  call_weighs true false called k h = omega (arith, h)
-  call_weighs false true called k h = omega (arith, h)
-  call_weighs false false called k h = omega (arith, h)
+  -- the check
+  checked_weighs : (start : Bool) (k : List WordInstr) → length (lines.checked_code start k) ≤ 3 + length k
+  checked_weighs true k = omega arith
+  checked_weighs false k = omega arith
 
   return_weighs : (start : Bool) (result : Option ℕ) (k : List WordInstr) → length (lines.return_code x start result k) ≤ 3 + length k
   return_weighs true result k = omega arith
@@ -289,8 +279,9 @@ module _ (x : Around) where
   line_weighs (L.Argument from) rest k = argument_weighs (lines.label_before rest) _ (lines.value x from) k
   line_weighs (L.ArgumentAt from) rest k = argument_weighs (lines.label_before rest) _ (lines.location x from) k
   line_weighs (L.Call to proc) rest k =
-      call_weighs x.setting.start (lines.is_to_memory x to) (lines.called_code x proc to (lines.layout_at x proc).runs k) k
-      (called_weighs proc to (lines.layout_at x proc).runs k)
+      let h = checked_weighs x.setting.start (lines.called_code x proc to (lines.layout_at x proc).runs k) in
+      let i = called_weighs proc to (lines.layout_at x proc).runs k in
+      omega (arith, h, i)
   line_weighs (L.Return result) rest k = return_weighs x.setting.start result k
   line_weighs (L.Write from ty) rest k = ordinal_weighs (entry_at x.table ty) (base_at x.table ty) (lines.held x from) k
   line_weighs (L.WriteText text) rest k = literal_weighs _ text k
@@ -306,11 +297,6 @@ module _ (x : Around) where
       omega (arith, h, i)
 
 -- ---- a procedure
-
-first_weighs : (memory start : Bool) (k : List WordInstr) → length (code.first_code memory start k) ≤ 2 + length k
-first_weighs false start k = omega arith
-first_weighs true true k = omega arith
-first_weighs true false k = omega arith
 
 cleared_first : (result : Option Housed) (k : List WordInstr) → length (code.result_cleared result k) ≤ 5 + length k
 cleared_first None k = omega arith
@@ -338,16 +324,14 @@ last_weighs all =
     let m : length (code.last_code all []) ≤ 2 + length e = end_weighs all Overflow e in
     omega (arith, f, g, h, i, j, m)
 
-code_weighs : (x : Around) (all : List Line) → length (code.code_of x all) ≤ 20 + lines_weight all
+code_weighs : (x : Around) (all : List Line) → length (code.code_of x all) ≤ 17 + lines_weight all
 code_weighs x all =
     let last : List WordInstr = code.last_code all [] in
     let body : List WordInstr = lines.lines_code x all last in
-    let back : List WordInstr = code.result_cleared (result_in x.own.all) body in
     let f : length last ≤ 12 = last_weighs all in
     let g : length body ≤ lines_weight all + length last = lines_weigh x all last in
-    let h : length back ≤ 5 + length body = cleared_first (result_in x.own.all) body in
-    let i : length (code.code_of x all) ≤ 2 + length back = first_weighs (code.calls_to_memory x all) x.setting.start back in
-    omega (arith, f, g, h, i)
+    let h : length (code.code_of x all) ≤ 5 + length body = cleared_first (result_in x.own.all) body in
+    omega (arith, f, g, h)
 
 -- a procedure with lines, and any one
 proc_weighs : (x : Around) (line : Line) (all : List Line) → suc (length (code.code_of x (line ∷ all))) ≤ proc_weight (line ∷ all)

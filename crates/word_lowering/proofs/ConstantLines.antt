@@ -314,7 +314,6 @@ more_gets x g line rest y lines k f v most le r = record {
   edit = r.edit;
   variables = r.variables;
   left = r.left;
-  next = r.next;
   at_place = r.at_place;
   steps = r.steps;
   some = r.some;

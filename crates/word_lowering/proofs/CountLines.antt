@@ -24,7 +24,7 @@ use Rattle.mid_code.specs.Shapes.{Shape, number}
 use Rattle.mid_code.specs.Fits.{is_value, shape_named, is_number, is_int, may_have}
 use Rattle.mid_code.specs.Running.{scene_of}
 use Rattle.mid_code.specs.Codes.{block_plain}
-use Rattle.word_lowering.specs.declared.homes.TheConstants.{LEFT, NEXT, FIRST, SECOND, OWN_FROM}
+use Rattle.word_lowering.specs.declared.homes.TheConstants.{LEFT, FIRST, SECOND, OWN_FROM}
 use Rattle.word_lowering.specs.Operations.{word, next_code, count_code}
 use Rattle.word_lowering.specs.LineCode.{label_before, variable_of}
 use Rattle.word_lowering.proofs.Arithmetic.{fits_signed, signed_fits, word_small, less_is, added_is, subtracted_is}
@@ -186,7 +186,6 @@ module _ (live : Lives) (procs : List WordProc) (c : Within) (m : Memory) (g : V
           but = record {
             others = λ u high ne. put_low w1 SECOND 0 u (omega arith) high ∙ put_other w counter sum u ne ∙ t.same.others u high;
             left = put_high w counter sum LEFT high_counter (omega arith) ∙ t.same.left;
-            next = put_high w counter sum NEXT high_counter (omega arith) ∙ t.same.next;
           };
           runs = then_runs live procs t.runs (then_runs live procs (then_runs live procs r1 r2) (then_runs live procs r3 r4));
         };
@@ -224,7 +223,6 @@ module _ (live : Lives) (procs : List WordProc) (c : Within) (m : Memory) (g : V
           but = record {
             others = λ u high ne. put_other w2 more 0 u ne ∙ put_low w1 SECOND 0 u (omega arith) high ∙ stays w is u ∙ t.same.others u high;
             left = put_high w2 more 0 LEFT high_more (omega arith) ∙ put_high w counter sum LEFT high_counter (omega arith) ∙ t.same.left;
-            next = put_high w2 more 0 NEXT high_more (omega arith) ∙ put_high w counter sum NEXT high_counter (omega arith) ∙ t.same.next;
           };
           runs = then_runs live procs t.runs (then_runs live procs (then_runs live procs r1 r2) (then_runs live procs r3 (then_runs live procs r4 r5)));
         };

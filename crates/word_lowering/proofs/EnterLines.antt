@@ -1,6 +1,6 @@
 -- The line that calls a procedure with lines is followed.
-use Rattle.std.proofs.Common.{◌≡◌, inl, ℕ, suc, ◌+◌, ◌*◌, ◌^◌, ◌<◌, ◌≤◌, List, [], ◌++◌, Option, Some, None, Bool, true, false}
-use Rattle.std.proofs.Common.{refl, sym, ap, subst, ◌∙◌, arith}
+use Rattle.std.proofs.Common.{◌≡◌, inl, ℕ, suc, ◌+◌, ◌*◌, ◌^◌, ◌<◌, ◌≤◌, List, [], ◌++◌, Option, Some, None, true}
+use Rattle.std.proofs.Common.{refl, ap, subst, ◌∙◌, arith}
 use Rattle.std.specs.Prelude.{nat_lt, not}
 use Rattle.std.proofs.lemmas.Bool.{cond-true, lt-ltb}
 use Rattle.arc_base.specs.Simulation.{Steps}
@@ -9,18 +9,16 @@ use Rattle.mid_code.specs.declared.line.Line.TheVariants as L
 use Rattle.mid_code.specs.declared.place.HookOf.{HookOf}
 use Rattle.mid_code.specs.declared.word.WordInstr.{WordInstr}
 use Rattle.mid_code.specs.declared.word.WordProc.{WordProc}
-use Rattle.mid_code.specs.Words.{Vars, put, no_words, params_of}
+use Rattle.mid_code.specs.Words.{Vars, put, params_of}
 use Rattle.mid_code.specs.Running.{seen_call, slot_bytes}
 use Rattle.word_lowering.specs.declared.homes.TheConstants.{LEFT, OWN_FROM}
-use Rattle.word_lowering.specs.Layouts.{params_in, result_in, is_empty, kept_in}
-use Rattle.word_lowering.specs.Lowered.{first_code, result_cleared, calls_to_memory}
-use Rattle.word_lowering.proofs.Runs.{Runs, Within, at, on, then_runs}
+use Rattle.word_lowering.specs.Layouts.{params_in, is_empty, kept_in}
+use Rattle.word_lowering.proofs.Runs.{Within, at, on}
 use Rattle.word_lowering.proofs.RoutineCalls.{awaiting}
 use Rattle.word_lowering.proofs.OrdinalRuns.{put_here, put_other}
-use Rattle.word_lowering.proofs.FirstRuns.{Begun, begins}
-use Rattle.word_lowering.proofs.Sites.{lines_of, around, word_of}
+use Rattle.word_lowering.proofs.Sites.{word_of}
 use Rattle.word_lowering.proofs.Callees.{Callee}
-use Rattle.word_lowering.proofs.Related.{Both, procs, code_behind}
+use Rattle.word_lowering.proofs.Related.{Both, code_behind}
 use Rattle.word_lowering.proofs.Lines.{Basis, starts, IsGood, lower}
 use Rattle.word_lowering.proofs.OrdinalLines.{TrapsStop}
 use Rattle.word_lowering.proofs.CallLines.{call_fit, callee, Enters}
@@ -69,46 +67,23 @@ module _ (x : Basis) (traps : TrapsStop x) (g : Both) (rest : List BlockLine) (t
     abbrev k : List WordInstr
     k = code_behind x.table x.blocks c.body c.body.proc.lines
 
-    -- whether it has a call whose result goes to memory
-    abbrev to_memory : Bool
-    to_memory = calls_to_memory (around x.table x.blocks c.body) (lines_of c.body)
-
-    abbrev first : Begun x.live (procs x.table x.blocks) here g.memory no_words (result_cleared (result_in c.body.own.all) k) to_memory
-        left handed_on
-    first = begins x.live (procs x.table x.blocks) here g.memory no_words (result_cleared (result_in c.body.own.all) k) to_memory left handed_on handed_left
-
-    vars_first : Vars_then x traps g rest to proc y order left e first.vars
-    vars_first = record {
-      left_is = first.left_is;
-      next = first.next;
-      handed = λ v low high. first.others v low ∙ handed_param v low high;
-    }
-
-    -- its code begins with these lines, as it isn't the start code
-    code_is : word_then.lines ≡ first_code to_memory false (result_cleared (result_in c.body.own.all) k)
-    code_is = ap (λ b. first_code to_memory b (result_cleared (result_in c.body.own.all) k)) c.start
+    vars_first : Vars_then x traps g rest to proc y order left e handed_on
+    vars_first = record { left_is = handed_left; handed = handed_param }
 
   pub enters_line : Enters x traps g rest to proc y
   enters_line left e number l ls is s before few_before runs_before =
       let v = vars_first left e in
-      let r = ready x traps g rest to proc y order left e (first left e).vars v (k left e) l ls is in
-      let f = first left e in
+      let r = ready x traps g rest to proc y order left e (handed_on left e) v (k left e) l ls is in
       let runs : c.body.own.runs ≡ true = c.runs ∙ ap (λ q. not (is_empty q)) is in
       let n = enters x traps g rest to proc y left e number runs in
-      let r1 : Runs x.live (procs x.table x.blocks) (f.steps + r.steps) (at (here left e) g.memory word_then.lines (handed_on left e) no_words)
-      (at (awaiting (here left e) r.awaits) r.memory (k left e) r.vars_then r.words)
-      = subst (λ q. Runs x.live (procs x.table x.blocks) (f.steps + r.steps) (at (here left e) g.memory q (handed_on left e) no_words)
-      (at (awaiting (here left e) r.awaits) r.memory (k left e) r.vars_then r.words)) (sym (code_is left e))
-      (then_runs x.live (procs x.table x.blocks) f.runs r.runs) in
-      let r2 = on (lower x) runs_before (on (lower x) n.steps r1) in
-      let few = f.few in
+      let r2 = on (lower x) runs_before (on (lower x) n.steps r.runs) in
       let less = r.few in (
         at (awaiting (here left e) r.awaits) r.memory (k left e) r.vars_then r.words,
-        before + (2 + (f.steps + r.steps)),
-        subst (λ es. Steps (lower x) (before + (2 + (f.steps + r.steps))) s es
+        before + (2 + r.steps),
+        subst (λ es. Steps (lower x) (before + (2 + r.steps)) s es
             (16 * suc (slot_bytes (slots_of x.table c.body))) (at (awaiting (here left e) r.awaits) r.memory (k left e) r.vars_then r.words))
             (no_more c.body.proc.hook)
-            (record { work = r2.work; within = (let w = r2.within in omega (arith, w, few, less, few_before)); by = r2.by }),
-        ((ended x traps g rest to proc y order left e (first left e).vars v r.vars_then r.memory r.words r.awaits, r.good), refl, refl),
+            (record { work = r2.work; within = (let w = r2.within in omega (arith, w, less, few_before)); by = r2.by }),
+        ((ended x traps g rest to proc y order left e (handed_on left e) v r.vars_then r.memory r.words r.awaits, r.good), refl, refl),
         inl (omega arith),
       )

@@ -14,7 +14,7 @@ use Rattle.mid_code.specs.declared.word.WordInstr.TheVariants.{Argument, Call}
 use Rattle.mid_code.specs.declared.word.WordProc.{WordProc}
 use Rattle.mid_code.specs.Running.{seen_call as block_seen}
 use Rattle.mid_code.specs.Words.{Vars, no_words, put, params_of, WordFrame, WordState, seen_call, is_counted, counted, most_calls, is_full, scene_of, entered}
-use Rattle.word_lowering.specs.declared.homes.TheConstants.{LEFT}
+use Rattle.word_lowering.specs.declared.homes.TheConstants.{LEFT, FIRST}
 use Rattle.word_lowering.specs.declared.spots.Spot.{Spot}
 use Rattle.word_lowering.specs.declared.spots.Spot.TheVariants.{Held, Lies}
 use Rattle.word_lowering.specs.Spots.{spot_of}
@@ -27,7 +27,7 @@ use Rattle.word_lowering.proofs.Related.{Both, Waits, called_by, body_of, sites_
 use Rattle.word_lowering.proofs.Related.{frame_of}
 use Rattle.word_lowering.proofs.Lines.{Basis, starts, IsGood, lower}
 use Rattle.word_lowering.proofs.OrdinalLines.{TrapsStop}
-use Rattle.word_lowering.proofs.CallLines.{call_fit, callee, number_here, code_called}
+use Rattle.word_lowering.proofs.CallLines.{call_fit, callee, code_called}
 
 -- calls that count are calls
 counted_most : (frames : List WordFrame) → counted frames ≤ length frames
@@ -89,21 +89,21 @@ module _ (x : Basis) (traps : TrapsStop x) (g : Both) (rest : List BlockLine) (t
         (at within_then g.memory (word_of x.table x.blocks c.body).lines
         (params_of (word_of x.table x.blocks c.body) (put g.words LEFT left)) no_words)
 
-  pub enters : (left : ℕ) → g.call.site.left ≡ suc left → g.call.vars (number_here x traps g rest to proc y) ≡ Some left → c.body.own.runs ≡ true
+  pub enters : (left : ℕ) → g.call.site.left ≡ suc left → g.call.vars FIRST ≡ Some left → c.body.own.runs ≡ true
       → Entered left
-  enters left e next runs =
+  enters left e first runs =
       let p : WordProc = word_of x.table x.blocks c.body in
       let to_variable : ℕ = awaits_for x.table x.blocks (body_of g) to in
       let after : List WordInstr = left_for x.table x.blocks (body_of g) to proc k in
       let l1 : List WordInstr = Call to_variable (proc_number proc) ∷ after in
-      let code : code_called x traps g rest to proc y ≡ Argument LEFT (number_here x traps g rest to proc y) ∷ l1
+      let code : code_called x traps g rest to proc y ≡ Argument LEFT FIRST ∷ l1
       = ap (λ b. called_code (around x.table x.blocks (body_of g)) proc to b k) (ap (λ l. l.runs) c.layout ∙ runs)
-      ∙ ap (λ l. Argument LEFT (number_here x traps g rest to proc y) ∷ l) (given_is to) in
+      ∙ ap (λ l. Argument LEFT FIRST ∷ l) (given_is to) in
       let words : Vars = put g.words LEFT left in
       let s : WordState = at (within x.table x.blocks g) g.memory l1 g.call.vars words in
       let t : WordState = at within_then g.memory p.lines (params_of p words) no_words in
       let r1 = run_argument x.live (procs x.table x.blocks) (within x.table x.blocks g) g.memory l1 g.call.vars g.words LEFT
-      (number_here x traps g rest to proc y) next in
+      FIRST first in
       let found = c.found runs in
       let many = map_length (frame_of x.table x.blocks) g.waiting in
       let levels = sites_many in

@@ -9,20 +9,20 @@ use Rattle.std.proofs.lemmas.List.{drop_more, drop_all}
 use Rattle.mid_code.specs.declared.place.PlaceKind.{PlaceKind}
 use Rattle.word_lowering.specs.declared.homes.Housed.{Housed}
 use Rattle.word_lowering.specs.Lookups.{nowhere, found, is_param, params_in, param_before}
-use Rattle.word_lowering.specs.Places.{from_there, Leads}
+use Rattle.word_lowering.specs.PlaceTable.{from_there, FindsFrom}
 
 -- ---- numbers
 
 module _ {S : Type 0} (all : List Housed) where
-  pub first_leads : (index : HashMap ℕ ℕ S) → index.entries ≡ [] → Leads index (drop (length all) all) all
+  pub first_leads : (index : HashMap ℕ ℕ S) → index.entries ≡ [] → FindsFrom index (drop (length all) all) all
   first_leads index e = λ n is_kind.
       ap (λ es. found is_kind n (from_there (lookup (nat_eq n) es) all)) e
       ∙ sym (ap (λ (hs : List Housed). found is_kind n hs) (drop_all (length all) all (omega arith)))
 
   -- one place before those that are left
   pub next_leads : (i : ℕ) (h d : Housed) (old new : HashMap ℕ ℕ S) → i < length all → h ≡ get_or all i d
-      → ((n : ℕ) → get nat_eq new n ≡ (if nat_eq h.number n then Some i else get nat_eq old n)) → Leads old (drop (i + 1) all) all
-      → Leads new (drop i all) all
+      → ((n : ℕ) → get nat_eq new n ≡ (if nat_eq h.number n then Some i else get nat_eq old n)) → FindsFrom old (drop (i + 1) all) all
+      → FindsFrom new (drop i all) all
   next_leads i h d old new lt e put leads = λ n is_kind.
       ap (λ o. found is_kind n (from_there o all)) (put n) ∙ by n is_kind (nat_eq h.number n) refl
     where

@@ -17,7 +17,7 @@ use Rattle.mid_code.specs.Shapes.{has_shape}
 use Rattle.mid_code.specs.Fits.{is_own}
 use Rattle.mid_code.specs.Running.{scene_of}
 use Rattle.mid_code.proofs.ForCallers.{never}
-use Rattle.word_lowering.specs.declared.homes.TheConstants.{OWN_FROM, LEFT, NEXT}
+use Rattle.word_lowering.specs.declared.homes.TheConstants.{OWN_FROM, LEFT}
 use Rattle.word_lowering.specs.declared.homes.Home.TheVariants.{Variable}
 use Rattle.word_lowering.specs.declared.homes.Housed.{Housed}
 use Rattle.word_lowering.specs.declared.texts.TheConstants.{FIXED_BYTES}
@@ -96,7 +96,6 @@ module _ (x : Basis) (g : Both) (line : Line) (rest : List BlockLine) (y : IsGoo
     pub edit : Edit x.table x.blocks x.small sites y.linked site f g.memory memory
     pub variables : (h : Name) (u : ℕ) → IsThere x.table x.blocks site h → h ≢ f → (house site h).home ≡ Variable u → vars u ≡ g.call.vars u
     pub left : vars LEFT ≡ g.call.vars LEFT
-    pub next : vars NEXT ≡ g.call.vars NEXT
     pub at_place : At memory site.base vars (spot_of (house site f)) v
     pub steps : ℕ
     pub some : 0 < steps
@@ -128,7 +127,6 @@ module _ (x : Basis) (g : Both) (line : Line) (rest : List BlockLine) (y : IsGoo
       variables = λ h u other ne is. w.but.others u (high_variable h u other is)
           (variables_apart x.table x.blocks site f h t u y.linked.0 there other (λ e. ne (sym e)) home is);
       left = w.but.left;
-      next = w.but.next;
       at_place = subst (λ p. At g.memory site.base w.vars p v) (sym (spot_held (house site f) t plain home)) w.given;
       steps = w.steps;
       some = w.some;
@@ -154,7 +152,6 @@ module _ (x : Basis) (g : Both) (line : Line) (rest : List BlockLine) (y : IsGoo
               (omega (arith, size));
           variables = λ h u other ne is. r.same.others u (high_variable h u other is);
           left = r.same.left;
-          next = r.same.next;
           at_place = to_memory r.memory site.base r.vars (house site f) v plain inside r.there;
           steps = r.steps;
           some = r.some;
@@ -193,7 +190,6 @@ module _ (x : Basis) (g : Both) (line : Line) (rest : List BlockLine) (y : IsGoo
         edit = r.edit;
         variables = r.variables;
         left = r.left;
-        next = r.next;
         at_place = r.at_place;
         steps = r.steps;
         some = r.some;
@@ -219,15 +215,14 @@ module _ (x : Basis) (g : Both) (line : Line) (rest : List BlockLine) (y : IsGoo
 
   pub kept_value : (t : ℕ) (v : Value) (vars : Vars)
       → ((h : Name) (u : ℕ) → IsThere x.table x.blocks site h → h ≢ of_value t → (house site h).home ≡ Variable u → vars u ≡ g.call.vars u)
-      → vars LEFT ≡ g.call.vars LEFT → vars NEXT ≡ g.call.vars NEXT
+      → vars LEFT ≡ g.call.vars LEFT
       → Kept x.table x.blocks x.small sites y.linked site (of_value t) site g.call.temps (with_value g.call.temps t v) g.call.vars vars
-  kept_value t v vars others left next = record {
+  kept_value t v vars others left = record {
     values = λ u away. put_away x g line rest y t v u (different u away);
     locations = λ u away. refl;
     still = λ u w h. put_still x g line rest y t v u w h;
     variables = λ h u there away home. others h u there (apart h away) home;
     left = left;
-    next = next;
   }
     where
       different : (u : ℕ) → (g.call.site.level ≢ g.call.site.level) ⊎ (of_value u ≢ of_value t) → u ≢ t
@@ -245,7 +240,7 @@ module _ (x : Basis) (g : Both) (line : Line) (rest : List BlockLine) (y : IsGoo
     good_value lines k t v most there shaped r =
         good_changed x g line rest y free site (of_value t) (with_value g.call.temps t v) r.vars r.memory r.words r.awaits g.world g.has r.good r.edit
         (worlds_same x.table x.blocks x.small sites y.linked site (of_value t) g.world g.has)
-        (kept_value t v r.vars r.variables r.left r.next) (λ e. new)
+        (kept_value t v r.vars r.variables r.left) (λ e. new)
         (λ c from i e. absurd (waits_below x g line rest y c i e)) y.frames y.levels (subst (λ p. StandAt x.table x.blocks (body_of g) p rest) free stand)
       where
         new : New x.table x.blocks x.small (all_sites x g line rest y) y.linked g.call.site (of_value t) r.memory g.world g.has (all_sites x g line rest y)
@@ -328,7 +323,6 @@ module _ (x : Basis) (g : Both) (line : Line) (rest : List BlockLine) (y : IsGoo
           still = λ u w e. (w, e);
           variables = λ f u other away home. r.variables f u other (apart f away) home;
           left = r.left;
-          next = r.next;
         })
         (λ e. record {
           item = λ u e. subst (λ w. IsItem x.table x.blocks r.memory (call site g.call.temps r.vars) (of_place n) w) (held u e.1) (record {

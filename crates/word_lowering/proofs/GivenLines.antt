@@ -112,7 +112,6 @@ module _ (x : Basis) (g : Both) (line : Line) (rest : List BlockLine) (y : IsGoo
         still = λ t v h. (v, h);
         variables = λ f u there a home. same.others u (high_variable x g line rest y f u there home);
         left = same.left;
-        next = same.next;
       }
 
       lower : (c : Call) → AmongCalls c (map called_by g.waiting) → c.site.level ≢ suc g.call.site.level

@@ -16,7 +16,7 @@ use Rattle.mid_code.specs.Words.{Vars}
 use Rattle.mid_code.specs.Scene.{Where, Located, Within, Temps, Filled}
 use Rattle.mid_code.specs.Shapes.{Shape}
 use Rattle.mid_code.proofs.ForCallers.{never, bytes_is}
-use Rattle.word_lowering.specs.declared.homes.TheConstants.{LEFT, NEXT}
+use Rattle.word_lowering.specs.declared.homes.TheConstants.{LEFT}
 use Rattle.word_lowering.specs.declared.homes.Home.{Home}
 use Rattle.word_lowering.specs.declared.homes.Home.TheVariants.{Variable, Placed, Static}
 use Rattle.word_lowering.specs.declared.homes.Housed.{Housed}
@@ -200,7 +200,6 @@ module _ (table : List TypeDef) (blocks : Blocks) (small : data_end table blocks
     pub still : (t : ℕ) (x : Value) → temps.values t ≡ Some x → (y : Value) × (temps'.values t ≡ Some y)
     pub variables : (f : Name) (u : ℕ) → IsThere table blocks s f → Away s f → (house s f).home ≡ Variable u → vars' u ≡ vars u
     pub left : vars' LEFT ≡ vars LEFT
-    pub next : vars' NEXT ≡ vars NEXT
 
   pub kept_same : (s : Site) (temps : Temps) (vars : Vars) → Kept s temps temps vars vars
   kept_same s temps vars = record {
@@ -209,7 +208,6 @@ module _ (table : List TypeDef) (blocks : Blocks) (small : data_end table blocks
     still = λ t x h. (x, h);
     variables = λ f u x a is. refl;
     left = refl;
-    next = refl;
   }
 
   -- what is new of the place itself
@@ -337,10 +335,7 @@ module _ (table : List TypeDef) (blocks : Blocks) (small : data_end table blocks
       led = led;
       known = known;
       filled = filled;
-      counts = record {
-        left = λ h. k.left ∙ old.counts.left h;
-        next = λ h m. k.next ∙ old.counts.next h m;
-      };
+      left = λ h. k.left ∙ old.left h;
     }
       where
         back : (f : Name) (x : Value) → Away s f → HasValue w' has' (call s temps' vars') f x → HasValue w has (call s temps vars) f x

@@ -167,10 +167,9 @@ module _ (x : Around) (n : ℕ) where
   quiet_entered proc to (Held v) k = refl
   quiet_entered proc to (Lies home) k = quiet_result to (result_in (code.layout_at x proc).all) k
 
-  quiet_checked : (start memory : Bool) → Quiet n (code.checked_code start memory)
-  quiet_checked true memory k = refl
-  quiet_checked false true k = refl
-  quiet_checked false false k = refl
+  quiet_checked : (start : Bool) → Quiet n (code.checked_code start)
+  quiet_checked true k = refl
+  quiet_checked false k = refl
 
   quiet_called : (proc : ℕ) (to : Option ℕ) (runs : Bool) → Quiet n (code.called_code x proc to runs)
   quiet_called proc None true k = refl
@@ -263,7 +262,7 @@ quiet_line x n (L.Argument from) rest plain apart k =
 quiet_line x n (L.ArgumentAt from) rest plain apart k =
     quiet_argument x n (label_before rest) (code.param_for x (code.callee_behind rest) (code.arguments_behind rest)).home (code.location x from) apart k
 quiet_line x n (L.Call to proc) rest plain apart k =
-    quiet_checked x n x.setting.start (code.is_to_memory x to) (code.called_code x proc to (code.layout_at x proc).runs k)
+    quiet_checked x n x.setting.start (code.called_code x proc to (code.layout_at x proc).runs k)
     ∙ quiet_called x n proc to (code.layout_at x proc).runs k
 quiet_line x n (L.Return result) rest plain apart k = quiet_return x n x.setting.start result k
 quiet_line x n (L.Write from ty) rest plain apart k = quiet_ordinal x n (entry_at x.table ty) (base_at x.table ty) (code.held x from) k

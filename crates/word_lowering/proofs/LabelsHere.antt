@@ -22,16 +22,11 @@ use Rattle.word_lowering.specs.Layouts.{result_in}
 use Rattle.word_lowering.specs.Spots.{spot_of}
 use Rattle.word_lowering.specs.LineCode as code
 use Rattle.word_lowering.specs.LineCode.{Around, label_before}
-use Rattle.word_lowering.specs.Lowered.{calls_to_memory, first_code, result_cleared, code_of, last_code}
+use Rattle.word_lowering.specs.Lowered.{result_cleared, code_of, last_code}
 use Rattle.word_lowering.proofs.Options.{none_some, some_same}
 use Rattle.word_lowering.proofs.Labels.{Quiet, quiet_cleared, code_from, label_found, own_found, trap_found}
 use Rattle.word_lowering.proofs.Sites.{Body, lines_of, around, word_of, IsBody, sigs, globals_of}
 use Rattle.word_lowering.proofs.Related.{code_behind, StandAt}
-
-quiet_first : (n : ℕ) (memory start : Bool) → Quiet n (first_code memory start)
-quiet_first n true true k = refl
-quiet_first n true false k = refl
-quiet_first n false start k = refl
 
 quiet_result : (n : ℕ) (r : Option Housed) → Quiet n (result_cleared r)
 quiet_result n None k = refl
@@ -39,9 +34,7 @@ quiet_result n (Some r) k = quiet_cleared n r.is_word r.bytes (spot_of r) k
 
 -- the lines before those of the body let a search pass
 body_found : (x : Around) (n : ℕ) (lines : List Line) → from_label n (code_of x lines) ≡ from_label n (code.lines_code x lines (last_code lines []))
-body_found x n lines =
-    quiet_first n (calls_to_memory x lines) x.setting.start (result_cleared (result_in x.own.all) (code.lines_code x lines (last_code lines [])))
-    ∙ quiet_result n (result_in x.own.all) (code.lines_code x lines (last_code lines []))
+body_found x n lines = quiet_result n (result_in x.own.all) (code.lines_code x lines (last_code lines []))
 
 map_append : (before rest : List BlockLine) → map block_plain (before ++ rest) ≡ map block_plain before ++ map block_plain rest
 map_append [] rest = refl

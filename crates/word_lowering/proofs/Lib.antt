@@ -11,6 +11,7 @@ mod NamedLines
 mod NamedProcs
 mod CodeWeights
 mod SmallProcs
+mod CallRooms
 mod DataSizes
 mod BlocksFollowed
 mod WholeCode
@@ -86,7 +87,6 @@ mod Traps
 mod EndLines
 mod EnterRuns
 mod FirstPlaces
-mod FirstRuns
 mod NewCalls
 mod NewStates
 mod EnterLines
@@ -117,3 +117,4 @@ mod StartPair
 mod StartState
 mod TypeEntries
 mod WritesFollowed
+pub mod ForCallers

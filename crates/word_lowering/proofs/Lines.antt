@@ -256,7 +256,6 @@ module _ (x : Basis) where
           still = λ t v h. (v, h);
           variables = λ f u there a home. same.others u (high_home f u there home);
           left = same.left;
-          next = same.next;
         }
 
     -- the same line, with other variables for what comes between: arguments that wait stay

@@ -47,7 +47,6 @@ module _ (x : Basis) (g : Both) (line : Line) (rest : List BlockLine) (y : IsGoo
       still = λ u w h. (w, h);
       variables = λ f u other away home. but.others u (high_variable x g line rest y f u other home) (apart f u other away home);
       left = but.left;
-      next = but.next;
     }
       where
         different : (u : ℕ) → (g.call.site.level ≢ g.call.site.level) ⊎ (of_location u ≢ of_location t) → u ≢ t

@@ -208,7 +208,6 @@ module _ (x : Basis) (g : Both) (rest : List BlockLine) (to : ℕ) where
           edit = nowhere refl;
           variables = λ h u other ne is. refl;
           left = refl;
-          next = refl;
           at_place = to_memory g.memory g.call.site.base g.call.vars (house g.call.site (of_value to)) (Parts Nil) plain inside tt;
           steps = 1;
           some = omega arith;

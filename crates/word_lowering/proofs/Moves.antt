@@ -31,23 +31,22 @@ use Rattle.word_lowering.proofs.Scenes.{Points}
 -- ---- variables
 
 pub all_same : (v : Vars) → AllSame v v
-all_same v = record { others = λ u h. refl; left = refl; next = refl }
+all_same v = record { others = λ u h. refl; left = refl }
 
 pub same_more : (u v w : Vars) → AllSame u v → AllSame v w → AllSame u w
 same_more u v w x y = record {
   others = λ n h. y.others n h ∙ x.others n h;
   left = y.left ∙ x.left;
-  next = y.next ∙ x.next;
 }
 
 pub same_first : (v : Vars) (n : ℕ) → AllSame v (put v FIRST n)
-same_first v n = record { others = λ u h. put_low v FIRST n u (omega arith) h; left = refl; next = refl }
+same_first v n = record { others = λ u h. put_low v FIRST n u (omega arith) h; left = refl }
 
 pub same_second : (v : Vars) (n : ℕ) → AllSame v (put v SECOND n)
-same_second v n = record { others = λ u h. put_low v SECOND n u (omega arith) h; left = refl; next = refl }
+same_second v n = record { others = λ u h. put_low v SECOND n u (omega arith) h; left = refl }
 
 pub same_third : (v : Vars) (n : ℕ) → AllSame v (put v THIRD n)
-same_third v n = record { others = λ u h. put_low v THIRD n u (omega arith) h; left = refl; next = refl }
+same_third v n = record { others = λ u h. put_low v THIRD n u (omega arith) h; left = refl }
 
 -- ---- values
 

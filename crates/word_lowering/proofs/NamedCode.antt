@@ -18,11 +18,10 @@ use Rattle.mid_code.specs.declared.word.Test.TheVariants as test
 use Rattle.mid_code.specs.declared.word.WordOperation.{WordOperation}
 use Rattle.mid_code.specs.declared.word.WordOperation.TheVariants as operation
 use Rattle.mid_code.specs.declared.word.WordInstr.{WordInstr}
-use Rattle.mid_code.specs.declared.word.WordInstr.TheVariants.{Label, Constant, Copy, Compute, Place, Datum, Load, Store, Jump, Branch, Argument}
-use Rattle.mid_code.specs.declared.word.WordInstr.TheVariants.{Call}
-use Rattle.mid_code.specs.declared.word.WordInstr.TheVariants.{Return, Write, Exit}
+use Rattle.mid_code.specs.declared.word.WordInstr.TheVariants.{Label, Constant, Copy, Compute, Sum, Place, Datum, Load, Store, Jump, Branch}
+use Rattle.mid_code.specs.declared.word.WordInstr.TheVariants.{Argument, Call, Return, Write, Exit}
 use Rattle.mid_code.specs.Words.{are_named, all_named}
-use Rattle.word_lowering.specs.declared.homes.TheConstants.{LEFT, NEXT, FIRST, SECOND, THIRD, FOURTH, FIFTH, OWN_FROM}
+use Rattle.word_lowering.specs.declared.homes.TheConstants.{LEFT, FIRST, SECOND, THIRD, FOURTH, FIFTH, OWN_FROM}
 use Rattle.word_lowering.specs.declared.homes.Home.{Home}
 use Rattle.word_lowering.specs.declared.homes.Home.TheVariants.{Variable, Placed, Static}
 use Rattle.word_lowering.specs.declared.homes.Housed.{Housed}
@@ -67,9 +66,6 @@ module _ (vars : ℕ) (many : OWN_FROM ≤ vars) where
   pub left_is : LEFT < vars
   left_is = omega (arith, many)
 
-  pub next_is : NEXT < vars
-  next_is = omega (arith, many)
-
   pub first_is : FIRST < vars
   first_is = omega (arith, many)
 
@@ -98,6 +94,9 @@ module _ (vars : ℕ) (many : OWN_FROM ≤ vars) where
   pub compute : {to left right : ℕ} {operation : WordOperation} {k : List WordInstr} → to < vars → left < vars → right < vars → AllNamed vars k
       → AllNamed vars (Compute to operation left right ∷ k)
   compute t l r rest = more_named (and_from _ _ (lt-ltb _ vars t) (and_from _ _ (lt-ltb _ vars l) (lt-ltb _ vars r))) rest
+
+  pub sum : {to from value : ℕ} {k : List WordInstr} → to < vars → from < vars → AllNamed vars k → AllNamed vars (Sum to from value ∷ k)
+  sum t f rest = more_named (and_from _ _ (lt-ltb _ vars t) (lt-ltb _ vars f)) rest
 
   pub place : {to at : ℕ} {k : List WordInstr} → to < vars → AllNamed vars k → AllNamed vars (Place to at ∷ k)
   place t rest = more_named (lt-ltb _ vars t) rest

@@ -27,7 +27,7 @@ use Rattle.word_lowering.specs.LineCode.{Around}
 use Rattle.word_lowering.specs.LineCode as lines
 use Rattle.word_lowering.proofs.HomesApart.{Each}
 use Rattle.word_lowering.proofs.LayoutBounds.{IsBelow, IsParamBelow, IsGlobalBelow, found_below, global_below, param_below}
-use Rattle.word_lowering.proofs.NamedCode.{AllNamed, IsSpotBelow, spot_below, shifted_below, first_is, second_is, third_is, left_is, next_is}
+use Rattle.word_lowering.proofs.NamedCode.{AllNamed, IsSpotBelow, spot_below, shifted_below, first_is, second_is, third_is, left_is}
 use Rattle.word_lowering.proofs.NamedCode.{binary_named, unary_named, compare_named, narrow_named, unless_named, fits_named, count_named}
 use Rattle.word_lowering.proofs.NamedCode as named
 
@@ -195,22 +195,14 @@ module _ (vars : ℕ) (many : OWN_FROM ≤ vars) where
     nothing_named None rest = rest
     nothing_named (Some t) rest = named.constant vars many (held_below t) rest
 
-    checked_named : (start memory : Bool) {k : List WordInstr} → AllNamed vars k → AllNamed vars (lines.checked_code start memory k)
-    checked_named true memory rest = named.constant vars many (first_is vars many) rest
-    checked_named false true rest = named.branch vars many (left_is vars many) (next_is vars many) rest
-    checked_named false false rest =
-        named.constant vars many (first_is vars many) (named.copy vars many (second_is vars many) (left_is vars many)
-        (named.branch vars many (second_is vars many) (first_is vars many)
-        (named.compute vars many (first_is vars many) (second_is vars many) (first_is vars many) rest)))
-
-    next_named : (start memory : Bool) → lines.next_variable start memory < vars
-    next_named true memory = first_is vars many
-    next_named false true = next_is vars many
-    next_named false false = first_is vars many
+    checked_named : (start : Bool) {k : List WordInstr} → AllNamed vars k → AllNamed vars (lines.checked_code start k)
+    checked_named true rest = named.constant vars many (first_is vars many) rest
+    checked_named false rest =
+        named.copy vars many (second_is vars many) (left_is vars many)
+        (named.sum vars many (first_is vars many) (second_is vars many) (named.branch vars many (second_is vars many) (first_is vars many) rest))
 
     called_named : (proc : ℕ) (to : Option ℕ) (runs : Bool) {k : List WordInstr} → AllNamed vars k → AllNamed vars (lines.called_code x proc to runs k)
-    called_named proc to true rest =
-        named.argument vars many (omega arith) (next_named x.setting.start (lines.is_to_memory x to)) (given_named proc to rest)
+    called_named proc to true rest = named.argument vars many (omega arith) (first_is vars many) (given_named proc to rest)
     called_named proc to false rest = nothing_named to rest
 
     return_named : (start : Bool) (result : Option ℕ) {k : List WordInstr} → AllNamed vars k → AllNamed vars (lines.return_code x start result k)
@@ -261,7 +253,7 @@ module _ (vars : ℕ) (many : OWN_FROM ≤ vars) where
     line_named (L.Root to p global) rest k = named.address vars many (lines.led x to) (lines.place x p global).home (led_below to) (place_below p global) k
     line_named (L.Fresh to from) rest k = named.address vars many (lines.led x to) (lines.value x from).home (led_below to) (value_below from) k
     line_named (L.Part to from field) rest k =
-        named.constant vars many (first_is vars many) (named.compute vars many (led_below to) (led_below from) (first_is vars many) k)
+        named.sum vars many (led_below to) (led_below from) k
     line_named (L.Item to from index) rest k =
         let a : FIRST < vars = first_is vars many in
         named.constant vars many a (named.branch vars many (held_below index) a (named.constant vars many a
@@ -290,8 +282,7 @@ module _ (vars : ℕ) (many : OWN_FROM ≤ vars) where
     line_named (L.ArgumentAt from) rest k =
         argument_named (lines.label_before rest) _ (lines.location x from) (param_for_below (lines.callee_behind rest) (lines.arguments_behind rest))
         (location_below from) k
-    line_named (L.Call to proc) rest k =
-        checked_named x.setting.start (lines.is_to_memory x to) (called_named proc to (lines.layout_at x proc).runs k)
+    line_named (L.Call to proc) rest k = checked_named x.setting.start (called_named proc to (lines.layout_at x proc).runs k)
     line_named (L.Return result) rest k = return_named x.setting.start result k
     line_named (L.Write from ty) rest k = ordinal_named (entry_at x.table ty) (base_at x.table ty) _ (held_below from) k
     line_named (L.WriteText text) rest k = literal_named _ text k

@@ -31,19 +31,13 @@ use Rattle.word_lowering.specs.MayLower.{params_lead, all_plain, hook_may, place
 use Rattle.word_lowering.proofs.HomesApart.{Each, each_as}
 use Rattle.word_lowering.proofs.LayoutBounds.{IsBelow, IsParamBelow, IsGlobalBelow, IfHoused, bound_more}
 use Rattle.word_lowering.proofs.LayoutBounds.{room_whole, all_below, kept_within, params_below, globals_below, result_each}
-use Rattle.word_lowering.proofs.NamedCode.{AllNamed, none_named, named_true, spot_below, left_is, next_is, first_is}
+use Rattle.word_lowering.proofs.NamedCode.{AllNamed, none_named, named_true, spot_below, first_is}
 use Rattle.word_lowering.proofs.NamedCode as named
 use Rattle.word_lowering.proofs.NamedLines.{IsAroundBelow, lines_named}
 
 -- ---- the lines of a procedure
 
 module _ (vars : ℕ) (many : OWN_FROM ≤ vars) where
-  first_named : (memory start : Bool) {k : List WordInstr} → AllNamed vars k → AllNamed vars (code.first_code memory start k)
-  first_named false start rest = rest
-  first_named true true rest = rest
-  first_named true false rest =
-      named.constant vars many (first_is vars many) (named.compute vars many (next_is vars many) (left_is vars many) (first_is vars many) rest)
-
   result_named : (result : Option Housed) {k : List WordInstr} → IfHoused (λ h. IsBelow vars h.home) result → AllNamed vars k
       → AllNamed vars (code.result_cleared result k)
   result_named None h rest = rest
@@ -63,9 +57,8 @@ module _ (vars : ℕ) (many : OWN_FROM ≤ vars) where
 
   code_named : (x : Around) (lines : List Line) → IsAroundBelow vars x → AllNamed vars (code.code_of x lines)
   code_named x lines below =
-      first_named (code.calls_to_memory x lines) x.setting.start
-      (result_named (result_in x.own.all) (result_each (λ h. IsBelow vars h.home) x.own.all below.own)
-      (lines_named vars many x below lines (last_named lines none_named)))
+      result_named (result_in x.own.all) (result_each (λ h. IsBelow vars h.home) x.own.all below.own)
+      (lines_named vars many x below lines (last_named lines none_named))
 
 -- ---- a procedure
 

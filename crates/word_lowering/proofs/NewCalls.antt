@@ -17,19 +17,17 @@ use Rattle.mid_code.specs.Shapes.{Shape}
 use Rattle.mid_code.specs.Fits.{passes_by, may_get, alike}
 use Rattle.mid_code.specs.Running.{Proc, frame_of, has_first}
 use Rattle.mid_code.proofs.ForCallers.{never, value_wider}
-use Rattle.rv32_isa.specs.Values.{subtracted}
-use Rattle.word_lowering.specs.declared.homes.TheConstants.{LEFT, NEXT, OWN_FROM}
+use Rattle.word_lowering.specs.declared.homes.TheConstants.{LEFT, OWN_FROM}
 use Rattle.word_lowering.specs.declared.homes.Home.TheVariants.{Variable}
 use Rattle.word_lowering.specs.declared.homes.Housed.{Housed}
 use Rattle.word_lowering.specs.declared.texts.TheConstants.{FIXED_BYTES}
 use Rattle.word_lowering.specs.Layouts.{params_in, is_address, kept_in}
 use Rattle.word_lowering.specs.Spots.{spot_of}
 use Rattle.word_lowering.specs.LineCode.{variable_in, variable_of}
-use Rattle.word_lowering.specs.Lowered.{calls_to_memory}
 use Rattle.word_lowering.proofs.Options.{none_some, some_same}
 use Rattle.word_lowering.proofs.LineFits.{alike_some}
 use Rattle.word_lowering.proofs.InMemory.{IsAt}
-use Rattle.word_lowering.proofs.Sites.{Body, lines_of, around, room, Housing, in_variable, by_address, in_places, in_data, data_end, Site, Linked}
+use Rattle.word_lowering.proofs.Sites.{Body, room, Housing, in_variable, by_address, in_places, in_data, data_end, Site, Linked}
 use Rattle.word_lowering.proofs.Sites.{InMemory}
 use Rattle.word_lowering.proofs.SitesApart.{houses, site_at}
 use Rattle.word_lowering.proofs.Scenes.{address_of, At, Call, Name, of_value, of_location, of_place, house, looked, HasValue, IsItem, FromPlace, StandsFor}
@@ -189,10 +187,9 @@ module _ (x : Basis) (traps : TrapsStop x) (g : Both) (rest : List BlockLine) (t
       slot_there r.index n r.is (let a = length-append g.given proc_then.result in let l = r.less in omega (arith, a, l))
       ∙ ap slot_in (front_get g.given proc_then.result r.index r.less ∙ r.here.is)
 
-  -- variables that the caller handed on, or that count calls
+  -- variables that the caller handed on
   pub record Vars_then (vars : Vars) : Type 0 where
     pub left_is : vars LEFT ≡ Some left
-    pub next : calls_to_memory (around x.table x.blocks body_then) (lines_of body_then) ≡ true → vars NEXT ≡ Some (subtracted left 1)
     pub handed : (v : ℕ) → OWN_FROM ≤ v → v < limit → vars v ≡ g.words v
 
   module _ (vars : Vars) (is : Vars_then vars) where
@@ -315,7 +312,7 @@ module _ (x : Basis) (traps : TrapsStop x) (g : Both) (rest : List BlockLine) (t
       led = λ t there h. absurd (none_some there h);
       known = λ n h. (parameter n h).here.first.there;
       filled = λ n h. let r = parameter n h in slot_filled n r r.here.slot refl;
-      counts = record { left = λ h. is.left_is; next = λ h m. is.next m };
+      left = λ h. is.left_is;
     }
       where
         items : (f : Name) (u : Value) → HasValue world_then has_then call_then f u → IsItem x.table x.blocks g.memory call_then f u

@@ -284,7 +284,6 @@ module _ (x : Basis) (traps : TrapsStop x) (g : Both) (rest : List BlockLine) (t
         still = λ t v h. (v, h);
         variables = λ h u there away home. by h u there home away;
         left = cleared.left;
-        next = cleared.next;
       }
         where
           by : (h : Name) (u : ℕ) → IsThere x.table x.blocks site h → (house site h).home ≡ Variable u

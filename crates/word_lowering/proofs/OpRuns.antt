@@ -4,12 +4,12 @@ use Rattle.rv32_isa.specs.Machine.{Lives}
 use Rattle.mid_code.specs.declared.word.WordOperation.{WordOperation}
 use Rattle.mid_code.specs.declared.word.Test.{Test}
 use Rattle.mid_code.specs.declared.word.WordInstr.{WordInstr}
-use Rattle.mid_code.specs.declared.word.WordInstr.TheVariants.{Label, Constant, Copy, Compute, Branch}
+use Rattle.mid_code.specs.declared.word.WordInstr.TheVariants.{Label, Constant, Copy, Compute, Sum, Branch}
 use Rattle.mid_code.specs.declared.word.WordProc.{WordProc}
 use Rattle.mid_code.specs.Memory.{Memory}
 use Rattle.mid_code.specs.Words.{computed, holds, Vars, put, from_label}
-use Rattle.word_lowering.specs.declared.homes.TheConstants.{LEFT, NEXT, FIRST, OWN_FROM}
-use Rattle.word_lowering.proofs.Runs.{Runs, then_runs, Within, at, run_label, run_constant, run_copy, run_compute, run_past, run_off}
+use Rattle.word_lowering.specs.declared.homes.TheConstants.{LEFT, FIRST, OWN_FROM}
+use Rattle.word_lowering.proofs.Runs.{Runs, then_runs, Within, at, run_label, run_constant, run_copy, run_sum, run_compute, run_past, run_off}
 use Rattle.word_lowering.proofs.OrdinalRuns.{put_here, put_other, put_low, AllBut, AllSame, but_one, Gives, Leads}
 use Rattle.word_lowering.proofs.Moves.{all_same, same_more}
 
@@ -18,14 +18,12 @@ pub same_put : (v : Vars) (s n : ℕ) → FIRST ≤ s → s < OWN_FROM → AllSa
 same_put v s n low high = record {
   others = λ u h. put_low v s n u high h;
   left = put_other v s n LEFT (λ e. absurd (omega (arith, e, low)));
-  next = put_other v s n NEXT (λ e. absurd (omega (arith, e, low)));
 }
 
 pub same_but : (u v w : Vars) (to : ℕ) → AllSame u v → AllBut v to w → AllBut u to w
 same_but u v w to x y = record {
   others = λ n h ne. y.others n h ne ∙ x.others n h;
   left = y.left ∙ x.left;
-  next = y.next ∙ x.next;
 }
 
 module _ (live : Lives) (procs : List WordProc) (c : Within) (m : Memory) (g : Vars) where
@@ -53,6 +51,15 @@ module _ (live : Lives) (procs : List WordProc) (c : Within) (m : Memory) (g : V
       runs = run_copy live procs c m k v g to from e;
     }
 
+    pub gives_sum : (from value a : ℕ) → v from ≡ Some a → a + value ≡ n → GivesOf (Sum to from value ∷ k) v to n k 1
+    gives_sum from value a e is = record {
+      vars = put v to n;
+      given = put_here v to n small;
+      but = but_one v v to n high (all_same v);
+      runs = subst (λ r. Runs live procs 1 (at c m (Sum to from value ∷ k) v g) (at c m k (put v to r) g)) is
+          (run_sum live procs c m k v g to from value e);
+    }
+
     pub gives_computed : (operation : WordOperation) (left right a b : ℕ) → v left ≡ Some a → v right ≡ Some b → computed operation a b ≡ n
         → GivesOf (Compute to operation left right ∷ k) v to n k 1
     gives_computed operation left right a b e f is = record {
@@ -74,7 +81,8 @@ module _ (live : Lives) (procs : List WordProc) (c : Within) (m : Memory) (g : V
       runs = then_runs live procs (run_constant live procs c m lines v g s i) x.runs;
     }
 
-    pub behind_computed : (s : ℕ) (operation : WordOperation) (left right a b : ℕ) → FIRST ≤ s → s < OWN_FROM → v left ≡ Some a → v right ≡ Some b
+    pub behind_computed : (s : ℕ) (operation : WordOperation) (left right a b : ℕ) → FIRST ≤ s → s < OWN_FROM
+        → v left ≡ Some a → v right ≡ Some b
         → GivesOf lines (put v s (computed operation a b)) to n k steps → GivesOf (Compute s operation left right ∷ lines) v to n k (1 + steps)
     behind_computed s operation left right a b low high e f x = record {
       vars = x.vars;
@@ -124,8 +132,8 @@ module _ (live : Lives) (procs : List WordProc) (c : Within) (m : Memory) (g : V
     leads_past steps test left right label a b e f h x =
         record { vars = x.vars; same = x.same; runs = then_runs live procs (run_past live procs c m lines v g test left right label e f h) x.runs }
 
-    pub leads_constant : (steps s i : ℕ) → FIRST ≤ s → s < OWN_FROM → LeadsOf lines (put v s i) there steps → LeadsOf (Constant s i ∷ lines) v there
-        (1 + steps)
+    pub leads_constant : (steps s i : ℕ) → FIRST ≤ s → s < OWN_FROM → LeadsOf lines (put v s i) there steps
+        → LeadsOf (Constant s i ∷ lines) v there (1 + steps)
     leads_constant steps s i low high x = record {
       vars = x.vars;
       same = same_more v (put v s i) x.vars (same_put v s i low high) x.same;

@@ -17,7 +17,7 @@ use Rattle.mid_code.specs.declared.word.WordInstr.TheVariants.{Copy}
 use Rattle.mid_code.specs.declared.word.WordProc.{WordProc}
 use Rattle.mid_code.specs.Memory.{Memory}
 use Rattle.mid_code.specs.Words.{Vars, put, from_label}
-use Rattle.word_lowering.specs.declared.homes.TheConstants.{LEFT, NEXT, FIRST, SECOND, THIRD, OWN_FROM}
+use Rattle.word_lowering.specs.declared.homes.TheConstants.{LEFT, FIRST, SECOND, THIRD, OWN_FROM}
 use Rattle.word_lowering.specs.Operations.{word, sum_code, difference_code, product_code, unless_differ}
 use Rattle.word_lowering.proofs.Arithmetic.{signed_word, product_within, sign_word, added_is, sum_fits, subtracted_is, difference_fits, product_is}
 use Rattle.word_lowering.proofs.Arithmetic.{product_fits}
@@ -69,24 +69,21 @@ sign_small n h = by (sign_word n h)
     by (inl s) = omega (arith, s.1)
     by (inr s) = omega (arith, s.1)
 
--- the variables for places are as before but for one, and so are those that count calls
+-- the variables for places are as before but for one, and so is the one that counts calls
 pub record AllBut (v : Vars) (to : ℕ) (w : Vars) : Type 0 where
   pub others : (u : ℕ) → OWN_FROM ≤ u → u ≢ to → w u ≡ v u
   pub left : w LEFT ≡ v LEFT
-  pub next : w NEXT ≡ v NEXT
 
 -- all variables for places are as before
 pub record AllSame (v w : Vars) : Type 0 where
   pub others : (u : ℕ) → OWN_FROM ≤ u → w u ≡ v u
   pub left : w LEFT ≡ v LEFT
-  pub next : w NEXT ≡ v NEXT
 
 -- a variable for a place gets a word
 pub but_one : (v w : Vars) (to n : ℕ) → OWN_FROM ≤ to → AllSame v w → AllBut v to (put w to n)
 but_one v w to n high same = record {
   others = λ u h apart. put_other w to n u apart ∙ same.others u h;
   left = put_high w to n LEFT high (omega arith) ∙ same.left;
-  next = put_high w to n NEXT high (omega arith) ∙ same.next;
 }
 
 module _ (live : Lives) (procs : List WordProc) (c : Within) (m : Memory) (g : Vars) where
@@ -121,7 +118,6 @@ module _ (live : Lives) (procs : List WordProc) (c : Within) (m : Memory) (g : V
           (one_if (is_less_signed (word y) 0)) u
           (omega arith) (omega arith) (omega arith) (omega arith) h;
       left = refl;
-      next = refl;
     }
 
     sum_front : Runs live procs 4 (at c m (sum_code to a b k) v g) (at c m (unless_differ to k) sum_vars g)
@@ -179,7 +175,6 @@ module _ (live : Lives) (procs : List WordProc) (c : Within) (m : Memory) (g : V
           (one_if (is_less_signed (word y) 0)) u
           (omega arith) (omega arith) (omega arith) (omega arith) h;
       left = refl;
-      next = refl;
     }
 
     difference_front : Runs live procs 4 (at c m (difference_code to a b k) v g) (at c m (unless_differ to k) difference_vars g)
@@ -237,7 +232,6 @@ module _ (live : Lives) (procs : List WordProc) (c : Within) (m : Memory) (g : V
           (shifted_right_signed (low_product (word x) (word y)) 31) u
           (omega arith) (omega arith) (omega arith) (omega arith) h;
       left = refl;
-      next = refl;
     }
 
     product_front : Runs live procs 4 (at c m (product_code to a b k) v g) (at c m (unless_differ to k) product_vars g)

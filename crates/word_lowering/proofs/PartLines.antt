@@ -35,7 +35,7 @@ use Rattle.word_lowering.proofs.ShapePaths.{Step, path_on, shapes_before, step_w
 use Rattle.word_lowering.proofs.Arithmetic.{fits_signed}
 use Rattle.word_lowering.proofs.CopyRuns.{got}
 use Rattle.word_lowering.proofs.OrdinalRuns.{put_low}
-use Rattle.word_lowering.proofs.OpRuns.{gives_computed, behind_constant, behind_computed, behind_branch, leads_constant, leads_off}
+use Rattle.word_lowering.proofs.OpRuns.{gives_sum, gives_computed, behind_constant, behind_computed, behind_branch, leads_constant, leads_off}
 use Rattle.word_lowering.proofs.OperationRuns.{Given, Led}
 use Rattle.word_lowering.proofs.OrdinalChecks.{inside_is}
 use Rattle.word_lowering.proofs.LineFits.{Alike, alike_some}
@@ -110,23 +110,17 @@ module _ (x : Basis) (g : Both) (rest : List BlockLine) where
         by (in_data n e plain whole low within start) = never (sym plain ∙ is)
 
     -- an address and an offset
-    pub part_given : (to from a o : ℕ) → IsThere x.table x.blocks g.call.site (of_location to) → IsThere x.table x.blocks g.call.site (of_location from)
-        → g.call.vars (variable from) ≡ Some a → a + o < 2 ^ 32 → (k : List WordInstr)
+    pub part_given : (to from a o : ℕ) → IsThere x.table x.blocks g.call.site (of_location to) → g.call.vars (variable from) ≡ Some a
+        → a + o < 2 ^ 32 → (k : List WordInstr)
         → Given x.live (procs x.table x.blocks) (within x.table x.blocks g) g.memory g.words (part_code (variable to) (variable from) o k) g.call.vars
         (variable to) (a + o) k
-    part_given to from a o there_to there_from is near k =
-        let v1 : Vars = put g.call.vars FIRST o in
+    part_given to from a o there_to is near k =
         record {
-          steps = 1 + 1;
+          steps = 1;
           some = omega arith;
           few = omega arith;
-          gives = behind_constant x.live (procs x.table x.blocks) (within x.table x.blocks g) g.memory g.words
-              (Compute (variable to) operation.Add (variable from) FIRST ∷ k) k g.call.vars (variable to)
-              (a + o) 1 FIRST o (omega arith) (omega arith)
-              (gives_computed x.live (procs x.table x.blocks) (within x.table x.blocks g) g.memory g.words k v1 (variable to) (a + o)
-              (location_high to there_to) near operation.Add (variable from) FIRST
-              a o (put_low g.call.vars FIRST o (variable from) (omega arith) (location_high from there_from) ∙ is) (got o (omega (arith, near)))
-              (omega (arith, near)));
+          gives = gives_sum x.live (procs x.table x.blocks) (within x.table x.blocks g) g.memory g.words k g.call.vars (variable to) (a + o)
+              (location_high to there_to) near (variable from) o a is refl;
         }
 
   -- ---- a field
@@ -192,7 +186,7 @@ module _ (x : Basis) (g : Both) (rest : List BlockLine) where
           (subst (λ n. Given x.live (procs x.table x.blocks) (within x.table x.blocks g) g.memory g.words
           (part_code (variable to) (variable from) n (code_behind x.table x.blocks (body_of g) rest))
           g.call.vars (variable to) (l.address + shapes_before f.all field) (code_behind x.table x.blocks (body_of g) rest)) (sym is_part)
-          (part_given (L.Part to from field) y to from l.address (shapes_before f.all field) t.0 u.0 l.holds small
+          (part_given (L.Part to from field) y to from l.address (shapes_before f.all field) t.0 l.holds small
           (code_behind x.table x.blocks (body_of g) rest)))
 
   -- ---- an element

@@ -110,7 +110,6 @@ module _ (x : Basis) (g : Both) (line : Line) (rest : List BlockLine) (y : IsGoo
         still = λ u w h. (w, h);
         variables = λ h u other away home. same.others u (high_variable x g line rest y h u other home);
         left = same.left;
-        next = same.next;
       }
 
   -- ---- one part

@@ -199,7 +199,7 @@ module _ (x : Basis) (h : Both) (w0 : Waits) (ws : List Waits) (rest : List Bloc
                 (good_gets x h (record w0 { to = Some t }) ws (L.Return result) rest y t v may.there shaped vars m words awaits memory
                 (somewhere (address_of w0.call.site.base to.home) (bytes v) changed.outside (inl refl) may.there inside (omega arith)
                 (omega (arith, size_to)))
-                (λ f u is ne e. kept.others u (place_high x w0.call.site y.linked.5.0 f u is e)) kept.left kept.next
+                (λ f u is ne e. kept.others u (place_high x w0.call.site y.linked.5.0 f u is e)) kept.left
                 (to_memory m w0.call.site.base vars to v plain_to inside there))
                 refl (b.steps + steps) (let s = b.some in omega (arith, s)) (let f = b.few in omega (arith, f, few))
                 (then_runs x.live (procs x.table x.blocks) first runs)

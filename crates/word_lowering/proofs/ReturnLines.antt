@@ -82,7 +82,7 @@ module _ (x : Basis) (h : Both) (w : Waits) (ws : List Waits) (line : Line) (res
   not_start = y.linked.1
 
   left_there : h.call.vars LEFT ≡ Some h.call.site.left
-  left_there = y.hold.0.counts.left not_start
+  left_there = y.hold.0.left not_start
 
   pub hands_nothing : (v : Value) (k : List WordInstr) → is_single v ≡ false → HandsBack v (Return LEFT ∷ k)
   hands_nothing v k no_word = record {

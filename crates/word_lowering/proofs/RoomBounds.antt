@@ -1,7 +1,7 @@
 -- Active calls have room for their places, and for the arguments of one more.
-use Rattle.std.proofs.Common.{◌≡◌, ℕ, zero, suc, ◌+◌, ◌*◌, ◌-◌, ◌^◌, ◌≤◌, ◌<◌, List, [], ◌∷◌, ◌++◌, length, max}
-use Rattle.std.proofs.Common.{replicate, Bool, true, false, ◌&&◌, nat_le}
-use Rattle.std.proofs.Common.{refl, ap, ◌∙◌, arith, if◌then◌else◌, ◌==◌, mul-suc, mul_comm, mul-le-mul, le_refl, length-append}
+use Rattle.std.proofs.Common.{◌≡◌, ℕ, zero, suc, ◌+◌, ◌*◌, ◌-◌, ◌^◌, ◌≤◌, ◌<◌, List, [], ◌∷◌, ◌++◌, length}
+use Rattle.std.proofs.Common.{replicate, true, ◌&&◌, nat_le}
+use Rattle.std.proofs.Common.{refl, ap, ◌∙◌, arith, mul-suc, mul_comm, mul-le-mul, le_refl, length-append}
 use Rattle.std.proofs.lemmas.Bool.{and_parts, leb-true}
 use Rattle.nim_types.specs.declared.types.TypeDef.{TypeDef}
 use Rattle.rv32_isa.specs.Image.{stack_at}
@@ -9,76 +9,17 @@ use Rattle.nim_core.specs.declared.program.TheConstants.{ACTIVE_CALLS}
 use Rattle.mid_code.specs.declared.block.BlockProc.{BlockProc}
 use Rattle.mid_code.specs.declared.block.Blocks.{Blocks}
 use Rattle.mid_code.specs.declared.word.TheConstants.{SPARE_ROOM}
-use Rattle.mid_code.specs.declared.word.WordInstr.{WordInstr}
-use Rattle.mid_code.specs.declared.word.WordInstr.TheVariants.{Label, Constant, Copy, Compute, Place, Datum, Load, Store, Jump, Branch, Argument}
-use Rattle.mid_code.specs.declared.word.WordInstr.TheVariants.{Call}
-use Rattle.mid_code.specs.declared.word.WordInstr.TheVariants.{Return, Read, Write, Exit}
 use Rattle.mid_code.specs.declared.word.WordProc.{WordProc}
-use Rattle.mid_code.specs.Words.{is_counted, from_proc, most_called, uncounted_room, chain_room, most_chain, most_room, most_calls, places_size}
+use Rattle.mid_code.specs.Words.{longest, most_room, most_calls, places_size}
+use Rattle.word_lowering.specs.declared.lowering.TheConstants.{ROUTINE_ROOM, ROUTINE_CHAIN}
 use Rattle.word_lowering.specs.declared.may_lower.TheConstants.{MOST_ROOM, MOST_DATA}
 use Rattle.word_lowering.specs.declared.texts.TheConstants.{FIXED_BYTES}
 use Rattle.word_lowering.specs.Texts.{missing, padded, fixed_texts, all_names, joined_all, ends_from, texts_in, data_in}
 use Rattle.word_lowering.specs.Lowered.{all_layouts, globals_end, data_of, lowered}
 use Rattle.word_lowering.specs.MayLower.{procs_may, defs_may, may_lower}
-use Rattle.word_lowering.specs.Lowers.{AreSmall}
-use Rattle.word_lowering.proofs.SmallProcs.{are_small}
+use Rattle.word_lowering.proofs.SmallProcs.{are_small, chain_short}
+use Rattle.word_lowering.proofs.CallRooms.{call_room}
 use Rattle.word_lowering.proofs.Sites.{Site, next_base, data_end, Linked}
-
--- ---- what doesn't count has no places, and calls nothing
-
-chain_of : (taken : ℕ → ℕ) (procs : List WordProc) → AreSmall procs → uncounted_room taken procs ≡ 0
-chain_of taken [] small = refl
-chain_of taken (p ∷ procs) small = by (is_counted p.kind) refl
-  where
-    by : (b : Bool) → is_counted p.kind ≡ b → (if b then 0 else p.room + most_called taken p.lines) ≡ 0
-    by true e = refl
-    by false e =
-        let r = small.0.routine e in
-        let h = r.room in
-        let c = r.calls taken in
-        omega (arith, h, c)
-
-chain_from : (taken : ℕ → ℕ) (number : ℕ) (procs : List WordProc) → AreSmall procs → uncounted_room taken (from_proc number procs) ≡ 0
-chain_from taken number [] small = refl
-chain_from taken number (p ∷ procs) small = by (p.number == number) (chain_from taken number procs small.1)
-  where
-    by : (b : Bool) → uncounted_room taken (from_proc number procs) ≡ 0 → uncounted_room taken (if b then p ∷ procs else from_proc number procs) ≡ 0
-    by true h = chain_of taken (p ∷ procs) small
-    by false h = h
-
-chain_none : (n : ℕ) (procs : List WordProc) → AreSmall procs → (number : ℕ) → chain_room n procs number ≡ 0
-chain_none zero procs small number = refl
-chain_none (suc n) procs small number = chain_from (chain_room n procs) number procs small
-
-both_none : (a b : ℕ) → a ≡ 0 → b ≡ 0 → max a b ≡ 0
-both_none a b h i = omega (arith, h, i)
-
-called_none : (taken : ℕ → ℕ) → ((number : ℕ) → taken number ≡ 0) → (lines : List WordInstr) → most_called taken lines ≡ 0
-called_none taken h [] = refl
-called_none taken h (Call to callee ∷ lines) = both_none (taken callee) (most_called taken lines) (h callee) (called_none taken h lines)
-called_none taken h (Label name ∷ lines) = called_none taken h lines
-called_none taken h (Constant to value ∷ lines) = called_none taken h lines
-called_none taken h (Copy to from ∷ lines) = called_none taken h lines
-called_none taken h (Compute to operation left right ∷ lines) = called_none taken h lines
-called_none taken h (Place to at ∷ lines) = called_none taken h lines
-called_none taken h (Datum to at ∷ lines) = called_none taken h lines
-called_none taken h (Load to address size ∷ lines) = called_none taken h lines
-called_none taken h (Store address from size ∷ lines) = called_none taken h lines
-called_none taken h (Jump to ∷ lines) = called_none taken h lines
-called_none taken h (Branch test left right to ∷ lines) = called_none taken h lines
-called_none taken h (Argument index from ∷ lines) = called_none taken h lines
-called_none taken h (Return from ∷ lines) = called_none taken h lines
-called_none taken h (Read to address len ∷ lines) = called_none taken h lines
-called_none taken h (Write stream address len ∷ lines) = called_none taken h lines
-called_none taken h (Exit status ∷ lines) = called_none taken h lines
-
-most_none : (taken : ℕ → ℕ) → ((number : ℕ) → taken number ≡ 0) → (procs : List WordProc) → most_chain taken procs ≡ 0
-most_none taken h [] = refl
-most_none taken h (p ∷ procs) = both_none (most_called taken p.lines) (most_chain taken procs) (called_none taken h p.lines) (most_none taken h procs)
-
-room_small : (procs : List WordProc) → AreSmall procs → most_room procs ≤ MOST_ROOM
-room_small [] small = omega arith
-room_small (p ∷ procs) small = let h = small.0.room in let i = room_small procs small.1 in omega (arith, h, i)
 
 -- ---- places
 
@@ -106,7 +47,7 @@ module _ (table : List TypeDef) (blocks : Blocks) where
   sites_spare sites y =
       let h = linked_ends sites y in
       let n = linked_count sites y in
-      let chain : ℕ = most_chain (chain_room (length (lowered table blocks).procs) (lowered table blocks).procs) (lowered table blocks).procs in
+      let chain : ℕ = longest (lowered table blocks).procs (λ p. p.room) in
       let more : length sites * most ≤ suc ACTIVE_CALLS * most = mul-le-mul n (le_refl most) in
       let all : suc ACTIVE_CALLS * most ≤ most_calls * (most + chain) = mul-le-mul (le_refl (suc ACTIVE_CALLS)) (grown most chain) in
       omega (arith, h, more, all)
@@ -119,14 +60,11 @@ module _ (table : List TypeDef) (blocks : Blocks) where
 
   pub places_small : may_lower table blocks ≡ true → stack_at + places_size (lowered table blocks).procs < 2 ^ 32
   places_small may =
-      let small = are_small table blocks may in
       let procs : List WordProc = (lowered table blocks).procs in
-      let r = room_small procs small in
-      let c = most_none (chain_room (length procs) procs) (chain_none (length procs) procs small) procs in
-      by most (most_chain (chain_room (length procs) procs) procs) r c
+      by (most_room procs) (longest procs (λ p. p.room)) (call_room procs (are_small table blocks may) (chain_short table blocks))
     where
-      by : (r c : ℕ) → r ≤ MOST_ROOM → c ≡ 0 → stack_at + (most_calls * (r + c) + SPARE_ROOM) < 2 ^ 32
-      by r c h e = omega (arith, h, e)
+      by : (r c : ℕ) → r + c ≤ MOST_ROOM + ROUTINE_ROOM * ROUTINE_CHAIN → stack_at + (most_calls * (r + c) + SPARE_ROOM) < 2 ^ 32
+      by r c h = omega (arith, h)
 
 -- ---- data: globals end within it
 
@@ -172,11 +110,8 @@ enums_may table blocks may =
 
 pub places_most : (table : List TypeDef) (blocks : Blocks) → may_lower table blocks ≡ true → places_size (lowered table blocks).procs ≤ 268435456
 places_most table blocks may =
-    let small = are_small table blocks may in
     let procs : List WordProc = (lowered table blocks).procs in
-    let r = room_small procs small in
-    let c = most_none (chain_room (length procs) procs) (chain_none (length procs) procs small) procs in
-    by (most_room procs) (most_chain (chain_room (length procs) procs) procs) r c
+    by (most_room procs) (longest procs (λ p. p.room)) (call_room procs (are_small table blocks may) (chain_short table blocks))
   where
-    by : (r c : ℕ) → r ≤ MOST_ROOM → c ≡ 0 → most_calls * (r + c) + SPARE_ROOM ≤ 268435456
-    by r c h e = omega (arith, h, e)
+    by : (r c : ℕ) → r + c ≤ MOST_ROOM + ROUTINE_ROOM * ROUTINE_CHAIN → most_calls * (r + c) + SPARE_ROOM ≤ 268435456
+    by r c h = omega (arith, h)

@@ -9,7 +9,8 @@ use Rattle.rv32_isa.specs.Machine.{Lives}
 use Rattle.mid_code.specs.declared.word.WordOperation.{WordOperation}
 use Rattle.mid_code.specs.declared.word.Test.{Test}
 use Rattle.mid_code.specs.declared.word.WordInstr.{WordInstr}
-use Rattle.mid_code.specs.declared.word.WordInstr.TheVariants.{Label, Constant, Copy, Compute, Place, Datum, Load, Store, Jump, Branch, Argument}
+use Rattle.mid_code.specs.declared.word.WordInstr.TheVariants.{Label, Constant, Copy, Compute, Sum, Place, Datum, Load, Store, Jump, Branch}
+use Rattle.mid_code.specs.declared.word.WordInstr.TheVariants.{Argument}
 use Rattle.mid_code.specs.declared.word.WordProc.{WordProc}
 use Rattle.mid_code.specs.Memory.{Memory, number_at, may_put, with_number, own_data_at}
 use Rattle.mid_code.specs.Words.{computed, holds, Vars, put, WordScene, WordDid, Passes, Leaps, Fails, using, sets, loads, does, WordFrame, WordState}
@@ -95,6 +96,9 @@ module _ (live : Lives) (procs : List WordProc) (c : Within) (m : Memory) (k : L
 
   pub run_copy : {a : ℕ} (to from : ℕ) → v from ≡ Some a → Runs live procs 1 (at c m (Copy to from ∷ k) v g) (at c m k (put v to a) g)
   run_copy {a} to from e = passes (Copy to from) _ (ap (λ o. using o (λ a. sets (scene_of (at c m (Copy to from ∷ k) v g)) to a)) e)
+
+  pub run_sum : {a : ℕ} (to from n : ℕ) → v from ≡ Some a → Runs live procs 1 (at c m (Sum to from n ∷ k) v g) (at c m k (put v to (a + n)) g)
+  run_sum {a} to from n e = passes (Sum to from n) _ (ap (λ o. using o (λ a. sets (scene_of (at c m (Sum to from n ∷ k) v g)) to (a + n))) e)
 
   pub run_compute : {a b : ℕ} (to : ℕ) (operation : WordOperation) (left right : ℕ) → v left ≡ Some a → v right ≡ Some b
       → Runs live procs 1 (at c m (Compute to operation left right ∷ k) v g) (at c m k (put v to (computed operation a b)) g)

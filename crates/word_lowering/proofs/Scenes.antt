@@ -1,7 +1,6 @@
 -- What block code and word code have in common while they run: each value is where its place is, and each location has the address to
 -- which it leads.
 use Rattle.std.proofs.Common.{◌≡◌, ℕ, ◌+◌, List, [], ◌∷◌, map, Some, Bool, true, false}
-use Rattle.rv32_isa.specs.Values.{subtracted}
 use Rattle.nim_types.specs.declared.types.TypeDef.{TypeDef}
 use Rattle.nim_core.specs.Values.{Value, number_of, Location, Standing, Holds, Stands}
 use Rattle.nim_core.specs.State.{World, slot_at}
@@ -12,7 +11,7 @@ use Rattle.mid_code.specs.Words.{Vars}
 use Rattle.mid_code.specs.Scene.{Where, Located, Within, Temps, Filled}
 use Rattle.mid_code.specs.Shapes.{Shape, has_shape}
 use Rattle.mid_code.specs.Fits.{is_value, is_location, is_declared, is_own}
-use Rattle.word_lowering.specs.declared.homes.TheConstants.{LEFT, NEXT}
+use Rattle.word_lowering.specs.declared.homes.TheConstants.{LEFT}
 use Rattle.word_lowering.specs.declared.homes.Home.{Home}
 use Rattle.word_lowering.specs.declared.homes.Home.TheVariants.{Variable, Placed, Static}
 use Rattle.word_lowering.specs.declared.homes.Housed.{Housed}
@@ -22,10 +21,9 @@ use Rattle.word_lowering.specs.Layouts.{found, is_address}
 use Rattle.word_lowering.specs.Spots.{spot_of}
 use Rattle.word_lowering.specs.Operations.{word}
 use Rattle.word_lowering.specs.LineCode.{variable_of}
-use Rattle.word_lowering.specs.Lowered.{calls_to_memory}
 use Rattle.word_lowering.proofs.InMemory.{IsAt}
 use Rattle.word_lowering.proofs.ShapePaths.{PathTo}
-use Rattle.word_lowering.proofs.Sites.{Site, AmongSites, lines_of, around, looks, There, InMemory}
+use Rattle.word_lowering.proofs.Sites.{Site, AmongSites, looks, There, InMemory}
 
 -- ---- where values are
 
@@ -141,17 +139,12 @@ module _ (table : List TypeDef) (blocks : Blocks) where
     pub own : is_own (house c.site (of_place n)).kind ≡ true → (x : Value) × (slot_at w c.site.level n ≡ Holds x)
     pub other : is_own (house c.site (of_place n)).kind ≡ false → StandsFor sites w has c n
 
-  -- the variables that count calls
-  pub record Counts (s : Site) (vars : Vars) : Type 0 where
-    pub left : s.body.start ≡ false → vars LEFT ≡ Some s.left
-    pub next : s.body.start ≡ false → calls_to_memory (around table blocks s.body) (lines_of s.body) ≡ true → vars NEXT ≡ Some (subtracted s.left 1)
-
   pub record Holding (m : Memory) (w : World) (has : Filled) (sites : List Site) (c : Call) : Type 0 where
     pub items : (name : Name) (x : Value) → HasValue w has c name x → IsItem m c name x
     pub led : (t : ℕ) (there : Where) → c.temps.locations t ≡ Some there → IsLed sites has c t there
     pub known : (n : ℕ) → has c.site.level n ≡ true → IsThere c.site (of_place n)
     pub filled : (n : ℕ) → has c.site.level n ≡ true → IsFilled sites w has c n
-    pub counts : Counts c.site c.vars
+    pub left : c.site.body.start ≡ false → c.vars LEFT ≡ Some c.site.left
 
   abbrev pub AllHold : Memory → World → Filled → List Call → Type 0
   AllHold m w has [] = Unit {0}

@@ -1,7 +1,7 @@
--- Procedures of word code are small, those that don't count call nothing, and there are no hooks but block code's.
-use Rattle.std.proofs.Common.{◌≡◌, ℕ, zero, suc, ◌≤◌, List, [], ◌∷◌, length, map, Bool, true, false}
-use Rattle.std.proofs.Common.{max, Option, Some, None, if◌then◌else◌}
-use Rattle.std.proofs.Common.{◌==◌, refl, sym, ap, ◌∙◌, arith}
+-- Procedures of word code are small, chains of those that don't count are short, and there are no hooks but block code's.
+use Rattle.std.proofs.Common.{◌≡◌, ℕ, suc, ◌≤◌, List, [], ◌∷◌, length, map, Bool, true, false}
+use Rattle.std.proofs.Common.{Option, Some, None}
+use Rattle.std.proofs.Common.{refl, sym, ap, ◌∙◌, arith}
 use Rattle.std.proofs.lemmas.Bool.{and_parts, and_from, le-leb, true≢false}
 use Rattle.nim_types.specs.declared.types.TypeDef.{TypeDef}
 use Rattle.nim_core.specs.Traps.{Trap, Overflow, DivisionByZero, IndexOutOfBounds, OutOfRange, LengthChanged, CallDepth}
@@ -9,16 +9,16 @@ use Rattle.mid_code.specs.declared.place.HookOf.{HookOf}
 use Rattle.mid_code.specs.declared.block.BlockProc.{BlockProc}
 use Rattle.mid_code.specs.declared.block.Blocks.{Blocks}
 use Rattle.mid_code.specs.declared.word.WordInstr.{WordInstr}
-use Rattle.mid_code.specs.declared.word.WordInstr.TheVariants.{Label, Constant, Copy, Compute, Place, Datum, Load, Store, Jump, Branch, Argument}
-use Rattle.mid_code.specs.declared.word.WordInstr.TheVariants.{Call}
-use Rattle.mid_code.specs.declared.word.WordInstr.TheVariants.{Return, Read, Write, Exit}
 use Rattle.mid_code.specs.declared.word.WordProc.{WordProc}
 use Rattle.mid_code.specs.Codes.{AreNone, block_hooks}
 use Rattle.mid_code.specs.Running.{last_of}
-use Rattle.mid_code.specs.Sizes.{uncounted_length, chain_length, longest_chain, has_no_circle}
-use Rattle.mid_code.specs.Words.{is_counted, from_proc, most_called, most_chain, is_no_hook, have_no_hooks}
+use Rattle.mid_code.specs.Sizes.{longest_chain, has_no_circle}
+use Rattle.mid_code.specs.Words.{is_counted, most_called, is_no_hook, have_no_hooks}
+use Rattle.mid_code.proofs.ForCallers.{AreRanked, levels_most}
 use Rattle.word_lowering.specs.declared.homes.Layout.{Layout}
+use Rattle.word_lowering.specs.declared.routines.TheConstants.{COPY, CLEAR, SWAP, NUMBER}
 use Rattle.word_lowering.specs.declared.texts.TheConstants.{FIXED_BYTES}
+use Rattle.word_lowering.specs.declared.lowering.TheConstants.{ROUTINE_VARIABLES, ROUTINE_CHAIN}
 use Rattle.word_lowering.specs.declared.may_lower.TheConstants.{MOST_ROOM, MOST_VARS}
 use Rattle.word_lowering.specs.Layouts.{is_empty, layouts, layout_of}
 use Rattle.word_lowering.specs.LineCode.{Around, no_layout, proc_number}
@@ -72,26 +72,25 @@ module _ (table : List TypeDef) (datum : ℕ) where
       let fits : Fits own p = fits_by table own p both.0 in
       last_small own ps fits.room fits.vars both.1
 
-routine_small : (number params vars : ℕ) (lines : List WordInstr) → vars ≤ 9 → ((taken : ℕ → ℕ) → most_called taken lines ≡ 0)
-    → IsSmall (routine number params vars lines)
-routine_small number params vars lines few calls = record {
+routine_small : (number params vars : ℕ) (lines : List WordInstr) → vars ≤ ROUTINE_VARIABLES → IsSmall (routine number params vars lines)
+routine_small number params vars lines few = record {
   room = omega arith;
   variables = omega (arith, few);
-  routine = λ e. record { room = refl; variables = few; calls = calls };
+  routine = λ e. record { room = omega arith; variables = few };
 }
 
 trap_small : (trap : Trap) → IsSmall (trap_routine trap)
-trap_small trap = routine_small _ 0 2 _ (omega arith) (λ taken. refl)
+trap_small trap = routine_small _ 0 2 _ (omega arith)
 
 routines_small : (procs : List WordProc) → AreSmall procs → AreSmall (and_routines procs)
 routines_small procs rest = (
-  routine_small _ 3 5 copy_lines (omega arith) (λ taken. refl),
+  routine_small _ 3 5 copy_lines (omega arith),
   (
-    routine_small _ 2 4 clear_lines (omega arith) (λ taken. refl),
+    routine_small _ 2 4 clear_lines (omega arith),
     (
-      routine_small _ 3 6 swap_lines (omega arith) (λ taken. refl),
+      routine_small _ 3 6 swap_lines (omega arith),
       (
-        routine_small _ 1 9 number_lines (omega arith) (λ taken. refl),
+        routine_small _ 1 9 number_lines (omega arith),
         (
           trap_small Overflow,
           (
@@ -124,62 +123,81 @@ are_small table blocks may =
 
 -- ---- chains of calls of what doesn't count
 
--- the first of what is left, if it doesn't count, calls nothing
-chain_of : (behind : ℕ → ℕ) (procs : List WordProc) → AreSmall procs → uncounted_length behind procs ≤ 1
-chain_of behind [] small = omega arith
-chain_of behind (p ∷ procs) small = by (is_counted p.kind) refl
-  where
-    by : (b : Bool) → is_counted p.kind ≡ b → (if b then 0 else suc (most_called behind p.lines)) ≤ 1
-    by true e = omega arith
-    by false e = let h = (small.0.routine e).calls behind in omega (arith, h)
+-- routines call nothing, so one rank serves all
+abbrev rank : ℕ → ℕ
+rank number = ROUTINE_CHAIN
 
-chain_from : (behind : ℕ → ℕ) (number : ℕ) (procs : List WordProc) → AreSmall procs → uncounted_length behind (from_proc number procs) ≤ 1
-chain_from behind number [] small = omega arith
-chain_from behind number (p ∷ procs) small = by (p.number == number) (chain_from behind number procs small.1)
-  where
-    by : (b : Bool) → uncounted_length behind (from_proc number procs) ≤ 1
-        → uncounted_length behind (if b then p ∷ procs else from_proc number procs) ≤ 1
-    by true h = chain_of behind (p ∷ procs) small
-    by false h = h
+-- a procedure that counts needs none, and one that calls nothing has that of one level
+abbrev Ranked : WordProc → Type 0
+Ranked p = is_counted p.kind ≡ false → suc (most_called rank p.lines) ≤ ROUTINE_CHAIN
 
-chain_short : (n : ℕ) (procs : List WordProc) → AreSmall procs → (number : ℕ) → chain_length n procs number ≤ 1
-chain_short zero procs small number = omega arith
-chain_short (suc n) procs small number = chain_from (chain_length n procs) number procs small
+ending_ranked : (p : WordProc) → most_called rank p.lines ≡ 0 → Ranked p
+ending_ranked p e = λ f. omega (arith, e)
 
-both_short : (a b n : ℕ) → a ≤ n → b ≤ n → max a b ≤ n
-both_short a b n h i = omega (arith, h, i)
+trap_ranked : (trap : Trap) → Ranked (trap_routine trap)
+trap_ranked trap = ending_ranked (trap_routine trap) refl
 
-called_short : (taken : ℕ → ℕ) → ((number : ℕ) → taken number ≤ 1) → (lines : List WordInstr) → most_called taken lines ≤ 1
-called_short taken h [] = omega arith
-called_short taken h (Call to callee ∷ lines) = both_short (taken callee) (most_called taken lines) 1 (h callee) (called_short taken h lines)
-called_short taken h (Label name ∷ lines) = called_short taken h lines
-called_short taken h (Constant to value ∷ lines) = called_short taken h lines
-called_short taken h (Copy to from ∷ lines) = called_short taken h lines
-called_short taken h (Compute to operation left right ∷ lines) = called_short taken h lines
-called_short taken h (Place to at ∷ lines) = called_short taken h lines
-called_short taken h (Datum to at ∷ lines) = called_short taken h lines
-called_short taken h (Load to address size ∷ lines) = called_short taken h lines
-called_short taken h (Store address from size ∷ lines) = called_short taken h lines
-called_short taken h (Jump to ∷ lines) = called_short taken h lines
-called_short taken h (Branch test left right to ∷ lines) = called_short taken h lines
-called_short taken h (Argument index from ∷ lines) = called_short taken h lines
-called_short taken h (Return from ∷ lines) = called_short taken h lines
-called_short taken h (Read to address len ∷ lines) = called_short taken h lines
-called_short taken h (Write stream address len ∷ lines) = called_short taken h lines
-called_short taken h (Exit status ∷ lines) = called_short taken h lines
+routines_ranked : (procs : List WordProc) → AreRanked rank procs → AreRanked rank (and_routines procs)
+routines_ranked procs rest = (
+  ending_ranked (routine COPY 3 5 copy_lines) refl,
+  (
+    ending_ranked (routine CLEAR 2 4 clear_lines) refl,
+    (
+      ending_ranked (routine SWAP 3 6 swap_lines) refl,
+      (
+        ending_ranked (routine NUMBER 1 9 number_lines) refl,
+        (
+          trap_ranked Overflow,
+          (
+            trap_ranked DivisionByZero,
+            (
+              trap_ranked IndexOutOfBounds,
+              (
+                trap_ranked OutOfRange,
+                (
+                  trap_ranked LengthChanged,
+                  (trap_ranked CallDepth, rest),
+                ),
+              ),
+            ),
+          ),
+        ),
+      ),
+    ),
+  ),
+)
 
-most_short : (taken : ℕ → ℕ) → ((number : ℕ) → taken number ≤ 1) → (procs : List WordProc) → most_chain taken procs ≤ 1
-most_short taken h [] = omega arith
-most_short taken h (p ∷ procs) =
-    both_short (most_called taken p.lines) (most_chain taken procs) 1 (called_short taken h p.lines) (most_short taken h procs)
+counted_ranked : (start : Bool) (hook : Option HookOf) (n : ℕ) → is_counted (code.kind_in start hook) ≡ false → n ≤ ROUTINE_CHAIN
+counted_ranked start hook n f = absurd (true≢false (sym (counted_kind start hook) ∙ f))
 
-pub no_circles : (procs : List WordProc) → AreSmall procs → 1 ≤ length procs → has_no_circle procs ≡ true
-no_circles procs small some =
-    let h = most_short (chain_length (suc (length procs)) procs) (chain_short (suc (length procs)) procs small) procs in
-    le-leb _ (length procs) (omega (arith, h, some))
+ranked_if : (runs : Bool) (p : WordProc) (procs : List WordProc) → Ranked p → AreRanked rank procs → AreRanked rank (code.if_runs runs p procs)
+ranked_if true p procs h rest = (h, rest)
+ranked_if false p procs h rest = rest
 
-pub chains : (procs : List WordProc) → AreSmall procs → longest_chain procs ≤ 1
-chains procs small = most_short (chain_length (length procs) procs) (chain_short (length procs) procs small) procs
+procs_ranked : (x : Around) (index : ℕ) (owns : List Layout) (procs : List BlockProc) → AreRanked rank (code.word_procs x index owns procs)
+procs_ranked x index owns [] = tt
+procs_ranked x index [] (p ∷ procs) = tt
+procs_ranked x index (own ∷ owns) (p ∷ []) = tt
+procs_ranked x index (own ∷ owns) (p ∷ q ∷ ps) =
+    ranked_if own.runs _ _ (counted_ranked false p.hook _) (procs_ranked x (suc index) owns (q ∷ ps))
+
+are_ranked : (table : List TypeDef) (blocks : Blocks) → AreRanked rank (code.lowered table blocks).procs
+are_ranked table blocks =
+    let x : Around = code.start_around table blocks.procs in
+    let all : List Layout = code.all_layouts table blocks.procs in
+    (counted_ranked true (last_of code.no_proc blocks.procs).hook _, routines_ranked _ (procs_ranked x 0 all blocks.procs))
+
+pub no_circle : (table : List TypeDef) (blocks : Blocks) → has_no_circle (code.lowered table blocks).procs ≡ true
+no_circle table blocks =
+    let procs : List WordProc = (code.lowered table blocks).procs in
+    let some : ROUTINE_CHAIN ≤ length procs = omega arith in
+    let most = levels_most rank procs (are_ranked table blocks) ROUTINE_CHAIN (λ n. omega arith) (suc (length procs)) in
+    le-leb _ (length procs) (omega (arith, most, some))
+
+pub chain_short : (table : List TypeDef) (blocks : Blocks) → longest_chain (code.lowered table blocks).procs ≤ ROUTINE_CHAIN
+chain_short table blocks =
+    let procs : List WordProc = (code.lowered table blocks).procs in
+    levels_most rank procs (are_ranked table blocks) ROUTINE_CHAIN (λ n. omega arith) (length procs)
 
 -- ---- hooks
 

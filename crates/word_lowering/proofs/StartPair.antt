@@ -11,7 +11,6 @@ use Rattle.nim_core.specs.declared.program.TheConstants.{ACTIVE_CALLS}
 use Rattle.nim_core.specs.Values.{Value, nothing, default_of, Slot, Holds}
 use Rattle.mid_code.specs.declared.block.BlockLine.{BlockLine}
 use Rattle.mid_code.specs.declared.block.Blocks.{Blocks}
-use Rattle.mid_code.specs.declared.word.WordInstr.{WordInstr}
 use Rattle.mid_code.specs.Memory.{Memory}
 use Rattle.mid_code.specs.Scene.{no_temps, Known, known_in}
 use Rattle.mid_code.specs.Words.{no_words, step}
@@ -24,17 +23,12 @@ use Rattle.nim_types.specs.Table.{type_at}
 use Rattle.mid_code.specs.Fits.{result_number, result_at, and_result, results_at}
 use Rattle.mid_code.specs.Running.{Proc, frame_of, has_first}
 use Rattle.word_lowering.specs.Layouts.{result_in}
-use Rattle.word_lowering.specs.Lowered.{calls_to_memory, first_code, result_cleared}
+use Rattle.word_lowering.specs.Lowered.{result_cleared}
 use Rattle.word_lowering.proofs.Runs.{Runs, at, none}
-use Rattle.word_lowering.proofs.Sites.{Body, lines_of, around, Site, word_of, IsBody}
+use Rattle.word_lowering.proofs.Sites.{Body, Site, word_of, IsBody}
 use Rattle.word_lowering.proofs.Scenes.{Name, of_value, of_location, of_place, HasValue}
 use Rattle.word_lowering.proofs.Options.{none_some}
 use Rattle.word_lowering.proofs.Related.{Both, procs, code_behind, within, low, MemoryGood, Good}
-
--- the start code has no first lines
-no_first : (memory : Bool) (k : List WordInstr) → first_code memory true k ≡ k
-no_first true k = refl
-no_first false k = refl
 
 -- ---- both states
 
@@ -123,7 +117,7 @@ module _ (table : List TypeDef) (blocks : Blocks) (b : Body) (is : IsBody table 
           led = λ t there e. absurd (none_some there e);
           known = λ n h. absurd (none_has 0 n h);
           filled = λ n h. absurd (none_has 0 n h);
-          counts = record { left = λ h. absurd (true≢false (sym start ∙ h)); next = λ h m. absurd (true≢false (sym start ∙ h)) };
+          left = λ h. absurd (true≢false (sym start ∙ h));
         },
         tt,
       );
@@ -144,9 +138,6 @@ module _ (table : List TypeDef) (blocks : Blocks) (b : Body) (is : IsBody table 
       answers = tt;
     }
 
-    abbrev to_memory : Bool
-    to_memory = calls_to_memory (around table blocks b) (lines_of b)
-
     -- there is no line before the first one of block code
     pub first_runs : (live : Lives) → result_in b.own.all ≡ None
         → Runs live (procs table blocks) 0 (at (within table blocks first_pair) first (word_of table blocks b).lines no_words no_words)
@@ -156,7 +147,4 @@ module _ (table : List TypeDef) (blocks : Blocks) (b : Body) (is : IsBody table 
         (sym code_is) (none (step live (procs table blocks)) (low table blocks first_pair))
       where
         code_is : (word_of table blocks b).lines ≡ code_behind table blocks b b.proc.lines
-        code_is =
-            ap (λ s. first_code to_memory s (result_cleared (result_in b.own.all) (code_behind table blocks b b.proc.lines))) start
-            ∙ no_first to_memory (result_cleared (result_in b.own.all) (code_behind table blocks b b.proc.lines))
-            ∙ ap (λ r. result_cleared r (code_behind table blocks b b.proc.lines)) result
+        code_is = ap (λ r. result_cleared r (code_behind table blocks b b.proc.lines)) result

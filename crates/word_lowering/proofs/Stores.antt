@@ -159,7 +159,6 @@ module _ (x : Basis) (g : Both) (line : Line) (rest : List BlockLine) (y : IsGoo
             still = λ u w e. (w, e);
             variables = λ h u other away home. same.others u (high_variable x g line rest y h u other home);
             left = same.left;
-            next = same.next;
           })
           (λ e. store_new (call g.call.site g.call.temps vars) sites (inl refl) e)
           (λ c from i e. store_new c from (inr (sites_among (map called_by g.waiting) c i)) e)

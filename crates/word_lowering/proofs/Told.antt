@@ -166,7 +166,6 @@ module _ (x : Basis) (least : FIXED_BYTES ≤ data_end x.table x.blocks) (g : Bo
         still = λ t v h. (v, h);
         variables = λ f u there a home. same.others u (high_home f u there home);
         left = same.left;
-        next = same.next;
       }
 
   -- what comes of it

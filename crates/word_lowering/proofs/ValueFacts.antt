@@ -144,7 +144,6 @@ module _ (x : Basis) where
           still = λ u w h. put_still t v u w h;
           variables = λ f u other away home. but.others u (above f u other home) (apart f u other away home);
           left = but.left;
-          next = but.next;
         }
           where
             different : (u : ℕ) → (g.call.site.level ≢ g.call.site.level) ⊎ (of_value u ≢ of_value t) → u ≢ t

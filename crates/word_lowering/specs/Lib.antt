@@ -1,7 +1,7 @@
 pub mod Stored
 pub mod Lookups
 pub mod Layouts
-pub mod Places
+pub mod PlaceTable
 pub mod Emission
 pub mod Spots
 pub mod Operations
@@ -9,7 +9,7 @@ pub mod Texts
 pub mod Routines
 pub mod LineCode
 pub mod Scope
-pub mod Ahead
+pub mod SaidBehind
 pub mod Lowered
 pub mod MayLower
 pub mod Lowers

@@ -1,7 +1,7 @@
 -- The word code of block code: for each line some lines, which stand before those of the lines behind it. The code of a line is a function of
 -- it and of the lines behind it. No public contract speaks of it.
-use Rattle.std.specs.Prelude.{ℕ, zero, suc, ◌+◌, ◌-◌, ◌*◌, Bool, true, false, if◌then◌else◌, List, [], ◌∷◌, length, Option, Some}
-use Rattle.std.specs.Prelude.{None, slice_get}
+use Rattle.std.specs.Prelude.{ℕ, zero, suc, ◌+◌, ◌-◌, ◌^◌, ◌*◌, Bool, true, false, if◌then◌else◌, List, [], ◌∷◌, length}
+use Rattle.std.specs.Prelude.{Option, Some, None, slice_get}
 use Rattle.arc_base.specs.declared.outside.Stream.TheVariants.{Out}
 use Rattle.nim_types.specs.declared.types.TypeDef.{TypeDef}
 use Rattle.nim_types.specs.declared.types.TypeDef.TheVariants as D
@@ -19,11 +19,11 @@ use Rattle.mid_code.specs.declared.line.FieldFrom.{FieldFrom}
 use Rattle.mid_code.specs.declared.word.WordOperation.TheVariants as operation
 use Rattle.mid_code.specs.declared.word.Test.TheVariants as test
 use Rattle.mid_code.specs.declared.word.WordInstr.{WordInstr}
-use Rattle.mid_code.specs.declared.word.WordInstr.TheVariants.{Label, Constant, Copy, Compute, Place, Datum, Load, Store, Jump, Branch, Argument, Call}
-use Rattle.mid_code.specs.declared.word.WordInstr.TheVariants.{Return, Write, Exit}
+use Rattle.mid_code.specs.declared.word.WordInstr.TheVariants.{Label, Constant, Copy, Compute, Sum, Place, Datum, Load, Store, Jump, Branch}
+use Rattle.mid_code.specs.declared.word.WordInstr.TheVariants.{Argument, Call, Return, Write, Exit}
 use Rattle.mid_code.specs.Sizes.{is_line_end}
 use Rattle.mid_code.specs.Fits.{is_value, is_location, is_own, is_declared, is_global}
-use Rattle.word_lowering.specs.declared.homes.TheConstants.{LEFT, NEXT, FIRST, SECOND, THIRD}
+use Rattle.word_lowering.specs.declared.homes.TheConstants.{LEFT, FIRST, SECOND, THIRD}
 use Rattle.word_lowering.specs.declared.homes.Home.{Home}
 use Rattle.word_lowering.specs.declared.homes.Home.TheVariants.{Variable, Placed, Static}
 use Rattle.word_lowering.specs.declared.homes.Housed.{Housed}
@@ -83,7 +83,7 @@ measure_word Len n = n
 measure_word High n = subtracted n 1
 
 abbrev pub part_code : (to from at : ℕ) → List WordInstr → List WordInstr
-part_code to from at k = Constant FIRST at ∷ Compute to operation.Add from FIRST ∷ k
+part_code to from at k = Sum to from at ∷ k
 
 abbrev pub item_code : (to from index count bytes : ℕ) → List WordInstr → List WordInstr
 item_code to from index count bytes k =
@@ -137,25 +137,16 @@ abbrev pub left_at : (room : ℕ) → Home → Home
 left_at room (Placed at) = Placed (at + room)
 left_at room home = Placed room
 
--- whether a value is in memory
-abbrev pub is_in_memory : Spot → Bool
-is_in_memory (Held v) = false
-is_in_memory (Lies home) = true
+-- what makes a word one less
+abbrev pub one_less : ℕ
+one_less = 2 ^ 32 - 1
 
--- What is done before a call: how many calls may be active behind the new one comes into a variable. The start code may always call. A procedure
--- may not where LEFT is 0. Where the result goes to memory there is room for one line alone; the number, one less than LEFT, is in its variable
--- then from the beginning, and LEFT is below it only where it is 0.
-abbrev pub checked_code : (start memory : Bool) → List WordInstr → List WordInstr
-checked_code true memory k = Constant FIRST (ACTIVE_CALLS - 1) ∷ k
-checked_code false true k = Branch test.Below LEFT NEXT (trap_label CallDepth) ∷ k
-checked_code false false k =
-    Constant FIRST 1 ∷ Copy SECOND LEFT ∷ Branch test.Below SECOND FIRST (trap_label CallDepth) ∷ Compute FIRST operation.Subtract SECOND FIRST ∷ k
-
--- the variable of that number
-abbrev pub next_variable : (start memory : Bool) → ℕ
-next_variable true memory = FIRST
-next_variable false true = NEXT
-next_variable false false = FIRST
+-- What is done before a call: how many calls may be active behind the new one comes into FIRST. The start code may always call. A procedure
+-- may not where LEFT is 0; there alone it is below the word that is one less. By the copy LEFT, which stands in the frame, is loaded once: the sum
+-- and the test both read it.
+abbrev pub checked_code : (start : Bool) → List WordInstr → List WordInstr
+checked_code true k = Constant FIRST (ACTIVE_CALLS - 1) ∷ k
+checked_code false k = Copy SECOND LEFT ∷ Sum FIRST SECOND one_less ∷ Branch test.Below SECOND FIRST (trap_label CallDepth) ∷ k
 
 -- a result that is no word stays where it is, and the word says nothing
 abbrev pub word_back : (word : Bool) → Home → List WordInstr → List WordInstr
@@ -286,18 +277,13 @@ module _ (x : Around) where
   nothing_code None k = k
   nothing_code (Some t) k = Constant (held t) 0 ∷ k
 
-  -- whether the result of a call goes to memory
-  abbrev pub is_to_memory : Option ℕ → Bool
-  is_to_memory None = false
-  is_to_memory (Some t) = is_in_memory (spot_of (value t))
-
   -- a procedure without lines gives nothing
   abbrev pub called_code : (proc : ℕ) → Option ℕ → (runs : Bool) → List WordInstr → List WordInstr
-  called_code proc to true k = Argument LEFT (next_variable x.setting.start (is_to_memory to)) ∷ given_code proc to k
+  called_code proc to true k = Argument LEFT FIRST ∷ given_code proc to k
   called_code proc to false k = nothing_code to k
 
   abbrev pub call_code : (proc : ℕ) → Option ℕ → List WordInstr → List WordInstr
-  call_code proc to k = checked_code x.setting.start (is_to_memory to) (called_code proc to (layout_at proc).runs k)
+  call_code proc to k = checked_code x.setting.start (called_code proc to (layout_at proc).runs k)
 
   -- the start code ends the program
   abbrev pub return_code : (start : Bool) → Option ℕ → List WordInstr → List WordInstr

@@ -13,16 +13,15 @@ use Rattle.mid_code.specs.declared.line.Line.{Line}
 use Rattle.mid_code.specs.declared.line.Line.TheVariants as L
 use Rattle.mid_code.specs.declared.block.BlockProc.{BlockProc}
 use Rattle.mid_code.specs.declared.block.Blocks.{Blocks}
-use Rattle.mid_code.specs.declared.word.WordOperation.TheVariants as operation
 use Rattle.mid_code.specs.declared.word.WordInstr.{WordInstr}
-use Rattle.mid_code.specs.declared.word.WordInstr.TheVariants.{Label, Constant, Compute, Call}
+use Rattle.mid_code.specs.declared.word.WordInstr.TheVariants.{Label, Call}
 use Rattle.mid_code.specs.declared.word.ProcKind.{ProcKind}
 use Rattle.mid_code.specs.declared.word.ProcKind.TheVariants as kind
 use Rattle.mid_code.specs.declared.word.WordProc.{WordProc}
 use Rattle.mid_code.specs.declared.word.WordCode.{WordCode}
 use Rattle.mid_code.specs.Codes.{block_plain}
 use Rattle.mid_code.specs.Running.{last_of}
-use Rattle.word_lowering.specs.declared.homes.TheConstants.{LEFT, NEXT, FIRST, OWN_FROM}
+use Rattle.word_lowering.specs.declared.homes.TheConstants.{FIRST, OWN_FROM}
 use Rattle.word_lowering.specs.declared.homes.Housed.{Housed}
 use Rattle.word_lowering.specs.declared.homes.Layout.{Layout}
 use Rattle.word_lowering.specs.declared.texts.TheConstants.{FIXED_BYTES}
@@ -31,28 +30,13 @@ use Rattle.word_lowering.specs.Spots.{clears}
 use Rattle.word_lowering.specs.Operations.{trap_label}
 use Rattle.word_lowering.specs.Texts.{padded, names_at, literals_at, texts_in, data_in}
 use Rattle.word_lowering.specs.Routines.{trap_number, and_routines}
-use Rattle.word_lowering.specs.LineCode.{Around, no_layout, is_to_memory, lines_code, proc_number}
+use Rattle.word_lowering.specs.LineCode.{Around, no_layout, lines_code, proc_number}
 
 -- ---- procedures
 
 abbrev pub is_call : Line → Bool
 is_call (L.Call to proc) = true
 is_call line = false
-
--- one of the lines is a call whose result goes to memory
-abbrev pub is_call_to_memory : Around → Line → Bool
-is_call_to_memory x (L.Call to proc) = is_to_memory x to
-is_call_to_memory x line = false
-
-abbrev pub calls_to_memory : Around → List Line → Bool
-calls_to_memory x [] = false
-calls_to_memory x (line ∷ rest) = is_call_to_memory x line || calls_to_memory x rest
-
--- how many calls may be active behind the next one, where such a call needs it
-abbrev pub first_code : (memory start : Bool) → List WordInstr → List WordInstr
-first_code false start k = k
-first_code true true k = k
-first_code true false k = Constant FIRST 1 ∷ Compute NEXT operation.Subtract LEFT FIRST ∷ k
 
 -- the result is at its default
 abbrev pub result_cleared : Option Housed → List WordInstr → List WordInstr
@@ -104,8 +88,7 @@ kind_of None = kind.Counted
 kind_of (Some hook) = kind.Hook hook.kind hook.of
 
 abbrev pub code_of : Around → List Line → List WordInstr
-code_of x lines =
-    first_code (calls_to_memory x lines) x.setting.start (result_cleared (result_in x.own.all) (lines_code x lines (last_code lines [])))
+code_of x lines = result_cleared (result_in x.own.all) (lines_code x lines (last_code lines []))
 
 abbrev pub kind_in : (start : Bool) → Option HookOf → ProcKind
 kind_in true hook = kind.Counted

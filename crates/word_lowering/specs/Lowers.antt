@@ -14,15 +14,15 @@ use Rattle.mid_code.specs.declared.word.WordCode.{WordCode}
 use Rattle.mid_code.specs.Codes.{AreNone, block_placed, block_hooks, block_meaning}
 use Rattle.mid_code.specs.Memory.{Memory, as_state}
 use Rattle.mid_code.specs.Sizes.{code_weight, word_weight, data_bytes, longest_chain, has_no_circle}
-use Rattle.mid_code.specs.Words.{is_counted, most_called, have_no_hooks, is_word_code, word_meaning}
-use Rattle.word_lowering.specs.declared.lowering.TheConstants.{WORD_PACE, MOST_HEAP, ROUTINES_WEIGHT, ROUTINE_VARIABLES, ROUTINE_CHAIN, MORE_DATA}
+use Rattle.mid_code.specs.Words.{is_counted, have_no_hooks, is_word_code, word_meaning}
+use Rattle.word_lowering.specs.declared.lowering.TheConstants.{WORD_PACE, MOST_HEAP, ROUTINES_WEIGHT, ROUTINE_ROOM, ROUTINE_VARIABLES}
+use Rattle.word_lowering.specs.declared.lowering.TheConstants.{ROUTINE_CHAIN, MORE_DATA}
 use Rattle.word_lowering.specs.declared.may_lower.TheConstants.{MOST_ROOM, MOST_VARS, MOST_DATA}
 
--- what doesn't count has no places and few variables, and calls nothing
+-- what doesn't count has small places and few variables
 pub record IsRoutine (p : WordProc) : Type 0 where
-  pub room : p.room ≡ 0
+  pub room : p.room ≤ ROUTINE_ROOM
   pub variables : p.vars ≤ ROUTINE_VARIABLES
-  pub calls : (taken : ℕ → ℕ) → most_called taken p.lines ≡ 0
 
 pub record IsSmall (p : WordProc) : Type 0 where
   pub room : p.room ≤ MOST_ROOM

@@ -2,23 +2,25 @@
 ghost use Rattle.std.specs.Prelude.{◌≡◌, IfOk, OnOk};
 ghost use Rattle.word_lowering.specs.Emission.{Puts};
 ghost use Rattle.word_lowering.specs.LineCode.{proc_number, left_at, result_code, given_code};
-ghost use Rattle.word_lowering.specs.LineCode.{is_in_memory, is_to_memory, checked_code};
-ghost use Rattle.word_lowering.specs.LineCode.{next_variable, nothing_code, called_code, call_code};
+ghost use Rattle.word_lowering.specs.LineCode.{checked_code, nothing_code, called_code, call_code};
 ghost use Rattle.word_lowering.specs.LineCode.{layout_at, back_code};
 ghost use Rattle.word_lowering.specs.LineCode.{return_code, exit_code};
 ghost use Rattle.word_lowering.specs.Scope.{around_of};
 
-use crate::homes::{FIRST, Home, Housed, LEFT, NEXT, SECOND};
+use crate::homes::{FIRST, Home, Housed, LEFT, SECOND};
 use crate::layouts::result_in;
 use crate::operations::DEPTH;
 use crate::routines::PROCS_FROM;
 use crate::scope::Scope;
 use crate::spots::{
-    Spot, address, argument, branch, call, compute, constant, emit, emit_moved, load, spot_of, sum,
+    Spot, address, argument, branch, call, constant, emit, emit_moved, load, spot_of, sum, sum_with,
 };
 use arc_base::{Items, Memory};
-use mid_code::{Test, WordInstr, WordOperation};
+use mid_code::{Test, WordInstr};
 use nim_core::ACTIVE_CALLS;
+
+// What makes a word one less.
+const ONE_LESS: u32 = u32::MAX;
 
 /// The number of a procedure in word code.
 pub fn proc_number(proc: u32) -> Result<u32, Memory>
@@ -90,58 +92,24 @@ fn emit_nothing(code: &mut Items<WordInstr>, x: &Scope, to: Option<u32>) -> Resu
     }
 }
 
-// Whether a value is in memory.
-fn is_in_memory(spot: Spot) -> bool
-    ensures { result ≡ is_in_memory spot }
-{
-    matches!(spot, Spot::Lies(_))
-}
-
-/// Whether the result of a call goes to memory.
-pub fn is_to_memory(x: &Scope, to: Option<u32>) -> bool
-    ensures { result ≡ is_to_memory (around_of x.now) to }
-{
-    match to {
-        None => false,
-        Some(t) => is_in_memory(spot_of(x.value(t))),
-    }
-}
-
-// How many calls may be active behind the next one, unless that is one too many.
-fn emit_checked(code: &mut Items<WordInstr>, start: bool, memory: bool) -> Result<(), Memory>
-    ensures { OnOk result (Puts code.old code.new (checked_code start memory)) }
+// How many calls may be active behind the new one, unless that is one too many.
+fn emit_checked(code: &mut Items<WordInstr>, start: bool) -> Result<(), Memory>
+    ensures { OnOk result (Puts code.old code.new (checked_code start)) }
 {
     if start {
         return emit(code, &[constant(FIRST, ACTIVE_CALLS - 1)]);
     }
-    if memory {
-        return emit(code, &[branch(Test::Below, LEFT, NEXT, DEPTH)]);
-    }
     emit(
         code,
         &[
-            constant(FIRST, 1),
             WordInstr::Copy {
                 to: SECOND,
                 from: LEFT,
             },
+            sum_with(FIRST, SECOND, ONE_LESS),
             branch(Test::Below, SECOND, FIRST, DEPTH),
-            compute(FIRST, WordOperation::Subtract, SECOND, FIRST),
         ],
     )
-}
-
-// The variable of that number.
-fn next_variable(start: bool, memory: bool) -> u32
-    ensures { result ≡ next_variable start memory }
-{
-    if start {
-        return FIRST;
-    }
-    if memory {
-        return NEXT;
-    }
-    FIRST
 }
 
 // A call that isn't one too many.
@@ -150,16 +118,14 @@ fn emit_called(
     x: &Scope,
     proc: u32,
     to: Option<u32>,
-    next: u32,
 ) -> Result<(), Memory>
-    requires { next ≡ next_variable x.now.setting.start (is_to_memory (around_of x.now) to) }
     ensures { OnOk result (Puts code.old code.new
         (called_code (around_of x.now) proc to (layout_at (around_of x.now) proc).runs)) }
 {
     if !x.runs(proc) {
         return emit_nothing(code, x, to);
     }
-    emit(code, &[argument(LEFT, next)])?;
+    emit(code, &[argument(LEFT, FIRST)])?;
     emit_given(code, x, proc, to)
 }
 
@@ -172,9 +138,8 @@ pub fn emit_call(
 ) -> Result<(), Memory>
     ensures { OnOk result (Puts code.old code.new (call_code (around_of x.now) proc to)) }
 {
-    let memory = is_to_memory(x, to);
-    emit_checked(code, x.setting.start, memory)?;
-    emit_called(code, x, proc, to, next_variable(x.setting.start, memory))
+    emit_checked(code, x.setting.start)?;
+    emit_called(code, x, proc, to)
 }
 
 // Returns with a result.

@@ -1,5 +1,5 @@
 // Where the places and temporaries of a procedure are in word code.
-use crate::places::Places;
+use crate::place_table::PlaceTable;
 use mid_code::PlaceKind;
 use nim_types::TypeId;
 
@@ -7,28 +7,24 @@ use nim_types::TypeId;
 /// parameter of each procedure.
 pub const LEFT: u32 = 0;
 
-/// The variable of how many calls may still be active behind one that this procedure makes, where it
-/// has a call whose result goes to memory.
-pub const NEXT: u32 = 1;
-
 /// A variable for what comes between; the address to which something goes.
-pub const FIRST: u32 = 2;
+pub const FIRST: u32 = 1;
 
 /// Another one; the address from which something comes.
-pub const SECOND: u32 = 3;
+pub const SECOND: u32 = 2;
 
 /// Another one; how many bytes there are.
-pub const THIRD: u32 = 4;
+pub const THIRD: u32 = 3;
 
 /// Another one.
-pub const FOURTH: u32 = 5;
+pub const FOURTH: u32 = 4;
 
 /// Another one.
-pub const FIFTH: u32 = 6;
+pub const FIFTH: u32 = 5;
 
 /// The first variable that a procedure has for its own places: from here on come its parameters,
 /// and then all others.
-pub const OWN_FROM: u32 = 7;
+pub const OWN_FROM: u32 = 6;
 
 /// Where something of block code is in word code.
 #[derive(Clone, Copy)]
@@ -67,7 +63,7 @@ pub struct Free {
 #[derive(Drop)]
 pub struct Layout {
     /// Its places and temporaries, in their order.
-    pub all: Places,
+    pub all: PlaceTable,
     /// What isn't taken behind them.
     pub free: Free,
     /// Whether it has lines.

@@ -9,7 +9,7 @@ ghost use Rattle.word_lowering.specs.Layouts.{result_in, kept_in, nowhere};
 ghost use Rattle.word_lowering.specs.Stored.{HaveForms};
 
 use crate::homes::{FIRST, Free, Home, Housed, Layout, OWN_FROM, Sort};
-use crate::places::places_of;
+use crate::place_table::places_of;
 use crate::spots::sum;
 use crate::stored::{bytes_at, is_word};
 use arc_base::{Items, Memory};
@@ -49,8 +49,8 @@ fn is_among(number: u32, roots: &[u32]) -> bool
     false
 }
 
-// What is in a variable: an address, and a word whose own address isn't taken. Nobody looks for a
-// temporary among the places whose addresses are taken.
+// What is in a variable: an address, and a word whose own address isn't taken. No line takes that
+// of a temporary, so none is looked for among the roots.
 fn is_kept(number: u32, roots: &[u32], word: bool, kind: PlaceKind) -> bool
     ensures { result ≡ is_kept (is_among number roots.now) word kind }
 {

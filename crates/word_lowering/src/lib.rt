@@ -1,7 +1,6 @@
 //! Block code becomes word code: values in places and temporaries become words and bytes in memory.
 #![tactic(auto)]
 
-mod ahead;
 mod calls;
 mod homes;
 mod layouts;
@@ -10,8 +9,9 @@ mod locations;
 mod lowering;
 mod may_lower;
 mod operations;
-mod places;
+mod place_table;
 mod routines;
+mod said_behind;
 mod scope;
 mod setting;
 mod spots;
@@ -22,10 +22,11 @@ mod values;
 
 pub use homes::{Free, Home, Housed, Layout, Sort};
 pub use lowering::{
-    MORE_DATA, MOST_HEAP, ROUTINE_CHAIN, ROUTINE_VARIABLES, ROUTINES_WEIGHT, WORD_PACE, words,
+    MORE_DATA, MOST_HEAP, ROUTINE_CHAIN, ROUTINE_ROOM, ROUTINE_VARIABLES, ROUTINES_WEIGHT,
+    WORD_PACE, words,
 };
 pub use may_lower::{MOST_DATA, MOST_ROOM, MOST_VARS};
-pub use places::Places;
+pub use place_table::PlaceTable;
 pub use scope::Scope;
 pub use setting::Setting;
 pub use spots::Spot;

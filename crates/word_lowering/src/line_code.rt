@@ -1,7 +1,7 @@
 // The word code of each line.
 ghost use Rattle.std.specs.Prelude.{◌≡◌, ◌+◌, ◌*◌, map, IfOk, OnOk};
 ghost use Rattle.mid_code.specs.Codes.{block_plain};
-ghost use Rattle.word_lowering.specs.Ahead.{IsAhead};
+ghost use Rattle.word_lowering.specs.SaidBehind.{IsSaidBehind};
 ghost use Rattle.word_lowering.specs.Emission.{Puts};
 ghost use Rattle.word_lowering.specs.LineCode.{bool_code, char_code, name_code, literal_code};
 ghost use Rattle.word_lowering.specs.LineCode.{ordinal_code, line_code, lines_code};
@@ -9,7 +9,6 @@ ghost use Rattle.word_lowering.specs.Scope.{around_of};
 ghost use Rattle.word_lowering.specs.Stored.{HaveForms, entry_at, base_at};
 ghost use Rattle.word_lowering.specs.Texts.{names_before};
 
-use crate::ahead::{Ahead, ahead_of, behind_first};
 use crate::calls::{emit_call, emit_exit, emit_return};
 use crate::homes::{FIRST, SECOND, THIRD};
 use crate::locations::{
@@ -19,6 +18,7 @@ use crate::operations::{
     LENGTH, emit_binary, emit_compare, emit_count, emit_fits, emit_narrow, emit_unary, emit_unless,
 };
 use crate::routines::NUMBER;
+use crate::said_behind::{SaidBehind, behind_first, said_by};
 use crate::scope::{Scope, label_before, own_label};
 use crate::spots::{
     address, argument, branch, call, compute, constant, emit, emit_clears, emit_moves, load, sum,
@@ -346,23 +346,23 @@ fn emit_next(
     x: &Scope,
     line: &BlockLine,
     rest: &[BlockLine],
-    ahead: Ahead,
+    said: SaidBehind,
 ) -> Result<(), Memory>
     requires forms { HaveForms x.now.types.now }
-    requires ahead { IsAhead (map block_plain rest.now) ahead }
+    requires said { IsSaidBehind (map block_plain rest.now) said }
     ensures { OnOk result (Puts code.old code.new
         (line_code (around_of x.now) (block_plain line.now) (map block_plain rest.now))) }
 {
     match line {
         BlockLine::Plain(Line::WriteText { bytes }) => {
-            let at = sum(x.setting.literals, ahead.texts)?;
+            let at = sum(x.setting.literals, said.texts)?;
             emit_literal(code, at, bytes.as_slice())
         }
         BlockLine::Plain(Line::Argument { from }) => {
-            emit_argument(code, x, rest, ahead, x.value(*from))
+            emit_argument(code, x, rest, said, x.value(*from))
         }
         BlockLine::Plain(Line::ArgumentAt { from }) => {
-            emit_argument(code, x, rest, ahead, x.location(*from))
+            emit_argument(code, x, rest, said, x.location(*from))
         }
         BlockLine::Plain(line) => emit_line(code, x, line, rest),
     }
@@ -375,11 +375,11 @@ pub fn emit_lines(code: &mut Items<WordInstr>, x: &Scope, lines: &[BlockLine]) -
         (lines_code (around_of x.now) (map block_plain lines.now))) }
 {
     let mut left = lines;
-    let mut ahead = ahead_of(lines)?;
+    let mut said = said_by(lines)?;
     while let Some((line, rest)) = left.split_first() {
-        let behind = behind_first(ahead, line, rest)?;
+        let behind = behind_first(said, line, rest)?;
         emit_next(code, x, line, rest, behind)?;
-        ahead = behind;
+        said = behind;
         left = rest;
     }
     Ok(())

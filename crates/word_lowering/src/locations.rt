@@ -1,7 +1,7 @@
 // The word code of locations, and of arguments.
 ghost use Rattle.std.specs.Prelude.{◌≡◌, map, OnOk};
 ghost use Rattle.mid_code.specs.Codes.{block_plain};
-ghost use Rattle.word_lowering.specs.Ahead.{IsAhead};
+ghost use Rattle.word_lowering.specs.SaidBehind.{IsSaidBehind};
 ghost use Rattle.word_lowering.specs.Emission.{Puts};
 ghost use Rattle.word_lowering.specs.LineCode.{label_before, part_code, item_code, swap_code};
 ghost use Rattle.word_lowering.specs.LineCode.{measure_word, callee_behind, arguments_behind};
@@ -11,15 +11,15 @@ ghost use Rattle.word_lowering.specs.Scope.{around_of};
 ghost use Rattle.word_lowering.specs.Spots.{moves, clears};
 ghost use Rattle.word_lowering.specs.Stored.{HaveForms, part_at, count_in, entry_at, element_bytes};
 
-use crate::ahead::Ahead;
 use crate::homes::{FIRST, Home, Housed, THIRD};
 use crate::layouts::nowhere;
 use crate::operations::INDEX;
 use crate::routines::SWAP;
+use crate::said_behind::SaidBehind;
 use crate::scope::{Scope, label_before, variable_of};
 use crate::spots::{
     argument, branch, call, compute, constant, emit, emit_clears, emit_handed, emit_moves, spot_of,
-    sum,
+    sum, sum_with,
 };
 use crate::stored::{count_in, element_bytes, part_at};
 use arc_base::{Items, Memory};
@@ -30,13 +30,7 @@ use nim_core::Measure;
 fn emit_offset(code: &mut Items<WordInstr>, to: u32, from: u32, at: u32) -> Result<(), Memory>
     ensures { OnOk result (Puts code.old code.new (part_code to from at)) }
 {
-    emit(
-        code,
-        &[
-            constant(FIRST, at),
-            compute(to, WordOperation::Add, from, FIRST),
-        ],
-    )
+    emit(code, &[sum_with(to, from, at)])
 }
 
 pub fn emit_part(
@@ -162,16 +156,16 @@ pub fn emit_argument(
     code: &mut Items<WordInstr>,
     x: &Scope,
     rest: &[BlockLine],
-    ahead: Ahead,
+    said: SaidBehind,
     from: Housed,
 ) -> Result<(), Memory>
-    requires { IsAhead (map block_plain rest.now) ahead }
+    requires { IsSaidBehind (map block_plain rest.now) said }
     ensures { OnOk result (Puts code.old code.new (argument_code (around_of x.now)
         (label_before (map block_plain rest.now))
         (param_for (around_of x.now) (callee_behind (map block_plain rest.now))
         (arguments_behind (map block_plain rest.now))).home from)) }
 {
-    let to = param_for(x, ahead.callee, ahead.arguments);
+    let to = param_for(x, said.callee, said.arguments);
     let label = label_before(rest)?;
     emit_argument_to(code, x, label, to.home, from)
 }

@@ -3,7 +3,6 @@ ghost use Rattle.std.specs.Prelude.{◌≡◌, ◌∷◌, ◌++◌, map, IfOk, O
 ghost use Rattle.mid_code.specs.Codes.{block_plain};
 ghost use Rattle.word_lowering.specs.Emission.{Puts};
 ghost use Rattle.word_lowering.specs.LineCode.{proc_number};
-ghost use Rattle.word_lowering.specs.Lowered.{is_call_to_memory, calls_to_memory, first_code};
 ghost use Rattle.word_lowering.specs.Lowered.{result_cleared, kind_of, kind_in, code_of, word_proc};
 ghost use Rattle.word_lowering.specs.Lowered.{with_own, if_runs, word_procs, all_layouts, around_start};
 ghost use Rattle.word_lowering.specs.Lowers.{Lowers};
@@ -11,22 +10,19 @@ ghost use Rattle.word_lowering.specs.Routines.{and_routines};
 ghost use Rattle.word_lowering.specs.Scope.{around_of};
 ghost use Rattle.word_lowering.specs.Stored.{HaveForms};
 
-use crate::calls::{is_to_memory, proc_number};
-use crate::homes::{FIRST, Housed, LEFT, Layout, NEXT, OWN_FROM};
+use crate::calls::proc_number;
+use crate::homes::{Housed, Layout, OWN_FROM};
 use crate::layouts::{kept_in, layouts, result_in};
 use crate::line_code::emit_lines;
 use crate::may_lower::may_lower;
 use crate::routines::push_routines;
 use crate::scope::Scope;
 use crate::setting::Setting;
-use crate::spots::{compute, constant, emit, emit_clears, sum};
+use crate::spots::{emit_clears, sum};
 use crate::tails::emit_last;
 use crate::texts::{FIXED_BYTES, data, literals_at, names_at, text_bytes, texts_bytes};
 use arc_base::{Items, Memory};
-use mid_code::{
-    BlockLine, BlockProc, Blocks, HookOf, Line, ProcKind, WordCode, WordInstr, WordOperation,
-    WordProc,
-};
+use mid_code::{BlockLine, BlockProc, Blocks, HookOf, ProcKind, WordCode, WordInstr, WordProc};
 use nim_types::TypeTable;
 use rv32_isa::memories;
 use std::alloc::Global;
@@ -38,11 +34,14 @@ pub const WORD_PACE: u32 = 16;
 /// and a start code without lines.
 pub const ROUTINES_WEIGHT: u32 = 100;
 
+/// How many bytes of places a routine may have, a procedure whose calls don't count.
+pub const ROUTINE_ROOM: u32 = 0;
+
 /// How many variables a routine may have.
 pub const ROUTINE_VARIABLES: u32 = 9;
 
-/// How many calls stand in a chain at most, each made by the one before it, of procedures whose calls
-/// don't count: routines call nothing.
+/// How many calls of routines may stand in a chain, each made by the one before it: they call
+/// nothing.
 pub const ROUTINE_CHAIN: u32 = 1;
 
 /// Data has at most so many bytes beside those of globals, of names of enums and of texts.
@@ -50,47 +49,6 @@ pub const MORE_DATA: u32 = 4_092;
 
 /// The greatest heap of a machine.
 pub const MOST_HEAP: u32 = 16_777_216;
-
-// Whether a line is a call whose result goes to memory.
-fn is_call_to_memory(x: &Scope, line: &BlockLine) -> bool
-    ensures { result ≡ is_call_to_memory (around_of x.now) (block_plain line.now) }
-{
-    match line {
-        BlockLine::Plain(Line::Call { to, .. }) => is_to_memory(x, *to),
-        _ => false,
-    }
-}
-
-fn calls_to_memory(x: &Scope, lines: &[BlockLine]) -> bool
-    ensures { result ≡ calls_to_memory (around_of x.now) (map block_plain lines.now) }
-{
-    for line in lines {
-        if is_call_to_memory(x, line) {
-            return true;
-        }
-    }
-    false
-}
-
-// How many calls may be active behind the next one, where a call whose result goes to memory needs
-// it.
-fn emit_first(code: &mut Items<WordInstr>, memory: bool, start: bool) -> Result<(), Memory>
-    ensures { OnOk result (Puts code.old code.new (first_code memory start)) }
-{
-    if !memory {
-        return Ok(());
-    }
-    if start {
-        return Ok(());
-    }
-    emit(
-        code,
-        &[
-            constant(FIRST, 1),
-            compute(NEXT, WordOperation::Subtract, LEFT, FIRST),
-        ],
-    )
-}
 
 // The result is at its default.
 fn emit_result(code: &mut Items<WordInstr>, own: Option<Housed>) -> Result<(), Memory>
@@ -107,7 +65,6 @@ fn code_of(alloc: Global, x: &Scope, lines: &[BlockLine]) -> Result<Items<WordIn
     ensures { IfOk result (λ code. code ≡ code_of (around_of x.now) (map block_plain lines.now)) }
 {
     let mut code = Items::new(alloc);
-    emit_first(&mut code, calls_to_memory(x, lines), x.setting.start)?;
     emit_result(&mut code, result_in(x.own.all.as_slice()))?;
     emit_lines(&mut code, x, lines)?;
     emit_last(&mut code, lines)?;

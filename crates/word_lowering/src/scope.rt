@@ -8,7 +8,7 @@ ghost use Rattle.word_lowering.specs.Scope.{around_of};
 
 use crate::homes::{FIRST, Home, Housed, Layout, Sort};
 use crate::layouts::nowhere;
-use crate::places::Places;
+use crate::place_table::PlaceTable;
 use crate::setting::Setting;
 use crate::spots::sum;
 use arc_base::Memory;
@@ -24,7 +24,7 @@ pub struct Scope<'a> {
     /// The procedure's own layout.
     pub own: &'a Layout,
     /// The places of the start code.
-    pub globals: &'a Places,
+    pub globals: &'a PlaceTable,
     pub setting: Setting,
 }
 

@@ -117,6 +117,12 @@ pub fn compute(to: u32, operation: WordOperation, left: u32, right: u32) -> Word
     }
 }
 
+pub fn sum_with(to: u32, from: u32, value: u32) -> WordInstr
+    ensures { result ≡ WordInstr.Sum to from value }
+{
+    WordInstr::Sum { to, from, value }
+}
+
 pub fn argument(index: u32, from: u32) -> WordInstr
     ensures { result ≡ WordInstr.Argument index from }
 {

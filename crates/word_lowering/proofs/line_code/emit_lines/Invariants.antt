@@ -1,7 +1,7 @@
 use Rattle.std.proofs.Common.{◌≡◌, ◌++◌, List, length, map}
 use Rattle.mid_code.specs.declared.word.WordInstr.{WordInstr}
 use Rattle.mid_code.specs.Codes.{block_plain}
-use Rattle.word_lowering.specs.Ahead.{IsAhead}
+use Rattle.word_lowering.specs.SaidBehind.{IsSaidBehind}
 use Rattle.word_lowering.specs.LineCode.{lines_code}
 use Rattle.word_lowering.specs.Scope.{around_of}
 use Rattle.word_lowering.proofs.line_code.emit_lines.Given as goal
@@ -11,7 +11,7 @@ abbrev pub invariant-loop-line : goal.invariant-loop-line
 invariant-loop-line l = record {
   code : (k : List WordInstr) → l.code ++ lines_code (around_of l.x) (map block_plain l.left) k
       ≡ l.initial.code ++ lines_code (around_of l.x) (map block_plain l.lines) k;
-  ahead : IsAhead (map block_plain l.left) l.ahead;
+  said : IsSaidBehind (map block_plain l.left) l.said;
 }
 
 abbrev pub decreases-loop-line : goal.decreases-loop-line

@@ -1,0 +1,3 @@
+-- The lemmas that proofs of other crates may cite.
+
+pub use Rattle.word_lowering.proofs.CallRooms.{small_found, call_room}

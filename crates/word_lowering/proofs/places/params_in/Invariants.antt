@@ -1,7 +1,0 @@
-use Rattle.std.proofs.Common.{◌≡◌, ◌++◌, drop}
-use Rattle.word_lowering.specs.Lookups.{params_in}
-use Rattle.word_lowering.proofs.places.params_in.Given as goal
-
--- with what is left, it is all
-abbrev pub invariant-loop-h : goal.invariant-loop-h
-invariant-loop-h l = l.params ++ params_in (drop l.h-index l.all) ≡ params_in l.all
