@@ -8,7 +8,6 @@ use Rattle.nim_types.specs.declared.types.TypeDef.{TypeDef}
 use Rattle.nim_plan.specs.declared.plan.Plan.{Plan}
 use Rattle.nim_core.specs.Program.{Program}
 use Rattle.nim_core.specs.Meaning.{meaning}
-use Rattle.rv32_isa.specs.declared.label.LabelLine.{LabelLine}
 use Rattle.rv32_isa.specs.Image.{Image}
 use Rattle.rv32_isa.specs.Machine.{machine}
 use Rattle.mid_code.specs.declared.flat.Flat.{Flat}
@@ -22,7 +21,6 @@ use Rattle.owned_code.specs.Owning.{IsOwned}
 use Rattle.goto_exceptions.specs.Branches.{IsBranched}
 use Rattle.reg_scan.specs.declared.homes.Homes.{Homes}
 use Rattle.rv32_codegen.specs.Layout.{DoesCode, IsFault}
-use Rattle.rv32_codegen.specs.Lowering.{AlwaysDoes, CanRun}
 use Rattle.word_lowering.specs.Lowers.{Lowers}
 use Rattle.core_compiler.specs.Compile.{live_objects, IsLaidOut, DoesProgram}
 use Rattle.rv32_codegen.specs.Lowering.{most_bytes}
@@ -89,8 +87,9 @@ module _ (law : AgreesLaw) (pace : PaceLaw) where
       paced = words_paced;
       can = record {
         formed = low.formed;
-        circle = low.no_circle;
-        little = low.small;
+        no_circle = low.no_circle;
+        chain = low.chain;
+        small = low.small;
         whole = low.whole;
         statics_most = low.data_most;
       };
@@ -100,24 +99,23 @@ module _ (law : AgreesLaw) (pace : PaceLaw) where
 
   -- ---- word code and its image
 
-  module _ (words : WordCode) (homes : List Homes) (lines : List LabelLine) (heap : ℕ) (image : Image)
-      (does : AlwaysDoes lines words homes) (laid : DoesCode live_objects image lines (data_of heap image.stack words.statics) heap image.stack)
-      (can : CanRun words homes heap image.stack) where
+  module _ (words : WordCode) (homes : List Homes) (heap : ℕ) (image : Image) (is : IsLaidOut words homes heap image)
+      (laid : DoesCode live_objects image is.lines (data_of heap image.stack words.statics) heap image.stack) where
     image_agrees : (input : List ℕ) → Sound (word_meaning live_objects words heap image.stack input) →
         Agrees (machine live_objects image input) (word_meaning live_objects words heap image.stack input)
     image_agrees input sound =
-        let upper = does live_objects laid.0 heap image.stack input (λ s t e f. refl) laid.1 can sound in
+        let upper = is.does live_objects laid.0 heap image.stack input (λ s t e f. refl) laid.1 is.can sound in
         law _ _ _ (laid.2 input (sound_low upper.agrees)).0 upper.agrees
 
     image_paced : (input : List ℕ) → Sound (word_meaning live_objects words heap image.stack input) →
         PacedFrom 64 2 (machine live_objects image input) (word_meaning live_objects words heap image.stack input)
     image_paced input sound =
-        let upper = does live_objects laid.0 heap image.stack input (λ s t e f. refl) laid.1 can sound in
+        let upper = is.does live_objects laid.0 heap image.stack input (λ s t e f. refl) laid.1 is.can sound in
         pace 2 32 1 1 _ _ _ (omega arith) (laid.2 input (sound_low upper.agrees)).1 upper.paced
 
-    pub image_of_code : IsLaidOut words homes heap image → length image.code ≤ most_bytes words.procs →
-        (have_no_hooks words.procs ≡ true → image.hooks ≡ []) → IsImageOf words homes heap image
-    image_of_code is few hooks = record { agrees = image_agrees; paced = image_paced; laid = is; code = few; hooks = hooks }
+    pub image_of_code : length image.code ≤ most_bytes words.procs → (have_no_hooks words.procs ≡ true → image.hooks ≡ []) →
+        IsImageOf words homes heap image
+    image_of_code few hooks = record { agrees = image_agrees; paced = image_paced; laid = is; code = few; hooks = hooks }
 
   -- ---- the whole
 

@@ -1,5 +1,6 @@
 -- Which limits say no, and which say yes.
-use Rattle.std.proofs.Common.{◌≡◌, ◌≤◌, ◌<◌, ℕ, ◌+◌, ◌*◌, min, Bool, false, List, map, Option, Some, None, Result, Ok, Err, refl, sym, ap, ◌∙◌, arith, inl, inr}
+use Rattle.std.proofs.Common.{◌≡◌, ◌≤◌, ◌<◌, ℕ, ◌+◌, ◌*◌, min, Bool, false, List, map, Option, Some, None, Result, Ok, Err}
+use Rattle.std.proofs.Common.{refl, sym, ap, ◌∙◌, arith, inl, inr}
 use Rattle.std.specs.Prelude.{nat_le}
 use Rattle.std.proofs.lemmas.Bool.{leb-true, le-leb, cases_Bool}
 use Rattle.arc_base.specs.declared.place.Place.{Place}
@@ -62,11 +63,11 @@ module _ (program : Program) where
         | inr f ↦ f
       ]
 
-  pub bound_is : (flat : Flat) (procs : List WordProc) → code_weight (map flat_placed flat.procs) ≤ 30 * program_parts program →
+  pub bound_is : (flat : Flat) (procs : List WordProc) → code_weight (map flat_placed flat.procs) ≤ 32 * program_parts program →
       word_weight procs ≤ code_weight (map flat_placed flat.procs) + 100 → most_bytes procs ≤ code_bound program
   bound_is flat procs few words =
       let all : most_bytes procs ≤ 20 + 48 * word_weight procs = omega arith in
-      let bound : 1440 * program_parts program + 4820 ≤ code_bound program = omega arith in
+      let bound : 1536 * program_parts program + 4820 ≤ code_bound program = omega arith in
       omega (arith, few, words, all, bound)
 
 -- ---- where all of it is built

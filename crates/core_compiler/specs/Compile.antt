@@ -14,7 +14,7 @@ use Rattle.mid_code.specs.declared.word.WordCode.{WordCode}
 use Rattle.mid_code.specs.Words.{word_meaning}
 use Rattle.reg_scan.specs.declared.homes.Homes.{Homes}
 use Rattle.rv32_codegen.specs.Layout.{laid_out}
-use Rattle.rv32_codegen.specs.Lowering.{AllHomes, AlwaysDoes, MakeFrames}
+use Rattle.rv32_codegen.specs.Lowering.{AllHomes, CanRun, AlwaysDoes, MakeFrames}
 use Rattle.rv32_codegen.specs.Stack.{stack_need}
 use Rattle.core_compiler.specs.declared.program.TheConstants.{IMAGE_PACE, IMAGE_LATE, TIME_PACE, TIME_LATE}
 
@@ -33,12 +33,14 @@ EndsInTime low high = (n status : ℕ) (live : Live) → (high n).phase ≡ Ende
 
 -- ---- the stack
 
--- The image lays out label code that does what word code does where its variables have these homes, on each stack that is at least what
--- these homes need; the frames that it makes are those of these homes; and its own stack is exactly what they need.
+-- The image lays out label code that does what word code does where its variables have these homes, with each heap and each stack from
+-- what these homes need on that a machine may have, and this heap and the image's stack are such. The frames and places that the code makes
+-- are those of these homes and procedures, and the image's own stack is exactly what they need.
 pub record IsLaidOut (words : WordCode) (homes : List Homes) (heap : ℕ) (image : Image) : Type 0 where
   pub right : AllHomes words.procs homes
   pub lines : List LabelLine
   pub does : AlwaysDoes lines words homes
+  pub can : CanRun words homes heap image.stack
   pub frames : MakeFrames lines words.procs homes
   pub made : image ≡ laid_out lines words.statics heap image.stack
   pub stack : image.stack ≡ stack_need words.procs homes
@@ -53,7 +55,7 @@ pub record HasNeededStack (program : Program) (heap : ℕ) (image : Image) : Typ
 -- ---- the whole
 
 -- For every input the machine on the image does what the program means, under each plan, with the heap that the image has; its work is
--- in proportion, and it ends in time. Its stack is exactly what it needs.
+-- in proportion, and it ends in time. Its stack is exactly what some word code needs that does the same and that the image is made of.
 pub record DoesProgram (program : Program) (heap : ℕ) (image : Image) : Type 0 where
   pub agrees : (plan : Plan) (input : List ℕ) → Agrees (machine live_objects image input) (meaning program plan heap input)
   pub paced : (plan : Plan) (input : List ℕ) → PacedFrom IMAGE_PACE IMAGE_LATE (machine live_objects image input) (meaning program plan heap input)

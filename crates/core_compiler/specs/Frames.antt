@@ -191,9 +191,9 @@ module _ (facts : Facts) where
   deep_in_code result (T.DeclareAs node d value rest) =
       first_deep node.number (declared d ++ uses_in value) or_then deep_in_code result rest
 
-  -- by its sum where the procedure stands, which comes before all that stands in it
+  -- by its sum where the procedure stands, which comes before all that stands in it (a procedure without a body is never called, so its
+  -- parameters aren't looked at)
   abbrev pub body_fault : List Param → (at : Place) → Option Body → Option Node
-  -- (a procedure without a body is never called, so its parameters aren't looked at)
   body_fault params at None = None
   body_fault params at (Some body) =
       fault_by (body_sum facts params body) (record { number = first_of body.stmts; at = at })

@@ -14,7 +14,7 @@ use Rattle.rv32_isa.specs.Machine.{machine}
 use Rattle.mid_code.specs.declared.flat.Flat.{Flat}
 use Rattle.mid_code.specs.declared.word.WordCode.{WordCode}
 use Rattle.mid_code.specs.Codes.{flat_meaning, flat_placed, AreNone, flat_hooks}
-use Rattle.mid_code.specs.Sizes.{has_no_circle, word_weight, code_weight}
+use Rattle.mid_code.specs.Sizes.{longest_chain, has_no_circle, word_weight, code_weight}
 use Rattle.mid_code.specs.Words.{word_meaning, is_word_code, have_no_hooks}
 use Rattle.expr_lowering.specs.Frames.{beginning}
 use Rattle.flat_laws.specs.declared.laws.TheConstants.{FLAT_PACE, NODE_WEIGHT}
@@ -25,7 +25,8 @@ use Rattle.rv32_codegen.specs.declared.layout.LayFault.{LayFault}
 use Rattle.rv32_codegen.specs.declared.layout.LayFault.TheVariants.{TooLarge, Memory}
 use Rattle.rv32_codegen.specs.Lowering.{most_bytes}
 use Rattle.reg_scan.specs.declared.homes.Homes.{Homes}
-use Rattle.word_lowering.specs.declared.lowering.TheConstants.{WORD_PACE, ROUTINES_WEIGHT}
+use Rattle.word_lowering.specs.declared.lowering.TheConstants.{WORD_PACE, MOST_HEAP, ROUTINES_WEIGHT, ROUTINE_CHAIN}
+use Rattle.word_lowering.specs.declared.may_lower.TheConstants.{MOST_DATA}
 use Rattle.word_lowering.specs.Stored.{HaveForms}
 use Rattle.word_lowering.specs.Lowers.{AreSmall}
 use Rattle.core_compiler.specs.Compile.{live_objects, IsLaidOut}
@@ -46,16 +47,17 @@ pub record IsFlatOf (table : List TypeDef) (program : Program) (flat : Flat) : T
 -- what an image can be made of
 pub record CanLayOut (words : WordCode) : Type 0 where
   pub formed : is_word_code words ≡ true
-  pub circle : has_no_circle words.procs ≡ true
-  pub little : AreSmall words.procs
+  pub no_circle : has_no_circle words.procs ≡ true
+  pub chain : longest_chain words.procs ≤ ROUTINE_CHAIN
+  pub small : AreSmall words.procs
   pub whole : length words.statics % 4 ≡ 0
-  pub statics_most : length words.statics ≤ 1048568
+  pub statics_most : length words.statics ≤ MOST_DATA
 
 -- word code does what flat code does under each plan, where that is never at a fault and never wrong
 pub record AreWordsOf (table : List TypeDef) (flat : Flat) (words : WordCode) : Type 0 where
-  pub agrees : (plan : Plan) (heap stack : ℕ) (input : List ℕ) → heap ≤ 16777216 → Sound (flat_meaning table flat plan heap input) →
+  pub agrees : (plan : Plan) (heap stack : ℕ) (input : List ℕ) → heap ≤ MOST_HEAP → Sound (flat_meaning table flat plan heap input) →
       Agrees (word_meaning live_objects words heap stack input) (flat_meaning table flat plan heap input)
-  pub paced : (plan : Plan) (heap stack : ℕ) (input : List ℕ) → heap ≤ 16777216 → Sound (flat_meaning table flat plan heap input) →
+  pub paced : (plan : Plan) (heap stack : ℕ) (input : List ℕ) → heap ≤ MOST_HEAP → Sound (flat_meaning table flat plan heap input) →
       PacedFrom WORD_PACE 1 (word_meaning live_objects words heap stack input) (flat_meaning table flat plan heap input)
   pub can : CanLayOut words
   pub weight : word_weight words.procs ≤ code_weight (map flat_placed flat.procs) + ROUTINES_WEIGHT

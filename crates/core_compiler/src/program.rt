@@ -40,7 +40,7 @@ pub const TIME_PACE: u32 = 262_144;
 pub const TIME_LATE: u32 = 64;
 
 /// The most bytes of code for each part that is counted of a program.
-pub const BYTES_OF_PART: u32 = 1_440;
+pub const BYTES_OF_PART: u32 = 1_536;
 
 /// And for the whole.
 pub const BYTES_OF_ALL: u32 = 4_820;

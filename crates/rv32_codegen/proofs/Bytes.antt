@@ -54,6 +54,14 @@ line_bytes h p (word.Copy to from) k = omega (arith, keep_bytes h 3 to (move (ta
 line_bytes h p (word.Compute to o left right) k =
     let rest = Do (operate o (target h to) (left_of h left) (right_of h right)) ∷ keep h to k in
     omega (arith, both_bytes h left right rest, bytes-does (settle (home_of h to)) k, few_settle (home_of h to))
+line_bytes h p (word.Sum to from value) k =
+    let rest = does (sum (target h to) (right_of h from) value) (keep h to k) in
+    omega (
+      arith,
+      bytes-does (bring 6 (home_of h from)) rest,
+      few_bring 6 (home_of h from),
+      keep_bytes h 3 to (sum (target h to) (right_of h from) value) k (few_sum (target h to) (right_of h from) value),
+    )
 line_bytes h p (word.Place to a) k = omega (arith, keep_bytes h 3 to (sum (target h to) 3 a) k (few_sum (target h to) 3 a))
 line_bytes h p (word.Datum to a) k =
     omega (arith, keep_bytes h 2 to (datum (target h to) (datum_at p a)) k (few_datum (target h to) (datum_at p a)))

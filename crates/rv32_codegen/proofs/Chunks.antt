@@ -117,6 +117,14 @@ line_long h p (word.Copy to from) k = omega (arith, keep_long h 3 to (move (targ
 line_long h p (word.Compute to o left right) k =
     let rest = Do (operate o (target h to) (left_of h left) (right_of h right)) ∷ keep h to k in
     omega (arith, both_long h left right rest, length-does (settle (home_of h to)) k, few_settle (home_of h to))
+line_long h p (word.Sum to from value) k =
+    let rest = does (sum (target h to) (right_of h from) value) (keep h to k) in
+    omega (
+      arith,
+      length-does (bring 6 (home_of h from)) rest,
+      few_bring 6 (home_of h from),
+      keep_long h 3 to (sum (target h to) (right_of h from) value) k (few_sum (target h to) (right_of h from) value),
+    )
 line_long h p (word.Place to a) k = omega (arith, keep_long h 3 to (sum (target h to) 3 a) k (few_sum (target h to) 3 a))
 line_long h p (word.Datum to a) k =
     omega (arith, keep_long h 2 to (datum (target h to) (datum_at p a)) k (few_datum (target h to) (datum_at p a)))
@@ -198,6 +206,10 @@ line_split h p (word.Compute to o left right) k =
     let b = settle (home_of h to) in
     let i = operate o (target h to) (left_of h left) (right_of h right) in
     ap (λ x. bring_both h left right (Do i ∷ x)) (does_append b [] k) ∙ both_append h left right (Do i ∷ does b []) k
+line_split h p (word.Sum to from value) k =
+    let a = bring 6 (home_of h from) in
+    let b = sum (target h to) (right_of h from) value in
+    ap (does a) (does_two b (settle (home_of h to)) k) ∙ does_append a (does b (keep h to [])) k
 line_split h p (word.Place to a) k = does_two (sum (target h to) 3 a) (settle (home_of h to)) k
 line_split h p (word.Datum to a) k = does_two (datum (target h to) (datum_at p a)) (settle (home_of h to)) k
 line_split h p (word.Load to a size) k =
@@ -275,6 +287,8 @@ line_look name h p (word.Constant to value) k = skip_does _ (constant (target h 
 line_look name h p (word.Copy to from) k = skip_does _ (move (target h to) (home_of h from)) _ ∙ skip_does _ (settle (home_of h to)) k
 line_look name h p (word.Compute to o left right) k =
     skip_does _ (bring 5 (home_of h left)) _ ∙ skip_does _ (bring 6 (home_of h right)) _ ∙ skip_does _ (settle (home_of h to)) k
+line_look name h p (word.Sum to from value) k =
+    skip_does _ (bring 6 (home_of h from)) _ ∙ skip_does _ (sum (target h to) (right_of h from) value) _ ∙ skip_does _ (settle (home_of h to)) k
 line_look name h p (word.Place to a) k = skip_does _ (sum (target h to) 3 a) _ ∙ skip_does _ (settle (home_of h to)) k
 line_look name h p (word.Datum to a) k = skip_does _ (datum (target h to) (datum_at p a)) _ ∙ skip_does _ (settle (home_of h to)) k
 line_look name h p (word.Load to a size) k = skip_does _ (bring 5 (home_of h a)) _ ∙ skip_does _ (give 5 (home_of h to)) k
@@ -324,6 +338,8 @@ own_line h p (word.Constant to value) = own_two _ (constant (target h to) value)
 own_line h p (word.Copy to from) = own_two _ (move (target h to) (home_of h from)) (settle (home_of h to)) [] tt
 own_line h p (word.Compute to o left right) =
     own_two _ (bring 5 (home_of h left)) (bring 6 (home_of h right)) _ (tt, own_does _ (settle (home_of h to)) [] tt)
+own_line h p (word.Sum to from value) =
+    own_two _ (bring 6 (home_of h from)) (sum (target h to) (right_of h from) value) _ (own_does _ (settle (home_of h to)) [] tt)
 own_line h p (word.Place to a) = own_two _ (sum (target h to) 3 a) (settle (home_of h to)) [] tt
 own_line h p (word.Datum to a) = own_two _ (datum (target h to) (datum_at p a)) (settle (home_of h to)) [] tt
 own_line h p (word.Load to a size) = own_does _ (bring 5 (home_of h a)) _ (tt, own_does _ (give 5 (home_of h to)) [] tt)

@@ -2,51 +2,23 @@
 use Rattle.std.proofs.Common.{◌≡◌, ℕ, zero, suc, ◌+◌, ◌%◌, ◌≤◌, List, [], ◌∷◌, ◌++◌, length, Bool, true}
 use Rattle.std.proofs.Common.{false, Option, Some, None, refl, sym, ap, subst, ◌∙◌, arith}
 use Rattle.std.proofs.Common.{inl, inr}
-use Rattle.std.specs.Prelude.{max, ◌==◌, nat_le, if◌then◌else◌}
+use Rattle.std.specs.Prelude.{◌==◌, nat_le, if◌then◌else◌}
 use Rattle.std.proofs.lemmas.Bool.{cases_Bool, and_parts, eqb-true, leb-true, cond-false, cond_both}
 use Rattle.mid_code.specs.declared.word.WordInstr.{WordInstr}
 use Rattle.mid_code.specs.declared.word.WordInstr.TheVariants as word
 use Rattle.mid_code.specs.declared.word.WordProc.{WordProc}
-use Rattle.mid_code.specs.Words.{is_counted, from_proc, most_called, most_chain, most_room, uncounted_room, chain_room, places_size, is_kind, is_proc, are_procs}
-use Rattle.mid_code.specs.Sizes.{uncounted_length, chain_length, has_no_circle}
-use Rattle.rv32_codegen.specs.Stack.{uncounted, chain}
-use Rattle.rv32_codegen.specs.Chains.{callee_of, taken_for}
+use Rattle.mid_code.specs.Words.{is_counted, from_proc, callee_of, taken_for, most_called, most_chain, uncounted, chain, most_room, places_size}
+use Rattle.mid_code.specs.Words.{is_kind, is_proc, are_procs}
+use Rattle.mid_code.specs.Sizes.{level, has_no_circle}
 use Rattle.rv32_codegen.proofs.Lookups.{nil_cons, here, later}
 
 -- ---- what lines call
-
-none_more : (n : ℕ) → n ≡ max 0 n
-none_more n = omega arith
-
-pub most_more : (taken : ℕ → ℕ) (l : WordInstr) (lines : List WordInstr) →
-    most_called taken (l ∷ lines) ≡ max (taken_for taken (callee_of l)) (most_called taken lines)
-most_more taken (word.Label name) lines = none_more _
-most_more taken (word.Constant to value) lines = none_more _
-most_more taken (word.Copy to from) lines = none_more _
-most_more taken (word.Compute to o left right) lines = none_more _
-most_more taken (word.Place to at) lines = none_more _
-most_more taken (word.Datum to at) lines = none_more _
-most_more taken (word.Load to address size) lines = none_more _
-most_more taken (word.Store address from size) lines = none_more _
-most_more taken (word.Jump to) lines = none_more _
-most_more taken (word.Branch test left right to) lines = none_more _
-most_more taken (word.Argument index from) lines = none_more _
-most_more taken (word.Call to callee) lines = refl
-most_more taken (word.Return from) lines = none_more _
-most_more taken (word.Read to address len) lines = none_more _
-most_more taken (word.Write stream address len) lines = none_more _
-most_more taken (word.Exit status) lines = none_more _
 
 -- what is called takes at most so much
 called_in : (taken : ℕ → ℕ) (before : List WordInstr) (to callee : ℕ) (rest : List WordInstr) →
     taken callee ≤ most_called taken (before ++ word.Call to callee ∷ rest)
 called_in taken [] to callee rest = omega arith
-called_in taken (l ∷ before) to callee rest = omega (
-  arith,
-  most_more taken l (before ++ word.Call to callee ∷ rest),
-  called_in taken before to callee
-      rest,
-)
+called_in taken (l ∷ before) to callee rest = omega (arith, called_in taken before to callee rest)
 
 -- where what is called takes no more, all takes no more: that of chains that are short enough
 for_less : (a b short : ℕ → ℕ) (n : ℕ) (o : Option ℕ) → ((m : ℕ) → short m ≤ n → a m ≤ b m) → taken_for short o ≤ n →
@@ -59,10 +31,9 @@ most_less : (a b short : ℕ → ℕ) (n : ℕ) → ((m : ℕ) → short m ≤ n
     most_called a lines ≤ most_called b lines
 most_less a b short n h [] e = omega arith
 most_less a b short n h (l ∷ lines) e =
-    let parts = most_more short l lines in
-    let first = for_less a b short n (callee_of l) h (omega (arith, e, parts)) in
-    let more = most_less a b short n h lines (omega (arith, e, parts)) in
-    omega (arith, most_more a l lines, most_more b l lines, first, more)
+    let first = for_less a b short n (callee_of l) h (omega (arith, e)) in
+    let more = most_less a b short n h lines (omega (arith, e)) in
+    omega (arith, first, more)
 
 -- what a procedure needs is in the longest chain
 pub need_most : (taken : ℕ → ℕ) (n : ℕ) (procs : List WordProc) (q : WordProc) (tail : List WordProc) → from_proc n procs ≡ q ∷ tail →
@@ -77,9 +48,9 @@ need_most taken n (p ∷ procs) q tail e = elim (cases_Bool (p.number == n)) [
 
 -- the first procedure counts, or the chain behind it is one shorter
 short_found : (short : ℕ → ℕ) (n : ℕ) (q : WordProc) (tail found : List WordProc) → found ≡ q ∷ tail → is_counted q.kind ≡ false →
-    uncounted_length short found ≤ suc n → most_called short q.lines ≤ n
+    uncounted level short found ≤ suc n → most_called short q.lines ≤ n
 short_found short n q tail found e f h =
-    let is = ap (uncounted_length short) e ∙ cond-false (is_counted q.kind) 0 (suc (most_called short q.lines)) f in
+    let is = ap (uncounted level short) e ∙ cond-false (is_counted q.kind) 0 (1 + most_called short q.lines) f in
     omega (arith, is, h)
 
 module _ (procs : List WordProc) (size : WordProc → ℕ) where
@@ -89,28 +60,28 @@ module _ (procs : List WordProc) (size : WordProc → ℕ) where
   -- a chain that ends takes no more where it may be longer
   stable_at : (a b short : ℕ → ℕ) (n : ℕ) → ((lines : List WordInstr) → most_called short lines ≤ n →
       most_called a lines ≤ most_called b lines) →
-      (found : List WordProc) → uncounted_length short found ≤ suc n → uncounted size a found ≤ uncounted size b found
+      (found : List WordProc) → uncounted level short found ≤ suc n → uncounted size a found ≤ uncounted size b found
   stable_at a b short n h [] e = omega arith
   stable_at a b short n h (p ∷ ps) e = by_count (is_counted p.kind) e
     where
-      by_count : (c : Bool) → (if c then 0 else suc (most_called short p.lines)) ≤ suc n →
+      by_count : (c : Bool) → (if c then 0 else 1 + most_called short p.lines) ≤ suc n →
           (if c then 0 else size p + most_called a p.lines) ≤ (if c then 0 else size p + most_called b p.lines)
       by_count true e = omega arith
       by_count false e = omega (arith, h p.lines (omega (arith, e)))
 
-  none_at : (a short : ℕ → ℕ) (found : List WordProc) → uncounted_length short found ≤ 0 → uncounted size a found ≤ 0
+  none_at : (a short : ℕ → ℕ) (found : List WordProc) → uncounted level short found ≤ 0 → uncounted size a found ≤ 0
   none_at a short [] e = omega arith
   none_at a short (p ∷ ps) e = by_count (is_counted p.kind) e
     where
-      by_count : (c : Bool) → (if c then 0 else suc (most_called short p.lines)) ≤ 0 → (if c then 0 else size p + most_called a p.lines) ≤ 0
+      by_count : (c : Bool) → (if c then 0 else 1 + most_called short p.lines) ≤ 0 → (if c then 0 else size p + most_called a p.lines) ≤ 0
       by_count true e = omega arith
       by_count false e = absurd (omega (arith, e))
 
-  stable : (n number : ℕ) → chain_length (suc n) procs number ≤ n → takes (suc n) number ≤ takes n number
-  stable zero number e = none_at (takes zero) (chain_length zero procs) (from_proc number procs) e
+  stable : (n number : ℕ) → chain procs level (suc n) number ≤ n → takes (suc n) number ≤ takes n number
+  stable zero number e = none_at (takes zero) (chain procs level zero) (from_proc number procs) e
   stable (suc n) number e =
-      stable_at (takes (suc n)) (takes n) (chain_length (suc n) procs) n (most_less (takes (suc n)) (takes n) (chain_length (suc n) procs) n (stable n))
-      (from_proc number procs) e
+      let short = chain procs level (suc n) in
+      stable_at (takes (suc n)) (takes n) short n (most_less (takes (suc n)) (takes n) short n (stable n)) (from_proc number procs) e
 
   takes_found : (n : ℕ) (q : WordProc) (tail found : List WordProc) → found ≡ q ∷ tail → is_counted q.kind ≡ false →
       uncounted size (takes n) found ≡ size q + most_called (takes n) q.lines
@@ -133,13 +104,14 @@ module _ (procs : List WordProc) (size : WordProc → ℕ) where
       by_count : (n : ℕ) → length procs ≡ n → size q + need q ≤ need p
       by_count zero e = absurd (nil_cons p ptail (sym (none procs e) ∙ found))
       by_count (suc n) e =
-          let short = chain_length (suc n) procs in
+          let short = chain procs level (suc n) in
+          let longer = chain procs level (suc (suc n)) in
           let in_lines : (taken : ℕ → ℕ) → taken callee ≤ most_called taken p.lines = λ taken.
           subst (λ l. taken callee ≤ most_called taken l) split (called_in taken before to callee rest) in
-          let most : most_chain (chain_length (suc (suc n)) procs) procs ≤ suc n =
-          subst (λ k. most_chain (chain_length (suc k) procs) procs ≤ k) e (leb-true _ _ circle) in
-          let behind : chain_length (suc (suc n)) procs callee ≤ suc n =
-          omega (arith, most, in_lines (chain_length (suc (suc n)) procs), need_most (chain_length (suc (suc n)) procs) p.number procs p ptail found) in
+          let most : most_chain (chain procs level (suc (suc n))) procs ≤ suc n =
+          subst (λ k. most_chain (chain procs level (suc k)) procs ≤ k) e (leb-true _ _ circle) in
+          let behind : chain procs level (suc (suc n)) callee ≤ suc n =
+          omega (arith, most, in_lines longer, need_most longer p.number procs p ptail found) in
           let own = short_found short n q qtail (from_proc callee procs) there f behind in
           let less = most_less (takes (suc n)) (takes n) short n (stable n) q.lines own in
           let is = takes_found n q qtail (from_proc callee procs) there f in
@@ -176,21 +148,21 @@ for_whole taken (Some n) h = h n
 
 called_whole : (taken : ℕ → ℕ) → ((n : ℕ) → taken n % 4 ≡ 0) → (lines : List WordInstr) → most_called taken lines % 4 ≡ 0
 called_whole taken h [] = refl
-called_whole taken h (l ∷ lines) = omega (arith, most_more taken l lines, for_whole taken (callee_of l) h, called_whole taken h lines)
+called_whole taken h (l ∷ lines) = omega (arith, for_whole taken (callee_of l) h, called_whole taken h lines)
 
 uncounted_whole : (taken : ℕ → ℕ) → ((n : ℕ) → taken n % 4 ≡ 0) → (number : ℕ) (procs : List WordProc) → are_procs procs ≡ true →
-    uncounted_room taken (from_proc number procs) % 4 ≡ 0
+    uncounted (λ p. p.room) taken (from_proc number procs) % 4 ≡ 0
 uncounted_whole taken h number [] e = refl
 uncounted_whole taken h number (p ∷ procs) e =
     let x = proc_parts p procs e in
-    cond_both (p.number == number) (p ∷ procs) (from_proc number procs) (λ l. uncounted_room taken l % 4 ≡ 0)
+    cond_both (p.number == number) (p ∷ procs) (from_proc number procs) (λ l. uncounted (λ q. q.room) taken l % 4 ≡ 0)
     (λ t. cond_both (is_counted p.kind) 0 (p.room + most_called taken p.lines) (λ n. n % 4 ≡ 0) (λ c. refl)
     (λ c. omega (arith, room_whole p x.0, called_whole taken h p.lines)))
     (λ f. uncounted_whole taken h number procs x.1)
 
-chain_whole : (n : ℕ) (procs : List WordProc) → are_procs procs ≡ true → (number : ℕ) → chain_room n procs number % 4 ≡ 0
+chain_whole : (n : ℕ) (procs : List WordProc) → are_procs procs ≡ true → (number : ℕ) → chain procs (λ p. p.room) n number % 4 ≡ 0
 chain_whole zero procs e number = refl
-chain_whole (suc n) procs e number = uncounted_whole (chain_room n procs) (chain_whole n procs e) number procs e
+chain_whole (suc n) procs e number = uncounted_whole (chain procs (λ p. p.room) n) (chain_whole n procs e) number procs e
 
 chains_whole : (taken : ℕ → ℕ) → ((n : ℕ) → taken n % 4 ≡ 0) → (procs : List WordProc) → most_chain taken procs % 4 ≡ 0
 chains_whole taken h [] = refl
@@ -199,5 +171,5 @@ chains_whole taken h (p ∷ procs) = omega (arith, called_whole taken h p.lines,
 pub places_whole : (procs : List WordProc) → are_procs procs ≡ true → places_size procs % 4 ≡ 0
 places_whole procs e =
     let a = most_whole procs e in
-    let b = chains_whole (chain_room (length procs) procs) (chain_whole (length procs) procs e) procs in
+    let b = chains_whole (chain procs (λ p. p.room) (length procs)) (chain_whole (length procs) procs e) procs in
     omega (arith, a, b)

@@ -39,6 +39,10 @@ pub seats_apart : (n : ℕ) (home : Home) → IsThere n home → seat 5 home ≢
 seats_apart n (Reg number) h = free_apart number 6 h refl
 seats_apart n (Frame at) h = λ e. omega (arith, e)
 
+pub seats_before : (n : ℕ) (home : Home) → IsThere n home → seat 6 home ≢ 5
+seats_before n (Reg number) h = free_apart number 5 h refl
+seats_before n (Frame at) h = λ e. omega (arith, e)
+
 -- nor is x7
 pub seats_past : (n : ℕ) (home : Home) → IsThere n home → seat 5 home ≢ 7
 seats_past n (Reg number) h = free_apart number 7 h refl

@@ -5,7 +5,6 @@ use Rattle.std.proofs.Common.{Result, Ok, Err, refl, sym, ap, subst, ◌∙◌, 
 use Rattle.std.specs.Prelude.{nat_le, ◌==◌, if◌then◌else◌}
 use Rattle.std.proofs.lemmas.Bool.{lt-leb, leb-true, and_parts, and_left, and_right, true≢false, cases_Bool, cond-true, cond-false}
 use Rattle.arc_base.specs.declared.outside.Stream.{Stream}
-use Rattle.arc_base.specs.Stepping.{Next}
 use Rattle.arc_base.specs.Stepping as steps
 use Rattle.rv32_isa.specs.declared.instr.Instr.{Instr}
 use Rattle.rv32_isa.specs.declared.instr.Instr.TheVariants.{Lui, Auipc, Jal, Jalr, Beq, Bne, Blt, Bge, Bltu, Bgeu, Lb, Lh, Lw, Lbu, Lhu, Sb, Sh, Sw}

@@ -20,6 +20,8 @@ mod Start
 mod Depth
 mod HomeFrames
 mod Whole
+mod MovedFrames
+mod KeptFrames
 mod MadeFrames
 mod Taken
 mod LayoutUp

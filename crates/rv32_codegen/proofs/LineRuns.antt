@@ -25,13 +25,13 @@ use Rattle.reg_scan.specs.declared.homes.Homes.{Homes}
 use Rattle.reg_scan.specs.Alive.{effect_of, IsOne, Alive, read_by, kept_by}
 use Rattle.reg_scan.specs.Homes.{home_of}
 use Rattle.rv32_codegen.specs.Code.{does, operate, datum_at, seat, bring, move, settle, give, is_call_or_label, only_calls, target, left_of, right_of}
-use Rattle.rv32_codegen.specs.Code.{bring_both, keep}
+use Rattle.rv32_codegen.specs.Code.{sum, bring_both, keep}
 use Rattle.rv32_codegen.proofs.Machine.{state_of, run_at, fits_words, word_place, Regs, Quiet, quiet_does, Goes_in, then_goes, goes_within}
 use Rattle.rv32_codegen.proofs.Machine.{writes}
 use Rattle.rv32_codegen.proofs.PieceRuns.{Gets, put_gets, Leads, constant_any, datum_any, sum_any}
 use Rattle.rv32_codegen.proofs.Frees.{kept_apart}
 use Rattle.rv32_codegen.proofs.Computed.{computed_small}
-use Rattle.rv32_codegen.proofs.HomeRuns.{seat_above, seat_small, seats_apart, Brought, Settled, home_moves, home_brings, Lands, home_gives, home_settles}
+use Rattle.rv32_codegen.proofs.HomeRuns.{seat_above, seat_small, seats_apart, seats_before, Brought, Settled, home_moves, home_brings, Lands, home_gives, home_settles}
 use Rattle.rv32_codegen.proofs.HomeRuns.{alike_refl, word_but}
 use Rattle.rv32_codegen.proofs.Chunks.{quiet_lines}
 use Rattle.rv32_codegen.proofs.Lookups.{behind}
@@ -424,6 +424,40 @@ module _ (g : Setting) where
       sets t l rest regs ws j f r 1 7 to (computed o a b) (put x.0 rd v) (record { goes = refl; is = refl }) lt (omega arith)
       (λ s kept ne. z.other s ne ∙ x.2.alike s kept) z.kept (omega arith)
       (then_goes g.live (whole g) g.at 0 1 6 1 _ _ _ x.1 y) (z.same ∙ value ∙ low)))
+
+  pub sum_sim : (to from value : ℕ) → Line_sim (word.Sum to from value)
+  sum_sim to from value t rest regs ws j f =
+      let l = word.Sum to from value in
+      let vars = t.frame.proc.vars in
+      let named = and_parts (nat_lt to vars) (nat_lt from vars) (named_of t l rest f.sits) in
+      let lt = ltb-true to vars named.0 in
+      let h = homes t in
+      let rd = target h to in
+      let rs = right_of h from in
+      let r = Here t l rest regs ws j f in
+      let m = t.memory in
+      let base = t.frame.base in
+      let last = keep h to (Behind t l rest regs ws j f) in
+      let above = target_above t (l ∷ rest) to f.sits lt in
+      let under = target_small t (l ∷ rest) to f.sits lt in
+      let lives : Alive t.frame.proc.lines from (l ∷ rest) = read_by (inl refl) in
+      using_sim r t rest (t.frame.vars from) _ (λ a e.
+      let there = (laid_of t (l ∷ rest) f.sits).there from (f.held from a lives e).0 in
+      let quiet = quiet_does (sum rd rs value) last (keep_quiet t l rest regs ws j f to) in
+      let x = var_brought t (l ∷ rest) regs ws j f regs 6 from a (does (sum rd rs value) last) quiet (omega arith) (omega arith) lives e f.kept
+      (alike_refl regs) in
+      let y = sum_any g.live (whole g) g.at m ws t.input x.0 rd rs value last (keep_quiet t l rest regs ws j f to) (omega (arith, above)) under
+      (seats_before (size h) (home_of h from) there) x.2.kept.good in
+      let same : added (get_or x.0 rs 0) value ≡ (a + value) % 2 ^ 32 = ap (λ n. added n value) x.2.same in
+      let kept : Regs y.0 (frame_at t j) base = record {
+        good = y.2.good;
+        frame_is = y.2.other 2 (λ e. omega (arith, e, above)) (λ e. omega (arith, e)) ∙ x.2.kept.frame_is;
+        base_is = y.2.other 3 (λ e. omega (arith, e, above)) (λ e. omega (arith, e)) ∙ x.2.kept.base_is;
+        data_is = y.2.other 4 (λ e. omega (arith, e, above)) (λ e. omega (arith, e)) ∙ x.2.kept.data_is;
+      } in
+      sets t l rest regs ws j f r 1 6 to (a + value) y.0 (record { goes = refl; is = refl }) lt (omega arith)
+      (λ s kept ne. y.2.other s ne (kept_apart s 5 kept refl) ∙ x.2.others s (kept_apart s 6 kept refl)) kept (omega arith)
+      (then_goes g.live (whole g) g.at 0 1 3 3 _ _ _ x.1 y.1) (y.2.same ∙ same))
 
   pub place_sim : (to a : ℕ) → Line_sim (word.Place to a)
   place_sim to a t rest regs ws j f =

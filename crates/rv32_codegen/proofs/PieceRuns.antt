@@ -89,7 +89,7 @@ by_parts f value =
 constant_low : (rd value : ℕ) → constant rd value ≡ constant rd (value % 2 ^ 32)
 constant_low rd value = by_parts (λ near low high. if near then Addi rd 0 low ∷ [] else Lui rd high ∷ Addi rd rd low ∷ []) value
 
-sum_low : (rd from value : ℕ) → sum rd from value ≡ sum rd from (value % 2 ^ 32)
+pub sum_low : (rd from value : ℕ) → sum rd from value ≡ sum rd from (value % 2 ^ 32)
 sum_low rd from value =
     by_parts (λ near low high. if near then Addi rd from low ∷ [] else Lui 5 high ∷ Addi 5 5 low ∷ Add rd from 5 ∷ []) value
 

@@ -178,6 +178,9 @@ module _ (h : Homes) (good : (v : ℕ) → IsSmall (home_of h v)) where
       fields_does (move (target h to) (home_of h from)) _ (in_move (target h to) (home_of h from) (small_target to) (good from)) (fields_keep to k g)
   fields_line p (word.Compute to o left right) k g =
       fields_both left right _ (in_operate o _ _ _ (small_target to) (small_left left) (small_right right), fields_keep to k g)
+  fields_line p (word.Sum to from value) k g =
+      fields_two (bring 6 (home_of h from)) (sum (target h to) (right_of h from) value) _ (in_bring 6 (home_of h from) (omega arith))
+      (in_sum (target h to) (right_of h from) value (small_target to) (small_right from)) (fields_keep to k g)
   fields_line p (word.Place to a) k g =
       fields_does (sum (target h to) 3 a) _ (in_sum (target h to) 3 a (small_target to) (omega arith)) (fields_keep to k g)
   fields_line p (word.Datum to a) k g =

@@ -44,7 +44,7 @@ use Rattle.rv32_codegen.proofs.Area.{area}
 use Rattle.rv32_codegen.proofs.Machine.{state_of, run_at, Fits, word_place, put_other, quiet_does, Goes_in, then_goes, instr_goes, writes}
 use Rattle.rv32_codegen.proofs.Lookups.{procs_code, behind, none_some, number_is, code_from, entry_is}
 use Rattle.rv32_codegen.proofs.Frames.{size, code_here, Setting, whole, True, Rel, Sim}
-use Rattle.rv32_codegen.proofs.LineRuns.{Line_sim, label_sim, constant_sim, datum_sim, copy_sim, compute_sim, place_sim}
+use Rattle.rv32_codegen.proofs.LineRuns.{Line_sim, label_sim, constant_sim, datum_sim, copy_sim, compute_sim, sum_sim, place_sim}
 use Rattle.rv32_codegen.proofs.JumpRuns.{jump_sim, branch_sim}
 use Rattle.rv32_codegen.proofs.Access.{load_sim, store_sim, argument_sim, write_sim, read_sim, exit_sim}
 use Rattle.rv32_codegen.proofs.Calls.{seen_is, enters, call_sim}
@@ -106,6 +106,7 @@ module _ (g : Setting) where
   line_sim (word.Constant to value) = constant_sim g to value
   line_sim (word.Copy to from) = copy_sim g to from
   line_sim (word.Compute to o left right) = compute_sim g to o left right
+  line_sim (word.Sum to from value) = sum_sim g to from value
   line_sim (word.Place to a) = place_sim g to a
   line_sim (word.Datum to a) = datum_sim g to a
   line_sim (word.Load to address s) = load_sim g to address s

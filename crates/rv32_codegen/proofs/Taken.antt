@@ -9,15 +9,14 @@ use Rattle.std.proofs.lemmas.Option.{slice_get_read}
 use Rattle.mid_code.specs.declared.word.TheConstants.{MOST_ARGUMENTS, SPARE_ROOM}
 use Rattle.mid_code.specs.declared.word.WordInstr.{WordInstr}
 use Rattle.mid_code.specs.declared.word.WordProc.{WordProc}
-use Rattle.mid_code.specs.Words.{is_counted, most_calls, from_proc, most_called, most_chain, most_room, uncounted_room, chain_room}
+use Rattle.mid_code.specs.Words.{is_counted, most_calls, from_proc, callee_of, taken_for, most_called, most_chain, uncounted, chain, longest, most_room}
 use Rattle.reg_scan.specs.declared.homes.Homes.{Homes}
-use Rattle.rv32_codegen.specs.Stack.{uncounted, chain, longest, frame_for, most_frame, stack_need}
-use Rattle.rv32_codegen.specs.Chains.{callee_of, cut, number_for, chain_from, chains_from, most_of, rooms_of, frames_of, taken_for, none_of, cut_chain}
+use Rattle.rv32_codegen.specs.Stack.{frame_for, most_frame, stack_need}
+use Rattle.rv32_codegen.specs.Chains.{cut, number_for, chain_from, chains_from, most_of, rooms_of, frames_of, none_of, cut_chain}
 use Rattle.rv32_codegen.specs.Chains.{AreLongest, NoneBehind}
 use Rattle.rv32_codegen.specs.Chains.{IsCallSize}
 use Rattle.rv32_codegen.specs.Lowering.{AllHomes}
 use Rattle.rv32_codegen.proofs.Lookups.{none_some, some_same, nil_cons, here, later}
-use Rattle.rv32_codegen.proofs.Depth.{most_more}
 
 -- ---- rounds
 
@@ -72,7 +71,7 @@ for_cut f (Some n) = refl
 
 most_cut : (f : ℕ → ℕ) (lines : List WordInstr) → most_called (λ n. cut (f n)) lines ≡ cut (most_called f lines)
 most_cut f [] = refl
-most_cut f (l ∷ lines) = omega (arith, most_more (λ n. cut (f n)) l lines, most_more f l lines, for_cut f (callee_of l), most_cut f lines)
+most_cut f (l ∷ lines) = omega (arith, for_cut f (callee_of l), most_cut f lines)
 
 chain_cut : (f : ℕ → ℕ) (procs : List WordProc) → most_chain (λ n. cut (f n)) procs ≡ cut (most_chain f procs)
 chain_cut f [] = refl
@@ -150,15 +149,6 @@ most_rooms : (procs : List WordProc) → most_of (rooms_of procs) ≡ most_room 
 most_rooms [] = refl
 most_rooms (p ∷ procs) = ap (max p.room) (most_rooms procs)
 
-same_uncounted : (f : ℕ → ℕ) (found : List WordProc) → uncounted (λ p. p.room) f found ≡ uncounted_room f found
-same_uncounted f [] = refl
-same_uncounted f (p ∷ ps) = refl
-
-same_chain : (procs : List WordProc) (k n : ℕ) → chain procs (λ p. p.room) k n ≡ chain_room k procs n
-same_chain procs zero n = refl
-same_chain procs (suc k) n =
-    ap (λ f. uncounted (λ p. p.room) f (from_proc n procs)) (λ i m. same_chain procs k m i) ∙ same_uncounted (chain_room k procs) (from_proc n procs)
-
 -- ---- frames
 
 length-frames : (procs : List WordProc) (homes : List Homes) → AllHomes procs homes → length (frames_of homes) ≡ length procs
@@ -194,12 +184,10 @@ frames_long procs homes sizes h e = ap length e ∙ length-frames procs homes h
 
 module _ (procs : List WordProc) (homes : List Homes) (all : AllHomes procs homes) where
   places_call : (size : ℕ) → IsCallSize procs (rooms_of procs) size →
-      size ≡ most_room procs + cut (most_chain (chain_room (length procs) procs) procs)
+      size ≡ most_room procs + cut (longest procs (λ p. p.room))
   places_call size h =
       let a = longest_cut procs (rooms_of procs) (λ p. p.room) (length-rooms procs) (are_rooms procs) in
-      let b : longest procs (λ p. p.room) ≡ most_chain (chain_room (length procs) procs) procs =
-      ap (λ f. most_chain f procs) (λ i n. same_chain procs (length procs) n i) in
-      omega (arith, h.is, a, ap cut b, most_rooms procs)
+      omega (arith, h.is, a, most_rooms procs)
 
   frames_call : (size : ℕ) → IsCallSize procs (frames_of homes) size →
       size ≡ most_frame homes + cut (longest procs (λ p. frame_for procs homes p.number))

@@ -21,11 +21,12 @@ use Rattle.mid_code.specs.declared.word.WordProc.{WordProc}
 use Rattle.mid_code.specs.declared.word.WordCode.{WordCode}
 use Rattle.mid_code.specs.Memory.{data_of}
 use Rattle.mid_code.specs.Running.{if_formed}
-use Rattle.mid_code.specs.Words.{from_proc, first_of, is_kind, is_no_hook, have_no_hooks, are_procs, may_start, is_word_code, start, word_meaning}
+use Rattle.mid_code.specs.Words.{from_proc, first_of, chain, longest, is_kind, is_no_hook, have_no_hooks, are_procs, may_start, is_word_code, start}
+use Rattle.mid_code.specs.Words.{word_meaning}
 use Rattle.mid_code.specs.Words as words
 use Rattle.reg_scan.specs.declared.homes.Homes.{Homes}
 use Rattle.rv32_codegen.specs.Code.{does, sum, negative, lines_code, hook_of, entry_code, homes_code, start_code, code_of}
-use Rattle.rv32_codegen.specs.Stack.{chain, frame_for, longest, most_frame}
+use Rattle.rv32_codegen.specs.Stack.{frame_for, most_frame}
 use Rattle.rv32_codegen.specs.Layout.{is_none, enters_no_hook}
 use Rattle.rv32_codegen.specs.Lowering.{AllHomes, CanRun, DoesWords, AlwaysDoes, most_lines}
 use Rattle.rv32_codegen.proofs.Chunks.{line_long, length-does, few_sum, body, body_split, own_body, leads_own, unhooked_own}

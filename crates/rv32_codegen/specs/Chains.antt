@@ -1,16 +1,9 @@
 -- Chains of calls as they are computed: a number for each procedure, in order, of at most 32 bits. No public contract speaks of it.
 use Rattle.std.specs.Prelude.{◌≡◌, ◌<◌, ◌≤◌, ℕ, zero, suc, ◌+◌, ◌-◌, ◌^◌, max, min, ◌==◌, if◌then◌else◌, List, [], ◌∷◌}
-use Rattle.std.specs.Prelude.{length, drop, Option, Some, None}
-use Rattle.mid_code.specs.declared.word.WordInstr.{WordInstr}
-use Rattle.mid_code.specs.declared.word.WordInstr.TheVariants.{Call}
+use Rattle.std.specs.Prelude.{length, drop}
 use Rattle.mid_code.specs.declared.word.WordProc.{WordProc}
 use Rattle.mid_code.specs.Words.{is_counted, most_called, most_chain}
 use Rattle.reg_scan.specs.declared.homes.Homes.{Homes}
-
--- the number of the procedure that a line calls
-abbrev pub callee_of : WordInstr → Option ℕ
-callee_of (Call to callee) = Some callee
-callee_of line = None
 
 -- what is too large is the largest word
 abbrev pub cut : ℕ → ℕ
@@ -50,10 +43,6 @@ frames_of [] = []
 frames_of (h ∷ homes) = h.frame ∷ frames_of homes
 
 -- ---- what is computed
-
-abbrev pub taken_for : (taken : ℕ → ℕ) → Option ℕ → ℕ
-taken_for taken None = 0
-taken_for taken (Some callee) = taken callee
 
 abbrev pub none_of : List WordProc → List ℕ
 none_of [] = []

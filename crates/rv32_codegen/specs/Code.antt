@@ -171,7 +171,8 @@ abbrev pub only_calls : List WordInstr → Bool
 only_calls [] = true
 only_calls (line ∷ lines) = is_call_or_label line && only_calls lines
 
--- Behind the first call there are calls alone, as those that end the program by a trap: where a procedure returns, x1 still holds the return address.
+-- Nothing but calls and labels stands behind the first call, if there is one, as where calls end the program by a trap: where a procedure returns,
+-- x1 still holds the return address.
 abbrev pub is_leaf : List WordInstr → Bool
 is_leaf [] = true
 is_leaf (line ∷ lines) = if (effect_of line).calls then only_calls lines else is_leaf lines
@@ -220,6 +221,7 @@ line_code h p (word.Constant to value) k = does (constant (target h to) value) (
 line_code h p (word.Copy to from) k = does (move (target h to) (home_of h from)) (keep h to k)
 line_code h p (word.Compute to operation left right) k =
     bring_both h left right (Do (operate operation (target h to) (left_of h left) (right_of h right)) ∷ keep h to k)
+line_code h p (word.Sum to from value) k = does (bring 6 (home_of h from)) (does (sum (target h to) (right_of h from) value) (keep h to k))
 line_code h p (word.Place to at) k = does (sum (target h to) 3 at) (keep h to k)
 line_code h p (word.Datum to at) k = does (datum (target h to) (datum_at p at)) (keep h to k)
 line_code h p (word.Load to address size) k =

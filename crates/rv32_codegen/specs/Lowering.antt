@@ -1,25 +1,29 @@
 -- What the label code of word code does.
 --
 --     word code ──code──> label code ──lay_out──> image
-use Rattle.std.specs.Prelude.{◌≡◌, ◌≤◌, ◌<◌, ℕ, ◌+◌, ◌*◌, ◌%◌, ◌^◌, true, List, [], ◌∷◌, length, Option, Some}
+use Rattle.std.specs.Prelude.{◌≡◌, ◌≤◌, ◌<◌, ℕ, ◌+◌, ◌*◌, ◌%◌, ◌^◌, Bool, true, false, not, ◌&&◌}
+use Rattle.std.specs.Prelude.{List, [], ◌∷◌, ◌++◌, map, length, Option, Some, None}
 use Rattle.arc_base.specs.Behaviour.{Agrees, Sound}
 use Rattle.arc_base.specs.Pace.{Paced}
 use Rattle.rv32_isa.specs.Machine.{Lives}
 use Rattle.rv32_isa.specs.State.{State, reg}
-use Rattle.rv32_isa.specs.Values.{added}
+use Rattle.rv32_isa.specs.Image.{stack_at}
+use Rattle.rv32_isa.specs.Values.{added, subtracted}
 use Rattle.rv32_isa.specs.Steps.{Goes, obey}
 use Rattle.rv32_isa.specs.declared.instr.Instr.{Instr}
+use Rattle.rv32_isa.specs.declared.instr.Instr.TheVariants.{Jalr, Ebreak}
+use Rattle.rv32_isa.specs.declared.label.Test.{Test}
 use Rattle.rv32_isa.specs.declared.label.HookLabel.{HookLabel}
-use Rattle.rv32_isa.specs.declared.label.LabelName.TheVariants.{Entry}
+use Rattle.rv32_isa.specs.declared.label.LabelName.TheVariants.{Entry, Inner}
 use Rattle.rv32_isa.specs.declared.label.LabelLine.{LabelLine}
-use Rattle.rv32_isa.specs.declared.label.LabelLine.TheVariants.{Label, Do}
-use Rattle.rv32_isa.specs.Labels.{from_label, Addresses, Rise, marks}
-use Rattle.rv32_isa.specs.LabelsMeaning.{OfDataAndHeap, label_meaning}
+use Rattle.rv32_isa.specs.declared.label.LabelLine.TheVariants.{Label, Do, Jump, Branch}
+use Rattle.rv32_isa.specs.Labels.{is_jalr, from_label, Addresses, Rise, marks}
+use Rattle.rv32_isa.specs.LabelsMeaning.{OfDataAndHeap, is_straight, start, label_meaning}
 use Rattle.mid_code.specs.declared.word.WordProc.{WordProc}
 use Rattle.mid_code.specs.declared.word.WordCode.{WordCode}
 use Rattle.mid_code.specs.Memory.{data_of}
 use Rattle.mid_code.specs.Sizes.{word_weight, word_line_count, has_no_circle}
-use Rattle.mid_code.specs.Words.{has_number, word_meaning}
+use Rattle.mid_code.specs.Words.{from_proc, first_of, has_number, word_meaning}
 use Rattle.reg_scan.specs.declared.homes.Homes.{Homes}
 use Rattle.reg_scan.specs.Homes.{IsHomes}
 use Rattle.rv32_codegen.specs.declared.label_code.TheConstants.{CODE_PACE, LINES_OF_LINE, LINES_OF_PROC, LINES_OF_START, BYTES_OF_LINE}
@@ -53,24 +57,85 @@ AlwaysDoes lines code homes =
     CanRun code homes heap stack →
     Sound (word_meaning live code heap stack input) → DoesWords lines code live at heap stack input
 
--- ---- the frames that lines make
+-- ---- the frames and places that lines make: x2 is where the frame of the running call begins, x3 where its places do
 
--- From a state on, the instructions that stand first in these lines bring x2 down by so many bytes from where it was.
-pub data ComesDown (bytes from : ℕ) : State → List LabelLine → Type 0 where
-  there : {s : State} {lines : List LabelLine} → added (reg s 2) bytes ≡ from → ComesDown bytes from s lines
-  first : {s next : State} {i : Instr} {lines : List LabelLine} → obey s 0 0 i ≡ Goes next → ComesDown bytes from next lines →
-      ComesDown bytes from s (Do i ∷ lines)
+-- behind it the next line follows, if any does
+abbrev pub goes_on : Instr → Bool
+goes_on i = is_straight i && not (is_jalr i)
 
--- Right behind the label of the procedure of that number they make a frame of so many bytes, whatever the state is.
-pub record MakesFrame (lines : List LabelLine) (number bytes : ℕ) : Type 0 where
+-- From a state on, these instructions go on one after another, and this holds behind the last of them.
+pub data ComesTo (There : State → Type 0) : State → List Instr → Type 0 where
+  there : {s : State} → There s → ComesTo There s []
+  first : {s next : State} {i : Instr} {is : List Instr} → goes_on i ≡ true → obey s 0 0 i ≡ Goes next → ComesTo There next is →
+      ComesTo There s (i ∷ is)
+
+-- where an address leads that moves by so many bytes, and one that doesn't
+abbrev pub up : (bytes address : ℕ) → ℕ
+up bytes address = added address bytes
+
+abbrev pub down : (bytes address : ℕ) → ℕ
+down bytes address = subtracted address (bytes % 2 ^ 32)
+
+abbrev pub stays : (address : ℕ) → ℕ
+stays address = address
+
+-- what x2 and x3 are now comes from what they were
+abbrev pub Moved : (frame places : ℕ → ℕ) → (old new : State) → Type 0
+Moved frame places old new = (reg new 2 ≡ frame (reg old 2)) × (reg new 3 ≡ places (reg old 3))
+
+-- Instructions move x2 and x3 so, whatever the state is.
+abbrev pub Moves : (frame places : ℕ → ℕ) → List Instr → Type 0
+Moves frame places is =
+    (s : State) → length s.regs ≡ 32 → reg s 2 < 2 ^ 32 → reg s 3 < 2 ^ 32 → ComesTo (Moved frame places s) s is
+
+-- An instruction leaves x2 and x3 as they are. (The environment's calls write x10 alone.)
+pub record Leaves (i : Instr) : Type 0 where
+  pub on : goes_on i ≡ true
+  pub frame : (s next : State) → obey s 0 0 i ≡ Goes next → reg next 2 ≡ reg s 2
+  pub places : (s next : State) → obey s 0 0 i ≡ Goes next → reg next 3 ≡ reg s 3
+
+-- These lines of a procedure, up to the next one, leave x2 and x3 as they are: only around a call x3 goes up by the room of the places and
+-- comes back, and before a return x2 goes up by the frame. Control stays in them: jumps lead to the procedure's own labels, and the last
+-- line is an `ebreak`.
+pub data Keeps (number frame room : ℕ) : List LabelLine → Type 0 where
+  last : Keeps number frame room (Do Ebreak ∷ [])
+  last_before : {other : ℕ} {hook : Option HookLabel} {lines : List LabelLine} →
+      Keeps number frame room (Do Ebreak ∷ Label (Entry other) hook ∷ lines)
+  labelled : {of name : ℕ} {hook : Option HookLabel} {lines : List LabelLine} → Keeps number frame room lines →
+      Keeps number frame room (Label (Inner of name) hook ∷ lines)
+  leaves : {i : Instr} {lines : List LabelLine} → Leaves i → Keeps number frame room lines → Keeps number frame room (Do i ∷ lines)
+  jumps : {name : ℕ} {lines : List LabelLine} → Keeps number frame room lines → Keeps number frame room (Jump 0 (Inner number name) ∷ lines)
+  branches : {test : Test} {left right name : ℕ} {lines : List LabelLine} → Keeps number frame room lines →
+      Keeps number frame room (Branch test left right (Inner number name) ∷ lines)
+  calls : (before behind : List Instr) (callee : ℕ) {lines : List LabelLine} → Moves stays (up room) before → Moves stays (down room) behind →
+      Keeps number frame room lines → Keeps number frame room (map Do before ++ Jump 1 (Entry callee) ∷ (map Do behind ++ lines))
+  returns : (before : List Instr) {lines : List LabelLine} → Moves (up frame) stays before → Keeps number frame room lines →
+      Keeps number frame room (map Do before ++ Do (Jalr 0 1 0) ∷ lines)
+
+-- Right behind its label the procedure of that number makes a frame of so many bytes, and its lines keep it, also where its labels lead.
+pub record MakesFrame (lines : List LabelLine) (number frame room : ℕ) : Type 0 where
   pub hook : Option HookLabel
-  pub rest : List LabelLine
-  pub begins : from_label (Entry number) lines ≡ Some (Label (Entry number) hook ∷ rest)
-  pub makes : (s : State) → length s.regs ≡ 32 → reg s 2 < 2 ^ 32 → ComesDown bytes (reg s 2) s rest
+  pub made : List Instr
+  pub body : List LabelLine
+  pub begins : from_label (Entry number) lines ≡ Some (Label (Entry number) hook ∷ (map Do made ++ body))
+  pub makes : Moves (down frame) stays made
+  pub keeps : Keeps number frame room body
+  pub labels : (name : ℕ) (found : List LabelLine) → from_label (Inner number name) lines ≡ Some found → Keeps number frame room found
 
--- where a procedure begins, its frame is that of its homes
-abbrev pub MakeFrames : List LabelLine → List WordProc → List Homes → Type 0
-MakeFrames lines procs homes = (number : ℕ) → has_number number procs ≡ true → MakesFrame lines number (frame_for procs homes number)
+-- The lines begin with these instructions, behind which x2 is the end of the stack and x3 where it begins, and go on in procedure 0.
+pub record SetUp (lines : List LabelLine) : Type 0 where
+  pub made : List Instr
+  pub rest : List LabelLine
+  pub begins : lines ≡ map Do made ++ Jump 0 (Entry 0) ∷ rest
+  pub makes : (statics : List ℕ) (heap stack : ℕ) (input : List ℕ) → stack_at + stack < 2 ^ 32 →
+      ComesTo (λ t. (reg t 2 ≡ stack_at + stack) × (reg t 3 ≡ stack_at)) (start lines (data_of heap stack statics) heap stack input).state made
+
+-- The lines make the frames of these homes and the places of these procedures, and there are no other procedures in them.
+pub record MakeFrames (lines : List LabelLine) (procs : List WordProc) (homes : List Homes) : Type 0 where
+  pub from_start : SetUp lines
+  pub each : (number : ℕ) → has_number number procs ≡ true →
+      MakesFrame lines number (frame_for procs homes number) (first_of (from_proc number procs)).room
+  pub only : (number : ℕ) → has_number number procs ≡ false → from_label (Entry number) lines ≡ None
 
 -- ---- sizes
 

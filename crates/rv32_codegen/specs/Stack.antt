@@ -2,28 +2,11 @@
 --
 -- For each of the calls that may be active and count it holds the frame of the largest procedure, and those of the longest chain of calls
 -- of procedures that don't count. The arguments of one call more have room below them.
-use Rattle.std.specs.Prelude.{ℕ, zero, suc, ◌+◌, ◌*◌, ◌/◌, max, ◌==◌, if◌then◌else◌, List, [], ◌∷◌, length}
+use Rattle.std.specs.Prelude.{ℕ, ◌+◌, ◌*◌, ◌/◌, max, ◌==◌, if◌then◌else◌, List, [], ◌∷◌}
 use Rattle.mid_code.specs.declared.word.TheConstants.{MOST_ARGUMENTS}
 use Rattle.mid_code.specs.declared.word.WordProc.{WordProc}
-use Rattle.mid_code.specs.Words.{is_counted, most_calls, from_proc, most_called, most_chain, places_size}
+use Rattle.mid_code.specs.Words.{most_calls, longest, places_size}
 use Rattle.reg_scan.specs.declared.homes.Homes.{Homes}
-
--- ---- chains of calls of procedures that don't count
-
--- what the first of these procedures takes, if it doesn't count, and those that it calls
-abbrev pub uncounted : (size : WordProc → ℕ) → (taken : ℕ → ℕ) → List WordProc → ℕ
-uncounted size taken [] = 0
-uncounted size taken (p ∷ procs) = if is_counted p.kind then 0 else size p + most_called taken p.lines
-
-module _ (procs : List WordProc) where
-  -- what a chain of at most so many takes, from the procedure of that number on
-  abbrev pub chain : (size : WordProc → ℕ) → ℕ → (number : ℕ) → ℕ
-  chain size zero number = 0
-  chain size (suc n) number = uncounted size (chain size n) (from_proc number procs)
-
-  -- the longest chain that a procedure may call
-  abbrev pub longest : (size : WordProc → ℕ) → ℕ
-  longest size = most_chain (chain size (length procs)) procs
 
 -- ---- frames
 

@@ -112,14 +112,16 @@ fn emit_code(alloc: Global, words: &WordCode, homes: &[Homes]) -> Result<LabelCo
 }
 
 /// Label code that does, under all addresses of its marks that rise, what the word code does: over
-/// the word code's data, and with each stack that is at least what `stack_need` gives. Where a
-/// procedure begins, it makes the frame of its homes.
+/// the word code's data, and with each heap and each stack from `stack_need` on that a machine may
+/// have. Each procedure makes the frame of its homes where it begins, and keeps it; places move on
+/// around a call, by the room of the caller's.
 ///
 /// There are homes for each procedure, in order.
 pub fn code(alloc: Global, words: &WordCode, homes: &[Homes]) -> Result<LabelCode, Memory>
     requires { AllHomes words.now.procs homes.now }
     ensures does { IfOk result (λ lines. AlwaysDoes lines words.now homes.now) }
-    ensures frames { IfOk result (λ lines. MakeFrames lines words.now.procs homes.now) }
+    ensures frames { is_word_code words.now ≡ true →
+        IfOk result (λ lines. MakeFrames lines words.now.procs homes.now) }
     ensures fits { IfOk result (λ lines. AreLines lines) }
     ensures some { IfOk result (λ lines. has_instruction lines ≡ true) }
     ensures leads { is_word_code words.now ≡ true →

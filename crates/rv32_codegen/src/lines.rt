@@ -143,6 +143,24 @@ fn emit_compute(
     keep(lines, homes, to)
 }
 
+// A word of the frame is brought into x6, since a sum that is far needs x5.
+fn emit_more(
+    lines: &mut LabelCode,
+    homes: &Homes,
+    to: u32,
+    from: u32,
+    value: u32,
+) -> Result<(), Memory>
+    ensures { OnOk result ((k : List Line) → lines.new ++ k ≡ lines.old ++ code.does
+        (code.bring 6 (home_of homes.now from))
+        (code.does (code.sum (code.target homes.now to) (code.right_of homes.now from) value)
+        (code.keep homes.now to k))) }
+{
+    emit_bring(lines, 6, home_of(homes, from))?;
+    emit_sum(lines, target(homes, to), right_of(homes, from), value)?;
+    keep(lines, homes, to)
+}
+
 fn emit_place(lines: &mut LabelCode, homes: &Homes, to: u32, at: u32) -> Result<(), Memory>
     ensures { OnOk result ((k : List Line) →
         lines.new ++ k ≡ lines.old ++ code.does (code.sum (code.target homes.now to) 3 at)
@@ -183,6 +201,13 @@ fn emit_store(
     bring_both(lines, homes, address, from)?;
     let instr = store(size, left_of(homes, address), right_of(homes, from));
     emit(lines, &[instr])
+}
+
+fn emit_jump(lines: &mut LabelCode, to: LabelName) -> Result<(), Memory>
+    ensures { OnOk result ((k : List Line) →
+        lines.new ++ k ≡ lines.old ++ (LabelLine.Jump 0 to ∷ k)) }
+{
+    push(lines, LabelLine::Jump { rd: 0, to })
 }
 
 fn emit_branch(
@@ -338,6 +363,7 @@ fn emit_line(
             left,
             right,
         } => emit_compute(lines, homes, to, operation, left, right),
+        WordInstr::Sum { to, from, value } => emit_more(lines, homes, to, from, value),
         WordInstr::Place { to, at } => emit_place(lines, homes, to, at),
         WordInstr::Datum { to, at } => emit_address(lines, homes, to, datum_at(proc, at)),
         WordInstr::Load { to, address, size } => emit_fetch(lines, homes, to, address, size),
@@ -346,13 +372,7 @@ fn emit_line(
             from,
             size,
         } => emit_store(lines, homes, address, from, size),
-        WordInstr::Jump { to } => push(
-            lines,
-            LabelLine::Jump {
-                rd: 0,
-                to: inner(proc, to),
-            },
-        ),
+        WordInstr::Jump { to } => emit_jump(lines, inner(proc, to)),
         WordInstr::Branch {
             test,
             left,
@@ -403,7 +423,7 @@ fn only_calls(words: &[WordInstr]) -> bool
     true
 }
 
-// Whether there are calls alone behind the first one.
+// Whether nothing but calls and labels stands behind the first call, if there is one.
 fn is_leaf(words: &[WordInstr]) -> bool
     ensures { result ≡ code.is_leaf words.now }
 {

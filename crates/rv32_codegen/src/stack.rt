@@ -1,5 +1,5 @@
 // The stack that label code needs.
-ghost use Rattle.std.specs.Prelude.{◌≡◌, ◌≤◌, ◌+◌, ◌*◌, ◌++◌, true, false, max, length, List, IfOk, ℕ, if◌then◌else◌};
+ghost use Rattle.std.specs.Prelude.{◌≡◌, ◌≤◌, ◌+◌, ◌*◌, true, false, max, length, IfOk};
 ghost use Rattle.mid_code.specs.Words as words;
 ghost use Rattle.mid_code.specs.Sizes.{has_no_circle};
 ghost use Rattle.rv32_codegen.specs.Stack as stack;
@@ -29,7 +29,7 @@ fn is_counted(kind: ProcKind) -> bool
 }
 
 fn callee_of(line: WordInstr) -> Option<u32>
-    ensures { result ≡ chains.callee_of line }
+    ensures { result ≡ words.callee_of line }
 {
     match line {
         WordInstr::Call { callee, .. } => Some(callee),
@@ -73,7 +73,7 @@ fn taken_for(procs: &[WordProc], taken: &[u32], count: usize, line: WordInstr) -
     requires within { count ≤ length taken.now }
     requires none { chains.NoneBehind count taken.now }
     ensures { result
-        ≡ chains.taken_for (chains.number_for procs.now taken.now) (chains.callee_of line) }
+        ≡ words.taken_for (chains.number_for procs.now taken.now) (words.callee_of line) }
 {
     match callee_of(line) {
         Some(callee) => number_for(procs, taken, count, callee),

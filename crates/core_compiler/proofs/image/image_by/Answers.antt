@@ -9,11 +9,14 @@ use Rattle.core_compiler.proofs.Composing.{image_of_code, of_three, fault_is}
 use Rattle.core_compiler.proofs.image.image_by.Goals as goal
 
 pub stack_need-requires-clause-most : goal.stack_need-requires-clause-most
-stack_need-requires-clause-most c = stack_most c.args.words.now.procs c.args.homes.now c.requires.homes c.requires.can.little
+stack_need-requires-clause-most c =
+    let can = c.requires.can in stack_most c.args.words.now.procs c.args.homes.now c.requires.homes can.small can.chain
 
 pub lay_out-requires-clause-stack_most : goal.lay_out-requires-clause-stack_most
 lay_out-requires-clause-stack_most c =
-    let most = stack_most c.args.words.now.procs c.args.homes.now c.requires.homes c.requires.can.little in omega (arith, c.in_ok-stack.ensures, most)
+    let can = c.requires.can in
+    let most = stack_most c.args.words.now.procs c.args.homes.now c.requires.homes can.small can.chain in
+    omega (arith, c.in_ok-stack.ensures, most)
 
 pub returns-clause-is : goal.returns-clause-is
 returns-clause-is c =
@@ -23,7 +26,8 @@ returns-clause-is c =
     let lines = c.in_ok-lines.lines in
     let given = c.in_ok-stack.stack in
     let need : given ≡ stack_need words.procs homes = c.in_ok-stack.ensures in
-    let most = stack_most words.procs homes c.requires.homes c.requires.can.little in
+    let can = c.requires.can in
+    let most = stack_most words.procs homes c.requires.homes can.small can.chain in
     of_three c.lay_out.result _ _ _ _ (λ image is agrees size.
     let same : image.stack ≡ given = ap (λ i. i.stack) is in
     let made = subst (λ n. image_of image ≡ laid_out lines words.statics heap n) (sym same)
@@ -31,23 +35,24 @@ returns-clause-is c =
     let code = subst (λ n. DoesCode live_objects (image_of image) lines (data_of heap n words.statics) heap n) (sym same)
     (subst (λ l. DoesCode live_objects (image_of image) lines (data_of heap given l) heap given) c.as_slice.ensures
     (agrees live_objects (λ s t e f. refl))) in
-    image_of_code c.agreement.ensures.law c.agreement.ensures.pace words homes lines heap (image_of image) c.in_ok-lines.ensures.does code
-    (record {
-      no_circle = c.requires.can.circle;
-      statics_most = c.requires.can.statics_most;
-      heap_most = c.requires.heap;
-      stack_whole = ap (λ n. n % 16) (same ∙ need) ∙ stack_whole words.procs homes;
-      stack_least = omega (arith, same, need);
-      stack_most = omega (arith, same, need, most);
-    })
+    image_of_code c.agreement.ensures.law c.agreement.ensures.pace words homes heap (image_of image)
     (record {
       lines = lines;
       right = c.requires.homes;
       does = c.in_ok-lines.ensures.does;
-      frames = c.in_ok-lines.ensures.frames;
+      can = record {
+        no_circle = can.no_circle;
+        statics_most = can.statics_most;
+        heap_most = c.requires.heap;
+        stack_whole = ap (λ n. n % 16) (same ∙ need) ∙ stack_whole words.procs homes;
+        stack_least = omega (arith, same, need);
+        stack_most = omega (arith, same, need, most);
+      };
+      frames = c.in_ok-lines.ensures.frames can.formed;
       made = made;
       stack = same ∙ need;
     })
+    code
     (omega (arith, size, c.layouts.ensures.shorter lines, c.in_ok-lines.ensures.bytes))
     (λ none. ap (λ i. i.hooks) is ∙ c.layouts.ensures.unhooked lines c.as_slice.result.now heap given (c.in_ok-lines.ensures.unhooked none)))
     c.lay_out.ensures.is c.lay_out.ensures.agrees c.lay_out.ensures.size

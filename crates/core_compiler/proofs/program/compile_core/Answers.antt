@@ -40,7 +40,7 @@ pub returns-in-Ok-clause-answers : goal.returns-in-Ok-clause-answers
 returns-in-Ok-clause-answers c =
     let program = program_in c.args.program.now in
     let image = c.in-Ok.image in
-    let few : code_weight (map flat_placed c.in_ok-flat.flat.procs) ≤ 30 * program_parts program = c.in_ok-flat.ensures.flat.weight in
+    let few : code_weight (map flat_placed c.in_ok-flat.flat.procs) ≤ 32 * program_parts program = c.in_ok-flat.ensures.flat.weight in
     let weighs : word_weight c.in_ok-words.words.procs ≤ code_weight (map flat_placed c.in_ok-flat.flat.procs) + 100 = c.in_ok-words.ensures.weight in
     let bound = bound_is program c.in_ok-flat.flat c.in_ok-words.words.procs few weighs in
     let code = c.in-Ok.ensures.is.1.code in
@@ -60,7 +60,7 @@ returns-in-Err-TooLarge-clause-answers c =
     let program = program_in c.args.program.now in
     let bytes = c.in-Err-TooLarge.field-0-0 in
     let large = subst (IsTooLarge c.in_ok-words.words) c.in-Err-TooLarge.field-0-is c.in-Err-TooLarge.ensures.fault in
-    let few : code_weight (map flat_placed c.in_ok-flat.flat.procs) ≤ 30 * program_parts program = c.in_ok-flat.ensures.flat.weight in
+    let few : code_weight (map flat_placed c.in_ok-flat.flat.procs) ≤ 32 * program_parts program = c.in_ok-flat.ensures.flat.weight in
     let weighs : word_weight c.in_ok-words.words.procs ≤ code_weight (map flat_placed c.in_ok-flat.flat.procs) + 100 = c.in_ok-words.ensures.weight in
     let bound = bound_is program c.in_ok-flat.flat c.in_ok-words.words.procs few weighs in (
       bytes,

@@ -1,6 +1,8 @@
 use Rattle.std.proofs.Common.{◌≤◌, length, sym, ap, subst, ◌∙◌}
+use Rattle.std.proofs.lemmas.Bool.{and_parts}
 use Rattle.std.proofs.lemmas.Result.{IfOk-weaker}
 use Rattle.rv32_isa.specs.Labels.{AreLines, hooks_lead}
+use Rattle.mid_code.specs.Words.{are_procs}
 use Rattle.rv32_codegen.specs.Layout.{all_far, enters_no_hook, size}
 use Rattle.rv32_codegen.specs.Lowering.{AlwaysDoes, MakeFrames, most_lines, most_bytes}
 use Rattle.rv32_codegen.proofs.Whole.{same_long, always_does, code_leads, code_unhooked, code_long}
@@ -19,10 +21,12 @@ returns-clause-does c =
     IfOk-weaker c.emit_code.result _ _ (λ lines e. subst (λ x. AlwaysDoes x words homes) (sym e) (always_does words homes c.requires)) c.emit_code.ensures
 
 pub returns-clause-frames : goal.returns-clause-frames
-returns-clause-frames c =
+returns-clause-frames c = λ formed.
     let procs = c.args.words.now.procs in
     let homes = c.args.homes.now in
-    IfOk-weaker c.emit_code.result _ _ (λ lines e. subst (λ x. MakeFrames x procs homes) (sym e) (code_frames procs homes c.requires)) c.emit_code.ensures
+    let apart = (and_parts (are_procs procs) _ formed).0 in
+    IfOk-weaker c.emit_code.result _ _ (λ lines e. subst (λ x. MakeFrames x procs homes) (sym e) (code_frames procs homes c.requires apart))
+    c.emit_code.ensures
 
 pub returns-clause-fits : goal.returns-clause-fits
 returns-clause-fits c =
