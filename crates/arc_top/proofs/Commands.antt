@@ -74,7 +74,8 @@ wants_behind name bytes most old new gives = record { kept = gives.asked.kept; c
 
 -- what was said of a refusal says that this command doesn't take the source
 pub turned_away : (limits : Taking) (main source : List ℕ) (P : Code → Place → Type 0)
-    → ((code : Code) (at : Place) → P code at → (bytes : ℕ) × IsNoProgram (limits bytes) main source code at) → (e : NotCompiled) (answer : Answer) (old new : FilesState)
+    → ((code : Code) (at : Place) → P code at → (bytes : ℕ) × IsNoProgram (limits bytes) main source code at)
+    → (e : NotCompiled) (answer : Answer) (old new : FilesState)
     → Gives old new main source_most source → IsRefusal e answer → OnRefused e P → StopsReading limits main answer old new
 turned_away limits main source P so why.TooLong answer old new gives is said = absurd is
 turned_away limits main source P so (why.Refused code at) answer old new gives is said =

@@ -21,8 +21,8 @@ use Rattle.arc_top.specs.declared.answer.Answer.TheVariants.{WriteFault, StoreFa
 use Rattle.arc_top.specs.Loads.{FilesState, OnEntry, Gives}
 use Rattle.arc_top.specs.Report.{report_of}
 use Rattle.arc_top.specs.Runs.{HasRun, answer_of}
-use Rattle.arc_top.specs.Top.{Stops, World, RunsProgram, Runs, told as of_sink, meant, MeansProgram, RunsFile, Executes, Answered, Carries, before_line, modules_of}
-use Rattle.arc_top.specs.Top.{limits_of, file_most}
+use Rattle.arc_top.specs.Top.{Stops, World, RunsProgram, Runs, told as of_sink, meant, MeansProgram, RunsFile, Executes, Answered, Carries}
+use Rattle.arc_top.specs.Top.{before_line, modules_of, limits_of, file_most}
 use Rattle.arc_top.specs.Due.{NothingFails, TellsEntry, WasAnswered, ReadsSource, IsCarriedOut, most_of, IsDue, lacks, long, refused, accepted, bad, executed}
 use Rattle.arc_top.specs.Due.{wanting}
 

@@ -64,7 +64,7 @@ Stops limits main _ old new = ⊥
 
 -- ---- `check MAIN`
 
--- the main module is a program that can be compiled, or that has to wait until all of it is built
+-- the main module is a program that can be compiled, or has a form that isn't built yet
 pub record IsChecked (main source : List ℕ) : Type 0 where
   pub code : ℕ
   pub program : IsProgram (check_limits code) main source

@@ -87,7 +87,7 @@ fn read_main<F: Files>(alloc: Global, main: &str, files: &mut F) -> Result<Progr
     }
 }
 
-// Loads the main module and types it. It can be compiled, or has to wait until all of it is built.
+// Loads the main module and types it. It can be compiled, or has a form that isn't built yet.
 fn check_main<F: Files>(alloc: Global, main: &str, files: &mut F) -> Result<(), Answer>
     ensures checked { IfOk result (λ done. (source : List ℕ)
         × Gives
@@ -232,7 +232,7 @@ fn run_program<I: Source, O: Sink, E: Sink>(
 
 // ---- commands
 
-// Says whether a main module is a program that can be compiled.
+// Says whether a main module is a program that can be compiled, or has a form that isn't built yet.
 fn check<F: Files>(alloc: Global, main: &str, files: &mut F) -> Answer
     ensures checks { Checks main.now result
         (files_state (F.held files.old) (F.load_faults files.old) (F.store_faults files.old) (F.calls files.old))
@@ -402,12 +402,12 @@ fn say<E: Sink>(err: &mut E, command: &Command<'_>, answer: &Answer)
 
 /// Does what the words say.
 ///
-/// `check MAIN` says whether the source in the file MAIN is a program that `build` takes, or would take
-/// if all of it were built; `build MAIN OUT` compiles it and
-/// stores the ELF file under the name OUT; `run MAIN` compiles it and runs the machine on it, on `input`,
-/// `out` and `err`; `exec ELF` does that with a file that `build` stored; `mean MAIN` runs what the source
-/// means. `--heap=N` gives the bytes of heap of a program, `--steps=N` the most instructions that `run`
-/// and `exec` carry out, and the most units of `mean`.
+/// `check MAIN` says whether the source in the file MAIN is a program that `build` takes, or one with a
+/// form that isn't built yet; `build MAIN OUT` compiles it and stores the ELF file under the name OUT;
+/// `run MAIN` compiles it and runs the machine on it, on `input`, `out` and `err`; `exec ELF` does that
+/// with a file that `build` stored; `mean MAIN` runs what the source means. `--heap=N` gives the bytes of
+/// heap of a program, `--steps=N` the most instructions that `run` and `exec` carry out, and the most
+/// units of `mean`.
 ///
 /// `words` are those after the program's name. An answer but `Done`, `Ended` and `WriteFault` is said on
 /// `err` in one line, or in a front of it where `err` fails; the answer stays. Only `build` changes

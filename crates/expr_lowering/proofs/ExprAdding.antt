@@ -1,5 +1,5 @@
 -- What expressions of any number of parts add: each step by what its call says, in front of what the expression itself says.
-use Rattle.std.proofs.Common.{◌≡◌, ℕ, Bool, false, List, [], ◌∷◌, ◌++◌, ap, ◌∙◌, Vec, Global, Option, Some, None}
+use Rattle.std.proofs.Common.{◌≡◌, ℕ, Bool, false, List, [], ◌++◌, ap, ◌∙◌, Vec, Global, Option, Some, None}
 use Rattle.std.specs.Prelude.{option_map, codes}
 use Rattle.nim_types.specs.Table.{type_at}
 use Rattle.nim_core.specs.declared.expr.Node.{Node}

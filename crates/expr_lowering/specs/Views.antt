@@ -12,7 +12,6 @@ use Rattle.nim_core.specs.declared.expr.Arg.TheVariants as A
 use Rattle.nim_core.specs.declared.expr.Label.{Label as RustLabel}
 use Rattle.nim_core.specs.declared.expr.Node.{Node}
 use Rattle.nim_core.specs.declared.expr.Operator.{Operator}
-use Rattle.nim_core.specs.Program as T
 use Rattle.nim_core.specs.Program.{Expr, Exprs, Path, Inits, Args, Choices, Picks, Declared, node_of, node_at_path}
 use Rattle.nim_core.specs.ActsOf.{number_of}
 use Rattle.nim_core.specs.View.{expr_of, path_of, label_of as label_view, declared_of}

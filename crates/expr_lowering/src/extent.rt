@@ -139,8 +139,9 @@ fn look_all(known: &[Extent], bound: u32, ids: &[TypeId]) -> Extent
     all
 }
 
-// Of the type of a number. Those of lower numbers are listed before it. The last round has all
-// types, with one declared type fewer inside one another looked through; the first looks through none.
+// Of the type of a number. Those of lower numbers are listed in `before`. The round before this one
+// has all types, with one declared type fewer inside one another looked through: `last`. The first
+// round looks through none.
 fn type_extent(
     types: &TypeTable,
     ty: TypeId,

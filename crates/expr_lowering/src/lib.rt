@@ -5,6 +5,7 @@ mod arms;
 mod around;
 mod bytes;
 mod cases;
+mod collected;
 mod constants;
 mod ends;
 mod examples;
@@ -29,7 +30,6 @@ mod single;
 mod stmts;
 mod sum_stmts;
 mod sums;
-mod written;
 
 pub use examples::flatten_examples;
 pub use frames::{MOST_BYTES, MOST_LEVELS};

@@ -107,7 +107,7 @@ fn no_code(alloc: Global) -> FlatProc
     }
 }
 
-// Adds a procedure: the earliest fault that is found by then.
+// Collects a procedure: the earliest fault that is found by then.
 fn add_proc(
     alloc: Global,
     extents: &Extents,

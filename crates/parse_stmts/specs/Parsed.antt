@@ -4,7 +4,7 @@ use Rattle.arc_base.specs.declared.place.Place.{Place}
 use Rattle.arc_base.specs.declared.place.Code.{Code}
 use Rattle.arc_base.specs.declared.place.Code.TheVariants.{Syntax, NestTooDeep, LeftOut}
 use Rattle.indent_scanner.specs.declared.token.Token.{Token}
-use Rattle.indent_scanner.specs.Tokens.{LiesIn, HasByte}
+use Rattle.indent_scanner.specs.Tokens.{LiesIn}
 use Rattle.indent_scanner.specs.Meaning.{IsSpelledIn}
 use Rattle.nim_tree.specs.Statements.{Statements, block_levels, term_levels, type_levels}
 use Rattle.parse_exprs.specs.Look.{Origin, next_at}
@@ -15,12 +15,11 @@ use Rattle.parse_stmts.specs.Faults.{FaultsModule}
 
 -- ---- what is read
 
--- Tokens of a source: their bytes lie in it and are tokens of their kinds, and each has a byte but for the end. It isn't
--- said that they stand in order, nor that they are all.
+-- Tokens of a source: their bytes lie in it and are tokens of their kinds. It isn't said that they stand in order, nor that
+-- they are all.
 pub record AreTokens (source : List ℕ) (tokens : List Token) : Type 0 where
   pub inside : All (LiesIn source) tokens
   pub spelled : All (IsSpelledIn source) tokens
-  pub some : All HasByte tokens
   pub few : length tokens < 2 ^ 32
 
 -- ---- what is found

@@ -1,7 +1,6 @@
 // The tree of a module.
 ghost use Rattle.std.specs.Prelude.{◌≡◌, ◌<◌, ◌≤◌, ◌^◌, ◌*◌, List, length, IfOk, IfErr};
 ghost use Rattle.arc_base.specs.declared.place.Place.{Place as At};
-ghost use Rattle.arc_base.specs.declared.place.Stop.TheVariants.{Memory};
 ghost use Rattle.arc_base.specs.Stops.{OnRefusal};
 ghost use Rattle.indent_scanner.specs.declared.token.Token.{Token as One};
 ghost use Rattle.nim_tree.specs.Statements.{Statements, tree_of, all_nodes, statements_of, imports_in};

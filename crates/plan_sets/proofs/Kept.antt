@@ -29,9 +29,6 @@ has_skip s skips p b e f =
     let seen = pairs_are_skips p s.keys in
     subst (λ l. Tells b (Contains l (skip_of p))) e (λ yes. seen.0 (kept.0 yes), λ has. kept.1 (seen.1 has))
 
-pub no_site : (s : BTreeSet ℕ) (sites : List ℕ) (site : ℕ) → s.keys ≡ sites → contains nat_cmp s site ≡ false → Contains sites site → ⊥
-no_site s sites site e f has = false≢true ((has_site s sites site false e (sym f)).1 has)
-
 pub no_skip : (s : BTreeSet (ℕ × ℕ)) (skips : List SkipAt) (p : ℕ × ℕ) → map skip_of s.keys ≡ skips → contains pair_order s p ≡ false →
     Contains skips (skip_of p) → ⊥
 no_skip s skips p e f has = false≢true ((has_skip s skips p false e (sym f)).1 has)

@@ -4,8 +4,8 @@ ghost use Rattle.plan_sets.specs.Order.{HasAct, HasSkip, IsInOrder};
 
 use nim_plan::{Act, Plan};
 
-/// The act at a site, or None where the plan has none; of a plan whose lists are in order. The time
-/// grows as the logarithm of the number of sites.
+/// The act at a site, or None where the plan has none. Of a plan whose lists aren't in order it may
+/// miss one. The time grows as the logarithm of the number of sites.
 pub fn act_of(plan: &Plan, site: u32) -> Option<Act>
     ensures only { IfSome result (λ act. HasAct plan.now site act) }
     ensures all { IsInOrder plan.now → (act : Act) → HasAct plan.now site act → result ≡ Some act }
@@ -17,8 +17,8 @@ pub fn act_of(plan: &Plan, site: u32) -> Option<Act>
     }
 }
 
-/// Whether a place isn't destroyed at an exit; of a plan whose lists are in order. The time grows
-/// as the logarithm of the number of pairs.
+/// Whether a place isn't destroyed at an exit. Of a plan whose lists aren't in order it may miss a
+/// pair. The time grows as the logarithm of the number of pairs.
 pub fn is_skipped(plan: &Plan, place: u32, exit: u32) -> bool
     ensures only { IsTrue result → HasSkip plan.now place exit }
     ensures all { IsInOrder plan.now → HasSkip plan.now place exit → IsTrue result }

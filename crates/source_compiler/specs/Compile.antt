@@ -31,8 +31,8 @@ empty_plan = record { sites = []; sinks = []; skips = [] }
 
 -- THE HEADLINE. The modules are one typed program, which can be compiled. For every input and every number of steps the machine on the
 -- file's image agrees with the meaning of the program under the file's plan and this heap, in bytes; its work is in proportion, and where
--- the meaning ends the machine has ended in time. The stack is exactly what the image's calls need. The file is one that can be written,
--- its plan is empty, and there are no hooks.
+-- the meaning ends the machine has ended in time. The stack is exactly what the calls need of some word code that does the same and that
+-- the image is made of. The file is one that can be written, its plan is empty, and there are no hooks.
 pub record Compiled (modules : List Module) (heap : ℕ) (file : File) : Type 0 where
   pub program : Program
   pub reads : Reads modules program

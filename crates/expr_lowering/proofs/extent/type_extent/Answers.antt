@@ -79,13 +79,16 @@ pub returns-in-Enum : goal.returns-in-Enum
 returns-in-Enum c = λ n last before.
     let ds = c.args.types.now in
     let h = sym c.entry.ensures.is ∙ ap (option_map (λ d. d.now)) c.in-Some.is ∙ ap Some c.in-Enum.is in
-    c.alone-in-Enum.ensures ∙ sym (ap extent_of (form_entry ds c.entry.ensures.table n c.args.ty (Some (D.Enum c.in-Enum.name c.in-Enum.at c.in-Enum.members)) h))
+    c.alone-in-Enum.ensures
+    ∙ sym (ap extent_of (form_entry ds c.entry.ensures.table n c.args.ty (Some (D.Enum c.in-Enum.name c.in-Enum.at c.in-Enum.members)) h))
 
 pub returns-in-Exception : goal.returns-in-Exception
 returns-in-Exception c = λ n last before.
     let ds = c.args.types.now in
     let h = sym c.entry.ensures.is ∙ ap (option_map (λ d. d.now)) c.in-Some.is ∙ ap Some c.in-Exception.is in
-    c.alone-in-Exception.ensures ∙ sym (ap extent_of (form_entry ds c.entry.ensures.table n c.args.ty (Some (D.Exception c.in-Exception.name c.in-Exception.at c.in-Exception.parent)) h))
+    c.alone-in-Exception.ensures
+    ∙ sym (ap extent_of (form_entry ds c.entry.ensures.table n c.args.ty
+    (Some (D.Exception c.in-Exception.name c.in-Exception.at c.in-Exception.parent)) h))
 
 pub returns-then-first : goal.returns-then-first
 returns-then-first c = λ n last before.

@@ -1,6 +1,6 @@
 // A list that notes that it was lost.
 ghost use Rattle.std.specs.Prelude.{◌≡◌, ◌∷◌, [], Some, None, IfOk};
-ghost use Rattle.expr_lowering.specs.Written.{Adds};
+ghost use Rattle.expr_lowering.specs.Collected.{Collects};
 
 use arc_base::{Items, Memory};
 use std::alloc::Global;
@@ -8,12 +8,12 @@ use std::marker::Model;
 
 /// A list that is written item by item. Where there was no memory for one, it is lost.
 #[derive(Drop)]
-pub struct Written<T: Drop> {
+pub struct Collected<T: Drop> {
     items: Items<T>,
     kept: bool,
 }
 
-impl<T: Drop> Model for Written<T> {
+impl<T: Drop> Model for Collected<T> {
     ghost use Rattle.std.specs.Prelude.{List, Option, Some, None, if◌then◌else◌};
 
     ghost Value = { Option (List T) };
@@ -21,20 +21,20 @@ impl<T: Drop> Model for Written<T> {
     ghost view = { λ w. if w.kept then Some w.items else None };
 }
 
-impl<T: Drop> Written<T> {
+impl<T: Drop> Collected<T> {
     /// No item.
     pub fn new(alloc: Global) -> Self
         ensures { result ≡ Some [] }
     {
-        Written {
+        Collected {
             items: Items::new(alloc),
             kept: true,
         }
     }
 
-    /// Adds an item at the end.
+    /// Collects an item at the end.
     pub fn put(&mut self, item: T)
-        ensures { Adds self.old self.new (item ∷ []) }
+        ensures { Collects self.old self.new (item ∷ []) }
     {
         if self.items.push(item).is_err() {
             self.kept = false;
