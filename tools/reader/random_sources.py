@@ -15,7 +15,6 @@ import random
 import sys
 from typing import Any, Callable, Counter, Iterator, List, Tuple
 
-import tree
 from check import Program, check
 from frames import MODULE_CODE, answer, has_only_written_texts
 from interp import run, with_deep_stack
