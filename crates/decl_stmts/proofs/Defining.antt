@@ -2,7 +2,7 @@
 use Rattle.std.proofs.Common.{◌≡◌, ℕ, suc, List, [], ◌∷◌, ◌++◌, length, refl, sym, ap, ap₂, ◌∙◌, subst}
 use Rattle.std.proofs.Common.{append_assoc, Vec, Global, arith, length-append}
 use Rattle.std.proofs.lemmas.List.{map-append}
-use Rattle.std.specs.Prelude.{map, Result, Ok, Err}
+use Rattle.std.specs.Prelude.{map, Result, Ok, Err, IfOk, IfErr}
 use Rattle.arc_base.specs.declared.place.Code.{Code}
 use Rattle.arc_base.specs.declared.place.Place.{Place}
 use Rattle.arc_base.specs.declared.place.Stop.{Stop}
@@ -20,12 +20,12 @@ use Rattle.expr_rules.specs.Answers.{Answer}
 use Rattle.expr_rules.specs.Env.{Env, Entry}
 use Rattle.expr_parts.specs.declared.scope.Decl.{Decl}
 use Rattle.expr_parts.specs.declared.scope.Scope.{Scope}
-use Rattle.expr_parts.specs.View.{Under, Grown, env_of, entry_of, DeclsWithin}
+use Rattle.expr_parts.specs.View.{Under, Grown, env_of, entry_of, WhatWithin, DeclsWithin}
 use Rattle.expr_parts.proofs.ForCallers.{grown_on, grown_same, forgets, refuses, answers_as, goes, stops}
 use Rattle.decl_rules.specs.State.{Around, State, Step, stated_as, Stated, declaring, with_entries}
 use Rattle.decl_rules.specs.Definitions.{entry_for, with_variable}
 use Rattle.decl_parts.specs.declared.state.State.{State as RustState}
-use Rattle.decl_parts.specs.View.{Over, Beside, env_in, state_of, steps_of, all_stated_as, Ready, Further, Typing, Stating}
+use Rattle.decl_parts.specs.View.{Over, Beside, env_in, state_of, step_of, steps_of, all_stated_as, Ready, Further, Typing, Stating}
 use Rattle.decl_parts.proofs.ForCallers.{ready_grown, same_view, facts_kept, further_grown, further_to}
 use Rattle.decl_parts.proofs.ForCallers.{scope_by, stops_as, decls_both}
 use Rattle.decl_stmts.specs.declared.definitions.New.{New}
@@ -116,6 +116,22 @@ defining_as {old = old} {new = new} {other = other} {r = r} said e j = record {
       answers_as (new_as ts b new waits) (said ts (env_in ts old) st) (other ts (env_in ts old) st) r (e ts (env_in ts old) st) (j.answers ts b waits u);
   fits = j.fits;
 }
+
+-- where its statement and its declaration are made
+pub defining_made : {old new : RustState} (said : List Ty → Env → State → Answer Stated) (x : RustStmt) (d : Decl) (r : Result New Stop) → Still old new
+    → ((ts : List Ty) (b : Beside) (waits : List Entry) → Over new ts → said ts (env_in ts old) (declaring (state_of ts b old) waits)
+    ≡ Ok (stated_as (step_of ts x) (declaring (state_of ts b new) (waits ++ entry_of ts d ∷ []))))
+    → WhatWithin (length new.types) d.what → IfOk r (λ n. n.stmts.items ≡ x ∷ []) → IfOk r (λ n. n.decl ≡ d) → IfErr r (λ s. s ≡ stop.Memory)
+    → Defining old new said r
+defining_made {new = new} said x d (Ok n) k h w e f m = record {
+  still = k;
+  answers = λ ts b waits u.
+      h ts b waits u
+      ∙ ap₂ (λ (l : List RustStmt) (y : Decl). Ok (stated_as (steps_of ts l) (declaring (state_of ts b new) (waits ++ entry_of ts y ∷ []))))
+      (sym e) (sym f);
+  fits = subst (λ (y : Decl). WhatWithin (length new.types) y.what) (sym f) w;
+}
+defining_made {old = old} {new = new} said x d (Err s) k h w e f m = defining_forgets old new said s k m
 
 -- behind its value, whose first number is one behind the statement's node
 pub defining_goes : {A S : Type 0} {old mid new : RustState} {part : List Ty → S → A} {inside : ℕ → S → Type 0} {x : S} {r : Result New Stop}

@@ -1,3 +1,4 @@
+mod Made
 mod Scopes
 mod Defining
 mod Waiting

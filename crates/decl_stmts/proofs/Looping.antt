@@ -29,7 +29,7 @@ use Rattle.decl_rules.specs.Values.{Value, valued_term, value_as, element_rule}
 use Rattle.decl_rules.specs.Bodies.{with_loop_variable, loop_variable}
 use Rattle.decl_rules.specs.Stated.{stated, for_state}
 use Rattle.decl_parts.specs.declared.state.State.{State as RustState}
-use Rattle.decl_parts.specs.View.{Beside, state_of, Ready, Stating, StatedSo}
+use Rattle.decl_parts.specs.View.{Beside, state_of, Ready, Stating, AllStatedSo}
 use Rattle.decl_parts.proofs.ForCallers.{further_as, further_to, stated_so, stated_stops, scope_by, decls_both, then_as}
 use Rattle.decl_stmts.specs.ViewStated.{block_rule, blocked_as, BlockSo}
 use Rattle.decl_stmts.specs.ViewLoops.{loop_rule, Begun, each_behind, each_within, ints_behind, ints_within, course_by}
@@ -140,8 +140,9 @@ pub course_is : (a : Around) (ends : Option Ty) (st : State) (at : Place) (x : N
 course_is a ends st at x true first last body = ints_are (looping a) st (node st.node at) x true first last body
 course_is a ends st at x false first last body = ints_are (looping a) st (node st.node at) x false first last body
 
-pub course_as : {old new : RustState} {r : Result RustStmt Stop} {c d : Course} (a : List Ty → Around) (ends : List Ty → Option Ty) (at : Place) (x : Name)
-    (body : Statements) → c ≡ d → StatedSo old new (λ ts st. stated (a ts) (ends ts) st (counts at x d body)) r
-    → StatedSo old new (λ ts st. stated (a ts) (ends ts) st (counts at x c body)) r
+pub course_as : {old new : RustState} {r : Result (Vec RustStmt Global) Stop} {c d : Course} (a : List Ty → Around)
+    (ends : List Ty → Option Ty) (at : Place) (x : Name) (body : Statements) → c ≡ d
+    → AllStatedSo old new (λ ts st. stated (a ts) (ends ts) st (counts at x d body)) r
+    → AllStatedSo old new (λ ts st. stated (a ts) (ends ts) st (counts at x c body)) r
 course_as {old = old} {new = new} {r = r} a ends at x body e j =
-    subst (λ (z : Course). StatedSo old new (λ ts st. stated (a ts) (ends ts) st (counts at x z body)) r) (sym e) j
+    subst (λ (z : Course). AllStatedSo old new (λ ts st. stated (a ts) (ends ts) st (counts at x z body)) r) (sym e) j

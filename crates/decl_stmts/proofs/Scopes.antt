@@ -32,7 +32,7 @@ use Rattle.decl_rules.specs.Definitions.{definitions_rule}
 use Rattle.decl_rules.specs.Values.{Value, condition}
 use Rattle.decl_rules.specs.Stated.{Branched, stated, all_stated, all_branches, ends_with}
 use Rattle.decl_parts.specs.declared.state.State.{State as RustState}
-use Rattle.decl_parts.specs.View.{Beside, StatedSo, state_of, all_stated_as, Ready, Stands, Stating, AllStatedSo}
+use Rattle.decl_parts.specs.View.{Beside, state_of, all_stated_as, Ready, Stands, Stating, AllStatedSo}
 use Rattle.decl_parts.proofs.ForCallers.{blocked_steps, further_as, further_to, stated_so, stated_stops}
 use Rattle.decl_stmts.specs.ViewStated.{block_rule, blocked_as, BlockSo, branch_as, OneBranch, branch_rule, IsPlain}
 
@@ -210,13 +210,6 @@ no_constants a ends st at binding.Let all h = refl
 no_constants a ends st at binding.Var all h = refl
 no_constants a ends st at binding.Const all (inl e) = cc
 no_constants a ends st at binding.Const all (inr e) = cc
-
--- a list of the one statement that a call made
-pub listed_as : {old new : RustState} {q : Result RustStmt Stop} {r : Result (Vec RustStmt Global) Stop} {x y : Statement} (a : List Ty → Around)
-    (ends : List Ty → Option Ty) → ((s t : RustState) (said : List Ty → State → Answer Stated) → StatedSo s t said q → AllStatedSo s t said r)
-    → x ≡ y → StatedSo old new (λ ts st. stated (a ts) (ends ts) st y) q → AllStatedSo old new (λ ts st. stated (a ts) (ends ts) st x) r
-listed_as {old = old} {new = new} {y = y} a ends f e j =
-    stated_as_tree a ends e (f old new (λ (ts : List Ty) (st : State). stated (a ts) (ends ts) st y) j)
 
 pub branches_by : {s : Statement} {at : Place} {p c : Branches} {q d : Statements} → s ≡ branches at p q → c ≡ branches_in s → d ≡ closing_in s
     → s ≡ branches at c d

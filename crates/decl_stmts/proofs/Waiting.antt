@@ -14,7 +14,7 @@ use Rattle.expr_parts.specs.View.{entry_of}
 use Rattle.expr_parts.proofs.ForCallers.{answers_as}
 use Rattle.decl_rules.specs.State.{State, Step, Stated, stated_as, and_more, declaring}
 use Rattle.decl_parts.specs.declared.state.State.{State as RustState}
-use Rattle.decl_parts.specs.View.{Over, Beside, env_in, state_of, steps_of, step_of}
+use Rattle.decl_parts.specs.View.{Over, Beside, env_in, state_of, steps_of}
 use Rattle.decl_parts.proofs.ForCallers.{steps_append, over_old}
 use Rattle.decl_stmts.specs.declared.definitions.New.{New}
 use Rattle.decl_stmts.specs.declared.definitions.News.{News}
@@ -59,7 +59,7 @@ pub names_goes : (old mid new : RustState) (n m : News) (x : New) (rule : List T
     (one : List Ty → Env → State → Answer Stated) (all rest more : List Declared) → NamesDone old mid n rule all rest → Still old mid
     → ((ts : List Ty) (st : State) → rule ts st rest ≡ and_then (one ts (env_in ts old) st)
     (λ o. and_then (rule ts o.state more) (λ k. Ok (and_more o k))))
-    → Defining mid new one (Ok x) → m.stmts.items ≡ n.stmts.items ++ x.stmt ∷ [] → m.waits.items ≡ n.waits.items ++ x.decl ∷ []
+    → Defining mid new one (Ok x) → m.stmts.items ≡ n.stmts.items ++ x.stmts.items → m.waits.items ≡ n.waits.items ++ x.decl ∷ []
     → NamesDone old new m rule all more
 names_goes old mid new n m x rule one all rest more d s first j e f = λ ts b u.
     let w : Over mid ts = over_old mid.types new.types ts j.still.grown u in
@@ -72,9 +72,9 @@ names_goes old mid new n m x rule one all rest more d s first j e f = λ ts b u.
     ∙ ap (with_done done) (first ts st)
     ∙ ap (λ (env : Env). with_done done (and_then (one ts env st) go)) (sym (same_env ts s w))
     ∙ ap (λ (a : Answer Stated). with_done done (and_then a go)) (j.answers ts b waits u)
-    ∙ onto done (step_of ts x.stmt) (rule ts st2 more)
+    ∙ onto done (steps_of ts x.stmts.items) (rule ts st2 more)
     ∙ ap₂ (λ l es. with_done l (rule ts (declaring (state_of ts b new) es) more))
-    (sym (steps_append ts n.stmts.items (x.stmt ∷ [])) ∙ ap (steps_of ts) (sym e))
+    (sym (steps_append ts n.stmts.items x.stmts.items) ∙ ap (steps_of ts) (sym e))
     (sym (map-append (entry_of ts) n.waits.items (x.decl ∷ [])) ∙ ap (map (entry_of ts)) (sym f))
 
 done_stops : {S T : Type 0} (of : T → Stated) (part : S → Stated) (done : List Step) (x : Answer Stated) (go : Stated → Answer Stated) (s : Stop)

@@ -12,7 +12,7 @@ use Rattle.decl_rules.specs.State.{State, Stated, stated_as, declaring}
 use Rattle.decl_rules.specs.Definitions.{if_global, Fixed}
 use Rattle.nim_types.specs.Table.{type_at}
 use Rattle.decl_parts.specs.declared.state.State.{State as RustState}
-use Rattle.decl_parts.specs.View.{Beside, Over, env_in, state_of, place_of, step_of, steps_of}
+use Rattle.decl_parts.specs.View.{Beside, Over, env_in, state_of, place_of, steps_of}
 use Rattle.decl_stmts.specs.declared.definitions.New.{New}
 use Rattle.decl_stmts.specs.declared.definitions.News.{News}
 use Rattle.decl_stmts.specs.declared.constants.Fixed.{Fixed as RustFixed}
@@ -36,7 +36,7 @@ pub record Still (old new : RustState) : Type 0 where
 
 -- a variable, where others of its definition wait to be declared
 abbrev pub new_as : List Ty → Beside → RustState → List Entry → New → Stated
-new_as ts b st waits n = stated_as (step_of ts n.stmt) (declaring (state_of ts b st) (waits ++ entry_of ts n.decl ∷ []))
+new_as ts b st waits n = stated_as (steps_of ts n.stmts.items) (declaring (state_of ts b st) (waits ++ entry_of ts n.decl ∷ []))
 
 pub record Defining (old new : RustState) (said : List Ty → Env → State → Answer Stated) (result : Result New Stop) : Type 0 where
   pub still : Still old new

@@ -20,12 +20,30 @@ use Rattle.expr_rules.specs.Answers.{Answer, Valued, node}
 use Rattle.expr_rules.specs.Builtins.{write_rule}
 use Rattle.expr_rules.specs.Paths.{path_of}
 use Rattle.expr_rules.specs.Typed.{typed}
-use Rattle.decl_rules.specs.State.{Around, State, does, Stated, stated_as, did, up_to_node, deeper, entered, Blocked, blocked}
+use Rattle.decl_rules.specs.State.{Around, State, Step, does, Stated, stated_as, did, up_to_node, deeper, entered, Blocked, blocked}
 use Rattle.decl_rules.specs.Stated.{Branched, all_stated, block_by}
 use Rattle.decl_rules.specs.Values.{Value, valued_term, target_rule, target_at, source_want, source_rule, assigned, result_want, returned, condition}
 use Rattle.decl_parts.specs.declared.state.State.{State as RustState}
 use Rattle.decl_parts.specs.declared.state.Around.{Around as RustAround}
-use Rattle.decl_parts.specs.View.{Beside, state_of, Stating, Ready, InsideWithin}
+use Rattle.decl_parts.specs.View.{Beside, state_of, steps_of, all_stated_as, Stating, Ready, InsideWithin}
+use Rattle.decl_stmts.specs.declared.statements.PlainStmt.{PlainStmt}
+use Rattle.decl_stmts.specs.declared.statements.PlainStmt.TheVariants as kind
+
+-- the statements of a list
+abbrev pub listed_steps : List Ty → Vec RustStmt Global → List Step
+listed_steps ts all = steps_of ts all.items
+
+-- the same, and the state behind them
+abbrev pub listed_stated : List Ty → Beside → RustState → Vec RustStmt Global → Stated
+listed_stated ts b st all = all_stated_as ts b st all.items
+
+-- a statement of one node
+abbrev pub plain_of : PlainStmt → Node → P.Stmt
+plain_of kind.Pass n = P.Pass n
+plain_of kind.Discard n = P.Discard n
+plain_of kind.Return n = P.Return n
+plain_of kind.Break n = P.Break n
+plain_of kind.Continue n = P.Continue n
 
 -- ---- results
 

@@ -16,12 +16,13 @@ ghost use Rattle.decl_rules.specs.State.{Around as Near, did, does};
 ghost use Rattle.decl_rules.specs.Stated.{stated};
 ghost use Rattle.decl_rules.specs.Values.{is_target, target_rule, target_at, source_want};
 ghost use Rattle.decl_rules.specs.Values.{is_source, source_rule, assigned};
-ghost use Rattle.decl_parts.specs.View.{numbered_of, step_of, Ready, StatedSo};
+ghost use Rattle.decl_parts.specs.View.{numbered_of, step_of, Ready, AllStatedSo};
 ghost use Rattle.decl_stmts.specs.ViewStated.{is_char, assign_source};
 ghost use Rattle.decl_stmts.specs.ViewStated.{assign_checked, assign_behind};
 
 use arc_base::{Code, Place, Stop};
 use decl_parts::state::State;
+use decl_parts::stmts::list_of;
 use decl_parts::typing::{value_at, value_first};
 use decl_parts::values::{Numbered, accepted_if};
 use expr_parts::kinds::{entry, is_int, is_same, is_text};
@@ -150,11 +151,11 @@ fn assignment(
     op: AssignOp,
     target: Value,
     source: Numbered,
-) -> Result<Stmt, Stop>
+) -> Result<Vec<Stmt>, Stop>
     requires ready { Ready state.old }
     requires target { target.ty < length state.old.types }
     requires source { source.value.ty < length state.old.types }
-    ensures { StatedSo state.old state.new (λ ts st. and_then (source_rule op
+    ensures { AllStatedSo state.old state.new (λ ts st. and_then (source_rule op
         (type_at ts target.ty) (valued_of ts source.value)) (λ v. Ok (did st (assigned op node
         (path_of (expr_of ts target.expr)) v.expr) source.next))) result }
 {
@@ -172,7 +173,7 @@ fn assignment(
         }
     };
     state.node = source.next;
-    Ok(written(node, op, path, source.value.expr))
+    list_of(alloc, written(node, op, path, source.value.expr))
 }
 
 // Behind what is written, whose nodes end before the first number.
@@ -184,10 +185,10 @@ fn assign_from(
     target: Value,
     first: u32,
     value: &Tree,
-) -> Result<Stmt, Stop>
+) -> Result<Vec<Stmt>, Stop>
     requires ready { Ready state.old }
     requires target { target.ty < length state.old.types }
-    ensures { StatedSo state.old state.new (λ ts st. assign_source st node op
+    ensures { AllStatedSo state.old state.new (λ ts st. assign_source st node op
         (term_of value.now) (valued_of ts target) first) result }
 {
     match value_at(alloc, state, source_want(op, target.ty), first, value) {
@@ -209,10 +210,10 @@ fn assign_checked(
     target: Value,
     first: u32,
     value: &Tree,
-) -> Result<Stmt, Stop>
+) -> Result<Vec<Stmt>, Stop>
     requires ready { Ready state.old }
     requires target { target.ty < length state.old.types }
-    ensures { StatedSo state.old state.new (λ ts st. assign_checked st node op
+    ensures { AllStatedSo state.old state.new (λ ts st. assign_checked st node op
         (term_of tree.now) (term_of value.now) (valued_of ts target) first) result }
 {
     match check_target(alloc, &state.scope, tree, &target.expr) {
@@ -233,10 +234,10 @@ fn assign_to(
     tree: &Tree,
     given: Numbered,
     value: &Tree,
-) -> Result<Stmt, Stop>
+) -> Result<Vec<Stmt>, Stop>
     requires ready { Ready state.old }
     requires given { given.value.ty < length state.old.types }
-    ensures { StatedSo state.old state.new (λ ts st. assign_behind st node op
+    ensures { AllStatedSo state.old state.new (λ ts st. assign_behind st node op
         (term_of tree.now) (term_of value.now) (numbered_of ts given)) result }
 {
     let first = given.next;
@@ -254,9 +255,9 @@ pub fn assign(
     op: AssignOp,
     target: &Tree,
     value: &Tree,
-) -> Result<Stmt, Stop>
+) -> Result<Vec<Stmt>, Stop>
     requires ready { Ready state.old }
-    ensures { (a : List Ty → Near) (ends : List Ty → Option Ty) → StatedSo state.old state.new
+    ensures { (a : List Ty → Near) (ends : List Ty → Option Ty) → AllStatedSo state.old state.new
         (λ ts st. stated (a ts) (ends ts) st (tree.assigns at op (term_of target.now)
         (term_of value.now))) result }
 {

@@ -8,16 +8,14 @@ ghost use Rattle.nim_tree.specs.Terms.{term_of, parts_of};
 ghost use Rattle.nim_tree.specs.Types.{declaration_of};
 ghost use Rattle.nim_types.specs.Types.{Ty};
 ghost use Rattle.nim_core.specs.View.{if_type};
-ghost use Rattle.expr_rules.specs.Answers.{Answer};
 ghost use Rattle.decl_rules.specs.Definitions.{constants_rule};
-ghost use Rattle.decl_rules.specs.State.{State as Known, Around as Near, Stated};
+ghost use Rattle.decl_rules.specs.State.{Around as Near};
 ghost use Rattle.decl_rules.specs.Stated.{stated, all_stated, all_branches, passed};
-ghost use Rattle.decl_parts.specs.declared.state.State.{State};
-ghost use Rattle.decl_parts.specs.View.{around_of, numbered_of, state_of, one_stated};
-ghost use Rattle.decl_parts.specs.View.{InsideWithin, Ready, Stating, StatedSo, AllStatedSo};
+ghost use Rattle.decl_parts.specs.View.{around_of, numbered_of, state_of};
+ghost use Rattle.decl_parts.specs.View.{InsideWithin, Ready, Stating, AllStatedSo};
 ghost use Rattle.decl_stmts.specs.ViewStated.{block_rule, branched_as, branch_as, BlockSo};
 ghost use Rattle.decl_stmts.specs.ViewStated.{branch_rule, branch_behind, choice_behind};
-ghost use Rattle.decl_stmts.specs.ViewStated.{repetition_behind, Fits};
+ghost use Rattle.decl_stmts.specs.ViewStated.{repetition_behind, listed_stated, Fits};
 
 mod cases;
 mod loops;
@@ -44,25 +42,19 @@ use nim_tree::{
 use nim_types::TypeId;
 use std::alloc::Global;
 
-// A list of the statement that a call makes.
-fn listed(alloc: Global, stmt: Result<Stmt, Stop>) -> Result<Vec<Stmt>, Stop>
-    ensures { (old new : State) (said : List Ty → Known → Answer Stated)
-        → StatedSo old new said stmt → AllStatedSo old new said result }
-{
-    match stmt {
-        Ok(stmt) => list_of(alloc, stmt),
-        Err(stop) => Err(stop),
-    }
-}
-
 // A section of constants, which is a statement that does nothing.
-fn constant_section(alloc: Global, state: &mut State, at: Place, defs: &[Def]) -> Result<Stmt, Stop>
+fn constant_section(
+    alloc: Global,
+    state: &mut State,
+    at: Place,
+    defs: &[Def],
+) -> Result<Vec<Stmt>, Stop>
     requires ready { Ready state.old }
-    ensures { StatedSo state.old state.new (λ ts st. and_then (constants_rule st
+    ensures { AllStatedSo state.old state.new (λ ts st. and_then (constants_rule st
         (map definition_of defs.now)) (λ behind. Ok (passed behind at))) result }
 {
     match constants(alloc, state, defs) {
-        Ok(()) => pass(state, at),
+        Ok(()) => pass(alloc, state, at),
         Err(stop) => Err(stop),
     }
 }
@@ -73,14 +65,14 @@ fn type_section(
     state: &mut State,
     at: Place,
     all: &[Declaration],
-) -> Result<Stmt, Stop>
+) -> Result<Vec<Stmt>, Stop>
     requires ready { Ready state.old }
-    ensures { (a : List Ty → Near) (ends : List Ty → Option Ty) → StatedSo state.old state.new
+    ensures { (a : List Ty → Near) (ends : List Ty → Option Ty) → AllStatedSo state.old state.new
         (λ ts st. stated (a ts) (ends ts) st (tree.types at (map declaration_of all.now)))
         result }
 {
     match section(alloc, state, all) {
-        Ok(()) => pass(state, at),
+        Ok(()) => pass(alloc, state, at),
         Err(stop) => Err(stop),
     }
 }
@@ -100,7 +92,7 @@ fn defined(
         result }
 {
     match binding {
-        Binding::Const => listed(alloc, constant_section(alloc, state, at, defs)),
+        Binding::Const => constant_section(alloc, state, at, defs),
         Binding::Let | Binding::Var => definitions(alloc, state, around, at, binding, defs),
     }
 }
@@ -235,10 +227,10 @@ fn choice(
     at: Place,
     branches: &[TreeBranch],
     otherwise: &[Tree],
-) -> Result<Stmt, Stop>
+) -> Result<Vec<Stmt>, Stop>
     requires ready { Ready state.old }
     requires around { InsideWithin (length state.old.types) around.inside }
-    ensures { (ends : List Ty → Option Ty) → StatedSo state.old state.new (λ ts st. stated
+    ensures { (ends : List Ty → Option Ty) → AllStatedSo state.old state.new (λ ts st. stated
         (around_of ts around) (ends ts) st (tree.branches at (branches_of branches.now)
         (statements_of otherwise.now))) result }
 {
@@ -263,15 +255,15 @@ fn choice_with(
     node: Node,
     all: Vec<Branch>,
     otherwise: &[Tree],
-) -> Result<Stmt, Stop>
+) -> Result<Vec<Stmt>, Stop>
     requires ready { Ready state.old }
     requires around { InsideWithin (length state.old.types) around.inside }
-    ensures { Stating state.old state.new (λ ts b s. one_stated ts b state.new s)
+    ensures { Stating state.old state.new (λ ts b s. listed_stated ts b state.new s)
         (λ ts b. choice_behind (around_of ts around) node (statements_of otherwise.now)
         (branched_as ts b state.old all.items)) result }
 {
     match block(alloc, state, around, otherwise) {
-        Ok(stmts) => Ok(choice_of(node, all, stmts)),
+        Ok(stmts) => list_of(alloc, choice_of(node, all, stmts)),
         Err(stop) => Err(stop),
     }
 }
@@ -285,10 +277,10 @@ fn repetition(
     at: Place,
     condition: &Term,
     body: &[Tree],
-) -> Result<Stmt, Stop>
+) -> Result<Vec<Stmt>, Stop>
     requires ready { Ready state.old }
     requires around { InsideWithin (length state.old.types) around.inside }
-    ensures { (ends : List Ty → Option Ty) → StatedSo state.old state.new (λ ts st. stated
+    ensures { (ends : List Ty → Option Ty) → AllStatedSo state.old state.new (λ ts st. stated
         (around_of ts around) (ends ts) st (tree.repeats at (term_of condition.now)
         (statements_of body.now))) result }
 {
@@ -312,15 +304,15 @@ fn repetition_with(
     node: Node,
     given: Numbered,
     body: &[Tree],
-) -> Result<Stmt, Stop>
+) -> Result<Vec<Stmt>, Stop>
     requires ready { Ready state.old }
     requires around { InsideWithin (length state.old.types) around.inside }
-    ensures { StatedSo state.old state.new (λ ts st. repetition_behind (around_of ts around) st
+    ensures { AllStatedSo state.old state.new (λ ts st. repetition_behind (around_of ts around) st
         node (statements_of body.now) (numbered_of ts given)) result }
 {
     state.node = given.next;
     match block(alloc, state, around, body) {
-        Ok(stmts) => Ok(repetition_of(node, given.value.expr, stmts)),
+        Ok(stmts) => list_of(alloc, repetition_of(node, given.value.expr, stmts)),
         Err(stop) => {
             drop(given);
             Err(stop)
@@ -338,10 +330,10 @@ fn each(
     name: &Name,
     over: &Over,
     body: &[Tree],
-) -> Result<Stmt, Stop>
+) -> Result<Vec<Stmt>, Stop>
     requires ready { Ready state.old }
     requires around { InsideWithin (length state.old.types) around.inside }
-    ensures { (ends : List Ty → Option Ty) → StatedSo state.old state.new (λ ts st. stated
+    ensures { (ends : List Ty → Option Ty) → AllStatedSo state.old state.new (λ ts st. stated
         (around_of ts around) (ends ts) st (tree.counts at name.now (course_of over.now)
         (statements_of body.now))) result }
 {
@@ -370,46 +362,38 @@ pub fn statement(
         (if_type ts ends) st (statement_of tree.now)) result }
 {
     match tree {
-        Tree::Discard { at, value } => listed(alloc, discard(alloc, state, *at, value)),
-        Tree::Return { at, value } => listed(alloc, return_by(alloc, state, around, *at, value)),
-        Tree::Break { at } => listed(alloc, break_loop(state, around, *at)),
-        Tree::Continue { at } => listed(alloc, continue_loop(state, around, *at)),
-        Tree::Eval { at, value } => listed(alloc, evaluate(alloc, state, ends, *at, value)),
+        Tree::Discard { at, value } => discard(alloc, state, *at, value),
+        Tree::Return { at, value } => return_by(alloc, state, around, *at, value),
+        Tree::Break { at } => break_loop(alloc, state, around, *at),
+        Tree::Continue { at } => continue_loop(alloc, state, around, *at),
+        Tree::Eval { at, value } => evaluate(alloc, state, ends, *at, value),
         Tree::Assign {
             at,
             op,
             target,
             value,
-        } => listed(alloc, assign(alloc, state, *at, *op, target, value)),
+        } => assign(alloc, state, *at, *op, target, value),
         Tree::Command {
             at,
             callee,
             operands,
-        } => listed(alloc, command(alloc, state, ends, *at, callee, operands)),
+        } => command(alloc, state, ends, *at, callee, operands),
         Tree::Define { at, binding, defs } => defined(alloc, state, around, *at, *binding, defs),
-        Tree::Types { at, defs } => listed(alloc, type_section(alloc, state, *at, defs)),
-        Tree::If { at, .. } => {
-            let one = choice(alloc, state, around, *at, tree.branches(), tree.closing());
-            listed(alloc, one)
-        }
+        Tree::Types { at, defs } => type_section(alloc, state, *at, defs),
+        Tree::If { at, .. } => choice(alloc, state, around, *at, tree.branches(), tree.closing()),
         Tree::While { at, condition, .. } => {
-            let one = repetition(alloc, state, around, *at, condition, tree.body());
-            listed(alloc, one)
+            repetition(alloc, state, around, *at, condition, tree.body())
         }
         Tree::Case { at, selector, .. } => {
             let all = tree.branches();
-            let one = selection(alloc, state, around, *at, selector, all, tree.closing());
-            listed(alloc, one)
+            selection(alloc, state, around, *at, selector, all, tree.closing())
         }
         Tree::For {
             at,
             variable,
             over,
             ..
-        } => {
-            let one = each(alloc, state, around, *at, variable, over, tree.body());
-            listed(alloc, one)
-        }
+        } => each(alloc, state, around, *at, variable, over, tree.body()),
         Tree::Raise { at, .. } => Err(refusal(Code::LeftOut, *at)),
         Tree::Import { at, .. } => Err(refusal(Code::LeftOut, *at)),
         Tree::Try { at, .. } => Err(refusal(Code::LeftOut, *at)),

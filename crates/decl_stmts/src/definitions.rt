@@ -24,7 +24,7 @@ ghost use Rattle.decl_stmts.specs.ViewDefinitions.{counting, news_as, Kept, Stil
 use arc_base::{Code, Place, Stop};
 use decl_parts::names::{all_fit, check_names, is_whole, place_of};
 use decl_parts::state::{Around, State, after};
-use decl_parts::stmts::append;
+use decl_parts::stmts::{append, list_of};
 use decl_parts::typing::definition_first;
 use decl_parts::values::Numbered;
 use decl_written::stated::written_type;
@@ -46,7 +46,7 @@ pub struct News {
 /// A variable, whose declaration waits for the end of its definition.
 #[derive(Drop)]
 pub struct New {
-    pub stmt: Stmt,
+    pub stmts: Vec<Stmt>,
     pub decl: Decl,
 }
 
@@ -132,6 +132,20 @@ fn variable(
     })
 }
 
+fn new_of(alloc: Global, stmt: Stmt, decl: Decl) -> Result<New, Stop>
+    ensures stmts { IfOk result (λ n. n.stmts.items ≡ stmt ∷ []) }
+    ensures decl { IfOk result (λ n. n.decl ≡ decl) }
+    ensures memory { IfErr result (λ stop. stop ≡ Stop.Memory) }
+{
+    match list_of(alloc, stmt) {
+        Ok(stmts) => Ok(New { stmts, decl }),
+        Err(stop) => {
+            drop(decl);
+            Err(stop)
+        }
+    }
+}
+
 // A variable with a value, which has been typed.
 fn with_value(
     alloc: Global,
@@ -166,12 +180,8 @@ fn with_value(
             return Err(stop);
         }
     };
-    let stmt = Stmt::Declare {
-        node,
-        place,
-        value: Some(given.value.expr),
-    };
-    Ok(New { stmt, decl })
+    let value = Some(given.value.expr);
+    new_of(alloc, Stmt::Declare { node, place, value }, decl)
 }
 
 // A variable that starts at the default of its type.
@@ -202,12 +212,8 @@ fn without_value(
         place.number,
         ty,
     )?;
-    let stmt = Stmt::Declare {
-        node,
-        place,
-        value: None,
-    };
-    Ok(New { stmt, decl })
+    let value = None;
+    new_of(alloc, Stmt::Declare { node, place, value }, decl)
 }
 
 fn initialised(
@@ -273,16 +279,13 @@ fn variable_of(
     }
 }
 
-fn with_new(all: News, new: New) -> Result<News, Stop>
-    ensures stmts { IfOk result (λ n. n.stmts.items ≡ all.stmts.items ++ new.stmt ∷ []) }
-    ensures waits { IfOk result (λ n. n.waits.items ≡ all.waits.items ++ new.decl ∷ []) }
+fn add_new(all: &mut News, new: New) -> Result<(), Stop>
+    ensures stmts { OnOk result (all.new.stmts.items ≡ all.old.stmts.items ++ new.stmts.items) }
+    ensures waits { OnOk result (all.new.waits.items ≡ all.old.waits.items ++ new.decl ∷ []) }
     ensures memory { IfErr result (λ stop. stop ≡ Stop.Memory) }
 {
-    let mut stmts = all.stmts;
-    let mut waits = all.waits;
-    stmts.push(new.stmt)?;
-    waits.push(new.decl)?;
-    Ok(News { stmts, waits })
+    all.waits.push(new.decl)?;
+    append(&mut all.stmts, new.stmts)
 }
 
 // The variables of a definition. Their declarations wait.
@@ -309,10 +312,7 @@ fn variables(
     let mut all = News { stmts, waits };
     for name in &def.names {
         match variable_of(alloc, state, around, at, binding, ty, def, name) {
-            Ok(new) => {
-                let more = with_new(all, new)?;
-                all = more;
-            }
+            Ok(new) => add_new(&mut all, new)?,
             Err(stop) => return Err(stop),
         }
     }

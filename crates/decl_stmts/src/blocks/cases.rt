@@ -12,8 +12,9 @@ ghost use Rattle.nim_core.specs.View.{label_of, arms_of, stmts_of};
 ghost use Rattle.decl_rules.specs.Stated.{stated, all_arms, covered};
 ghost use Rattle.expr_parts.specs.View.{Under, valued_of};
 ghost use Rattle.decl_parts.specs.declared.state.State.{State};
-ghost use Rattle.decl_parts.specs.View.{around_of, numbered_of, state_of, one_stated, Beside};
-ghost use Rattle.decl_parts.specs.View.{InsideWithin, Ready, Over, Further, Stating, StatedSo};
+ghost use Rattle.decl_parts.specs.View.{around_of, numbered_of, state_of, Beside};
+ghost use Rattle.decl_parts.specs.View.{InsideWithin, Ready, Over, Further, Stating, AllStatedSo};
+ghost use Rattle.decl_stmts.specs.ViewStated.{listed_stated};
 ghost use Rattle.decl_stmts.specs.ViewCases.{armed_as, arm_as, arm_rule, arm_behind};
 ghost use Rattle.decl_stmts.specs.ViewCases.{selection_behind, selection_over};
 ghost use Rattle.decl_stmts.specs.ViewCases.{selection_else, covered_as, covered_by};
@@ -23,6 +24,7 @@ use arc_base::{Place, Stop};
 use check_exprs::public::type_labels;
 use decl_parts::nodes::selection_of;
 use decl_parts::state::{Around, State};
+use decl_parts::stmts::list_of;
 use decl_parts::typing::value_first;
 use decl_parts::values::{Numbered, selector_rule};
 use expr_builds::label_list::{Labels, cover_rule};
@@ -147,10 +149,10 @@ pub(crate) fn selection(
     selector: &Term,
     branches: &[TreeBranch],
     otherwise: &[Tree],
-) -> Result<Stmt, Stop>
+) -> Result<Vec<Stmt>, Stop>
     requires ready { Ready state.old }
     requires around { InsideWithin (length state.old.types) around.inside }
-    ensures { (ends : List Ty → Option Ty) → StatedSo state.old state.new (λ ts st. stated
+    ensures { (ends : List Ty → Option Ty) → AllStatedSo state.old state.new (λ ts st. stated
         (around_of ts around) (ends ts) st (tree.selects at (term_of selector.now)
         (branches_of branches.now) (statements_of otherwise.now))) result }
 {
@@ -170,11 +172,11 @@ fn selection_by(
     given: Numbered,
     branches: &[TreeBranch],
     otherwise: &[Tree],
-) -> Result<Stmt, Stop>
+) -> Result<Vec<Stmt>, Stop>
     requires ready { Ready state.old }
     requires around { InsideWithin (length state.old.types) around.inside }
     requires given { given.value.ty < length state.old.types }
-    ensures { StatedSo state.old state.new (λ ts st. selection_behind (around_of ts around) st at
+    ensures { AllStatedSo state.old state.new (λ ts st. selection_behind (around_of ts around) st at
         (branches_of branches.now) (statements_of otherwise.now) (numbered_of ts given)) result }
 {
     let next = given.next;
@@ -195,11 +197,11 @@ fn selection_with(
     next: u32,
     branches: &[TreeBranch],
     otherwise: &[Tree],
-) -> Result<Stmt, Stop>
+) -> Result<Vec<Stmt>, Stop>
     requires ready { Ready state.old }
     requires around { InsideWithin (length state.old.types) around.inside }
     requires value { value.ty < length state.old.types }
-    ensures { StatedSo state.old state.new (λ ts st. selection_over (around_of ts around) st at
+    ensures { AllStatedSo state.old state.new (λ ts st. selection_over (around_of ts around) st at
         (branches_of branches.now) (statements_of otherwise.now) (valued_of ts value) next)
         result }
 {
@@ -227,18 +229,26 @@ fn selection_else(
     value: Value,
     arms: Arms,
     otherwise: &[Tree],
-) -> Result<Stmt, Stop>
+) -> Result<Vec<Stmt>, Stop>
     requires ready { Ready state.old }
     requires around { InsideWithin (length state.old.types) around.inside }
     requires value { value.ty < length state.old.types }
     ensures { (before : State) → Further before state.old → value.ty < length before.types
-        → Stating state.old state.new (λ ts b s. one_stated ts b state.new s) (λ ts b.
+        → Stating state.old state.new (λ ts b s. listed_stated ts b state.new s) (λ ts b.
         selection_else (around_of ts around) (facts_in before.types) node
         (statements_of otherwise.now) (valued_of ts value) (armed_as ts b state.old arms))
         result }
 {
     match block(alloc, state, around, otherwise) {
-        Ok(stmts) => covered(state, node, value, arms, lacks_else(otherwise), stmts),
+        Ok(stmts) => covered(
+            alloc,
+            state,
+            node,
+            value,
+            arms,
+            lacks_else(otherwise),
+            stmts,
+        ),
         Err(stop) => {
             drop(value);
             Err(stop)
@@ -257,21 +267,22 @@ fn lacks_else(otherwise: &[Tree]) -> bool
 }
 
 fn covered(
+    alloc: Global,
     state: &State,
     node: Node,
     value: Value,
     arms: Arms,
     lacks_else: bool,
     stmts: Vec<Stmt>,
-) -> Result<Stmt, Stop>
+) -> Result<Vec<Stmt>, Stop>
     requires { value.ty < length state.now.types }
     ensures { (ts : List Ty) (b : Beside) → Over state.now ts
-        → Answers (one_stated ts b state.now) (covered_as lacks_else (facts_in state.now.types)
+        → Answers (listed_stated ts b state.now) (covered_as lacks_else (facts_in state.now.types)
         node (valued_of ts value) (arms_of ts arms.all.items) arms.labels
         (stmts_of ts stmts.items) (state_of ts b state.now)) result }
 {
     match check_covered(&state.types, node.at, value.ty, &arms.labels, lacks_else) {
-        Ok(()) => Ok(selection_of(node, value.expr, arms.all, stmts)),
+        Ok(()) => list_of(alloc, selection_of(node, value.expr, arms.all, stmts)),
         Err(stop) => {
             drop(value);
             Err(stop)

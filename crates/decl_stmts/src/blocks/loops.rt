@@ -8,7 +8,7 @@ ghost use Rattle.nim_types.specs.Types.{Ty};
 ghost use Rattle.nim_types.specs.Table.{type_at};
 ghost use Rattle.decl_rules.specs.Stated.{stated};
 ghost use Rattle.decl_parts.specs.View.{around_of, numbered_of};
-ghost use Rattle.decl_parts.specs.View.{InsideWithin, Ready, StatedSo};
+ghost use Rattle.decl_parts.specs.View.{InsideWithin, Ready, AllStatedSo};
 ghost use Rattle.decl_stmts.specs.ViewStated.{BlockSo};
 ghost use Rattle.decl_stmts.specs.ViewLoops.{loop_rule, each_behind, each_within, ints_behind};
 ghost use Rattle.decl_stmts.specs.ViewLoops.{ints_within, course_by, Begun};
@@ -18,6 +18,7 @@ use arc_base::{Place, Stop};
 use decl_parts::names::place_of;
 use decl_parts::nodes::{count_of, each_of};
 use decl_parts::state::{Around, State, after, leave};
+use decl_parts::stmts::list_of;
 use decl_parts::typing::{value_as_at, value_as_first, value_first};
 use decl_parts::values::{Numbered, element_rule};
 use expr_parts::paths::path_of;
@@ -93,10 +94,10 @@ pub(crate) fn each_element(
     name: &Name,
     over: &Term,
     body: &[Tree],
-) -> Result<Stmt, Stop>
+) -> Result<Vec<Stmt>, Stop>
     requires ready { Ready state.old }
     requires around { InsideWithin (length state.old.types) around.inside }
-    ensures { (ends : List Ty → Option Ty) → StatedSo state.old state.new (λ ts st. stated
+    ensures { (ends : List Ty → Option Ty) → AllStatedSo state.old state.new (λ ts st. stated
         (around_of ts around) (ends ts) st (tree.counts at name.now (tree.each (term_of over.now))
         (statements_of body.now))) result }
 {
@@ -120,11 +121,11 @@ fn each_with(
     name: &Name,
     given: Numbered,
     body: &[Tree],
-) -> Result<Stmt, Stop>
+) -> Result<Vec<Stmt>, Stop>
     requires ready { Ready state.old }
     requires around { InsideWithin (length state.old.types) around.inside }
     requires given { given.value.ty < length state.old.types }
-    ensures { StatedSo state.old state.new (λ ts st. each_behind (around_of ts around) st node
+    ensures { AllStatedSo state.old state.new (λ ts st. each_behind (around_of ts around) st node
         name.now (statements_of body.now) (numbered_of ts given)) result }
 {
     match element_rule(&state.types, state.scope.kinds, &given.value) {
@@ -147,18 +148,18 @@ fn each_typed(
     given: Numbered,
     ty: TypeId,
     body: &[Tree],
-) -> Result<Stmt, Stop>
+) -> Result<Vec<Stmt>, Stop>
     requires ready { Ready state.old }
     requires around { InsideWithin (length state.old.types) around.inside }
     requires ty { ty < length state.old.types }
-    ensures { StatedSo state.old state.new (λ ts st. each_within (around_of ts around) st node
+    ensures { AllStatedSo state.old state.new (λ ts st. each_within (around_of ts around) st node
         name.now (statements_of body.now) (numbered_of ts given) (type_at ts ty)) result }
 {
     state.node = given.next;
     let path = path_of(alloc, given.value.expr)?;
     let variable = place_of(alloc, state.place, name.text.as_slice(), name.at, ty)?;
     match loop_body(alloc, state, around, name, ty, body) {
-        Ok(stmts) => Ok(each_of(node, variable, path, stmts)),
+        Ok(stmts) => list_of(alloc, each_of(node, variable, path, stmts)),
         Err(stop) => Err(stop),
     }
 }
@@ -175,10 +176,10 @@ pub(crate) fn each_int(
     last: &Term,
     inclusive: bool,
     body: &[Tree],
-) -> Result<Stmt, Stop>
+) -> Result<Vec<Stmt>, Stop>
     requires ready { Ready state.old }
     requires around { InsideWithin (length state.old.types) around.inside }
-    ensures { (ends : List Ty → Option Ty) → StatedSo state.old state.new (λ ts st. stated
+    ensures { (ends : List Ty → Option Ty) → AllStatedSo state.old state.new (λ ts st. stated
         (around_of ts around) (ends ts) st (tree.counts at name.now (course_by inclusive
         (term_of first.now) (term_of last.now)) (statements_of body.now))) result }
 {
@@ -215,10 +216,10 @@ fn int_with(
     last: &Term,
     inclusive: bool,
     body: &[Tree],
-) -> Result<Stmt, Stop>
+) -> Result<Vec<Stmt>, Stop>
     requires ready { Ready state.old }
     requires around { InsideWithin (length state.old.types) around.inside }
-    ensures { StatedSo state.old state.new (λ ts st. ints_behind (around_of ts around) st node
+    ensures { AllStatedSo state.old state.new (λ ts st. ints_behind (around_of ts around) st node
         name.now inclusive (term_of last.now) (statements_of body.now)
         (numbered_of ts from)) result }
 {
@@ -244,10 +245,10 @@ fn ints_with(
     to: Numbered,
     inclusive: bool,
     body: &[Tree],
-) -> Result<Stmt, Stop>
+) -> Result<Vec<Stmt>, Stop>
     requires ready { Ready state.old }
     requires around { InsideWithin (length state.old.types) around.inside }
-    ensures { StatedSo state.old state.new (λ ts st. ints_within (around_of ts around) st node
+    ensures { AllStatedSo state.old state.new (λ ts st. ints_within (around_of ts around) st node
         name.now inclusive (statements_of body.now) (numbered_of ts from)
         (numbered_of ts to)) result }
 {
@@ -260,7 +261,7 @@ fn ints_with(
         inclusive,
     };
     match loop_body(alloc, state, around, name, ints, body) {
-        Ok(stmts) => Ok(count_of(node, variable, bounds, stmts)),
+        Ok(stmts) => list_of(alloc, count_of(node, variable, bounds, stmts)),
         Err(stop) => {
             drop(bounds);
             Err(stop)

@@ -9,8 +9,9 @@ use Rattle.expr_rules.specs.Answers.{Want}
 use Rattle.expr_rules.specs.Paths.{path_of}
 use Rattle.decl_rules.specs.State.{State, did}
 use Rattle.decl_rules.specs.Values.{Value, valued_term, source_want, source_rule, assigned}
-use Rattle.decl_parts.specs.View.{Beside, env_in, state_of, one_stated}
+use Rattle.decl_parts.specs.View.{Beside, env_in, state_of}
 use Rattle.decl_parts.proofs.ForCallers.{stated_so, type_goes, type_stops, ready_typed}
+use Rattle.decl_stmts.specs.ViewStated.{listed_stated}
 use Rattle.decl_stmts.proofs.assignments.assign_from.Goals as goal
 
 pub returns-in-Ok : goal.returns-in-Ok
@@ -31,7 +32,7 @@ returns-in-Err c =
     let by = λ (ts : List Ty) (b : Beside) (w : Want). and_then (valued_term (env_in ts old) w c.args.first (term_of c.args.value.now))
     (go ts (state_of ts b old)) in
     stated_so (λ ts b. by ts b (source_want c.args.op (type_at ts c.args.target.ty))) (λ ts b u. ap (by ts b) (sym (c.source_want.ensures.want ts)))
-    (type_stops (λ ts b s. one_stated ts b c.value_at.new.state s) (λ (ts : List Ty) (b : Beside). go ts (state_of ts b old)) c.in-Err.ensures)
+    (type_stops (λ ts b s. listed_stated ts b c.value_at.new.state s) (λ (ts : List Ty) (b : Beside). go ts (state_of ts b old)) c.in-Err.ensures)
 
 pub value_at-requires-clause-want : goal.value_at-requires-clause-want
 value_at-requires-clause-want c = c.source_want.ensures.within (length c.args.state.now.types) c.requires.target

@@ -4,9 +4,9 @@ use Rattle.nim_types.specs.Types.{Ty, Facts}
 use Rattle.expr_rules.specs.Answers.{Valued}
 use Rattle.expr_parts.specs.View.{valued_of}
 use Rattle.decl_rules.specs.Values.{target_rule}
-use Rattle.decl_parts.specs.View.{Beside, state_of, one_stated}
+use Rattle.decl_parts.specs.View.{Beside, state_of}
 use Rattle.decl_parts.proofs.ForCallers.{rule_goes, rule_stops}
-use Rattle.decl_stmts.specs.ViewStated.{assign_checked}
+use Rattle.decl_stmts.specs.ViewStated.{assign_checked, listed_stated}
 use Rattle.decl_stmts.proofs.assignments.assign_to.Goals as goal
 
 pub returns-in-Ok : goal.returns-in-Ok
@@ -20,7 +20,7 @@ returns-in-Ok c =
 pub returns-in-Err : goal.returns-in-Err
 returns-in-Err c =
     let old = c.args.state.now in
-    rule_stops (λ ts b s. one_stated ts b old s) valued_of (λ (ts : List Ty) (facts : Facts). target_rule c.args.op (valued_of ts c.args.given.value))
+    rule_stops (λ ts b s. listed_stated ts b old s) valued_of (λ (ts : List Ty) (facts : Facts). target_rule c.args.op (valued_of ts c.args.given.value))
     (λ (ts : List Ty) (b : Beside) (v : Valued).
     assign_checked (state_of ts b old) c.args.node c.args.op (term_of c.args.tree.now) (term_of c.args.value.now) v c.args.given.next)
     c.in-Err.ensures.answers

@@ -32,26 +32,27 @@ use Rattle.decl_rules.specs.State.{Around, State, Stated, stated_as, and_more, B
 use Rattle.decl_rules.specs.Bodies.{loop_variable}
 use Rattle.decl_rules.specs.Values.{Value, condition, value_as, element_rule, selector_rule}
 use Rattle.decl_rules.specs.Stated.{Branched, Armed, stated, all_stated, all_branches, all_arms, covered}
-use Rattle.decl_parts.specs.View.{around_of, place_of, state_of, env_in, one_stated, all_stated_as, numbered_of, Stating}
+use Rattle.decl_parts.specs.View.{around_of, place_of, state_of, env_in, all_stated_as, numbered_of, Stating}
 use Rattle.decl_parts.specs.View.{Beside, InsideWithin}
 use Rattle.decl_parts.specs.declared.state.State.{State as RustState}
 use Rattle.decl_parts.proofs.ForCallers.{inside_more, further_as, further_on, further_same, further_to, further_typed, ready_typed, ready_grown}
 use Rattle.decl_parts.proofs.ForCallers.{ready_at, stated_so, stated_from}
 use Rattle.decl_parts.proofs.ForCallers.{stated_forgets, stated_refuses, stated_stops, type_stops, stated_goes, type_goes, rule_goes, rule_stops}
-use Rattle.decl_parts.proofs.ForCallers.{stated_here, one_here, same_state, typing_any, Left}
+use Rattle.decl_parts.proofs.ForCallers.{stated_here, same_state, typing_any, Left}
 use Rattle.decl_parts.proofs.ForCallers.{left_whole, left_goes, left_stops, left_ends, nothing_onto, more_onto, onto_end, next_name, steps_onto}
-use Rattle.decl_stmts.specs.ViewStated.{block_rule, blocked_as, branched_as, branch_as, OneBranch, branch_rule, branch_behind, choice_behind}
+use Rattle.decl_stmts.specs.ViewStated.{block_rule, blocked_as, branched_as, branch_as, OneBranch, branch_rule, branch_behind, choice_behind, listed_stated}
 use Rattle.decl_stmts.specs.ViewStated.{repetition_behind, IsPlain}
 use Rattle.decl_stmts.proofs.Scopes.{then_others, ready_entered, block_goes, block_stops, branches_onto, branch_onto, branches_done, no_branch_done}
 use Rattle.decl_stmts.proofs.Scopes.{branch_more, branch_first}
 use Rattle.decl_stmts.specs.ViewLoops.{loop_rule, each_within, each_behind, ints_within, ints_behind, course_by}
-use Rattle.decl_stmts.proofs.Scopes.{plain_inside, no_procedure, stated_as_tree, listed_as, branches_by, repeats_by, selects_by, counts_by, commands_by}
+use Rattle.decl_stmts.proofs.Scopes.{plain_inside, no_procedure, stated_as_tree, branches_by, repeats_by, selects_by, counts_by, commands_by}
 use Rattle.decl_stmts.proofs.Scopes.{defines_by, types_by}
 use Rattle.decl_stmts.proofs.Looping.{loop_goes, loop_stops, each_is, course_is, course_as}
 use Rattle.decl_stmts.specs.ViewCases.{OneArm, armed_as, arm_as, arm_rule, arm_behind, selection_behind, selection_over, selection_else, covered_by}
 use Rattle.decl_stmts.specs.declared.blocks.cases.Arms.{Arms as RustArms}
 use Rattle.decl_stmts.specs.declared.blocks.cases.Arm.{Arm}
 use Rattle.decl_stmts.proofs.Arming.{arms_onto, arm_onto, arms_done, no_arm_done, arm_more, arm_first, select_is, labels_on, covered_stays}
+use Rattle.decl_stmts.proofs.Made.{made_here}
 use Rattle.decl_stmts.proofs.blocks.+statements.Goals as goal
 
 -- ---- statements of a block
@@ -291,13 +292,13 @@ choice-returns-in-Err t c = λ ends.
     let by = λ (ts : List Ty) (b : Beside) (k : ℕ). and_then (all_branches (a ts) (up_to_node (state_of ts b old) k) (branches_in c.args.branches.now))
     (go ts b) in
     stated_so (λ ts b. by ts b (suc old.node)) (λ ts b u. ap (by ts b) (sym c.in_ok-next.ensures.next))
-    (stated_from refl refl refl (stated_stops (λ ts b s. one_stated ts b c.all_branches.new.state s) go c.in-Err.ensures))
+    (stated_from refl refl refl (stated_stops (λ ts b s. listed_stated ts b c.all_branches.new.state s) go c.in-Err.ensures))
 
 pub choice-returns-in_err-next : goal.choice-returns-in_err-next
 choice-returns-in_err-next t c = λ ends.
     let old = c.args.state.now in
     let p = err_from_is_err_and c.from_residual.result c.from_residual.ensures.1 in
-    rw (p.1, p.2) (stated_forgets (λ ts b s. one_stated ts b old s)
+    rw (p.1, p.2) (stated_forgets (λ ts b s. listed_stated ts b old s)
     (λ ts b. stated (around_of ts c.args.around) (ends ts) (state_of ts b old)
     (tree.branches c.args.at (branches_in c.args.branches.now) (statements_of c.args.otherwise.now)))
     _ (further_same old) c.in_err-next.ensures.memory)
@@ -322,12 +323,12 @@ choice_with-returns-in-Ok t c =
     let new = c.block.new.state in
     let branches = λ (ts : List Ty). branches_of ts c.args.all.items in
     stated_goes (λ ts b (o : Blocked). Ok (stated_as (does (P.Branch c.args.node (branches ts) o.stmts) ∷ []) o.state)) c.in-Ok.ensures
-    (one_here new c.choice_of.result (λ ts. does (P.Branch c.args.node (branches ts) (stmts_of ts c.in-Ok.stmts.items)) ∷ []) c.in-Ok.ensures.stands.ready
-    c.choice_of.ensures)
+    (made_here new c.choice_of.result (λ ts. does (P.Branch c.args.node (branches ts) (stmts_of ts c.in-Ok.stmts.items)) ∷ []) c.list_of.result
+    c.in-Ok.ensures.stands.ready c.choice_of.ensures c.list_of.ensures.list c.list_of.ensures.memory)
 
 pub choice_with-returns-in-Err : goal.choice_with-returns-in-Err
 choice_with-returns-in-Err t c =
-    stated_stops (λ ts b s. one_stated ts b c.block.new.state s)
+    stated_stops (λ ts b s. listed_stated ts b c.block.new.state s)
     (λ ts b (o : Blocked). Ok (stated_as (does (P.Branch c.args.node (branches_of ts c.args.all.items) o.stmts) ∷ []) o.state)) c.in-Err.ensures
 
 pub choice_with-block-requires : goal.choice_with-block-requires
@@ -363,7 +364,7 @@ repetition-returns-in-Err t c = λ ends.
     (go ts (state_of ts b old)) in
     let v = c.in-Err.ensures in
     stated_so (λ ts b. by ts b type.bool) (λ ts b u. ap (by ts b) (sym (bool_under ((further_typed v).over ts u) c.requires.ready.all.kinds)))
-    (type_stops (λ ts b s. one_stated ts b c.value_as_first.new.state s) (λ ts (b : Beside). go ts (state_of ts b old)) v)
+    (type_stops (λ ts b s. listed_stated ts b c.value_as_first.new.state s) (λ ts (b : Beside). go ts (state_of ts b old)) v)
 
 pub repetition-value_as_first-requires-clause-ty : goal.repetition-value_as_first-requires-clause-ty
 repetition-value_as_first-requires-clause-ty t c = bool_below c.requires.ready.all.kinds
@@ -384,13 +385,13 @@ repetition_with-returns-in-Ok t c =
     let test = λ (ts : List Ty). expr_of ts c.args.given.value.expr in
     stated_from refl refl refl
     (stated_goes (λ ts b (z : Blocked). Ok (stated_as (does (P.While c.args.node (test ts) z.stmts) ∷ []) z.state)) c.in-Ok.ensures
-    (one_here c.block.new.state c.repetition_of.result (λ ts. does (P.While c.args.node (test ts) (stmts_of ts c.in-Ok.stmts.items)) ∷ [])
-    c.in-Ok.ensures.stands.ready c.repetition_of.ensures))
+    (made_here c.block.new.state c.repetition_of.result (λ ts. does (P.While c.args.node (test ts) (stmts_of ts c.in-Ok.stmts.items)) ∷ []) c.list_of.result
+    c.in-Ok.ensures.stands.ready c.repetition_of.ensures c.list_of.ensures.list c.list_of.ensures.memory))
 
 pub repetition_with-returns-in-Err : goal.repetition_with-returns-in-Err
 repetition_with-returns-in-Err t c =
     stated_from refl refl refl
-    (stated_stops (λ ts b s. one_stated ts b c.block.new.state s)
+    (stated_stops (λ ts b s. listed_stated ts b c.block.new.state s)
     (λ ts b (z : Blocked). Ok (stated_as (does (P.While c.args.node (expr_of ts c.args.given.value.expr) z.stmts) ∷ []) z.state)) c.in-Err.ensures)
 
 pub repetition_with-block-requires : goal.repetition_with-block-requires
@@ -450,15 +451,16 @@ loops::each_typed-returns-in-Ok t c =
     (stated_as (does (P.Each c.args.node p q (stmts_of ts c.in-Ok.stmts.items)) ∷ []) (state_of ts b new)))
     (sym (c.in_ok-variable.ensures.place ts
     ∙ ap (λ x. place_of old.place x c.args.name.now.at (type_at ts c.args.ty)) c.as_slice.ensures)) (sym (c.in_ok-path.ensures.path ts)))
-    (one_here new c.each_of.result (λ ts. does (P.Each c.args.node (declared_of ts c.in_ok-variable.variable) (path_in ts c.in_ok-path.path)
-    (stmts_of ts c.in-Ok.stmts.items)) ∷ []) c.in-Ok.ensures.stands.ready c.each_of.ensures)))
+    (made_here new c.each_of.result (λ ts. does (P.Each c.args.node (declared_of ts c.in_ok-variable.variable) (path_in ts c.in_ok-path.path)
+    (stmts_of ts c.in-Ok.stmts.items)) ∷ []) c.list_of.result c.in-Ok.ensures.stands.ready c.each_of.ensures c.list_of.ensures.list
+    c.list_of.ensures.memory)))
 
 pub loops::each_typed-returns-in-Err : goal.loops::each_typed-returns-in-Err
 loops::each_typed-returns-in-Err t c =
     let old = c.args.state.now in
     let start = record old { node = c.args.given.next } in
     stated_from refl refl refl
-    (stated_stops (λ ts b s. one_stated ts b c.loop_body.new.state s)
+    (stated_stops (λ ts b s. listed_stated ts b c.loop_body.new.state s)
     (λ ts b (z : Blocked). Ok (stated_as (does (P.Each c.args.node (loop_variable (state_of ts b start) c.args.name.now (type_at ts c.args.ty))
     (path_of (expr_of ts c.args.given.value.expr)) z.stmts) ∷ []) z.state)) c.in-Err.ensures)
 
@@ -467,7 +469,7 @@ loops::each_typed-returns-in_err-path t c =
     let old = c.args.state.now in
     let start = record old { node = c.args.given.next } in
     let p = err_from_is_err_and c.from_residual.result c.from_residual.ensures.1 in
-    rw (p.1, p.2) (stated_forgets (λ ts b s. one_stated ts b start s)
+    rw (p.1, p.2) (stated_forgets (λ ts b s. listed_stated ts b start s)
     (λ ts b. each_within (around_of ts c.args.around) (state_of ts b old) c.args.node c.args.name.now (statements_of c.args.body.now)
     (numbered_of ts c.args.given) (type_at ts c.args.ty))
     _ (further_as refl (further_same start)) c.in_err-path.ensures.memory)
@@ -477,7 +479,7 @@ loops::each_typed-returns-in_err-variable t c =
     let old = c.args.state.now in
     let start = record old { node = c.args.given.next } in
     let p = err_from_is_err_and c.from_residual-in_err-variable.result c.from_residual-in_err-variable.ensures.1 in
-    rw (p.1, p.2) (stated_forgets (λ ts b s. one_stated ts b start s)
+    rw (p.1, p.2) (stated_forgets (λ ts b s. listed_stated ts b start s)
     (λ ts b. each_within (around_of ts c.args.around) (state_of ts b old) c.args.node c.args.name.now (statements_of c.args.body.now)
     (numbered_of ts c.args.given) (type_at ts c.args.ty))
     _ (further_as refl (further_same start)) c.in_err-variable.ensures.memory)
@@ -496,7 +498,7 @@ loops::each_with-returns-in-Ok t c =
 pub loops::each_with-returns-in-Err : goal.loops::each_with-returns-in-Err
 loops::each_with-returns-in-Err t c =
     let old = c.args.state.now in
-    rule_stops (λ ts b s. one_stated ts b old s) type_at (λ ts (facts : Facts). element_rule (valued_of ts c.args.given.value))
+    rule_stops (λ ts b s. listed_stated ts b old s) type_at (λ ts (facts : Facts). element_rule (valued_of ts c.args.given.value))
     (λ ts b (ty : Ty). each_within (around_of ts c.args.around) (state_of ts b old) c.args.node c.args.name.now (statements_of c.args.body.now)
     (numbered_of ts c.args.given) ty) c.in-Err.ensures.answers
 
@@ -532,7 +534,7 @@ loops::each_element-returns-in-Err t c = λ ends.
     (tree.counts c.args.at c.args.name.now (tree.each (term_of c.args.over.now)) (statements_of c.args.body.now)))
     (λ ts b u. each_is (around_of ts c.args.around) (ends ts) (state_of ts b old) c.args.at c.args.name.now (term_of c.args.over.now)
     (statements_of c.args.body.now))
-    (type_stops (λ ts b s. one_stated ts b c.value_first.new.state s)
+    (type_stops (λ ts b s. listed_stated ts b c.value_first.new.state s)
     (λ ts b (x : Value). each_behind (looping (around_of ts c.args.around)) (state_of ts b old) n c.args.name.now
     (statements_of c.args.body.now) x) c.in-Err.ensures)
 
@@ -577,8 +579,9 @@ loops::ints_with-returns-in-Ok t c =
     (state_of ts b new)))
     (ap (place ts b) (sym (int_under (c.in-Ok.ensures.further.over ts u) kinds)) ∙ sym (c.in_ok-variable.ensures.place ts
     ∙ ap (λ x. place_of old.place x c.args.name.now.at (type_at ts old.scope.kinds.int)) c.as_slice.ensures)))
-    (one_here new c.count_of.result (λ ts. does (P.Count c.args.node (declared_of ts c.in_ok-variable.variable) (from ts) (to ts) c.args.inclusive
-    (stmts_of ts c.in-Ok.stmts.items)) ∷ []) c.in-Ok.ensures.stands.ready c.count_of.ensures))))
+    (made_here new c.count_of.result (λ ts. does (P.Count c.args.node (declared_of ts c.in_ok-variable.variable) (from ts) (to ts) c.args.inclusive
+    (stmts_of ts c.in-Ok.stmts.items)) ∷ []) c.list_of.result c.in-Ok.ensures.stands.ready c.count_of.ensures c.list_of.ensures.list
+    c.list_of.ensures.memory))))
 
 pub loops::ints_with-returns-in-Err : goal.loops::ints_with-returns-in-Err
 loops::ints_with-returns-in-Err t c =
@@ -592,14 +595,14 @@ loops::ints_with-returns-in-Err t c =
     stated_from refl refl refl
     (stated_so (λ ts b. by ts b type.int)
     (λ ts b u. ap (by ts b) (sym (int_under (c.in-Err.ensures.further.over ts u) c.requires.ready.all.kinds)))
-    (stated_stops (λ ts b s. one_stated ts b c.loop_body.new.state s) go c.in-Err.ensures))
+    (stated_stops (λ ts b s. listed_stated ts b c.loop_body.new.state s) go c.in-Err.ensures))
 
 pub loops::ints_with-returns-in_err-variable : goal.loops::ints_with-returns-in_err-variable
 loops::ints_with-returns-in_err-variable t c =
     let old = c.args.state.now in
     let start = record old { node = c.args.to.next } in
     let p = err_from_is_err_and c.from_residual.result c.from_residual.ensures.1 in
-    rw (p.1, p.2) (stated_forgets (λ ts b s. one_stated ts b start s)
+    rw (p.1, p.2) (stated_forgets (λ ts b s. listed_stated ts b start s)
     (λ ts b. ints_within (around_of ts c.args.around) (state_of ts b old) c.args.node c.args.name.now c.args.inclusive (statements_of c.args.body.now)
     (numbered_of ts c.args.from) (numbered_of ts c.args.to))
     _ (further_as refl (further_same start)) c.in_err-variable.ensures.memory)
@@ -631,7 +634,7 @@ loops::int_with-returns-in-Err t c =
     (go ts (state_of ts b old)) in
     let v = c.in-Err.ensures in
     stated_so (λ ts b. by ts b type.int) (λ ts b u. ap (by ts b) (sym (int_under ((further_typed v).over ts u) c.requires.ready.all.kinds)))
-    (type_stops (λ ts b s. one_stated ts b c.value_as_at.new.state s) (λ ts (b : Beside). go ts (state_of ts b old)) v)
+    (type_stops (λ ts b s. listed_stated ts b c.value_as_at.new.state s) (λ ts (b : Beside). go ts (state_of ts b old)) v)
 
 pub loops::int_with-value_as_at-requires-clause-ty : goal.loops::int_with-value_as_at-requires-clause-ty
 loops::int_with-value_as_at-requires-clause-ty t c = int_below c.requires.ready.all.kinds
@@ -684,7 +687,7 @@ loops::each_int-returns-in-Err t c = λ ends.
     (λ ts b u. course_is (around_of ts c.args.around) (ends ts) (state_of ts b old) c.args.at c.args.name.now c.args.inclusive (term_of c.args.first.now)
     (term_of c.args.last.now) (statements_of c.args.body.now)
     ∙ ap (by ts b) (sym (int_under ((further_typed v).over ts u) c.requires.ready.all.kinds)))
-    (type_stops (λ ts b s. one_stated ts b c.value_as_first.new.state s) (λ ts (b : Beside). go ts (state_of ts b old)) v)
+    (type_stops (λ ts b s. listed_stated ts b c.value_as_first.new.state s) (λ ts (b : Beside). go ts (state_of ts b old)) v)
 
 pub loops::each_int-value_as_first-requires-clause-ty : goal.loops::each_int-value_as_first-requires-clause-ty
 loops::each_int-value_as_first-requires-clause-ty t c = int_below c.requires.ready.all.kinds
@@ -731,49 +734,49 @@ each-each_int-requires-in-Below t c =
 
 pub statement-returns-in-Discard : goal.statement-returns-in-Discard
 statement-returns-in-Discard t c =
-    listed_as (λ ts. around_of ts c.args.around) (λ ts. if_type ts c.args.ends) c.listed.ensures
+    stated_as_tree (λ ts. around_of ts c.args.around) (λ ts. if_type ts c.args.ends)
     (ap statement_of c.in-Discard.is)
     (c.discard.ensures (λ ts. around_of ts c.args.around) (λ ts. if_type ts c.args.ends))
 
 pub statement-returns-in-Return : goal.statement-returns-in-Return
 statement-returns-in-Return t c =
-    listed_as (λ ts. around_of ts c.args.around) (λ ts. if_type ts c.args.ends) c.listed-in-Return.ensures
+    stated_as_tree (λ ts. around_of ts c.args.around) (λ ts. if_type ts c.args.ends)
     (ap statement_of c.in-Return.is)
     (c.return_by.ensures (λ ts. if_type ts c.args.ends))
 
 pub statement-returns-in-Break : goal.statement-returns-in-Break
 statement-returns-in-Break t c =
-    listed_as (λ ts. around_of ts c.args.around) (λ ts. if_type ts c.args.ends) c.listed-in-Break.ensures
+    stated_as_tree (λ ts. around_of ts c.args.around) (λ ts. if_type ts c.args.ends)
     (ap statement_of c.in-Break.is)
     (c.break_loop.ensures (λ ts. if_type ts c.args.ends))
 
 pub statement-returns-in-Continue : goal.statement-returns-in-Continue
 statement-returns-in-Continue t c =
-    listed_as (λ ts. around_of ts c.args.around) (λ ts. if_type ts c.args.ends) c.listed-in-Continue.ensures
+    stated_as_tree (λ ts. around_of ts c.args.around) (λ ts. if_type ts c.args.ends)
     (ap statement_of c.in-Continue.is)
     (c.continue_loop.ensures (λ ts. if_type ts c.args.ends))
 
 pub statement-returns-in-Eval : goal.statement-returns-in-Eval
 statement-returns-in-Eval t c =
-    listed_as (λ ts. around_of ts c.args.around) (λ ts. if_type ts c.args.ends) c.listed-in-Eval.ensures
+    stated_as_tree (λ ts. around_of ts c.args.around) (λ ts. if_type ts c.args.ends)
     (ap statement_of c.in-Eval.is)
     (c.evaluate.ensures (λ ts. around_of ts c.args.around))
 
 pub statement-returns-in-Assign : goal.statement-returns-in-Assign
 statement-returns-in-Assign t c =
-    listed_as (λ ts. around_of ts c.args.around) (λ ts. if_type ts c.args.ends) c.listed-in-Assign.ensures
+    stated_as_tree (λ ts. around_of ts c.args.around) (λ ts. if_type ts c.args.ends)
     (ap statement_of c.in-Assign.is)
     (c.assign.ensures (λ ts. around_of ts c.args.around) (λ ts. if_type ts c.args.ends))
 
 pub statement-returns-in-Command : goal.statement-returns-in-Command
 statement-returns-in-Command t c =
-    listed_as (λ ts. around_of ts c.args.around) (λ ts. if_type ts c.args.ends) c.listed-in-Command.ensures
+    stated_as_tree (λ ts. around_of ts c.args.around) (λ ts. if_type ts c.args.ends)
     (commands_by (ap statement_of c.in-Command.is) c.deref.ensures.value)
     (c.command.ensures (λ ts. around_of ts c.args.around))
 
 pub statement-returns-in-Types : goal.statement-returns-in-Types
 statement-returns-in-Types t c =
-    listed_as (λ ts. around_of ts c.args.around) (λ ts. if_type ts c.args.ends) c.listed-in-Types.ensures
+    stated_as_tree (λ ts. around_of ts c.args.around) (λ ts. if_type ts c.args.ends)
     (types_by (ap statement_of c.in-Types.is) c.deref-in-Types.ensures.value)
     (c.type_section.ensures (λ ts. around_of ts c.args.around) (λ ts. if_type ts c.args.ends))
 
@@ -785,27 +788,27 @@ statement-returns-in-Define t c =
 
 pub statement-returns-in-If : goal.statement-returns-in-If
 statement-returns-in-If t c =
-    listed_as (λ ts. around_of ts c.args.around) (λ ts. if_type ts c.args.ends) c.listed-in-If.ensures
+    stated_as_tree (λ ts. around_of ts c.args.around) (λ ts. if_type ts c.args.ends)
     (branches_by (ap statement_of c.in-If.is) c.branches.ensures c.closing.ensures)
-    (c.choice-one.ensures (λ ts. if_type ts c.args.ends))
+    (c.choice.ensures (λ ts. if_type ts c.args.ends))
 
 pub statement-returns-in-While : goal.statement-returns-in-While
 statement-returns-in-While t c =
-    listed_as (λ ts. around_of ts c.args.around) (λ ts. if_type ts c.args.ends) c.listed-in-While.ensures
+    stated_as_tree (λ ts. around_of ts c.args.around) (λ ts. if_type ts c.args.ends)
     (repeats_by (ap statement_of c.in-While.is) c.body.ensures)
-    (c.repetition-one.ensures (λ ts. if_type ts c.args.ends))
+    (c.repetition.ensures (λ ts. if_type ts c.args.ends))
 
 pub statement-returns-in-Case : goal.statement-returns-in-Case
 statement-returns-in-Case t c =
-    listed_as (λ ts. around_of ts c.args.around) (λ ts. if_type ts c.args.ends) c.listed-in-Case.ensures
+    stated_as_tree (λ ts. around_of ts c.args.around) (λ ts. if_type ts c.args.ends)
     (selects_by (ap statement_of c.in-Case.is) c.branches-all.ensures c.closing-in-Case.ensures)
-    (c.selection-one.ensures (λ ts. if_type ts c.args.ends))
+    (c.selection.ensures (λ ts. if_type ts c.args.ends))
 
 pub statement-returns-in-For : goal.statement-returns-in-For
 statement-returns-in-For t c =
-    listed_as (λ ts. around_of ts c.args.around) (λ ts. if_type ts c.args.ends) c.listed-in-For.ensures
+    stated_as_tree (λ ts. around_of ts c.args.around) (λ ts. if_type ts c.args.ends)
     (counts_by (ap statement_of c.in-For.is) c.body-in-For.ensures)
-    (c.each-one.ensures (λ ts. if_type ts c.args.ends))
+    (c.each.ensures (λ ts. if_type ts c.args.ends))
 
 pub statement-returns-in-Raise : goal.statement-returns-in-Raise
 statement-returns-in-Raise t c =
@@ -848,26 +851,26 @@ statement-returns-in-Proc t c =
     c.refusal-in-Proc.result (further_same old) c.refusal-in-Proc.ensures
     (λ ts b u. ap (by ts b) is ∙ no_procedure c.args.around.outermost _ _ _ _ (subst (IsPlain c.args.around.outermost) is c.requires.plain))
 
-pub statement-choice-one-requires : goal.statement-choice-one-requires
-statement-choice-one-requires t c = (
+pub statement-choice-requires : goal.statement-choice-requires
+statement-choice-requires t c = (
   omega (arith, c.decreases, ap nodes_of (branches_by (ap statement_of c.in-If.is) c.branches.ensures c.closing.ensures)),
   (c.requires.ready, c.requires.around),
 )
 
-pub statement-repetition-one-requires : goal.statement-repetition-one-requires
-statement-repetition-one-requires t c = (
+pub statement-repetition-requires : goal.statement-repetition-requires
+statement-repetition-requires t c = (
   omega (arith, c.decreases, ap nodes_of (repeats_by (ap statement_of c.in-While.is) c.body.ensures)),
   (c.requires.ready, c.requires.around),
 )
 
-pub statement-selection-one-requires : goal.statement-selection-one-requires
-statement-selection-one-requires t c = (
+pub statement-selection-requires : goal.statement-selection-requires
+statement-selection-requires t c = (
   omega (arith, c.decreases, ap nodes_of (selects_by (ap statement_of c.in-Case.is) c.branches-all.ensures c.closing-in-Case.ensures)),
   (c.requires.ready, c.requires.around),
 )
 
-pub statement-each-one-requires : goal.statement-each-one-requires
-statement-each-one-requires t c = (
+pub statement-each-requires : goal.statement-each-requires
+statement-each-requires t c = (
   omega (arith, c.decreases, ap nodes_of (counts_by (ap statement_of c.in-For.is) c.body-in-For.ensures)),
   (c.requires.ready, c.requires.around),
 )
@@ -1044,7 +1047,7 @@ cases::selection-returns-in-Err t c = λ ends.
     let otherwise = statements_of c.args.otherwise.now in
     stated_so (λ ts b. stated (around_of ts c.args.around) (ends ts) (state_of ts b old) (tree.selects c.args.at (term_of c.args.selector.now) all otherwise))
     (λ ts b u. select_is (around_of ts c.args.around) (ends ts) (state_of ts b old) c.args.at (term_of c.args.selector.now) all otherwise)
-    (type_stops (λ ts b s. one_stated ts b c.value_first.new.state s)
+    (type_stops (λ ts b s. listed_stated ts b c.value_first.new.state s)
     (λ ts b (v : Value). selection_behind (around_of ts c.args.around) (state_of ts b old) c.args.at all otherwise v) c.in-Err.ensures)
 
 pub cases::selection-selection_by-requires : goal.cases::selection-selection_by-requires
@@ -1070,7 +1073,7 @@ cases::selection_by-returns-in-Ok t c =
 pub cases::selection_by-returns-in-Err : goal.cases::selection_by-returns-in-Err
 cases::selection_by-returns-in-Err t c =
     let old = c.args.state.now in
-    rule_stops (λ ts b s. one_stated ts b old s) valued_of (λ ts (facts : Facts). selector_rule (valued_of ts c.args.given.value))
+    rule_stops (λ ts b s. listed_stated ts b old s) valued_of (λ ts (facts : Facts). selector_rule (valued_of ts c.args.given.value))
     (λ ts b (s : Valued). selection_over (around_of ts c.args.around) (state_of ts b old) c.args.at (branches_in c.args.branches.now)
     (statements_of c.args.otherwise.now) s c.args.given.next) c.in-Err.ensures.answers
 
@@ -1096,7 +1099,7 @@ pub cases::selection_with-returns-in-Err : goal.cases::selection_with-returns-in
 cases::selection_with-returns-in-Err t c =
     let old = c.args.state.now in
     stated_from refl refl refl
-    (stated_stops (λ ts b s. one_stated ts b c.all_arms.new.state s)
+    (stated_stops (λ ts b s. listed_stated ts b c.all_arms.new.state s)
     (λ ts b (x : Armed). selection_else (around_of ts c.args.around) (facts_in old.types) (node old.node c.args.at) (statements_of c.args.otherwise.now)
     (valued_of ts c.args.value) x) c.in-Err.ensures)
 
@@ -1131,7 +1134,7 @@ cases::selection_else-returns-in-Ok t c = λ before f lt.
     (same_state new c.in-Ok.ensures.stands.ready
     (λ ts b u.
     let by = λ (x : Answer (Unit {0})). and_then x (λ _. made ts b (blocked_as ts b new c.in-Ok.stmts.items)) in
-    answers_as (one_stated ts b new)
+    answers_as (listed_stated ts b new)
     (by (covered (facts_in before.types) c.args.node.at (type_at ts v.ty) arms.labels (statements_of c.args.otherwise.now)))
     (by (covered_by c.lacks_else.result (facts_in new.types) c.args.node.at (type_at ts v.ty) arms.labels)) c.covered.result
     (ap by (c.lacks_else.ensures (facts_in before.types) c.args.node.at (type_at ts v.ty) arms.labels
@@ -1142,7 +1145,7 @@ pub cases::selection_else-returns-in-Err : goal.cases::selection_else-returns-in
 cases::selection_else-returns-in-Err t c = λ before f lt.
     let v = c.args.value in
     let arms = c.args.arms in
-    stated_stops (λ ts b s. one_stated ts b c.block.new.state s)
+    stated_stops (λ ts b s. listed_stated ts b c.block.new.state s)
     (λ ts b (o : Blocked). and_then (covered (facts_in before.types) c.args.node.at (type_at ts v.ty) arms.labels (statements_of c.args.otherwise.now))
     (λ _. Ok (stated_as (does (P.Select c.args.node (expr_of ts v.expr) (arms_of ts arms.all.items) o.stmts) ∷ []) o.state))) c.in-Err.ensures
 

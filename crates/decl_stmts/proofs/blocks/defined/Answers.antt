@@ -1,12 +1,8 @@
-use Rattle.std.proofs.Common.{ap, List}
-use Rattle.std.specs.Prelude.{map, Ok}
-use Rattle.arc_base.specs.Refusal.{and_then}
+use Rattle.std.proofs.Common.{ap}
+use Rattle.std.specs.Prelude.{map}
 use Rattle.nim_tree.specs.Statements as tree
 use Rattle.nim_tree.specs.Statements.{definition_of}
-use Rattle.nim_types.specs.Types.{Ty}
-use Rattle.decl_rules.specs.Definitions.{constants_rule}
-use Rattle.decl_rules.specs.State.{State}
-use Rattle.decl_rules.specs.Stated.{stated, passed}
+use Rattle.decl_rules.specs.Stated.{stated}
 use Rattle.decl_parts.specs.View.{around_of, state_of}
 use Rattle.decl_parts.proofs.ForCallers.{stated_so}
 use Rattle.decl_stmts.proofs.Scopes.{stated_as_tree, no_constants}
@@ -16,8 +12,7 @@ pub returns-in-Const : goal.returns-in-Const
 returns-in-Const c = λ ends.
     let all = map definition_of c.args.defs.now in
     stated_as_tree (λ ts. around_of ts c.args.around) ends (ap (λ k. tree.defines c.args.at k all) c.in-Const.is)
-    (c.listed.ensures c.args.state.now c.constant_section.new.state
-    (λ (ts : List Ty) (st : State). and_then (constants_rule st all) (λ behind. Ok (passed behind c.args.at))) c.constant_section.ensures)
+    c.constant_section.ensures
 
 pub returns-in-Let : goal.returns-in-Let
 returns-in-Let c = λ ends.

@@ -42,7 +42,7 @@ loop-name-preserved c =
     let rule = λ (ts : List Ty). variables_rule (around_of ts c.args.around) c.args.at c.args.binding (env_in ts old) (if_type ts c.args.ty) value in
     let one = λ (ts : List Ty) (env : Env) (st : State). variable_rule (around_of ts c.args.around) c.args.at c.args.binding env
     (if_type ts c.args.ty) value st item in
-    let waits = c.in_ok-more-in-Ok.ensures.waits in
+    let waits = c.in_ok-add_new-in-Ok.ensures.waits in
     record {
       still = still_on at.invariant.still c.in-Ok.ensures.still;
       fits =
@@ -51,9 +51,9 @@ loop-name-preserved c =
           (decls_more (length at.state.types) (length new.types) at.all.waits.items c.in-Ok.ensures.still.grown.length at.invariant.fits)
           (c.in-Ok.ensures.fits, tt));
       done =
-          names_goes old at.state new at.all c.in_ok-more-in-Ok.more c.in-Ok.new rule one all (drop at.name-index all)
+          names_goes old at.state new at.all c.add_new.new.all c.in-Ok.new rule one all (drop at.name-index all)
           (drop (at.name-index + 1) all) at.invariant.done
-          at.invariant.still (λ ts st. ap (rule ts st) e) c.in-Ok.ensures c.in_ok-more-in-Ok.ensures.stmts waits;
+          at.invariant.still (λ ts st. ap (rule ts st) e) c.in-Ok.ensures c.in_ok-add_new-in-Ok.ensures.stmts waits;
     }
 
 pub returns-clause-answers : goal.returns-clause-answers
@@ -86,17 +86,17 @@ returns-in-Err-clause-answers c = λ ts b u.
     (drop (at.name-index + 1) all)
     at.invariant.done at.invariant.still (λ ts st. ap (rule ts st) e) c.in-Err.ensures ts b u
 
-pub returns-in_err-more-in-Ok-clause-answers : goal.returns-in_err-more-in-Ok-clause-answers
-returns-in_err-more-in-Ok-clause-answers c = λ ts b u.
+pub returns-in_err-add_new-in-Ok-clause-answers : goal.returns-in_err-add_new-in-Ok-clause-answers
+returns-in_err-add_new-in-Ok-clause-answers c = λ ts b u.
     let value = option_map term_of c.args.def.now.value in
     let all = c.args.def.now.names.items in
     let p = err_from_is_err_and c.from_residual.result c.from_residual.ensures.1 in
     rw (p.1, p.2) (forgets (news_as ts b c.variable_of.new.state)
     (variables_rule (around_of ts c.args.around) c.args.at c.args.binding (env_in ts c.args.state.now) (if_type ts c.args.ty) value
-    (state_of ts b c.args.state.now) all) _ c.in_err-more-in-Ok.ensures.memory)
+    (state_of ts b c.args.state.now) all) _ c.in_err-add_new-in-Ok.ensures.memory)
 
-pub returns-in_err-more-in-Ok-clause-still : goal.returns-in_err-more-in-Ok-clause-still
-returns-in_err-more-in-Ok-clause-still c = still_on c.loop-name.invariant.still c.in-Ok.ensures.still
+pub returns-in_err-add_new-in-Ok-clause-still : goal.returns-in_err-add_new-in-Ok-clause-still
+returns-in_err-add_new-in-Ok-clause-still c = still_on c.loop-name.invariant.still c.in-Ok.ensures.still
 
 pub variable_of-requires-clause-ready : goal.variable_of-requires-clause-ready
 variable_of-requires-clause-ready c = ready_still c.loop-name.invariant.still c.requires.ready

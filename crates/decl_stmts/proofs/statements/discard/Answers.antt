@@ -18,4 +18,4 @@ pub returns-in-None : goal.returns-in-None
 returns-in-None c = λ a ends.
     let by = λ (ts : List Ty) (b : Beside) (o : Option Term). stated (a ts) (ends ts) (state_of ts b c.args.state.now) (tree.discards c.args.at o) in
     stated_so (λ ts b. by ts b (option_map term_of c.args.value.now)) (λ ts b u. ap (λ o. by ts b (option_map term_of o)) c.in-None.is)
-    (c.discard_nothing.ensures a ends)
+    c.plain.ensures

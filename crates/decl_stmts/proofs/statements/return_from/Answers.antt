@@ -9,8 +9,9 @@ use Rattle.expr_rules.specs.Answers.{node, Typed, Want}
 use Rattle.expr_rules.specs.Typed.{typed}
 use Rattle.decl_rules.specs.State.{State, did}
 use Rattle.decl_rules.specs.Values.{returned, result_want}
-use Rattle.decl_parts.specs.View.{Beside, state_of, env_in, one_stated}
+use Rattle.decl_parts.specs.View.{Beside, state_of, env_in}
 use Rattle.decl_parts.proofs.ForCallers.{stated_so, type_goes, type_stops, ready_typed, below_more}
+use Rattle.decl_stmts.specs.ViewStated.{listed_stated}
 use Rattle.decl_stmts.proofs.statements.return_from.Goals as goal
 
 pub returns-in-Ok : goal.returns-in-Ok
@@ -33,7 +34,7 @@ returns-in-Err c =
     let by = λ (ts : List Ty) (b : Beside) (w : Want). and_then (typed (env_in ts old) w (suc old.node) (term_of c.args.value.now))
     (go ts (state_of ts b old)) in
     stated_so (λ ts b. by ts b (result_want (if_type ts c.args.gives))) (λ ts b u. ap (by ts b) (sym (c.result_want.ensures.want ts)))
-    (type_stops (λ ts b s. one_stated ts b c.type_first.new.state s) (λ (ts : List Ty) (b : Beside). go ts (state_of ts b old)) c.in-Err.ensures)
+    (type_stops (λ ts b s. listed_stated ts b c.type_first.new.state s) (λ (ts : List Ty) (b : Beside). go ts (state_of ts b old)) c.in-Err.ensures)
 
 pub type_first-requires-clause-want : goal.type_first-requires-clause-want
 type_first-requires-clause-want c = c.result_want.ensures.within (length c.args.state.now.types) c.requires.gives

@@ -1,4 +1,4 @@
-use Rattle.std.proofs.Common.{refl, ap, suc, List}
+use Rattle.std.proofs.Common.{ap, suc, List}
 use Rattle.std.specs.Prelude.{Ok, Option}
 use Rattle.arc_base.specs.declared.place.Code.TheVariants.{NotTyped}
 use Rattle.arc_base.specs.Refusal.{and_then}
@@ -8,8 +8,9 @@ use Rattle.expr_rules.specs.Answers.{node}
 use Rattle.decl_rules.specs.State.{did}
 use Rattle.decl_rules.specs.Values.{procedure_rule}
 use Rattle.decl_parts.specs.declared.state.Inside.{Inside}
-use Rattle.decl_parts.specs.View.{inside_of, state_of, one_stated, Beside}
+use Rattle.decl_parts.specs.View.{inside_of, state_of, Beside}
 use Rattle.decl_parts.proofs.ForCallers.{stated_so, stated_refuses, further_same}
+use Rattle.decl_stmts.specs.ViewStated.{listed_stated}
 use Rattle.decl_stmts.proofs.statements.return_nothing.Goals as goal
 
 pub returns-in-Procedure : goal.returns-in-Procedure
@@ -18,7 +19,7 @@ returns-in-Procedure c = λ ends.
     let n = node old.node c.args.at in
     let by = λ (ts : List Ty) (b : Beside) (i : Inside). and_then (procedure_rule c.args.at (inside_of ts i))
     (λ (_ : Option Ty). Ok (did (state_of ts b old) (P.Return n) (suc old.node))) in
-    stated_so (λ ts b. by ts b c.args.around.inside) (λ ts b u. ap (by ts b) c.in-Procedure.is) (c.plain.ensures (λ ts. P.Return n) (λ ts. refl))
+    stated_so (λ ts b. by ts b c.args.around.inside) (λ ts b u. ap (by ts b) c.in-Procedure.is) c.plain.ensures
 
 pub returns-in-ModuleCode : goal.returns-in-ModuleCode
 returns-in-ModuleCode c = λ ends.
@@ -26,6 +27,6 @@ returns-in-ModuleCode c = λ ends.
     let n = node old.node c.args.at in
     let by = λ (ts : List Ty) (b : Beside) (i : Inside). and_then (procedure_rule c.args.at (inside_of ts i))
     (λ (_ : Option Ty). Ok (did (state_of ts b old) (P.Return n) (suc old.node))) in
-    stated_refuses (λ ts b s. one_stated ts b old s) (λ ts b. by ts b c.args.around.inside) NotTyped c.args.at c.refusal.result
+    stated_refuses (λ ts b s. listed_stated ts b old s) (λ ts b. by ts b c.args.around.inside) NotTyped c.args.at c.refusal.result
     (further_same old) c.refusal.ensures
     (λ ts b u. ap (by ts b) c.in-ModuleCode.is)

@@ -6,9 +6,9 @@ use Rattle.nim_tree.specs.Terms.{term_of}
 use Rattle.nim_types.specs.Types.{Ty}
 use Rattle.decl_rules.specs.Values.{procedure_rule}
 use Rattle.decl_parts.specs.declared.state.Inside.{Inside}
-use Rattle.decl_parts.specs.View.{inside_of, InsideWithin, state_of, one_stated, Beside}
+use Rattle.decl_parts.specs.View.{inside_of, InsideWithin, state_of, Beside}
 use Rattle.decl_parts.proofs.ForCallers.{stated_so, stated_refuses, further_same}
-use Rattle.decl_stmts.specs.ViewStated.{return_behind}
+use Rattle.decl_stmts.specs.ViewStated.{return_behind, listed_stated}
 use Rattle.decl_stmts.proofs.statements.return_value.Goals as goal
 
 pub returns-in-Procedure : goal.returns-in-Procedure
@@ -23,7 +23,7 @@ returns-in-ModuleCode c = λ ends.
     let old = c.args.state.now in
     let by = λ (ts : List Ty) (b : Beside) (i : Inside). and_then (procedure_rule c.args.at (inside_of ts i))
     (λ (gives : Option Ty). return_behind (state_of ts b old) c.args.at (term_of c.args.value.now) gives) in
-    stated_refuses (λ ts b s. one_stated ts b old s) (λ ts b. by ts b c.args.around.inside) NotTyped c.args.at c.refusal.result
+    stated_refuses (λ ts b s. listed_stated ts b old s) (λ ts b. by ts b c.args.around.inside) NotTyped c.args.at c.refusal.result
     (further_same old) c.refusal.ensures
     (λ ts b u. ap (by ts b) c.in-ModuleCode.is)
 

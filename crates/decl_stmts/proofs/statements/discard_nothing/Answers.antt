@@ -1,7 +1,0 @@
-use Rattle.std.proofs.Common.{refl}
-use Rattle.nim_core.specs.Program as P
-use Rattle.expr_rules.specs.Answers.{node}
-use Rattle.decl_stmts.proofs.statements.discard_nothing.Goals as goal
-
-pub returns : goal.returns
-returns c = λ a ends. c.plain.ensures (λ ts. P.Discard (node c.args.state.now.node c.args.at)) (λ ts. refl)
