@@ -120,6 +120,6 @@ pub record IsAnswerAt (steps : ℕ) (stands : Standing) (answer : Answer) (old n
 
 -- ---- by how long a meaning takes
 
--- where the meaning ends, it takes more instructions than these
+-- where the meaning ends, the instructions in which the machine has to end by its work are more than these
 abbrev pub IsCutShort : (steps : ℕ) → (meaning : Behaviour Event) → Type 0
 IsCutShort steps meaning = (units status : ℕ) (live : Live) → (meaning units).phase ≡ HasEnded status live → steps < time_for (meaning units).work

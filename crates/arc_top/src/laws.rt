@@ -40,7 +40,7 @@ pub fn complete()
 }
 
 /// A run whose steps are spent was cut short: on what the input gave and may still give, the program
-/// doesn't end, or takes more instructions than were carried out.
+/// doesn't end, or its work gives it more instructions to end in than were carried out.
 pub fn in_time()
     ensures { (main : List ℕ) (heap steps n : ℕ) (old new : World)
         (ran : RunsProgram main heap steps (StepsSpent n) old new) (rest : List ℕ) →

@@ -32,7 +32,7 @@ impl<T: Drop> Collected<T> {
         }
     }
 
-    /// Collects an item at the end.
+    /// Adds an item at the end.
     pub fn put(&mut self, item: T)
         ensures { Collects self.old self.new (item ∷ []) }
     {

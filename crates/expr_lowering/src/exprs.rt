@@ -21,7 +21,7 @@ use operations::{add_operation, add_short};
 use paths::{add_on_paths, add_optional};
 use std::alloc::Global;
 
-/// Collects the lines of an expression; `is_root`: a path begins with its value.
+/// Adds the lines of an expression; `is_root`: a path begins with its value.
 #[cycle(exprs)]
 pub fn add_expr(
     alloc: Global,
@@ -72,7 +72,7 @@ pub fn add_expr(
     }
 }
 
-/// Collects the lines that read the value at a path.
+/// Adds the lines that read the value at a path.
 #[cycle(exprs)]
 fn add_read(
     alloc: Global,
@@ -124,7 +124,7 @@ fn add_read(
     }
 }
 
-/// Collects what a path needs before it is looked up.
+/// Adds what a path needs before it is looked up.
 #[cycle(exprs)]
 pub fn add_indexes(
     alloc: Global,

@@ -13,7 +13,7 @@ use mid_code::{FlatLine, Line, Role};
 use nim_core::{Arg, Node, Operator, Path};
 use std::alloc::Global;
 
-/// Collects the lines that find the location of a path.
+/// Adds the lines that find the location of a path.
 pub fn add_find(lines: &mut Items<FlatLine>, around: &Around, path: &Path) -> Result<(), Memory>
     ensures { OnOk result (lines.new
         ≡ lines.old ++ find_lines (path_of (types_of around.now) path.now)) }
@@ -91,7 +91,7 @@ fn add_given_one(
     }
 }
 
-/// Collects the lines that give the arguments of a call, which are evaluated.
+/// Adds the lines that give the arguments of a call, which are evaluated.
 pub fn add_given(
     lines: &mut Items<FlatLine>,
     around: &Around,
@@ -136,7 +136,7 @@ fn alter_path(
     add_at(lines, node, Role::Does, act, Line::Put { at: to, from: to })
 }
 
-/// Collects an operation on the value at a path and a temporary: the path is looked up, read and
+/// Adds an operation on the value at a path and a temporary: the path is looked up, read and
 /// written.
 pub fn add_alter(
     alloc: Global,

@@ -7,7 +7,7 @@ use arc_base::{Items, Memory};
 use mid_code::{FlatLine, Line, PlaceAct, Point, PointAt, Role, Root, Under};
 use nim_core::Node;
 
-/// Collects a line that is no point of the program.
+/// Adds a line that is no point of the program.
 pub fn add_inner(lines: &mut Items<FlatLine>, node: Node, line: Line) -> Result<(), Memory>
     ensures { OnOk result (lines.new ≡ lines.old ++ inner node line) }
 {
@@ -18,7 +18,7 @@ pub fn add_inner(lines: &mut Items<FlatLine>, node: Node, line: Line) -> Result<
     })
 }
 
-/// Collects a line at a point, with what is done to places there.
+/// Adds a line at a point, with what is done to places there.
 pub fn add_point(
     lines: &mut Items<FlatLine>,
     node: Node,
@@ -39,7 +39,7 @@ pub fn add_point(
     })
 }
 
-/// Collects a line at the point of its node in a role.
+/// Adds a line at the point of its node in a role.
 pub fn add_at(
     lines: &mut Items<FlatLine>,
     node: Node,
@@ -68,7 +68,7 @@ pub fn add_pass(
     add_at(lines, node, role, PlaceAct::Pass, line)
 }
 
-/// Collects a label.
+/// Adds a label.
 pub fn add_label(lines: &mut Items<FlatLine>, node: Node, name: u32) -> Result<(), Memory>
     ensures { OnOk result (lines.new ≡ lines.old ++ label_line node name) }
 {

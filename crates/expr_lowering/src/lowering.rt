@@ -107,7 +107,7 @@ fn no_code(alloc: Global) -> FlatProc
     }
 }
 
-// Collects a procedure: the earliest fault that is found by then.
+// Adds a procedure: the earliest fault that is found by then.
 fn add_proc(
     alloc: Global,
     extents: &Extents,

@@ -18,7 +18,7 @@ fn count_of(all: &Vec<Literal>) -> Result<u32, Memory>
     Ok(count as u32)
 }
 
-/// Collects the pieces of a value, parts before the whole.
+/// Adds the pieces of a value, parts before the whole.
 #[cycle(pieces)]
 pub fn add_pieces(pieces: &mut Items<Piece>, literal: &Literal) -> Result<(), Memory>
     ensures { OnOk result (pieces.new ≡ pieces.old ++ pieces_of (literal_of literal.now)) }

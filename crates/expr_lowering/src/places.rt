@@ -72,7 +72,7 @@ fn add_own(places: &mut Collected<FlatPlace>, around: &Around, expr: &Expr)
     }
 }
 
-/// Collects the places of an expression.
+/// Adds the places of an expression.
 #[cycle(places)]
 pub fn add_expr(places: &mut Collected<FlatPlace>, around: &Around, expr: &Expr)
     ensures { Collects places.old places.new
@@ -167,7 +167,7 @@ fn add_read(places: &mut Collected<FlatPlace>, around: &Around, path: &Path)
     }
 }
 
-/// Collects the places of a path that is looked up.
+/// Adds the places of a path that is looked up.
 #[cycle(places)]
 pub fn add_path(places: &mut Collected<FlatPlace>, around: &Around, path: &Path)
     ensures { Collects places.old places.new
@@ -202,7 +202,7 @@ pub fn add_path(places: &mut Collected<FlatPlace>, around: &Around, path: &Path)
     }
 }
 
-/// Collects the places of a path that is read and written.
+/// Adds the places of a path that is read and written.
 #[cycle(places)]
 pub fn add_altered(places: &mut Collected<FlatPlace>, around: &Around, path: &Path)
     ensures { Collects places.old places.new

@@ -24,7 +24,7 @@ use mid_code::{FlatLine, Line, Role};
 use nim_core::{Branch, CaseBranch, Node, Stmt};
 use std::alloc::Global;
 
-/// Collects the lines of a statement.
+/// Adds the lines of a statement.
 #[cycle(stmts)]
 fn add_stmt(
     alloc: Global,
@@ -177,7 +177,7 @@ fn add_loop(
     }
 }
 
-/// Collects the lines of a block.
+/// Adds the lines of a block.
 #[cycle(stmts)]
 pub fn add_block(
     alloc: Global,

@@ -46,11 +46,12 @@ pub record CanRun (code : WordCode) (homes : List Homes) (heap stack : ℕ) : Ty
   pub stack_least : stack_need code.procs homes ≤ stack
   pub stack_most : stack ≤ 268435456
 
--- The lines do what the word code does: under all addresses that rise, and whatever is said of live objects.
+-- The lines do what the word code does, where their marks have these addresses, on this heap, stack and input.
 pub record DoesWords (lines : List LabelLine) (code : WordCode) (live : Lives) (at : Addresses) (heap stack : ℕ) (input : List ℕ) : Type 0 where
   pub agrees : Agrees (label_meaning live lines at (data_of heap stack code.statics) heap stack input) (word_meaning live code heap stack input)
   pub paced : Paced CODE_PACE (label_meaning live lines at (data_of heap stack code.statics) heap stack input) (word_meaning live code heap stack input)
 
+-- They do so under all addresses that rise, whatever is said of live objects, on each heap and stack with which it may run.
 abbrev pub AlwaysDoes : List LabelLine → WordCode → List Homes → Type 0
 AlwaysDoes lines code homes =
     (live : Lives) (at : Addresses) (heap stack : ℕ) (input : List ℕ) → OfDataAndHeap live → Rise at (marks lines) →

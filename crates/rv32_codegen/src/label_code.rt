@@ -113,8 +113,8 @@ fn emit_code(alloc: Global, words: &WordCode, homes: &[Homes]) -> Result<LabelCo
 
 /// Label code that does, under all addresses of its marks that rise, what the word code does: over
 /// the word code's data, and with each heap and each stack from `stack_need` on that a machine may
-/// have. Each procedure makes the frame of its homes where it begins, and keeps it; places move on
-/// around a call, by the room of the caller's.
+/// have. Each procedure makes the frame of its homes where it begins, and keeps it; around a call
+/// places move on by the room of the caller.
 ///
 /// There are homes for each procedure, in order.
 pub fn code(alloc: Global, words: &WordCode, homes: &[Homes]) -> Result<LabelCode, Memory>

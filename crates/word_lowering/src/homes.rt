@@ -7,7 +7,8 @@ use nim_types::TypeId;
 /// parameter of each procedure.
 pub const LEFT: u32 = 0;
 
-/// A variable for what comes between; the address to which something goes.
+/// A variable for what comes between; the address to which something goes; before a call, how many
+/// calls may be active behind it.
 pub const FIRST: u32 = 1;
 
 /// Another one; the address from which something comes.
