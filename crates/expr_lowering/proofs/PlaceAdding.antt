@@ -33,7 +33,7 @@ use Rattle.expr_lowering.specs.Places.{declared, counter, value, expr_places, pa
 use Rattle.expr_lowering.specs.Places.{all_places, init_places, arg_places, each_places, block_places, branch_places, arm_places}
 use Rattle.expr_lowering.specs.Views.{types_of, result_of}
 use Rattle.expr_lowering.specs.PlaceViews.{part_places, own_places, other_adds, count_adds, each_adds, first_adds, given_if}
-use Rattle.expr_lowering.specs.Collected.{Collects}
+use Rattle.expr_lowering.specs.Gathered.{IsAppended}
 use Rattle.expr_lowering.proofs.Taking.{drop_next}
 use Rattle.expr_lowering.proofs.Writing.{adds_two, adds_as}
 
@@ -170,9 +170,9 @@ module _ (a : Around) (kind : PlaceKind) where
   -- one more statement of a block
   pub block_next : (old at new : Option (List FlatPlace)) (whole : List FlatPlace) (xs : List RustStmt) (i : ℕ) (x : RustStmt) →
       i < length xs → x ≡ get_or xs i x →
-      ((end : Option (List FlatPlace)) → Collects at end (all (drop i xs)) → Collects old end whole) →
-      Collects at new (first_adds a kind (stmt_before (types_of a) x Empty)) →
-      (end : Option (List FlatPlace)) → Collects new end (all (drop (i + 1) xs)) → Collects old end whole
+      ((end : Option (List FlatPlace)) → IsAppended at end (all (drop i xs)) → IsAppended old end whole) →
+      IsAppended at new (first_adds a kind (stmt_before (types_of a) x Empty)) →
+      (end : Option (List FlatPlace)) → IsAppended new end (all (drop (i + 1) xs)) → IsAppended old end whole
   block_next old at new whole xs i x l e h f end g =
       let rest = stmts_of (types_of a) (drop (i + 1) xs) in
       let next = ap all (drop_next xs i x l e) ∙ stmt_ahead x rest in
@@ -181,41 +181,41 @@ module _ (a : Around) (kind : PlaceKind) where
 -- ---- what each step adds, in front of what the whole says
 
 module _ (ts : List Ty) where
-  pub expr_adds : (e : Expr) (old b c : Option (List FlatPlace)) → Collects old b (part_places ts e) → Collects b c (own_places ts e) →
-      Collects old c (expr_places ts e)
+  pub expr_adds : (e : Expr) (old b c : Option (List FlatPlace)) → IsAppended old b (part_places ts e) → IsAppended b c (own_places ts e) →
+      IsAppended old c (expr_places ts e)
   expr_adds e old b c f g = adds_as (part_places ts e ++ own_places ts e) (expr_places ts e) (adds_two f g) (sym (own_is ts e))
 
   module _ (whole : RustExpr) where
     -- what is added is of the parts of the whole
     in_whole : (x : List FlatPlace) (e : RustExpr) (old new : Option (List FlatPlace)) → whole ≡ e → part_places ts (expr_of ts e) ≡ x →
-        Collects old new x → Collects old new (part_places ts (expr_of ts whole))
+        IsAppended old new x → IsAppended old new (part_places ts (expr_of ts whole))
     in_whole x e old new w g f = adds_as x (part_places ts (expr_of ts whole)) f (sym (ap (λ e. part_places ts (expr_of ts e)) w ∙ g))
 
     pub make_adds : (node : Node) (ty : ℕ) (parts : Vec RustExpr Global) (old new : Option (List FlatPlace)) → whole ≡ E.Make node ty parts →
-        Collects old new (all_places ts (exprs_of ts parts.items)) → Collects old new (part_places ts (expr_of ts whole))
+        IsAppended old new (all_places ts (exprs_of ts parts.items)) → IsAppended old new (part_places ts (expr_of ts whole))
     make_adds node ty parts old new w f =
         in_whole (all_places ts (exprs_of ts parts.items)) (E.Make node ty parts) old new w (ap (part_places ts) (made ts node ty parts)) f
 
     pub construct_adds : (node : Node) (ty : ℕ) (parts : Vec RustInit Global) (old new : Option (List FlatPlace)) → whole ≡ E.Construct node ty parts →
-        Collects old new (init_places ts (inits_of ts parts.items)) → Collects old new (part_places ts (expr_of ts whole))
+        IsAppended old new (init_places ts (inits_of ts parts.items)) → IsAppended old new (part_places ts (expr_of ts whole))
     construct_adds node ty parts old new w f =
         in_whole (init_places ts (inits_of ts parts.items)) (E.Construct node ty parts) old new w (ap (part_places ts) (constructed ts node ty parts)) f
 
     pub call_adds : (node : Node) (ty : Option ℕ) (proc : ℕ) (args : Vec RustArg Global) (old new : Option (List FlatPlace)) →
         whole ≡ E.Call node ty proc args →
-        Collects old new (arg_places ts (args_of ts args.items)) → Collects old new (part_places ts (expr_of ts whole))
+        IsAppended old new (arg_places ts (args_of ts args.items)) → IsAppended old new (part_places ts (expr_of ts whole))
     call_adds node ty proc args old new w f =
         in_whole (arg_places ts (args_of ts args.items)) (E.Call node ty proc args) old new w (ap (part_places ts) (called ts node ty proc args)) f
 
     pub echo_adds : (node : Node) (operands : Vec RustExpr Global) (old new : Option (List FlatPlace)) → whole ≡ E.Echo node operands →
-        Collects old new (all_places ts (exprs_of ts operands.items)) → Collects old new (part_places ts (expr_of ts whole))
+        IsAppended old new (all_places ts (exprs_of ts operands.items)) → IsAppended old new (part_places ts (expr_of ts whole))
     echo_adds node operands old new w f =
         in_whole (all_places ts (exprs_of ts operands.items)) (E.Echo node operands) old new w (ap (part_places ts) (echoed ts node operands)) f
 
     pub if_adds : (node : Node) (ty : Option ℕ) (choices : Vec RustChoice Global) (otherwise : _) (other : RustExpr) (old b c : Option (List FlatPlace)) →
         whole ≡ E.If node ty choices otherwise → other ≡ otherwise.value →
-        Collects old b (choice_places ts (choices_of ts choices.items)) → Collects b c (expr_places ts (expr_of ts other)) →
-        Collects old c (part_places ts (expr_of ts whole))
+        IsAppended old b (choice_places ts (choices_of ts choices.items)) → IsAppended b c (expr_places ts (expr_of ts other)) →
+        IsAppended old c (part_places ts (expr_of ts whole))
     if_adds node ty choices otherwise other old b c w o f g =
         let x = choice_places ts (choices_of ts choices.items) in
         let y = expr_places ts (expr_of ts otherwise.value) in
@@ -225,9 +225,9 @@ module _ (ts : List Ty) where
     pub case_adds : (node : Node) (ty : Option ℕ) (selector : _) (picks : Vec RustPick Global) (other : _) (value : RustExpr)
         (old b c d : Option (List FlatPlace)) →
         whole ≡ E.Case node ty selector picks other → value ≡ selector.value →
-        Collects old b (expr_places ts (expr_of ts value)) → Collects b c (pick_places ts (picks_of ts picks.items)) →
-        Collects c d (other_adds ts (option_map (λ e. expr_of ts e.value) other)) →
-        Collects old d (part_places ts (expr_of ts whole))
+        IsAppended old b (expr_places ts (expr_of ts value)) → IsAppended b c (pick_places ts (picks_of ts picks.items)) →
+        IsAppended c d (other_adds ts (option_map (λ e. expr_of ts e.value) other)) →
+        IsAppended old d (part_places ts (expr_of ts whole))
     case_adds node ty selector picks other value old b c d w v f g h =
         let x = expr_places ts (expr_of ts selector.value) in
         let y = pick_places ts (picks_of ts picks.items) in
@@ -236,14 +236,14 @@ module _ (ts : List Ty) where
         (adds_two (adds_as (expr_places ts (expr_of ts value)) x f (ap (λ (e : RustExpr). expr_places ts (expr_of ts e)) v)) (adds_two g h))
 
     pub quit_adds : (node : Node) (status : _) (old new : Option (List FlatPlace)) → whole ≡ E.Quit node status →
-        Collects old new (other_adds ts (option_map (λ e. expr_of ts e.value) status)) → Collects old new (part_places ts (expr_of ts whole))
+        IsAppended old new (other_adds ts (option_map (λ e. expr_of ts e.value) status)) → IsAppended old new (part_places ts (expr_of ts whole))
     quit_adds node status old new w f =
         in_whole (other_adds ts (option_map (λ e. expr_of ts e.value) status)) (E.Quit node status) old new w (quit_is ts node status) f
 
     pub step_adds : (node : Node) (operator : Operator) (path : RustPath) (value : _) (old b c : Option (List FlatPlace)) →
         whole ≡ E.Step node operator path value →
-        Collects old b (altered_places ts (path_of ts path)) → Collects b c (other_adds ts (option_map (λ e. expr_of ts e.value) value)) →
-        Collects old c (part_places ts (expr_of ts whole))
+        IsAppended old b (altered_places ts (path_of ts path)) → IsAppended b c (other_adds ts (option_map (λ e. expr_of ts e.value) value)) →
+        IsAppended old c (part_places ts (expr_of ts whole))
     step_adds node operator path value old b c w f g =
         let x = altered_places ts (path_of ts path) in
         let y = other_adds ts (option_map (λ e. expr_of ts e.value) value) in
@@ -255,26 +255,26 @@ module _ (a : Around) (kind : PlaceKind) (whole : RustStmt) where
 
   -- what is added is that of the whole
   in_stmt : (x : List FlatPlace) (s : RustStmt) (old new : Option (List FlatPlace)) → whole ≡ s → first s ≡ x →
-      Collects old new x → Collects old new (first whole)
+      IsAppended old new x → IsAppended old new (first whole)
   in_stmt x s old new w g f = adds_as x (first whole) f (sym (ap first w ∙ g))
 
-  pub assign_places : (s : RustStmt) (old new : Option (List FlatPlace)) → whole ≡ s → Collects old new (first s) → Collects old new (first whole)
+  pub assign_places : (s : RustStmt) (old new : Option (List FlatPlace)) → whole ≡ s → IsAppended old new (first s) → IsAppended old new (first whole)
   assign_places s old new w f = adds_as (first s) (first whole) f (sym (ap first w))
 
   pub discard_places : (node : Node) (value : Option RustExpr) (old new : Option (List FlatPlace)) → whole ≡ S.Discard node value →
-      Collects old new (other_adds (types_of a) (option_map (expr_of (types_of a)) value)) → Collects old new (first whole)
+      IsAppended old new (other_adds (types_of a) (option_map (expr_of (types_of a)) value)) → IsAppended old new (first whole)
   discard_places node value old new w f =
       in_stmt (other_adds (types_of a) (option_map (expr_of (types_of a)) value)) (S.Discard node value) old new w (discard_is a kind node value) f
 
   pub return_places : (node : Node) (value : Option RustExpr) (old new : Option (List FlatPlace)) → whole ≡ S.Return node value →
-      Collects old new (given_if a (option_map (expr_of (types_of a)) value)) → Collects old new (first whole)
+      IsAppended old new (given_if a (option_map (expr_of (types_of a)) value)) → IsAppended old new (first whole)
   return_places node value old new w f =
       in_stmt (given_if a (option_map (expr_of (types_of a)) value)) (S.Return node value) old new w (return_is a kind node value) f
 
   pub declare_places : (node : Node) (place : PlaceDecl) (value : Option RustExpr) (old b c : Option (List FlatPlace)) →
       whole ≡ S.Declare node place value →
-      Collects old b (declared (types_of a) kind (declared_of (types_of a) place)) →
-      Collects b c (other_adds (types_of a) (option_map (expr_of (types_of a)) value)) → Collects old c (first whole)
+      IsAppended old b (declared (types_of a) kind (declared_of (types_of a) place)) →
+      IsAppended b c (other_adds (types_of a) (option_map (expr_of (types_of a)) value)) → IsAppended old c (first whole)
   declare_places node place value old b c w f g =
       let x = declared (types_of a) kind (declared_of (types_of a) place) in
       let y = other_adds (types_of a) (option_map (expr_of (types_of a)) value) in
@@ -282,8 +282,8 @@ module _ (a : Around) (kind : PlaceKind) (whole : RustStmt) where
 
   pub if_places : (node : Node) (branches : Vec RustBranch Global) (otherwise : Vec RustStmt Global) (old b c : Option (List FlatPlace)) →
       whole ≡ S.If node branches otherwise →
-      Collects old b (branch_places (types_of a) (result_of a) (branches_of (types_of a) branches.items)) →
-      Collects b c (block_places (types_of a) (result_of a) K.Local (stmts_of (types_of a) otherwise.items)) → Collects old c (first whole)
+      IsAppended old b (branch_places (types_of a) (result_of a) (branches_of (types_of a) branches.items)) →
+      IsAppended b c (block_places (types_of a) (result_of a) K.Local (stmts_of (types_of a) otherwise.items)) → IsAppended old c (first whole)
   if_places node branches otherwise old b c w f g =
       let x = branch_places (types_of a) (result_of a) (branches_of (types_of a) branches.items) in
       let y = block_places (types_of a) (result_of a) K.Local (stmts_of (types_of a) otherwise.items) in
@@ -293,9 +293,9 @@ module _ (a : Around) (kind : PlaceKind) (whole : RustStmt) where
   pub case_places : (node : Node) (selector : RustExpr) (arms : Vec RustArm Global) (otherwise : Vec RustStmt Global)
       (old b c d : Option (List FlatPlace)) →
       whole ≡ S.Case node selector arms otherwise →
-      Collects old b (expr_places (types_of a) (expr_of (types_of a) selector)) →
-      Collects b c (arm_places (types_of a) (result_of a) (arms_of (types_of a) arms.items)) →
-      Collects c d (block_places (types_of a) (result_of a) K.Local (stmts_of (types_of a) otherwise.items)) → Collects old d (first whole)
+      IsAppended old b (expr_places (types_of a) (expr_of (types_of a) selector)) →
+      IsAppended b c (arm_places (types_of a) (result_of a) (arms_of (types_of a) arms.items)) →
+      IsAppended c d (block_places (types_of a) (result_of a) K.Local (stmts_of (types_of a) otherwise.items)) → IsAppended old d (first whole)
   case_places node selector arms otherwise old b c d w f g h =
       let x = expr_places (types_of a) (expr_of (types_of a) selector) in
       let y = arm_places (types_of a) (result_of a) (arms_of (types_of a) arms.items) in
@@ -305,8 +305,8 @@ module _ (a : Around) (kind : PlaceKind) (whole : RustStmt) where
 
   pub while_places : (node : Node) (condition : RustExpr) (body : Vec RustStmt Global) (old b c : Option (List FlatPlace)) →
       whole ≡ S.While node condition body →
-      Collects old b (expr_places (types_of a) (expr_of (types_of a) condition)) →
-      Collects b c (block_places (types_of a) (result_of a) K.Local (stmts_of (types_of a) body.items)) → Collects old c (first whole)
+      IsAppended old b (expr_places (types_of a) (expr_of (types_of a) condition)) →
+      IsAppended b c (block_places (types_of a) (result_of a) K.Local (stmts_of (types_of a) body.items)) → IsAppended old c (first whole)
   while_places node condition body old b c w f g =
       let x = expr_places (types_of a) (expr_of (types_of a) condition) in
       let y = block_places (types_of a) (result_of a) K.Local (stmts_of (types_of a) body.items) in
@@ -315,8 +315,8 @@ module _ (a : Around) (kind : PlaceKind) (whole : RustStmt) where
 
   pub count_places : (node : Node) (place : PlaceDecl) (bounds : Bounds) (body : Vec RustStmt Global) (old b c : Option (List FlatPlace)) →
       whole ≡ S.Count node place bounds body →
-      Collects old b (count_adds (types_of a) node (declared_of (types_of a) place) (expr_of (types_of a) bounds.first) (expr_of (types_of a) bounds.last)) →
-      Collects b c (block_places (types_of a) (result_of a) K.Local (stmts_of (types_of a) body.items)) → Collects old c (first whole)
+      IsAppended old b (count_adds (types_of a) node (declared_of (types_of a) place) (expr_of (types_of a) bounds.first) (expr_of (types_of a) bounds.last)) →
+      IsAppended b c (block_places (types_of a) (result_of a) K.Local (stmts_of (types_of a) body.items)) → IsAppended old c (first whole)
   count_places node place bounds body old b c w f g =
       let ts = types_of a in
       let x = count_adds ts node (declared_of ts place) (expr_of ts bounds.first) (expr_of ts bounds.last) in
@@ -327,8 +327,8 @@ module _ (a : Around) (kind : PlaceKind) (whole : RustStmt) where
 
   pub each_places_of : (node : Node) (place : PlaceDecl) (path : RustPath) (body : Vec RustStmt Global) (old b c : Option (List FlatPlace)) →
       whole ≡ S.Each node place path body →
-      Collects old b (each_adds (types_of a) node (declared_of (types_of a) place) (path_of (types_of a) path)) →
-      Collects b c (block_places (types_of a) (result_of a) K.Local (stmts_of (types_of a) body.items)) → Collects old c (first whole)
+      IsAppended old b (each_adds (types_of a) node (declared_of (types_of a) place) (path_of (types_of a) path)) →
+      IsAppended b c (block_places (types_of a) (result_of a) K.Local (stmts_of (types_of a) body.items)) → IsAppended old c (first whole)
   each_places_of node place path body old b c w f g =
       let ts = types_of a in
       let x = each_adds ts node (declared_of ts place) (path_of ts path) in

@@ -1,5 +1,5 @@
 pub mod Numbering
-pub mod Collected
+pub mod Gathered
 pub mod ExprLines
 pub mod StmtLines
 pub mod Places

@@ -10,10 +10,10 @@ ghost use Rattle.expr_lowering.specs.Places.{param_places, result_places, assign
 ghost use Rattle.expr_lowering.specs.Views.{types_of, result_of};
 ghost use Rattle.expr_lowering.specs.PlaceViews.{other_adds, first_adds, given_adds, given_if};
 ghost use Rattle.expr_lowering.specs.PlaceViews.{count_adds, each_adds};
-ghost use Rattle.expr_lowering.specs.Collected.{Collects};
+ghost use Rattle.expr_lowering.specs.Gathered.{IsAppended};
 
 use crate::around::Around;
-use crate::collected::Collected;
+use crate::gathered::Gathered;
 use crate::numbers::{counter_of, length_of};
 use crate::place::{add_counter, add_declared, add_typed};
 use crate::places::{add_altered, add_expr, add_path};
@@ -25,8 +25,8 @@ use std::alloc::Global;
 
 // What becomes the result.
 #[tactic(auto, using(crate::proofs::Writing::adds_none))]
-fn add_given(places: &mut Collected<FlatPlace>, around: &Around, value: &Expr)
-    ensures { Collects places.old places.new
+fn add_given(places: &mut Gathered<FlatPlace>, around: &Around, value: &Expr)
+    ensures { IsAppended places.old places.new
         (given_adds around.now (expr_of (types_of around.now) value.now)) }
 {
     if is_result(around.result, value) {
@@ -36,8 +36,8 @@ fn add_given(places: &mut Collected<FlatPlace>, around: &Around, value: &Expr)
 }
 
 #[tactic(auto, using(crate::proofs::Writing::adds_none))]
-fn add_given_if(places: &mut Collected<FlatPlace>, around: &Around, value: &Option<Expr>)
-    ensures { Collects places.old places.new
+fn add_given_if(places: &mut Gathered<FlatPlace>, around: &Around, value: &Option<Expr>)
+    ensures { IsAppended places.old places.new
         (given_if around.now (option_map (expr_of (types_of around.now)) value.now)) }
 {
     match value {
@@ -47,8 +47,8 @@ fn add_given_if(places: &mut Collected<FlatPlace>, around: &Around, value: &Opti
 }
 
 #[tactic(auto, using(crate::proofs::Writing::adds_none))]
-fn add_value_of(places: &mut Collected<FlatPlace>, around: &Around, value: &Option<Expr>)
-    ensures { Collects places.old places.new
+fn add_value_of(places: &mut Gathered<FlatPlace>, around: &Around, value: &Option<Expr>)
+    ensures { IsAppended places.old places.new
         (other_adds (types_of around.now) (option_map (expr_of (types_of around.now)) value.now)) }
 {
     match value {
@@ -59,8 +59,8 @@ fn add_value_of(places: &mut Collected<FlatPlace>, around: &Around, value: &Opti
 
 // A path that is written: a bare name isn't looked up.
 #[tactic(auto, using(crate::proofs::Writing::adds_none))]
-fn add_assigned(places: &mut Collected<FlatPlace>, around: &Around, path: &Path)
-    ensures { Collects places.old places.new
+fn add_assigned(places: &mut Gathered<FlatPlace>, around: &Around, path: &Path)
+    ensures { IsAppended places.old places.new
         (assigned_places (types_of around.now) (path_of (types_of around.now) path.now)) }
 {
     match path {
@@ -72,8 +72,8 @@ fn add_assigned(places: &mut Collected<FlatPlace>, around: &Around, path: &Path)
 }
 
 #[tactic(auto, using(crate::proofs::Writing::adds_two, crate::proofs::Writing::adds_none))]
-fn add_assign(places: &mut Collected<FlatPlace>, around: &Around, path: &Path, value: &Expr)
-    ensures { (node : Node) → Collects places.old places.new
+fn add_assign(places: &mut Gathered<FlatPlace>, around: &Around, path: &Path, value: &Expr)
+    ensures { (node : Node) → IsAppended places.old places.new
         (stmt_places (types_of around.now) (result_of around.now)
         (Assign node (path_of (types_of around.now) path.now)
         (expr_of (types_of around.now) value.now))) }
@@ -87,13 +87,13 @@ fn add_assign(places: &mut Collected<FlatPlace>, around: &Around, path: &Path, v
 
 // Of a loop over numbers, but for those of its body.
 fn add_count(
-    places: &mut Collected<FlatPlace>,
+    places: &mut Gathered<FlatPlace>,
     around: &Around,
     node: Node,
     variable: &PlaceDecl,
     bounds: &Bounds,
 )
-    ensures { Collects places.old places.new
+    ensures { IsAppended places.old places.new
         (count_adds (types_of around.now) node (declared_of (types_of around.now) variable.now)
         (expr_of (types_of around.now) bounds.now.first)
         (expr_of (types_of around.now) bounds.now.last)) }
@@ -105,8 +105,8 @@ fn add_count(
 }
 
 // The number of a loop over elements.
-fn add_number(places: &mut Collected<FlatPlace>, node: Node)
-    ensures { Collects places.old places.new (counter node (counter_of node.number)) }
+fn add_number(places: &mut Gathered<FlatPlace>, node: Node)
+    ensures { IsAppended places.old places.new (counter node (counter_of node.number)) }
 {
     match counter_of(node.number) {
         Ok(number) => add_counter(places, node, number),
@@ -115,8 +115,8 @@ fn add_number(places: &mut Collected<FlatPlace>, node: Node)
 }
 
 // How many elements there are.
-fn add_length(places: &mut Collected<FlatPlace>, node: Node)
-    ensures { Collects places.old places.new (counter node (length_of node.number)) }
+fn add_length(places: &mut Gathered<FlatPlace>, node: Node)
+    ensures { IsAppended places.old places.new (counter node (length_of node.number)) }
 {
     match length_of(node.number) {
         Ok(number) => add_counter(places, node, number),
@@ -126,13 +126,13 @@ fn add_length(places: &mut Collected<FlatPlace>, node: Node)
 
 // Of a loop over elements, but for those of its body.
 fn add_each(
-    places: &mut Collected<FlatPlace>,
+    places: &mut Gathered<FlatPlace>,
     around: &Around,
     node: Node,
     variable: &PlaceDecl,
     path: &Path,
 )
-    ensures { Collects places.old places.new
+    ensures { IsAppended places.old places.new
         (each_adds (types_of around.now) node (declared_of (types_of around.now) variable.now)
         (path_of (types_of around.now) path.now)) }
 {
@@ -146,8 +146,8 @@ fn add_each(
 
 #[cycle(stmts)]
 #[tactic(auto, using(crate::proofs::Writing::adds_none))]
-fn add_stmt(places: &mut Collected<FlatPlace>, around: &Around, kind: PlaceKind, stmt: &Stmt)
-    ensures { Collects places.old places.new
+fn add_stmt(places: &mut Gathered<FlatPlace>, around: &Around, kind: PlaceKind, stmt: &Stmt)
+    ensures { IsAppended places.old places.new
         (first_adds around.now kind (stmt_before (types_of around.now) stmt.now Empty)) }
 {
     match stmt {
@@ -192,8 +192,8 @@ fn add_stmt(places: &mut Collected<FlatPlace>, around: &Around, kind: PlaceKind,
 
 // A loop. Others have no places here.
 #[cycle(stmts)]
-fn add_loop(places: &mut Collected<FlatPlace>, around: &Around, kind: PlaceKind, stmt: &Stmt)
-    ensures { Collects places.old places.new
+fn add_loop(places: &mut Gathered<FlatPlace>, around: &Around, kind: PlaceKind, stmt: &Stmt)
+    ensures { IsAppended places.old places.new
         (first_adds around.now kind (stmt_before (types_of around.now) stmt.now Empty)) }
 {
     match stmt {
@@ -229,8 +229,8 @@ fn add_loop(places: &mut Collected<FlatPlace>, around: &Around, kind: PlaceKind,
 
 #[cycle(stmts)]
 #[tactic(auto, using(crate::proofs::Writing::adds_two, crate::proofs::Writing::adds_none))]
-fn add_block(places: &mut Collected<FlatPlace>, around: &Around, kind: PlaceKind, block: &Vec<Stmt>)
-    ensures { Collects places.old places.new
+fn add_block(places: &mut Gathered<FlatPlace>, around: &Around, kind: PlaceKind, block: &Vec<Stmt>)
+    ensures { IsAppended places.old places.new
         (block_places (types_of around.now) (result_of around.now) kind
         (stmts_of (types_of around.now) block.now.items)) }
 {
@@ -241,8 +241,8 @@ fn add_block(places: &mut Collected<FlatPlace>, around: &Around, kind: PlaceKind
 
 #[cycle(stmts)]
 #[tactic(auto, using(crate::proofs::Writing::adds_two, crate::proofs::Writing::adds_none))]
-fn add_branches(places: &mut Collected<FlatPlace>, around: &Around, branches: &Vec<Branch>)
-    ensures { Collects places.old places.new
+fn add_branches(places: &mut Gathered<FlatPlace>, around: &Around, branches: &Vec<Branch>)
+    ensures { IsAppended places.old places.new
         (branch_places (types_of around.now) (result_of around.now)
         (branches_of (types_of around.now) branches.now.items)) }
 {
@@ -254,8 +254,8 @@ fn add_branches(places: &mut Collected<FlatPlace>, around: &Around, branches: &V
 
 #[cycle(stmts)]
 #[tactic(auto, using(crate::proofs::Writing::adds_two, crate::proofs::Writing::adds_none))]
-fn add_arms(places: &mut Collected<FlatPlace>, around: &Around, arms: &Vec<CaseBranch>)
-    ensures { Collects places.old places.new
+fn add_arms(places: &mut Gathered<FlatPlace>, around: &Around, arms: &Vec<CaseBranch>)
+    ensures { IsAppended places.old places.new
         (arm_places (types_of around.now) (result_of around.now)
         (arms_of (types_of around.now) arms.now.items)) }
 {
@@ -267,8 +267,8 @@ fn add_arms(places: &mut Collected<FlatPlace>, around: &Around, arms: &Vec<CaseB
 // ---- bodies
 
 #[tactic(auto, using(crate::proofs::Writing::adds_two, crate::proofs::Writing::adds_none))]
-fn add_params(places: &mut Collected<FlatPlace>, around: &Around, params: &[Param])
-    ensures { Collects places.old places.new
+fn add_params(places: &mut Gathered<FlatPlace>, around: &Around, params: &[Param])
+    ensures { IsAppended places.old places.new
         (param_places (types_of around.now) (map (param_of (types_of around.now)) params.now)) }
 {
     for param in params {
@@ -277,8 +277,8 @@ fn add_params(places: &mut Collected<FlatPlace>, around: &Around, params: &[Para
 }
 
 #[tactic(auto, using(crate::proofs::Writing::adds_none))]
-fn add_result(places: &mut Collected<FlatPlace>, around: &Around)
-    ensures { Collects places.old places.new
+fn add_result(places: &mut Gathered<FlatPlace>, around: &Around)
+    ensures { IsAppended places.old places.new
         (result_places (types_of around.now) (result_of around.now)) }
 {
     match around.result {
@@ -298,7 +298,7 @@ pub fn places_at(
     ensures { IfOk result (λ places. places
         ≡ first_adds around.now kind (stmt_before (types_of around.now) stmt.now Empty)) }
 {
-    let mut places = Collected::new(alloc);
+    let mut places = Gathered::new(alloc);
     add_stmt(&mut places, around, kind, stmt);
     places.finish()
 }
@@ -318,7 +318,7 @@ pub fn places_of(
         ++ block_places (types_of around.now) (result_of around.now) kind
         (stmts_of (types_of around.now) block.now.items))) }
 {
-    let mut places = Collected::new(alloc);
+    let mut places = Gathered::new(alloc);
     add_params(&mut places, around, params);
     add_result(&mut places, around);
     add_block(&mut places, around, kind, block);

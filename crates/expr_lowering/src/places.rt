@@ -6,11 +6,11 @@ ghost use Rattle.expr_lowering.specs.Places.{expr_places, read_places, path_plac
 ghost use Rattle.expr_lowering.specs.Places.{all_places, init_places, arg_places, choice_places};
 ghost use Rattle.expr_lowering.specs.Places.{pick_places};
 ghost use Rattle.expr_lowering.specs.Views.{types_of};
-ghost use Rattle.expr_lowering.specs.Collected.{Collects};
+ghost use Rattle.expr_lowering.specs.Gathered.{IsAppended};
 ghost use Rattle.expr_lowering.specs.PlaceViews.{part_places, own_places, other_adds, arg_adds};
 
 use crate::around::Around;
-use crate::collected::Collected;
+use crate::gathered::Gathered;
 use crate::nodes::node_of;
 use crate::place::{add_counter, add_location_if, add_typed, add_value_if};
 use mid_code::{FlatPlace, PlaceKind};
@@ -18,8 +18,8 @@ use nim_core::{Arg, Choice, Expr, Init, Path, Pick, type_of};
 
 // The place of an expression itself.
 #[tactic(auto, using(crate::proofs::Writing::adds_none))]
-fn add_own(places: &mut Collected<FlatPlace>, around: &Around, expr: &Expr)
-    ensures { Collects places.old places.new
+fn add_own(places: &mut Gathered<FlatPlace>, around: &Around, expr: &Expr)
+    ensures { IsAppended places.old places.new
         (own_places (types_of around.now) (expr_of (types_of around.now) expr.now)) }
 {
     match expr {
@@ -74,8 +74,8 @@ fn add_own(places: &mut Collected<FlatPlace>, around: &Around, expr: &Expr)
 
 /// Adds the places of an expression.
 #[cycle(places)]
-pub fn add_expr(places: &mut Collected<FlatPlace>, around: &Around, expr: &Expr)
-    ensures { Collects places.old places.new
+pub fn add_expr(places: &mut Gathered<FlatPlace>, around: &Around, expr: &Expr)
+    ensures { IsAppended places.old places.new
         (expr_places (types_of around.now) (expr_of (types_of around.now) expr.now)) }
 {
     add_parts(places, around, expr);
@@ -85,8 +85,8 @@ pub fn add_expr(places: &mut Collected<FlatPlace>, around: &Around, expr: &Expr)
 // The places of an expression's parts.
 #[cycle(places)]
 #[tactic(auto, using(crate::proofs::Writing::adds_two, crate::proofs::Writing::adds_none))]
-fn add_parts(places: &mut Collected<FlatPlace>, around: &Around, expr: &Expr)
-    ensures { Collects places.old places.new
+fn add_parts(places: &mut Gathered<FlatPlace>, around: &Around, expr: &Expr)
+    ensures { IsAppended places.old places.new
         (part_places (types_of around.now) (expr_of (types_of around.now) expr.now)) }
 {
     match expr {
@@ -141,8 +141,8 @@ fn add_parts(places: &mut Collected<FlatPlace>, around: &Around, expr: &Expr)
 
 // The places of a path whose value is read.
 #[cycle(places)]
-fn add_read(places: &mut Collected<FlatPlace>, around: &Around, path: &Path)
-    ensures { Collects places.old places.new
+fn add_read(places: &mut Gathered<FlatPlace>, around: &Around, path: &Path)
+    ensures { IsAppended places.old places.new
         (read_places (types_of around.now) (path_of (types_of around.now) path.now)) }
 {
     match path {
@@ -169,8 +169,8 @@ fn add_read(places: &mut Collected<FlatPlace>, around: &Around, path: &Path)
 
 /// Adds the places of a path that is looked up.
 #[cycle(places)]
-pub fn add_path(places: &mut Collected<FlatPlace>, around: &Around, path: &Path)
-    ensures { Collects places.old places.new
+pub fn add_path(places: &mut Gathered<FlatPlace>, around: &Around, path: &Path)
+    ensures { IsAppended places.old places.new
         (path_places (types_of around.now) (path_of (types_of around.now) path.now)) }
 {
     match path {
@@ -204,8 +204,8 @@ pub fn add_path(places: &mut Collected<FlatPlace>, around: &Around, path: &Path)
 
 /// Adds the places of a path that is read and written.
 #[cycle(places)]
-pub fn add_altered(places: &mut Collected<FlatPlace>, around: &Around, path: &Path)
-    ensures { Collects places.old places.new
+pub fn add_altered(places: &mut Gathered<FlatPlace>, around: &Around, path: &Path)
+    ensures { IsAppended places.old places.new
         (altered_places (types_of around.now) (path_of (types_of around.now) path.now)) }
 {
     match path {
@@ -238,8 +238,8 @@ pub fn add_altered(places: &mut Collected<FlatPlace>, around: &Around, path: &Pa
 
 #[cycle(places)]
 #[tactic(auto, using(crate::proofs::Writing::adds_none))]
-fn add_other(places: &mut Collected<FlatPlace>, around: &Around, other: &Option<Box<Expr>>)
-    ensures { Collects places.old places.new
+fn add_other(places: &mut Gathered<FlatPlace>, around: &Around, other: &Option<Box<Expr>>)
+    ensures { IsAppended places.old places.new
         (other_adds (types_of around.now)
         (option_map (λ e. expr_of (types_of around.now) e.value) other.now)) }
 {
@@ -251,8 +251,8 @@ fn add_other(places: &mut Collected<FlatPlace>, around: &Around, other: &Option<
 
 #[cycle(places)]
 #[tactic(auto, using(crate::proofs::Writing::adds_two, crate::proofs::Writing::adds_none))]
-fn add_all(places: &mut Collected<FlatPlace>, around: &Around, exprs: &Vec<Expr>)
-    ensures { Collects places.old places.new
+fn add_all(places: &mut Gathered<FlatPlace>, around: &Around, exprs: &Vec<Expr>)
+    ensures { IsAppended places.old places.new
         (all_places (types_of around.now) (exprs_of (types_of around.now) exprs.now.items)) }
 {
     for expr in exprs {
@@ -262,8 +262,8 @@ fn add_all(places: &mut Collected<FlatPlace>, around: &Around, exprs: &Vec<Expr>
 
 #[cycle(places)]
 #[tactic(auto, using(crate::proofs::Writing::adds_two, crate::proofs::Writing::adds_none))]
-fn add_inits(places: &mut Collected<FlatPlace>, around: &Around, inits: &Vec<Init>)
-    ensures { Collects places.old places.new
+fn add_inits(places: &mut Gathered<FlatPlace>, around: &Around, inits: &Vec<Init>)
+    ensures { IsAppended places.old places.new
         (init_places (types_of around.now) (inits_of (types_of around.now) inits.now.items)) }
 {
     for init in inits {
@@ -272,8 +272,8 @@ fn add_inits(places: &mut Collected<FlatPlace>, around: &Around, inits: &Vec<Ini
 }
 
 #[cycle(places)]
-fn add_arg(places: &mut Collected<FlatPlace>, around: &Around, arg: &Arg)
-    ensures { Collects places.old places.new
+fn add_arg(places: &mut Gathered<FlatPlace>, around: &Around, arg: &Arg)
+    ensures { IsAppended places.old places.new
         (arg_adds (types_of around.now) arg.now) }
 {
     match arg {
@@ -284,8 +284,8 @@ fn add_arg(places: &mut Collected<FlatPlace>, around: &Around, arg: &Arg)
 
 #[cycle(places)]
 #[tactic(auto, using(crate::proofs::Writing::adds_two, crate::proofs::Writing::adds_none))]
-fn add_args(places: &mut Collected<FlatPlace>, around: &Around, args: &Vec<Arg>)
-    ensures { Collects places.old places.new
+fn add_args(places: &mut Gathered<FlatPlace>, around: &Around, args: &Vec<Arg>)
+    ensures { IsAppended places.old places.new
         (arg_places (types_of around.now) (args_of (types_of around.now) args.now.items)) }
 {
     for arg in args {
@@ -295,8 +295,8 @@ fn add_args(places: &mut Collected<FlatPlace>, around: &Around, args: &Vec<Arg>)
 
 #[cycle(places)]
 #[tactic(auto, using(crate::proofs::Writing::adds_two, crate::proofs::Writing::adds_none))]
-fn add_choices(places: &mut Collected<FlatPlace>, around: &Around, choices: &Vec<Choice>)
-    ensures { Collects places.old places.new
+fn add_choices(places: &mut Gathered<FlatPlace>, around: &Around, choices: &Vec<Choice>)
+    ensures { IsAppended places.old places.new
         (choice_places (types_of around.now) (choices_of (types_of around.now) choices.now.items)) }
 {
     for choice in choices {
@@ -307,8 +307,8 @@ fn add_choices(places: &mut Collected<FlatPlace>, around: &Around, choices: &Vec
 
 #[cycle(places)]
 #[tactic(auto, using(crate::proofs::Writing::adds_two, crate::proofs::Writing::adds_none))]
-fn add_picks(places: &mut Collected<FlatPlace>, around: &Around, picks: &Vec<Pick>)
-    ensures { Collects places.old places.new
+fn add_picks(places: &mut Gathered<FlatPlace>, around: &Around, picks: &Vec<Pick>)
+    ensures { IsAppended places.old places.new
         (pick_places (types_of around.now) (picks_of (types_of around.now) picks.now.items)) }
 {
     for pick in picks {

@@ -5,7 +5,7 @@ use Rattle.std.proofs.lemmas.Bool.{cases_Bool, eqb-true, cond-true, cond-false}
 use Rattle.mid_code.specs.declared.word.WordInstr.{WordInstr}
 use Rattle.mid_code.specs.declared.word.WordProc.{WordProc}
 use Rattle.mid_code.specs.Words.{is_counted, from_proc, callee_of, taken_for, most_called, most_chain, uncounted, chain, longest}
-use Rattle.mid_code.specs.Sizes.{level}
+use Rattle.mid_code.specs.Sizes.{chain_level}
 
 -- ---- each takes at most so much
 
@@ -65,7 +65,7 @@ number_is n (q ∷ procs) p tail e = elim (cases_Bool (q.number == n)) [
 module _ (procs : List WordProc) (size : WordProc → ℕ) (m : ℕ)
     (each : (p : WordProc) (tail : List WordProc) → from_proc p.number procs ≡ p ∷ tail → is_counted p.kind ≡ false → size p ≤ m) where
   found_times : (a b : ℕ → ℕ) → ((n : ℕ) → a n ≤ m * b n) → (n : ℕ) (found : List WordProc) → from_proc n procs ≡ found →
-      uncounted size a found ≤ m * uncounted level b found
+      uncounted size a found ≤ m * uncounted chain_level b found
   found_times a b less n [] e = omega arith
   found_times a b less n (p ∷ tail) e = by_count (is_counted p.kind) refl
     where
@@ -81,12 +81,12 @@ module _ (procs : List WordProc) (size : WordProc → ℕ) (m : ℕ)
           let split : m * (1 + most_called b p.lines) ≡ m * most_called b p.lines + m = ap (λ k. m * k) one ∙ mul-suc m (most_called b p.lines) in
           omega (arith, each p tail found f, behind, split)
 
-  chain_times : (n number : ℕ) → chain procs size n number ≤ m * chain procs level n number
+  chain_times : (n number : ℕ) → chain procs size n number ≤ m * chain procs chain_level n number
   chain_times zero number = omega arith
-  chain_times (suc n) number = found_times (chain procs size n) (chain procs level n) (chain_times n) number (from_proc number procs) refl
+  chain_times (suc n) number = found_times (chain procs size n) (chain procs chain_level n) (chain_times n) number (from_proc number procs) refl
 
-  pub longest_times : longest procs size ≤ m * longest procs level
-  longest_times = chains_times m (chain procs size (length procs)) (chain procs level (length procs)) (chain_times (length procs)) procs
+  pub longest_times : longest procs size ≤ m * longest procs chain_level
+  longest_times = chains_times m (chain procs size (length procs)) (chain procs chain_level (length procs)) (chain_times (length procs)) procs
 
 -- ---- levels
 
@@ -98,7 +98,7 @@ AreRanked rank (p ∷ procs) = (is_counted p.kind ≡ false → suc (most_called
 module _ (rank : ℕ → ℕ) where
   -- so it has at most the levels of its rank, where what it calls has no more than those of theirs
   ranked_found : (behind : ℕ → ℕ) → ((n : ℕ) → behind n ≤ rank n) → (number : ℕ) (procs : List WordProc) → AreRanked rank procs →
-      uncounted level behind (from_proc number procs) ≤ rank number
+      uncounted chain_level behind (from_proc number procs) ≤ rank number
   ranked_found behind less number [] h = omega arith
   ranked_found behind less number (p ∷ procs) h = by_number (p.number == number) refl (ranked_found behind less number procs h.1)
     where
@@ -108,15 +108,15 @@ module _ (rank : ℕ → ℕ) where
           let once : (n : ℕ) → behind n ≤ 1 * rank n = λ n. omega (arith, less n) in
           omega (arith, called_times 1 behind rank once p.lines, h.0 f, ap rank e)
 
-      by_number : (b : Bool) → (p.number == number) ≡ b → uncounted level behind (from_proc number procs) ≤ rank number →
-          uncounted level behind (if b then p ∷ procs else from_proc number procs) ≤ rank number
+      by_number : (b : Bool) → (p.number == number) ≡ b → uncounted chain_level behind (from_proc number procs) ≤ rank number →
+          uncounted chain_level behind (if b then p ∷ procs else from_proc number procs) ≤ rank number
       by_number true e more = by_count (is_counted p.kind) refl (eqb-true p.number number e)
       by_number false e more = more
 
   module _ (procs : List WordProc) (ranked : AreRanked rank procs) where
-    chain_rank : (n number : ℕ) → chain procs level n number ≤ rank number
+    chain_rank : (n number : ℕ) → chain procs chain_level n number ≤ rank number
     chain_rank zero number = omega arith
-    chain_rank (suc n) number = ranked_found (chain procs level n) (chain_rank n) number procs ranked
+    chain_rank (suc n) number = ranked_found (chain procs chain_level n) (chain_rank n) number procs ranked
 
-    pub levels_most : (most : ℕ) → ((n : ℕ) → rank n ≤ most) → (n : ℕ) → most_chain (chain procs level n) procs ≤ most
-    levels_most most few n = chain_most (chain procs level n) most (λ k. omega (arith, chain_rank n k, few k)) procs
+    pub levels_most : (most : ℕ) → ((n : ℕ) → rank n ≤ most) → (n : ℕ) → most_chain (chain procs chain_level n) procs ≤ most
+    levels_most most few n = chain_most (chain procs chain_level n) most (λ k. omega (arith, chain_rank n k, few k)) procs

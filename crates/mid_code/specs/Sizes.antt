@@ -203,13 +203,13 @@ variable_bytes p = WORD_BYTES * p.vars + p.room
 -- ---- chains of calls of procedures that don't count
 
 -- a procedure is one level of its chain
-abbrev pub level : WordProc → ℕ
-level p = 1
+abbrev pub chain_level : WordProc → ℕ
+chain_level p = 1
 
 -- the levels of the longest one
 abbrev pub longest_chain : List WordProc → ℕ
-longest_chain procs = longest procs level
+longest_chain procs = longest procs chain_level
 
 -- they call each other in no circle: no chain has more levels than there are procedures
 abbrev pub has_no_circle : List WordProc → Bool
-has_no_circle procs = nat_le (most_chain (chain procs level (suc (length procs))) procs) (length procs)
+has_no_circle procs = nat_le (most_chain (chain procs chain_level (suc (length procs))) procs) (length procs)

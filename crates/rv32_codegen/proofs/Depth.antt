@@ -9,7 +9,7 @@ use Rattle.mid_code.specs.declared.word.WordInstr.TheVariants as word
 use Rattle.mid_code.specs.declared.word.WordProc.{WordProc}
 use Rattle.mid_code.specs.Words.{is_counted, from_proc, callee_of, taken_for, most_called, most_chain, uncounted, chain, most_room, places_size}
 use Rattle.mid_code.specs.Words.{is_kind, is_proc, are_procs}
-use Rattle.mid_code.specs.Sizes.{level, has_no_circle}
+use Rattle.mid_code.specs.Sizes.{chain_level, has_no_circle}
 use Rattle.rv32_codegen.proofs.Lookups.{nil_cons, here, later}
 
 -- ---- what lines call
@@ -48,9 +48,9 @@ need_most taken n (p ∷ procs) q tail e = elim (cases_Bool (p.number == n)) [
 
 -- the first procedure counts, or the chain behind it is one shorter
 short_found : (short : ℕ → ℕ) (n : ℕ) (q : WordProc) (tail found : List WordProc) → found ≡ q ∷ tail → is_counted q.kind ≡ false →
-    uncounted level short found ≤ suc n → most_called short q.lines ≤ n
+    uncounted chain_level short found ≤ suc n → most_called short q.lines ≤ n
 short_found short n q tail found e f h =
-    let is = ap (uncounted level short) e ∙ cond-false (is_counted q.kind) 0 (1 + most_called short q.lines) f in
+    let is = ap (uncounted chain_level short) e ∙ cond-false (is_counted q.kind) 0 (1 + most_called short q.lines) f in
     omega (arith, is, h)
 
 module _ (procs : List WordProc) (size : WordProc → ℕ) where
@@ -60,7 +60,7 @@ module _ (procs : List WordProc) (size : WordProc → ℕ) where
   -- a chain that ends takes no more where it may be longer
   stable_at : (a b short : ℕ → ℕ) (n : ℕ) → ((lines : List WordInstr) → most_called short lines ≤ n →
       most_called a lines ≤ most_called b lines) →
-      (found : List WordProc) → uncounted level short found ≤ suc n → uncounted size a found ≤ uncounted size b found
+      (found : List WordProc) → uncounted chain_level short found ≤ suc n → uncounted size a found ≤ uncounted size b found
   stable_at a b short n h [] e = omega arith
   stable_at a b short n h (p ∷ ps) e = by_count (is_counted p.kind) e
     where
@@ -69,7 +69,7 @@ module _ (procs : List WordProc) (size : WordProc → ℕ) where
       by_count true e = omega arith
       by_count false e = omega (arith, h p.lines (omega (arith, e)))
 
-  none_at : (a short : ℕ → ℕ) (found : List WordProc) → uncounted level short found ≤ 0 → uncounted size a found ≤ 0
+  none_at : (a short : ℕ → ℕ) (found : List WordProc) → uncounted chain_level short found ≤ 0 → uncounted size a found ≤ 0
   none_at a short [] e = omega arith
   none_at a short (p ∷ ps) e = by_count (is_counted p.kind) e
     where
@@ -77,10 +77,10 @@ module _ (procs : List WordProc) (size : WordProc → ℕ) where
       by_count true e = omega arith
       by_count false e = absurd (omega (arith, e))
 
-  stable : (n number : ℕ) → chain procs level (suc n) number ≤ n → takes (suc n) number ≤ takes n number
-  stable zero number e = none_at (takes zero) (chain procs level zero) (from_proc number procs) e
+  stable : (n number : ℕ) → chain procs chain_level (suc n) number ≤ n → takes (suc n) number ≤ takes n number
+  stable zero number e = none_at (takes zero) (chain procs chain_level zero) (from_proc number procs) e
   stable (suc n) number e =
-      let short = chain procs level (suc n) in
+      let short = chain procs chain_level (suc n) in
       stable_at (takes (suc n)) (takes n) short n (most_less (takes (suc n)) (takes n) short n (stable n)) (from_proc number procs) e
 
   takes_found : (n : ℕ) (q : WordProc) (tail found : List WordProc) → found ≡ q ∷ tail → is_counted q.kind ≡ false →
@@ -104,13 +104,13 @@ module _ (procs : List WordProc) (size : WordProc → ℕ) where
       by_count : (n : ℕ) → length procs ≡ n → size q + need q ≤ need p
       by_count zero e = absurd (nil_cons p ptail (sym (none procs e) ∙ found))
       by_count (suc n) e =
-          let short = chain procs level (suc n) in
-          let longer = chain procs level (suc (suc n)) in
+          let short = chain procs chain_level (suc n) in
+          let longer = chain procs chain_level (suc (suc n)) in
           let in_lines : (taken : ℕ → ℕ) → taken callee ≤ most_called taken p.lines = λ taken.
           subst (λ l. taken callee ≤ most_called taken l) split (called_in taken before to callee rest) in
-          let most : most_chain (chain procs level (suc (suc n))) procs ≤ suc n =
-          subst (λ k. most_chain (chain procs level (suc k)) procs ≤ k) e (leb-true _ _ circle) in
-          let behind : chain procs level (suc (suc n)) callee ≤ suc n =
+          let most : most_chain (chain procs chain_level (suc (suc n))) procs ≤ suc n =
+          subst (λ k. most_chain (chain procs chain_level (suc k)) procs ≤ k) e (leb-true _ _ circle) in
+          let behind : chain procs chain_level (suc (suc n)) callee ≤ suc n =
           omega (arith, most, in_lines longer, need_most longer p.number procs p ptail found) in
           let own = short_found short n q qtail (from_proc callee procs) there f behind in
           let less = most_less (takes (suc n)) (takes n) short n (stable n) q.lines own in

@@ -33,7 +33,7 @@ use Rattle.reg_scan.specs.Homes.{or_none, home_of, IsPlace, IsHomes}
 use Rattle.rv32_codegen.specs.Code.{does, is_near, negative, constant, datum, sum, shift, load, save, operate, fetch, store, stream_number}
 use Rattle.rv32_codegen.specs.Code.{seat, bring, move, settle, give, target, left_of, right_of, argument_at, datum_at, bring_both, move_range}
 use Rattle.rv32_codegen.specs.Code.{is_leaf, restore, keep, line_code, lines_code}
-use Rattle.rv32_codegen.specs.Lowering.{goes_on, up, down, stays, Moves, Leaves, Keeps, labelled, leaves, jumps, branches, calls, returns}
+use Rattle.rv32_codegen.specs.Lowering.{has_next, up_by, down_by, as_is, MovesStack, LeavesStack, KeepsStack, labelled, leaves, jumps, branches, calls, returns}
 use Rattle.rv32_codegen.proofs.Frees.{free_above}
 use Rattle.rv32_codegen.proofs.Chunks.{line_look}
 use Rattle.rv32_codegen.proofs.Lookups.{none_some, some_same}
@@ -92,7 +92,7 @@ act_spares s r Pass ne = refl
 act_spares s r Ask ne = tt
 act_spares s r Stop ne = tt
 
-it_leaves : (i : Instr) → goes_on i ≡ true → ((s : State) → Spares 2 (micro_op_of s i)) → ((s : State) → Spares 3 (micro_op_of s i)) → Leaves i
+it_leaves : (i : Instr) → has_next i ≡ true → ((s : State) → Spares 2 (micro_op_of s i)) → ((s : State) → Spares 3 (micro_op_of s i)) → LeavesStack i
 it_leaves i on two three = record {
   on = on;
   frame = λ s next e. subst (Spared 2 s) e (act_spares s 2 (micro_op_of s i) (two s));
@@ -106,29 +106,29 @@ Apart rd = (2 ≢ rd) × (3 ≢ rd)
 above : (rd : ℕ) → 3 < rd → Apart rd
 above rd gt = (λ e. omega (arith, e, gt), λ e. omega (arith, e, gt))
 
-lui : (rd value : ℕ) → Apart rd → Leaves (Lui rd value)
+lui : (rd value : ℕ) → Apart rd → LeavesStack (Lui rd value)
 lui rd value a = it_leaves (Lui rd value) refl (λ s. a.0) (λ s. a.1)
 
-addi : (rd rs value : ℕ) → Apart rd → Leaves (Addi rd rs value)
+addi : (rd rs value : ℕ) → Apart rd → LeavesStack (Addi rd rs value)
 addi rd rs value a = it_leaves (Addi rd rs value) refl (λ s. a.0) (λ s. a.1)
 
-add : (rd left right : ℕ) → Apart rd → Leaves (Add rd left right)
+add : (rd left right : ℕ) → Apart rd → LeavesStack (Add rd left right)
 add rd left right a = it_leaves (Add rd left right) refl (λ s. a.0) (λ s. a.1)
 
-lw : (rd rs offset : ℕ) → Apart rd → Leaves (Lw rd rs offset)
+lw : (rd rs offset : ℕ) → Apart rd → LeavesStack (Lw rd rs offset)
 lw rd rs offset a = it_leaves (Lw rd rs offset) refl (λ s. a.0) (λ s. a.1)
 
-pub sw : (ra rs offset : ℕ) → Leaves (Sw ra rs offset)
+pub sw : (ra rs offset : ℕ) → LeavesStack (Sw ra rs offset)
 sw ra rs offset = it_leaves (Sw ra rs offset) refl (λ s. tt) (λ s. tt)
 
-ecall : Leaves Ecall
+ecall : LeavesStack Ecall
 ecall = it_leaves Ecall refl (λ s. tt) (λ s. tt)
 
 -- ---- pieces
 
 abbrev AllLeave : List Instr → Type 0
 AllLeave [] = Unit {0}
-AllLeave (i ∷ is) = Leaves i × AllLeave is
+AllLeave (i ∷ is) = LeavesStack i × AllLeave is
 
 five : Apart 5
 five = above 5 (omega arith)
@@ -155,7 +155,7 @@ on_save rs offset =
     let seven = above 7 (omega arith) in
     cond_both (is_near offset) _ _ AllLeave (λ e. (sw 2 rs _, tt)) (λ e. (lui 7 _ seven, (add 7 7 2 seven, (sw 7 rs _, tt))))
 
-on_operate : (o : WordOperation) (rd left right : ℕ) → Apart rd → Leaves (operate o rd left right)
+on_operate : (o : WordOperation) (rd left right : ℕ) → Apart rd → LeavesStack (operate o rd left right)
 on_operate operation.Add rd left right a = add rd left right a
 on_operate operation.Subtract rd left right a = it_leaves (Sub rd left right) refl (λ s. a.0) (λ s. a.1)
 on_operate operation.Multiply rd left right a = it_leaves (Mul rd left right) refl (λ s. a.0) (λ s. a.1)
@@ -173,12 +173,12 @@ on_operate operation.ShiftRightSigned rd left right a = it_leaves (Sra rd left r
 on_operate operation.Less rd left right a = it_leaves (Slt rd left right) refl (λ s. a.0) (λ s. a.1)
 on_operate operation.Below rd left right a = it_leaves (Sltu rd left right) refl (λ s. a.0) (λ s. a.1)
 
-on_fetch : (s : Size) (address : ℕ) → Leaves (fetch s address)
+on_fetch : (s : Size) (address : ℕ) → LeavesStack (fetch s address)
 on_fetch size.Byte address = it_leaves (Lbu 5 address 0) refl (λ s. five.0) (λ s. five.1)
 on_fetch size.Half address = it_leaves (Lhu 5 address 0) refl (λ s. five.0) (λ s. five.1)
 on_fetch size.Word address = lw 5 address 0 five
 
-on_store : (s : Size) (address rs : ℕ) → Leaves (store s address rs)
+on_store : (s : Size) (address rs : ℕ) → LeavesStack (store s address rs)
 on_store size.Byte address rs = it_leaves (Sb address rs 0) refl (λ s. tt) (λ s. tt)
 on_store size.Half address rs = it_leaves (Sh address rs 0) refl (λ s. tt) (λ s. tt)
 on_store size.Word address rs = sw address rs 0
@@ -233,7 +233,7 @@ does_is (i ∷ is) k = ap (λ l. Do i ∷ l) (does_is is k)
 
 module _ (number frame room : ℕ) where
   abbrev Kept : List LabelLine → Type 0
-  Kept lines = Keeps number frame room lines
+  Kept lines = KeepsStack number frame room lines
 
   kept_does : (is : List Instr) (k : List LabelLine) → AllLeave is → Kept k → Kept (does is k)
   kept_does [] k h g = g
@@ -242,19 +242,19 @@ module _ (number frame room : ℕ) where
   kept_two : (a b : List Instr) (k : List LabelLine) → AllLeave a → AllLeave b → Kept k → Kept (does a (does b k))
   kept_two a b k h g f = kept_does a (does b k) h (kept_does b k g f)
 
-  kept_call : (before behind : List Instr) (callee : ℕ) (k : List LabelLine) → Moves stays (up room) before → Moves stays (down room) behind → Kept k →
+  kept_call : (before behind : List Instr) (callee : ℕ) (k : List LabelLine) → MovesStack as_is (up_by room) before → MovesStack as_is (down_by room) behind → Kept k →
       Kept (does before (Jump 1 (Entry callee) ∷ does behind k))
   kept_call before behind callee k a b g =
       let e : does before (Jump 1 (Entry callee) ∷ does behind k) ≡ map Do before ++ Jump 1 (Entry callee) ∷ (map Do behind ++ k) =
       ap (λ l. does before (Jump 1 (Entry callee) ∷ l)) (does_is behind k) ∙ does_is before (Jump 1 (Entry callee) ∷ (map Do behind ++ k)) in
       subst Kept (sym e) (calls before behind callee a b g)
 
-  kept_return : (before : List Instr) (k : List LabelLine) → Moves (up frame) stays before → Kept k → Kept (does before (Do (Jalr 0 1 0) ∷ k))
+  kept_return : (before : List Instr) (k : List LabelLine) → MovesStack (up_by frame) as_is before → Kept k → Kept (does before (Do (Jalr 0 1 0) ∷ k))
   kept_return before k a g = subst Kept (sym (does_is before (Do (Jalr 0 1 0) ∷ k))) (returns before a g)
 
 module _ (h : Homes) (p : WordProc) (good : (v : ℕ) → IsApart (home_of h v)) where
   abbrev Own : List LabelLine → Type 0
-  Own lines = Keeps p.number h.frame p.room lines
+  Own lines = KeepsStack p.number h.frame p.room lines
 
   own_does : (is : List Instr) (k : List LabelLine) → AllLeave is → Own k → Own (does is k)
   own_does is k a g = kept_does p.number h.frame p.room is k a g

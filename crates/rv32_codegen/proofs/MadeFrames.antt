@@ -13,7 +13,7 @@ use Rattle.reg_scan.specs.declared.homes.Homes.{Homes}
 use Rattle.reg_scan.specs.Homes.{IsHomes}
 use Rattle.rv32_codegen.specs.Code.{negative, sum, lines_code, hook_of, entry_code, proc_code, homes_code, code_of}
 use Rattle.rv32_codegen.specs.Stack.{frame_for}
-use Rattle.rv32_codegen.specs.Lowering.{AllHomes, Keeps, last, last_before, leaves, MakesFrame, MakeFrames}
+use Rattle.rv32_codegen.specs.Lowering.{AllHomes, KeepsStack, last, last_before, leaves, MakesFrame, MakeFrames}
 use Rattle.rv32_codegen.proofs.Chunks.{skip_does, body, body_split, own_body, skip_entry, skip_inner}
 use Rattle.rv32_codegen.proofs.MovedFrames.{frame_down, sets_up}
 use Rattle.rv32_codegen.proofs.KeptFrames.{sw, homes_apart, does_is, own_lines, own_labels}
@@ -65,7 +65,7 @@ no_inner (p ∷ procs) (h ∷ homes) n name has =
 -- ---- procedures
 
 -- the end of one, in front of others
-ends : (number frame room : ℕ) (procs : List WordProc) (homes : List Homes) → Keeps number frame room (Do Ebreak ∷ homes_code procs homes)
+ends : (number frame room : ℕ) (procs : List WordProc) (homes : List Homes) → KeepsStack number frame room (Do Ebreak ∷ homes_code procs homes)
 ends number frame room [] homes = last
 ends number frame room (p ∷ procs) [] = last
 ends number frame room (p ∷ procs) (h ∷ homes) = last_before

@@ -19,7 +19,7 @@ use Rattle.rv32_logic.specs.Placed.{moved}
 use Rattle.rv32_logic.proofs.ForCallers.{constant_is, holds_read, lw_goes}
 use Rattle.mid_code.specs.Memory.{data_of}
 use Rattle.rv32_codegen.specs.Code.{is_near, lower, upper, negative, sum, shift, start_code}
-use Rattle.rv32_codegen.specs.Lowering.{ComesTo, there, first, up, down, stays, Moved, Moves, SetUp}
+use Rattle.rv32_codegen.specs.Lowering.{HoldsBehind, there, first, up_by, down_by, as_is, Moved, MovesStack, SetUp}
 use Rattle.rv32_codegen.proofs.PieceRuns.{near_is, sum_low}
 
 -- a register has another word; the others but x5 are as they were
@@ -31,7 +31,7 @@ record Became (old new : State) (rd value : ℕ) : Type 0 where
 
 module _ (There : State → Type 0) (s : State) (r value : ℕ) (long : length s.regs ≡ 32) (lt : suc r < 32) (ne : suc r ≢ 5)
     (small : value < 2 ^ 32) (so : (t : State) → Became s t (suc r) (added (reg s (suc r)) value) → There t) where
-  near_comes : is_near value ≡ true → ComesTo There s (Addi (suc r) (suc r) (lower value) ∷ [])
+  near_comes : is_near value ≡ true → HoldsBehind There s (Addi (suc r) (suc r) (lower value) ∷ [])
   near_comes near =
       let v = added (reg s (suc r)) (signed12 (lower value)) in
       let t = skip (record s { regs = set s.regs (suc r) v }) in
@@ -41,7 +41,7 @@ module _ (There : State → Type 0) (s : State) (r value : ℕ) (long : length s
       })))
 
   -- x5 gets the value first
-  far_comes : ComesTo There s (Lui 5 (upper value) ∷ Addi 5 5 (lower value) ∷ Add (suc r) (suc r) 5 ∷ [])
+  far_comes : HoldsBehind There s (Lui 5 (upper value) ∷ Addi 5 5 (lower value) ∷ Add (suc r) (suc r) 5 ∷ [])
   far_comes =
       let high = upper value * 2 ^ 12 in
       let one = set s.regs 5 high in
@@ -63,54 +63,54 @@ module _ (There : State → Type 0) (s : State) (r value : ℕ) (long : length s
         others = λ o other apart. get_or-set_other two (suc r) o v 0 other ∙ kept o apart;
       })))))
 
-low_sum : (a value : ℕ) → added a (value % 2 ^ 32) ≡ up value a
+low_sum : (a value : ℕ) → added a (value % 2 ^ 32) ≡ up_by value a
 low_sum a value = omega arith
 
 -- a register becomes so much more
 sum_comes : (There : State → Type 0) (s : State) (r value : ℕ) → length s.regs ≡ 32 → suc r < 32 → suc r ≢ 5 →
-    ((t : State) → Became s t (suc r) (up value (reg s (suc r))) → There t) → ComesTo There s (sum (suc r) (suc r) value)
+    ((t : State) → Became s t (suc r) (up_by value (reg s (suc r))) → There t) → HoldsBehind There s (sum (suc r) (suc r) value)
 sum_comes There s r value long lt ne so =
     let w = value % 2 ^ 32 in
     let small : w < 2 ^ 32 = omega arith in
     let to : (t : State) → Became s t (suc r) (added (reg s (suc r)) w) → There t =
     λ t b. so t (record { is = b.is ∙ low_sum (reg s (suc r)) value; others = b.others }) in
-    subst (ComesTo There s) (sym (sum_low (suc r) (suc r) value))
+    subst (HoldsBehind There s) (sym (sum_low (suc r) (suc r) value))
     (cond_both (is_near w) (Addi (suc r) (suc r) (lower w) ∷ []) (Lui 5 (upper w) ∷ Addi 5 5 (lower w) ∷ Add (suc r) (suc r) 5 ∷ [])
-    (ComesTo There s) (λ near. near_comes There s r w long lt ne small to near) (λ far. far_comes There s r w long lt ne small to))
+    (HoldsBehind There s) (λ near. near_comes There s r w long lt ne small to near) (λ far. far_comes There s r w long lt ne small to))
 
-lower_is : (address bytes : ℕ) → up (negative bytes) address ≡ down bytes address
+lower_is : (address bytes : ℕ) → up_by (negative bytes) address ≡ down_by bytes address
 lower_is address bytes = omega arith
 
-unmoved : (address bytes : ℕ) → address < 2 ^ 32 → bytes ≡ 0 → address ≡ up bytes address
+unmoved : (address bytes : ℕ) → address < 2 ^ 32 → bytes ≡ 0 → address ≡ up_by bytes address
 unmoved address bytes small e = omega (arith, small, e)
 
 -- ---- frames and places
 
-frame_moves : (frame : ℕ → ℕ) (s : State) (value : ℕ) → length s.regs ≡ 32 → up value (reg s 2) ≡ frame (reg s 2) →
-    ComesTo (Moved frame stays s) s (sum 2 2 value)
+frame_moves : (frame : ℕ → ℕ) (s : State) (value : ℕ) → length s.regs ≡ 32 → up_by value (reg s 2) ≡ frame (reg s 2) →
+    HoldsBehind (Moved frame as_is s) s (sum 2 2 value)
 frame_moves frame s value long is =
-    sum_comes (Moved frame stays s) s 1 value long (omega arith) (λ e. omega (arith, e))
+    sum_comes (Moved frame as_is s) s 1 value long (omega arith) (λ e. omega (arith, e))
     (λ t b. (b.is ∙ is, b.others 3 (λ e. omega (arith, e)) (λ e. omega (arith, e))))
 
-pub frame_up : (bytes : ℕ) → Moves (up bytes) stays (sum 2 2 bytes)
-frame_up bytes s long two three = frame_moves (up bytes) s bytes long refl
+pub frame_up : (bytes : ℕ) → MovesStack (up_by bytes) as_is (sum 2 2 bytes)
+frame_up bytes s long two three = frame_moves (up_by bytes) s bytes long refl
 
-pub frame_down : (bytes : ℕ) → Moves (down bytes) stays (sum 2 2 (negative bytes))
-frame_down bytes s long two three = frame_moves (down bytes) s (negative bytes) long (lower_is (reg s 2) bytes)
+pub frame_down : (bytes : ℕ) → MovesStack (down_by bytes) as_is (sum 2 2 (negative bytes))
+frame_down bytes s long two three = frame_moves (down_by bytes) s (negative bytes) long (lower_is (reg s 2) bytes)
 
-places_move : (places : ℕ → ℕ) (s : State) (value : ℕ) → length s.regs ≡ 32 → reg s 3 < 2 ^ 32 → up value (reg s 3) ≡ places (reg s 3) →
-    ComesTo (Moved stays places s) s (shift 3 value)
+places_move : (places : ℕ → ℕ) (s : State) (value : ℕ) → length s.regs ≡ 32 → reg s 3 < 2 ^ 32 → up_by value (reg s 3) ≡ places (reg s 3) →
+    HoldsBehind (Moved as_is places s) s (shift 3 value)
 places_move places s value long small is =
-    cond_both (value == 0) [] (sum 3 3 value) (ComesTo (Moved stays places s) s)
+    cond_both (value == 0) [] (sum 3 3 value) (HoldsBehind (Moved as_is places s) s)
     (λ e. there (refl, unmoved (reg s 3) value small (eqb-true value 0 e) ∙ is))
-    (λ e. sum_comes (Moved stays places s) s 2 value long (omega arith) (λ d. omega (arith, d))
+    (λ e. sum_comes (Moved as_is places s) s 2 value long (omega arith) (λ d. omega (arith, d))
     (λ t b. (b.others 2 (λ d. omega (arith, d)) (λ d. omega (arith, d)), b.is ∙ is)))
 
-pub places_up : (bytes : ℕ) → Moves stays (up bytes) (shift 3 bytes)
-places_up bytes s long two three = places_move (up bytes) s bytes long three refl
+pub places_up : (bytes : ℕ) → MovesStack as_is (up_by bytes) (shift 3 bytes)
+places_up bytes s long two three = places_move (up_by bytes) s bytes long three refl
 
-pub places_down : (bytes : ℕ) → Moves stays (down bytes) (shift 3 (negative bytes))
-places_down bytes s long two three = places_move (down bytes) s (negative bytes) long three (lower_is (reg s 3) bytes)
+pub places_down : (bytes : ℕ) → MovesStack as_is (down_by bytes) (shift 3 (negative bytes))
+places_down bytes s long two three = places_move (down_by bytes) s (negative bytes) long three (lower_is (reg s 3) bytes)
 
 -- ---- the start
 
@@ -133,7 +133,7 @@ end_is : (size stack : ℕ) → size ≡ stack → stack_at + stack < 2 ^ 32 →
 end_is size stack e small = omega (arith, e, small)
 
 start_comes : (lines : List LabelLine) (statics : List ℕ) (heap stack : ℕ) (input : List ℕ) → stack_at + stack < 2 ^ 32 →
-    ComesTo (λ t. (reg t 2 ≡ stack_at + stack) × (reg t 3 ≡ stack_at)) (labels.start lines (data_of heap stack statics) heap stack input).state set_up
+    HoldsBehind (λ t. (reg t 2 ≡ stack_at + stack) × (reg t 3 ≡ stack_at)) (labels.start lines (data_of heap stack statics) heap stack input).state set_up
 unfolding labels.start
 start_comes lines statics heap stack input small =
     let s = (labels.start lines (data_of heap stack statics) heap stack input).state in

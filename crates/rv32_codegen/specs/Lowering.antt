@@ -61,57 +61,57 @@ AlwaysDoes lines code homes =
 -- ---- the frames and places that lines make: x2 is where the frame of the running call begins, x3 where its places do
 
 -- behind it the next line follows, if any does
-abbrev pub goes_on : Instr → Bool
-goes_on i = is_straight i && not (is_jalr i)
+abbrev pub has_next : Instr → Bool
+has_next i = is_straight i && not (is_jalr i)
 
 -- From a state on, these instructions go on one after another, and this holds behind the last of them.
-pub data ComesTo (There : State → Type 0) : State → List Instr → Type 0 where
-  there : {s : State} → There s → ComesTo There s []
-  first : {s next : State} {i : Instr} {is : List Instr} → goes_on i ≡ true → obey s 0 0 i ≡ Goes next → ComesTo There next is →
-      ComesTo There s (i ∷ is)
+pub data HoldsBehind (There : State → Type 0) : State → List Instr → Type 0 where
+  there : {s : State} → There s → HoldsBehind There s []
+  first : {s next : State} {i : Instr} {is : List Instr} → has_next i ≡ true → obey s 0 0 i ≡ Goes next → HoldsBehind There next is →
+      HoldsBehind There s (i ∷ is)
 
 -- where an address leads that moves by so many bytes, and one that doesn't
-abbrev pub up : (bytes address : ℕ) → ℕ
-up bytes address = added address bytes
+abbrev pub up_by : (bytes address : ℕ) → ℕ
+up_by bytes address = added address bytes
 
-abbrev pub down : (bytes address : ℕ) → ℕ
-down bytes address = subtracted address (bytes % 2 ^ 32)
+abbrev pub down_by : (bytes address : ℕ) → ℕ
+down_by bytes address = subtracted address (bytes % 2 ^ 32)
 
-abbrev pub stays : (address : ℕ) → ℕ
-stays address = address
+abbrev pub as_is : (address : ℕ) → ℕ
+as_is address = address
 
 -- what x2 and x3 are now comes from what they were
 abbrev pub Moved : (frame places : ℕ → ℕ) → (old new : State) → Type 0
 Moved frame places old new = (reg new 2 ≡ frame (reg old 2)) × (reg new 3 ≡ places (reg old 3))
 
 -- Instructions move x2 and x3 so, whatever the state is.
-abbrev pub Moves : (frame places : ℕ → ℕ) → List Instr → Type 0
-Moves frame places is =
-    (s : State) → length s.regs ≡ 32 → reg s 2 < 2 ^ 32 → reg s 3 < 2 ^ 32 → ComesTo (Moved frame places s) s is
+abbrev pub MovesStack : (frame places : ℕ → ℕ) → List Instr → Type 0
+MovesStack frame places is =
+    (s : State) → length s.regs ≡ 32 → reg s 2 < 2 ^ 32 → reg s 3 < 2 ^ 32 → HoldsBehind (Moved frame places s) s is
 
 -- An instruction leaves x2 and x3 as they are. (The environment's calls write x10 alone.)
-pub record Leaves (i : Instr) : Type 0 where
-  pub on : goes_on i ≡ true
+pub record LeavesStack (i : Instr) : Type 0 where
+  pub on : has_next i ≡ true
   pub frame : (s next : State) → obey s 0 0 i ≡ Goes next → reg next 2 ≡ reg s 2
   pub places : (s next : State) → obey s 0 0 i ≡ Goes next → reg next 3 ≡ reg s 3
 
 -- These lines of a procedure, up to the next one, leave x2 and x3 as they are: only around a call x3 goes up by the room of the places and
 -- comes back, and before a return x2 goes up by the frame. Control stays in them: jumps lead to the procedure's own labels, and the last
 -- line is an `ebreak`.
-pub data Keeps (number frame room : ℕ) : List LabelLine → Type 0 where
-  last : Keeps number frame room (Do Ebreak ∷ [])
+pub data KeepsStack (number frame room : ℕ) : List LabelLine → Type 0 where
+  last : KeepsStack number frame room (Do Ebreak ∷ [])
   last_before : {other : ℕ} {hook : Option HookLabel} {lines : List LabelLine} →
-      Keeps number frame room (Do Ebreak ∷ Label (Entry other) hook ∷ lines)
-  labelled : {of name : ℕ} {hook : Option HookLabel} {lines : List LabelLine} → Keeps number frame room lines →
-      Keeps number frame room (Label (Inner of name) hook ∷ lines)
-  leaves : {i : Instr} {lines : List LabelLine} → Leaves i → Keeps number frame room lines → Keeps number frame room (Do i ∷ lines)
-  jumps : {name : ℕ} {lines : List LabelLine} → Keeps number frame room lines → Keeps number frame room (Jump 0 (Inner number name) ∷ lines)
-  branches : {test : Test} {left right name : ℕ} {lines : List LabelLine} → Keeps number frame room lines →
-      Keeps number frame room (Branch test left right (Inner number name) ∷ lines)
-  calls : (before behind : List Instr) (callee : ℕ) {lines : List LabelLine} → Moves stays (up room) before → Moves stays (down room) behind →
-      Keeps number frame room lines → Keeps number frame room (map Do before ++ Jump 1 (Entry callee) ∷ (map Do behind ++ lines))
-  returns : (before : List Instr) {lines : List LabelLine} → Moves (up frame) stays before → Keeps number frame room lines →
-      Keeps number frame room (map Do before ++ Do (Jalr 0 1 0) ∷ lines)
+      KeepsStack number frame room (Do Ebreak ∷ Label (Entry other) hook ∷ lines)
+  labelled : {of name : ℕ} {hook : Option HookLabel} {lines : List LabelLine} → KeepsStack number frame room lines →
+      KeepsStack number frame room (Label (Inner of name) hook ∷ lines)
+  leaves : {i : Instr} {lines : List LabelLine} → LeavesStack i → KeepsStack number frame room lines → KeepsStack number frame room (Do i ∷ lines)
+  jumps : {name : ℕ} {lines : List LabelLine} → KeepsStack number frame room lines → KeepsStack number frame room (Jump 0 (Inner number name) ∷ lines)
+  branches : {test : Test} {left right name : ℕ} {lines : List LabelLine} → KeepsStack number frame room lines →
+      KeepsStack number frame room (Branch test left right (Inner number name) ∷ lines)
+  calls : (before behind : List Instr) (callee : ℕ) {lines : List LabelLine} → MovesStack as_is (up_by room) before → MovesStack as_is (down_by room) behind →
+      KeepsStack number frame room lines → KeepsStack number frame room (map Do before ++ Jump 1 (Entry callee) ∷ (map Do behind ++ lines))
+  returns : (before : List Instr) {lines : List LabelLine} → MovesStack (up_by frame) as_is before → KeepsStack number frame room lines →
+      KeepsStack number frame room (map Do before ++ Do (Jalr 0 1 0) ∷ lines)
 
 -- Right behind its label the procedure of that number makes a frame of so many bytes, and its lines keep it, also where its labels lead.
 pub record MakesFrame (lines : List LabelLine) (number frame room : ℕ) : Type 0 where
@@ -119,9 +119,9 @@ pub record MakesFrame (lines : List LabelLine) (number frame room : ℕ) : Type 
   pub made : List Instr
   pub body : List LabelLine
   pub begins : from_label (Entry number) lines ≡ Some (Label (Entry number) hook ∷ (map Do made ++ body))
-  pub makes : Moves (down frame) stays made
-  pub keeps : Keeps number frame room body
-  pub labels : (name : ℕ) (found : List LabelLine) → from_label (Inner number name) lines ≡ Some found → Keeps number frame room found
+  pub makes : MovesStack (down_by frame) as_is made
+  pub keeps : KeepsStack number frame room body
+  pub labels : (name : ℕ) (found : List LabelLine) → from_label (Inner number name) lines ≡ Some found → KeepsStack number frame room found
 
 -- The lines begin with these instructions, behind which x2 is the end of the stack and x3 where it begins, and go on in procedure 0.
 pub record SetUp (lines : List LabelLine) : Type 0 where
@@ -129,7 +129,7 @@ pub record SetUp (lines : List LabelLine) : Type 0 where
   pub rest : List LabelLine
   pub begins : lines ≡ map Do made ++ Jump 0 (Entry 0) ∷ rest
   pub makes : (statics : List ℕ) (heap stack : ℕ) (input : List ℕ) → stack_at + stack < 2 ^ 32 →
-      ComesTo (λ t. (reg t 2 ≡ stack_at + stack) × (reg t 3 ≡ stack_at)) (start lines (data_of heap stack statics) heap stack input).state made
+      HoldsBehind (λ t. (reg t 2 ≡ stack_at + stack) × (reg t 3 ≡ stack_at)) (start lines (data_of heap stack statics) heap stack input).state made
 
 -- The lines make the frames of these homes and the places of these procedures, and there are no other procedures in them.
 pub record MakeFrames (lines : List LabelLine) (procs : List WordProc) (homes : List Homes) : Type 0 where

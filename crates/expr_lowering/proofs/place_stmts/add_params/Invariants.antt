@@ -4,11 +4,11 @@ use Rattle.nim_core.specs.View.{param_of}
 use Rattle.expr_lowering.specs.Places.{param_places}
 use Rattle.expr_lowering.specs.Views.{types_of}
 use Rattle.mid_code.specs.declared.place.FlatPlace.{FlatPlace}
-use Rattle.expr_lowering.specs.Collected.{Collects}
+use Rattle.expr_lowering.specs.Gathered.{IsAppended}
 use Rattle.expr_lowering.proofs.place_stmts.add_params.Given as goal
 
 abbrev pub invariant-loop-param : goal.invariant-loop-param
 invariant-loop-param l =
     (new : Option (List FlatPlace)) →
-    Collects l.places new (param_places (types_of l.around) (map (param_of (types_of l.around)) (drop l.param-index l.params))) →
-    Collects l.fn.places new (param_places (types_of l.around) (map (param_of (types_of l.around)) l.params))
+    IsAppended l.places new (param_places (types_of l.around) (map (param_of (types_of l.around)) (drop l.param-index l.params))) →
+    IsAppended l.fn.places new (param_places (types_of l.around) (map (param_of (types_of l.around)) l.params))

@@ -1,6 +1,6 @@
 // A list that notes that it was lost.
 ghost use Rattle.std.specs.Prelude.{◌≡◌, ◌∷◌, [], Some, None, IfOk};
-ghost use Rattle.expr_lowering.specs.Collected.{Collects};
+ghost use Rattle.expr_lowering.specs.Gathered.{IsAppended};
 
 use arc_base::{Items, Memory};
 use std::alloc::Global;
@@ -8,12 +8,12 @@ use std::marker::Model;
 
 /// A list that is written item by item. Where there was no memory for one, it is lost.
 #[derive(Drop)]
-pub struct Collected<T: Drop> {
+pub struct Gathered<T: Drop> {
     items: Items<T>,
     kept: bool,
 }
 
-impl<T: Drop> Model for Collected<T> {
+impl<T: Drop> Model for Gathered<T> {
     ghost use Rattle.std.specs.Prelude.{List, Option, Some, None, if◌then◌else◌};
 
     ghost Value = { Option (List T) };
@@ -21,12 +21,12 @@ impl<T: Drop> Model for Collected<T> {
     ghost view = { λ w. if w.kept then Some w.items else None };
 }
 
-impl<T: Drop> Collected<T> {
+impl<T: Drop> Gathered<T> {
     /// No item.
     pub fn new(alloc: Global) -> Self
         ensures { result ≡ Some [] }
     {
-        Collected {
+        Gathered {
             items: Items::new(alloc),
             kept: true,
         }
@@ -34,7 +34,7 @@ impl<T: Drop> Collected<T> {
 
     /// Adds an item at the end.
     pub fn put(&mut self, item: T)
-        ensures { Collects self.old self.new (item ∷ []) }
+        ensures { IsAppended self.old self.new (item ∷ []) }
     {
         if self.items.push(item).is_err() {
             self.kept = false;
