@@ -1,5 +1,6 @@
 -- Where registers are right, what is alive is held.
-use Rattle.std.proofs.Common.{◌≡◌, ◌⊎◌, inl, inr, ℕ, zero, suc, ◌+◌, ◌<◌, ◌≤◌, get_or, List, [], ◌∷◌, ◌++◌, length, Bool, true, false, Option, Some, None}
+use Rattle.std.proofs.Common.{◌≡◌, ◌⊎◌, inl, inr, ℕ, zero, suc, ◌+◌, ◌<◌, ◌≤◌, get_or, List, [], ◌∷◌, ◌++◌}
+use Rattle.std.proofs.Common.{length, Bool, true, false, Option, Some, None}
 use Rattle.std.proofs.Common.{refl, sym, ap, subst, ◌∙◌, arith, append_assoc, length-append}
 use Rattle.std.specs.Prelude.{not, ◌||◌, slice_get}
 use Rattle.std.specs.HashMap.{HashMap}
@@ -198,6 +199,12 @@ module _ {S : Type 0} (of : List ℕ) (labels : HashMap ℕ ℕ S) (homes : List
 
   -- ---- what follows
 
+  -- a register is that of one variable alone, of those that are alive together
+  pub one_alive : (before rest : List WordInstr) (v w r : ℕ) → before ++ rest ≡ lines → Alive lines v rest → Alive lines w rest → r < 32 →
+      home v ≡ Reg r → home w ≡ Reg r → v ≡ w
+  one_alive before rest v w r split lives live small is same =
+      some_same v w (sym (held_alive v r is small lives before split) ∙ held_alive w r same small live before split)
+
   -- a line sets another register than those of variables that are alive behind it
   pub set_apart : (before rest : List WordInstr) (line : WordInstr) (v to r : ℕ) → before ++ line ∷ rest ≡ lines → (effect_of line).to ≡ Some to →
       Alive lines v rest → r < 32 → home v ≡ Reg r → home to ≡ Reg r → v ≡ to
@@ -211,8 +218,8 @@ module _ {S : Type 0} (of : List ℕ) (labels : HashMap ℕ ℕ S) (homes : List
       sym (some_same to v (sym is_to ∙ within_has behind (effect_of line).to v within e))
 
   -- behind a call a register holds its result alone
-  pub call_alone : (before rest : List WordInstr) (line : WordInstr) (v to r : ℕ) → before ++ line ∷ rest ≡ lines → (effect_of line).to ≡ Some to →
-      (effect_of line).calls ≡ true → Alive lines v rest → r < 32 → home v ≡ Reg r → v ≡ to
+  pub call_alone : (before rest : List WordInstr) (line : WordInstr) (v to r : ℕ) → before ++ line ∷ rest ≡ lines →
+      (effect_of line).to ≡ Some to → (effect_of line).calls ≡ true → Alive lines v rest → r < 32 → home v ≡ Reg r → v ≡ to
   call_alone before rest line v to r split is_to calls lives small is =
       let p = parts before rest line r split small in
       let behind = holder of (length before + 1) r in

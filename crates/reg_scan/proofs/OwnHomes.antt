@@ -1,5 +1,6 @@
 -- Homes that are right by the test are homes.
-use Rattle.std.proofs.Common.{◌≡◌, ◌≢◌, ◌⊎◌, inl, inr, ℕ, zero, suc, ◌+◌, ◌-◌, ◌*◌, ◌<◌, ◌≤◌, List, [], ◌∷◌, ◌++◌, length, Bool, true, false, Some}
+use Rattle.std.proofs.Common.{◌≡◌, ◌≢◌, ◌⊎◌, inl, inr, ℕ, zero, suc, ◌+◌, ◌-◌, ◌*◌, ◌<◌, ◌≤◌, List, []}
+use Rattle.std.proofs.Common.{◌∷◌, ◌++◌, length, Bool, true, false, Some}
 use Rattle.std.proofs.Common.{refl, sym, ap, subst, ◌∙◌, arith, length-append}
 use Rattle.std.specs.Prelude.{nat_le, ◌&&◌, ◌||◌, slice_get}
 use Rattle.std.specs.HashMap.{HashMap}
@@ -12,7 +13,7 @@ use Rattle.reg_scan.specs.declared.homes.Homes.{Homes}
 use Rattle.reg_scan.specs.Alive.{effect_of, Alive}
 use Rattle.reg_scan.specs.Homes.{or_none, home_of, is_free, IsPlace, IsFrame, IsHomes}
 use Rattle.reg_scan.specs.Fine.{AllRight, NoneFirst, IsOwn, AreOwn}
-use Rattle.reg_scan.proofs.FineHomes.{set_apart, call_alone, param_framed}
+use Rattle.reg_scan.proofs.FineHomes.{one_alive, set_apart, call_alone, param_framed}
 
 -- ---- free registers
 
@@ -89,6 +90,8 @@ own_at given vars v frame (Frame at) lt e h none = ap Frame (let g : at ≡ fram
 
 -- registers are right: homes that share one aren't alive together, and what is alive behind a call or is a parameter has none
 pub record Right (p : WordProc) (homes : Homes) : Type 0 where
+  pub together : (before rest : List WordInstr) (v w r : ℕ) → before ++ rest ≡ p.lines → Alive p.lines v rest → Alive p.lines w rest →
+      v < p.vars → r < 32 → home_of homes v ≡ Reg r → home_of homes w ≡ Reg r → v ≡ w
   pub apart : (before rest : List WordInstr) (line : WordInstr) (v to r : ℕ) → before ++ line ∷ rest ≡ p.lines → (effect_of line).to ≡ Some to →
       Alive p.lines v rest → v < p.vars → r < 32 → home_of homes v ≡ Reg r → home_of homes to ≡ Reg r → v ≡ to
   pub across : (before rest : List WordInstr) (line : WordInstr) (v to r : ℕ) → before ++ line ∷ rest ≡ p.lines → (effect_of line).to ≡ Some to →
@@ -106,6 +109,9 @@ are_homes given p homes own frame k =
       least = omega (arith, frame);
       most = omega (arith, frame);
       there = λ v lt. own_place given n v homes.frame (home v) lt frame (own.1 v lt);
+      together = λ before rest v w split lives live ne lt less.
+          own_apart given n v w (home v) (home w) lt less (own.1 v lt) (own.1 w less) ne
+          (λ r small a b. ne (k.together before rest v w r split lives live lt small a b));
       apart = λ before rest line v to split is lives ne lt less.
           own_apart given n v to (home v) (home to) lt less (own.1 v lt) (own.1 to less) ne
           (λ r small a b. ne (k.apart before rest line v to r split is lives lt small a b));
@@ -121,6 +127,8 @@ pub right_by_test : {S : Type 0} (of : List ℕ) (labels : HashMap ℕ ℕ S) (p
 right_by_test of labels p homes tried lines same all test none =
     let right : AllRight of homes.of labels p.lines = subst (AllRight of homes.of labels) all (subst (λ hs. AllRight of hs labels lines) same test) in
     record {
+      together = λ before rest v w r split lives live lt small a b.
+          one_alive of labels homes.of p.lines right before rest v w r split lives live small a b;
       apart = λ before rest line v to r split is lives lt small a b.
           set_apart of labels homes.of p.lines right before rest line v to r split is lives small a b;
       across = λ before rest line v to r split is calls lives lt small a.
@@ -134,6 +142,7 @@ right_in_frame p homes own =
     let none : (v r : ℕ) → v < p.vars → home_of homes v ≡ Reg r → ⊥ = λ v r lt is.
     true≢false (sym (subst (IsOwn false p.vars v) is (own.1 v lt)).0) in
     record {
+      together = λ before rest v w r split lives live lt small a b. absurd (none v r lt a);
       apart = λ before rest line v to r split is lives lt small a b. absurd (none v r lt a);
       across = λ before rest line v to r split is calls lives lt small a. absurd (none v r lt a);
       params = λ v r param lt lives small a. none v r lt a;

@@ -3,7 +3,8 @@
 --     variables ──assign──> homes
 --
 -- Variables that are alive together have different homes. What is alive behind a call stands in the frame: a callee may use all registers.
-use Rattle.std.specs.Prelude.{◌≡◌, ◌≢◌, ◌<◌, ◌≤◌, ℕ, suc, ◌+◌, ◌-◌, ◌*◌, ◌%◌, nat_le, ◌&&◌, ◌||◌, Bool, true, List, ◌∷◌, ◌++◌}
+use Rattle.std.specs.Prelude.{◌≡◌, ◌≢◌, ◌<◌, ◌≤◌, ℕ, suc, ◌+◌, ◌-◌, ◌*◌, ◌%◌, nat_le, ◌&&◌, ◌||◌}
+use Rattle.std.specs.Prelude.{Bool, true, List, ◌∷◌, ◌++◌}
 use Rattle.std.specs.Prelude.{Option, Some, None, length, slice_get}
 use Rattle.mid_code.specs.declared.word.WordInstr.{WordInstr}
 use Rattle.mid_code.specs.declared.word.WordProc.{WordProc}
@@ -33,14 +34,18 @@ abbrev pub IsFrame : Home → Type 0
 IsFrame (Reg number) = ⊥
 IsFrame (Frame at) = Unit {0}
 
--- A variable that a line sets has another home than those that are alive behind it, and behind a call these are in the frame. A parameter
--- that is alive at the start is one of the frame's last words, the first parameter the last one: a caller puts the arguments there.
+-- Two variables that are alive together have different homes, at all lines: also where no way leads to, and where nothing sets them. What a
+-- line sets has another home than what is alive behind it, also where nothing reads what is set. What is alive behind a call, but for its
+-- result, is in the frame. A parameter that is alive at the start is one of the frame's last words, the first parameter the last one: a
+-- caller puts the arguments there.
 pub record IsHomes (p : WordProc) (homes : Homes) : Type 0 where
   pub long : length homes.of ≡ p.vars
   pub whole : homes.frame % 4 ≡ 0
   pub least : 4 ≤ homes.frame
   pub most : homes.frame ≤ 4 * suc p.vars
   pub there : (v : ℕ) → v < p.vars → IsPlace homes.frame (home_of homes v)
+  pub together : (before rest : List WordInstr) (v w : ℕ) → before ++ rest ≡ p.lines → Alive p.lines v rest → Alive p.lines w rest → v ≢ w →
+      v < p.vars → w < p.vars → home_of homes v ≢ home_of homes w
   pub apart : (before rest : List WordInstr) (line : WordInstr) (v to : ℕ) → before ++ line ∷ rest ≡ p.lines → (effect_of line).to ≡ Some to →
       Alive p.lines v rest → v ≢ to → v < p.vars → to < p.vars → home_of homes v ≢ home_of homes to
   pub across : (before rest : List WordInstr) (line : WordInstr) (v to : ℕ) → before ++ line ∷ rest ≡ p.lines → (effect_of line).to ≡ Some to →
