@@ -44,7 +44,8 @@ use Rattle.rv32_codegen.proofs.Asked.{write_is, exit_is, read_is, stream_is, str
 use Rattle.rv32_codegen.proofs.Wider.{read_wider, may_wider, may_less, fill_wider, fits_kept, places_kept, found_wider, length-low_bytes}
 use Rattle.rv32_codegen.proofs.Lookups.{some_same}
 use Rattle.rv32_codegen.proofs.Frees.{kept_apart}
-use Rattle.rv32_codegen.proofs.Frames.{size, Alike, word_kept, word_alike, Sits, sits_next, linked_kept, held_alike, Setting, whole, True, Sim}
+use Rattle.rv32_codegen.proofs.Frames.{size, places_end, Alike, word_kept, word_alike, Sits, sits_next, linked_kept, held_alike}
+use Rattle.rv32_codegen.proofs.Frames.{Setting, whole, True, Sim}
 use Rattle.rv32_codegen.proofs.HomeRuns.{seats_past, alike_refl}
 use Rattle.rv32_codegen.proofs.LineRuns.{at_lines, setting, homes, frame_at, sim_goes, Sim_did, using_sim, if_sim, laid_of, inside_of, arguments_fit}
 use Rattle.rv32_codegen.proofs.LineRuns.{var_moves, var_brought, both_go, small_of, Behind, quiet_behind, Here, Line_sim, named_of, sets_from, same_true}
@@ -56,14 +57,13 @@ module _ (g : Setting) where
   -- where memory, input, lines and registers changed
   memory_true : (t : WordState) (lines more : List WordInstr) (regs new ws : List ℕ) (j : ℕ) (f : True g t lines regs ws j) (a : ℕ)
       (bytes input : List ℕ) →
-      writable (as_state t.memory) a (length bytes) ≡ true → Sits g.lay g.procs t.frame.proc more → Regs new (frame_at g t j) t.frame.base →
+      writable (as_state t.memory) a (length bytes) ≡ true → Sits g.lay g.procs t.frame.proc more → Regs new (frame_at g t j) (places_end t.frame) →
       Alike regs new → ((v : ℕ) → Alive t.frame.proc.lines v more → Alive t.frame.proc.lines v lines) →
       (only_calls more ≡ false → only_calls lines ≡ false) →
       True g (record (at_lines t more) { memory = memory_of (filled (as_state t.memory) a bytes); input = input }) more new ws j
   memory_true t lines more regs new ws j f a bytes input may sits kept same stays returns = record {
     fits = fits_kept regs t.memory ws a bytes may f.fits;
-    kept = subst (λ n. Regs new (stack_at + (n + 4 * j)) t.frame.base) (sym (places_kept regs t.memory ws a bytes may)) kept;
-    base_fits = f.base_fits;
+    kept = subst (λ n. Regs new (stack_at + (n + 4 * j)) (places_end t.frame)) (sym (places_kept regs t.memory ws a bytes may)) kept;
     sits = sits;
     held = held_alike g.lay g.procs regs new ws j t.frame.proc lines more t.frame.vars (laid_of g t lines f.sits) same stays f.held;
     given = f.given;
@@ -105,7 +105,7 @@ module _ (g : Setting) where
       let is : found st (added (get_or x.0 rs 0) (signed12 0)) s ≡ Ok w = ap (λ n. found st n s) at_is ∙ found_wider x.0 m ws a s w h in
       let y = writes g.live (whole g) g.at m ws t.input x.0 (fetch s rs) 5 w last (give_quiet g t l rest regs ws j f 5 to)
       (fetch_is s rs x.0 m ws t.input last ∙ ap (λ o. led g.live (whole g) g.at mid last (loaded st 0 5 o)) is) in
-      let z = put_gets x.0 5 w (frame_at g t j) t.frame.base (omega arith) (omega arith) x.2.kept in
+      let z = put_gets x.0 5 w (frame_at g t j) (places_end t.frame) (omega arith) (omega arith) x.2.kept in
       sets_from g t l rest regs ws j f r 1 4 to w (put x.0 5 w) (record { goes = refl; is = refl }) (ltb-true to vars named.0) (omega arith)
       (λ n kept ne. z.other n (kept_apart n 5 kept refl) ∙ x.2.others n (kept_apart n 5 kept refl)) z.kept 5 (omega arith) (λ e. omega (arith, e))
       (then_goes g.live (whole g) g.at 0 1 3 1 _ _ _ x.1 y) z.same))
@@ -172,7 +172,7 @@ module _ (g : Setting) where
 
   give_true : (t : WordState) (l : WordInstr) (rest : List WordInstr) (regs new ws : List ℕ) (j i a : ℕ) (f : True g t (l ∷ rest) regs ws j) →
       i < MOST_ARGUMENTS → Passing_line g l →
-      Regs new (frame_at g t j) t.frame.base → Alike regs new →
+      Regs new (frame_at g t j) (places_end t.frame) → Alike regs new →
       True g (record t { frame = record t.frame { left = rest; given = put_var t.frame.given i a } }) rest new (set ws (j - suc i) (a % 2 ^ 32)) j
   give_true t l rest regs new ws j i a f lt line kept same =
       let p = t.frame.proc in
@@ -188,7 +188,6 @@ module _ (g : Setting) where
       record {
         fits = fits_words t.memory ws ws' long f.fits;
         kept = kept;
-        base_fits = f.base_fits;
         sits = sits_next g.lay g.procs p l rest f.sits;
         held = λ v w lives e. let x = f.held v w (passes_alive g l p.lines rest v line lives) e in (
           x.0,
@@ -243,7 +242,7 @@ module _ (g : Setting) where
       let there = laid.there from (f.held from a lives e).0 in
       let x = var_brought g t (l ∷ rest) regs ws j f regs 5 from a (does (save rs offset) k) (quiet_does (save rs offset) k quiet) (omega arith)
       (omega arith) lives e f.kept (alike_refl regs) in
-      let y = save_goes g.live (whole g) g.at m ws t.input x.0 rs offset (j - suc index) a (frame_at g t j) t.frame.base k quiet (omega arith)
+      let y = save_goes g.live (whole g) g.at m ws t.input x.0 rs offset (j - suc index) a (frame_at g t j) (places_end t.frame) k quiet (omega arith)
       (argument_place m ws j index f.fits lt fit (omega (arith, inside, some))) (omega (arith, inside, some)) f.fits x.2.kept
       (seats_past (size (homes g t)) (home_of (homes g t) from) there) x.2.same in
       let ws' = set ws (j - suc index) (a % 2 ^ 32) in
@@ -261,8 +260,8 @@ module _ (g : Setting) where
   -- ---- outside
 
   -- an address and a length are in x11 and x12
-  record Range (regs new : List ℕ) (frame base a n : ℕ) : Type 0 where
-    kept : Regs new frame base
+  record Range (regs new : List ℕ) (frame places a n : ℕ) : Type 0 where
+    kept : Regs new frame places
     eleven : get_or new 11 0 ≡ a
     twelve : get_or new 12 0 ≡ n
     alike : Alike regs new
@@ -272,7 +271,7 @@ module _ (g : Setting) where
       Quiet rest → Alive t.frame.proc.lines v lines → Alive t.frame.proc.lines w lines → t.frame.vars v ≡ Some a → t.frame.vars w ≡ Some n →
       (new : List ℕ)
       × Goes_in g.live (whole g) g.at 2 6 (run_at regs t.memory ws t.input (move_range (homes g t) v w rest)) (run_at new t.memory ws t.input rest)
-      × Range regs new (frame_at g t j) t.frame.base a n
+      × Range regs new (frame_at g t j) (places_end t.frame) a n
   range_goes t lines regs ws j f v w a n rest quiet lives also e d =
       let second = move 12 (home_of (homes g t) w) in
       let x = var_moves g t lines regs ws j f regs 11 v a (does second rest) (quiet_does second rest quiet) (omega arith) (omega arith) lives e f.kept
@@ -290,21 +289,21 @@ module _ (g : Setting) where
       )
 
   -- a small number is in a register
-  small_goes : (m : Memory) (ws input regs : List ℕ) (rd n frame base : ℕ) (rest : List LabelLine) → Quiet rest → 4 < rd → rd < 32 → n < 2048 →
-      Regs regs frame base → (new : List ℕ)
-      × Goes_in g.live (whole g) g.at 1 1 (run_at regs m ws input (Do (Addi rd 0 n) ∷ rest)) (run_at new m ws input rest) × Gets regs new rd n frame base
-  small_goes m ws input regs rd n frame base rest quiet gt lt small h =
+  small_goes : (m : Memory) (ws input regs : List ℕ) (rd n frame places : ℕ) (rest : List LabelLine) → Quiet rest → 4 < rd → rd < 32 → n < 2048 →
+      Regs regs frame places → (new : List ℕ)
+      × Goes_in g.live (whole g) g.at 1 1 (run_at regs m ws input (Do (Addi rd 0 n) ∷ rest)) (run_at new m ws input rest) × Gets regs new rd n frame places
+  small_goes m ws input regs rd n frame places rest quiet gt lt small h =
       let v = added (get_or regs 0 0) (signed12 n) in
       let v_is : v ≡ n = ap (λ x. added x (signed12 n)) h.good.none ∙ ap (added 0) (signed12_small n small)
       ∙ (let e : (0 + n) % 2 ^ 32 ≡ n = omega (arith, small) in e) in (
         put regs rd v,
         writes g.live (whole g) g.at m ws input regs (Addi rd 0 n) rd v rest quiet refl,
-        subst (λ x. Gets regs (put regs rd v) rd x frame base) v_is (put_gets regs rd v frame base gt lt h),
+        subst (λ x. Gets regs (put regs rd v) rd x frame places) v_is (put_gets regs rd v frame places gt lt h),
       )
 
   -- what a call is asked for
-  record Asks (old regs : List ℕ) (frame base stream number a n : ℕ) : Type 0 where
-    kept : Regs regs frame base
+  record Asks (old regs : List ℕ) (frame places stream number a n : ℕ) : Type 0 where
+    kept : Regs regs frame places
     ten : get_or regs 10 0 ≡ stream
     eleven : get_or regs 11 0 ≡ a
     twelve : get_or regs 12 0 ≡ n
@@ -317,14 +316,14 @@ module _ (g : Setting) where
       t.frame.vars v ≡ Some a → t.frame.vars w ≡ Some n → (new : List ℕ)
       × Goes_in g.live (whole g) g.at 4 8
       (run_at regs t.memory ws t.input (move_range (homes g t) v w (Do (Addi 10 0 stream) ∷ Do (Addi 17 0 number) ∷ Do Ecall ∷ k)))
-      (run_at new t.memory ws t.input (Do Ecall ∷ k)) × Asks regs new (frame_at g t j) t.frame.base stream number a n
+      (run_at new t.memory ws t.input (Do Ecall ∷ k)) × Asks regs new (frame_at g t j) (places_end t.frame) stream number a n
   ask_goes t lines regs ws j f v w a n stream number k few less lives also e d =
       let m = t.memory in
       let fr = frame_at g t j in
-      let base = t.frame.base in
+      let places = places_end t.frame in
       let x = range_goes t lines regs ws j f v w a n (Do (Addi 10 0 stream) ∷ Do (Addi 17 0 number) ∷ Do Ecall ∷ k) refl lives also e d in
-      let y = small_goes m ws t.input x.0 10 stream fr base (Do (Addi 17 0 number) ∷ Do Ecall ∷ k) refl (omega arith) (omega arith) few x.2.kept in
-      let z = small_goes m ws t.input y.0 17 number fr base (Do Ecall ∷ k) refl (omega arith) (omega arith) less y.2.kept in (
+      let y = small_goes m ws t.input x.0 10 stream fr places (Do (Addi 17 0 number) ∷ Do Ecall ∷ k) refl (omega arith) (omega arith) few x.2.kept in
+      let z = small_goes m ws t.input y.0 17 number fr places (Do Ecall ∷ k) refl (omega arith) (omega arith) less y.2.kept in (
         z.0,
         then_goes g.live (whole g) g.at 3 1 7 1 _ _ _ (then_goes g.live (whole g) g.at 2 1 6 1 _ _ _ x.1 y.1) z.1,
         record {
@@ -371,7 +370,7 @@ module _ (g : Setting) where
       ∙ ap (λ es. Goes (shown ++ es) 1 next) (quiet_behind g t rest sits) ∙ ap (λ es. Goes es 1 next) (append-nil shown) in
       let showing = steps_one (step g.live (whole g) g.at) mid next shown 1 1 does_call (omega arith) in
       let all = steps_on (step g.live (whole g) g.at) 4 1 8 1 r mid next [] shown x.1 showing in
-      let z = put_gets x.0 10 (get_or x.0 12 0) (frame_at g t j) t.frame.base (omega arith) (omega arith) q.kept in
+      let z = put_gets x.0 10 (get_or x.0 12 0) (frame_at g t j) (places_end t.frame) (omega arith) (omega arith) q.kept in
       let alike : Alike regs last = λ r kept. z.other r (kept_apart r 10 kept refl) ∙ q.alike r kept in
       let facts = same_true g t (l ∷ rest) rest regs last ws j f sits z.kept alike
       (λ v alive. passes_alive g l p.lines rest v (record { goes = refl; none = refl }) alive) (λ more. refl) in (
@@ -415,7 +414,7 @@ module _ (g : Setting) where
       ∙ ap to_next (fill_wider x.0 m ws a bytes may)
       ∙ ap (λ es. Goes es 1 next) (give_quiet g t l rest regs ws j f 10 to) in
       let reading = steps_one (step g.live (whole g) g.at) mid next [] 1 1 does_call (omega arith) in
-      let z = put_gets x.0 10 count (frame_at g t j) t.frame.base (omega arith) (omega arith) q.kept in
+      let z = put_gets x.0 10 count (frame_at g t j) (places_end t.frame) (omega arith) (omega arith) q.kept in
       let t' = record (at_lines t (l ∷ rest)) { memory = m'; input = left } in
       let alike : Alike regs last = λ r kept. z.other r (kept_apart r 10 kept refl) ∙ q.alike r kept in
       let f' = memory_true t (l ∷ rest) (l ∷ rest) regs last ws j f a bytes left may f.sits z.kept alike (λ v alive. alive) (λ more. more) in
@@ -450,7 +449,7 @@ module _ (g : Setting) where
       using_sim g r t rest (t.frame.vars status) _ (λ a e.
       let x = var_moves g t (l ∷ rest) regs ws j f regs 10 status a (Do (Addi 17 0 93) ∷ Do Ecall ∷ k) refl (omega arith) (omega arith) lives e f.kept
       (alike_refl regs) in
-      let y = small_goes m ws t.input x.0 17 93 fr t.frame.base (Do Ecall ∷ k) refl (omega arith) (omega arith) (omega arith) x.2.kept in
+      let y = small_goes m ws t.input x.0 17 93 fr (places_end t.frame) (Do Ecall ∷ k) refl (omega arith) (omega arith) (omega arith) x.2.kept in
       let mid = run_at y.0 m ws t.input (Do Ecall ∷ k) in
       let s = state_of y.0 m ws in
       let ten : get_or y.0 10 0 ≡ a = y.2.other 10 (λ e. omega (arith, e)) ∙ x.2.same in

@@ -2,9 +2,9 @@
 use Rattle.std.proofs.Common.{◌≡◌, ℕ, ◌+◌, ◌*◌, ◌≤◌, List, [], ◌∷◌, length, arith}
 use Rattle.rv32_isa.specs.declared.instr.Instr.{Instr}
 use Rattle.rv32_isa.specs.declared.instr.Instr.TheVariants.{Sw, Addi, Jalr, Ecall, Ebreak}
-use Rattle.rv32_isa.specs.declared.label.LabelName.TheVariants.{Entry, Inner}
+use Rattle.rv32_isa.specs.declared.label.LabelName.TheVariants.{Inner}
 use Rattle.rv32_isa.specs.declared.label.LabelLine.{LabelLine}
-use Rattle.rv32_isa.specs.declared.label.LabelLine.TheVariants.{Do, Jump, Branch}
+use Rattle.rv32_isa.specs.declared.label.LabelLine.TheVariants.{Do, Branch}
 use Rattle.mid_code.specs.declared.word.WordInstr.{WordInstr}
 use Rattle.mid_code.specs.declared.word.WordInstr.TheVariants as word
 use Rattle.mid_code.specs.declared.word.WordProc.{WordProc}
@@ -12,8 +12,8 @@ use Rattle.mid_code.specs.Sizes.{word_weight}
 use Rattle.reg_scan.specs.declared.homes.Homes.{Homes}
 use Rattle.reg_scan.specs.Homes.{home_of}
 use Rattle.rv32_codegen.specs.Code.{does, negative, constant, datum, sum, shift, save, operate, fetch, store, stream_number, bring, move, settle, give, target}
-use Rattle.rv32_codegen.specs.Code.{left_of, right_of, argument_at, datum_at, compare, after_call, bring_both, move_range, keep, line_code, lines_code}
-use Rattle.rv32_codegen.specs.Code.{is_leaf, restore, homes_code, code_of}
+use Rattle.rv32_codegen.specs.Code.{left_of, right_of, argument_at, place_at, datum_at, compare, bring_both, move_range, keep, line_code, lines_code}
+use Rattle.rv32_codegen.specs.Code.{is_leaf, restore, leave_code, homes_code, code_of}
 use Rattle.rv32_codegen.specs.Layout.{all_far, size}
 use Rattle.rv32_codegen.specs.Lowering.{most_bytes}
 use Rattle.rv32_codegen.proofs.Chunks.{Few, few_constant, few_datum, few_sum, few_shift, few_save, few_bring, few_move, few_settle, few_give}
@@ -44,7 +44,8 @@ range_bytes h a len k =
     )
 
 -- so many in front of a variable's settling
-keep_bytes : (h : Homes) (n to : ℕ) (is : List Instr) (k : List LabelLine) → Few n is → size all_far (does is (keep h to k)) ≤ 4 * n + (12 + size all_far k)
+keep_bytes : (h : Homes) (n to : ℕ) (is : List Instr) (k : List LabelLine) → Few n is →
+    size all_far (does is (keep h to k)) ≤ 4 * n + (12 + size all_far k)
 keep_bytes h n to is k few = omega (arith, few, bytes-does is (keep h to k), bytes-does (settle (home_of h to)) k, few_settle (home_of h to))
 
 line_bytes : (h : Homes) (p : WordProc) (l : WordInstr) (k : List LabelLine) → size all_far (line_code h p l k) ≤ 48 + size all_far k
@@ -62,7 +63,8 @@ line_bytes h p (word.Sum to from value) k =
       few_bring 6 (home_of h from),
       keep_bytes h 3 to (sum (target h to) (right_of h from) value) k (few_sum (target h to) (right_of h from) value),
     )
-line_bytes h p (word.Place to a) k = omega (arith, keep_bytes h 3 to (sum (target h to) 3 a) k (few_sum (target h to) 3 a))
+line_bytes h p (word.Place to a) k =
+    omega (arith, keep_bytes h 3 to (sum (target h to) 3 (place_at p a)) k (few_sum (target h to) 3 (place_at p a)))
 line_bytes h p (word.Datum to a) k =
     omega (arith, keep_bytes h 2 to (datum (target h to) (datum_at p a)) k (few_datum (target h to) (datum_at p a)))
 line_bytes h p (word.Load to a size) k =
@@ -87,29 +89,21 @@ line_bytes h p (word.Argument index from) k =
       few_bring 5 (home_of h from),
       few_save (left_of h from) offset,
     )
-line_bytes h p (word.Call to callee) k =
-    let back = negative p.room in
-    let after = does (give 10 (home_of h to)) k in
-    omega (
-      arith,
-      bytes-does (shift 3 p.room) (Jump 1 (Entry callee) ∷ after_call h p to k),
-      few_shift 3 p.room,
-      bytes-does (shift 3 back) after,
-      few_shift 3 back,
-      bytes-does (give 10 (home_of h to)) k,
-      few_give 10 (home_of h to),
-    )
+line_bytes h p (word.Call to callee) k = omega (arith, bytes-does (give 10 (home_of h to)) k, few_give 10 (home_of h to))
 line_bytes h p (word.Return from) k =
     let back = restore (is_leaf p.lines) in
     let rest = Do (Jalr 0 1 0) ∷ k in
+    let places = shift 3 (negative p.room) in
     omega (
       arith,
-      bytes-does (move 10 (home_of h from)) (does back (does (sum 2 2 h.frame) rest)),
+      bytes-does (move 10 (home_of h from)) (does back (leave_code h p rest)),
       few_move 10 (home_of h from),
-      bytes-does back (does (sum 2 2 h.frame) rest),
+      bytes-does back (leave_code h p rest),
       few_restore (is_leaf p.lines),
-      bytes-does (sum 2 2 h.frame) rest,
+      bytes-does (sum 2 2 h.frame) (does places rest),
       few_sum 2 2 h.frame,
+      bytes-does places rest,
+      few_shift 3 (negative p.room),
     )
 line_bytes h p (word.Read to a len) k =
     let after = does (give 10 (home_of h to)) k in
@@ -134,10 +128,13 @@ procs_bytes (p ∷ procs) [] = omega arith
 procs_bytes (p ∷ procs) (h ∷ homes) =
     let rest = Do Ebreak ∷ homes_code procs homes in
     let lines = lines_code h p p.lines rest in
+    let last = Do (Sw 2 1 0) ∷ lines in
     omega (
       arith,
-      bytes-does (sum 2 2 (negative h.frame)) (Do (Sw 2 1 0) ∷ lines),
+      bytes-does (sum 2 2 (negative h.frame)) (does (shift 3 p.room) last),
       few_sum 2 2 (negative h.frame),
+      bytes-does (shift 3 p.room) last,
+      few_shift 3 p.room,
       lines_bytes h p p.lines rest,
       procs_bytes procs homes,
     )

@@ -37,10 +37,10 @@ use Rattle.rv32_codegen.specs.Code.{does, shift, sum, negative, is_call_or_label
 use Rattle.rv32_codegen.specs.Code.{start_code}
 use Rattle.rv32_codegen.proofs.Machine.{state_of, run_at, Fits, fits_words, word_place, Regs, put_other, quiet_does, Goes_in, then_goes}
 use Rattle.rv32_codegen.proofs.PieceRuns.{shift_any, sum_any, sw_at}
-use Rattle.rv32_codegen.proofs.Chunks.{call_split, quiet_lines}
+use Rattle.rv32_codegen.proofs.Chunks.{quiet_entry, quiet_lines}
 use Rattle.rv32_codegen.proofs.Lookups.{procs_code, behind, none_some, number_is, code_from, entry_is}
-use Rattle.rv32_codegen.proofs.Frames.{size, IsThere, IsLaid, word_at, word_kept, word_framed, Within}
-use Rattle.rv32_codegen.proofs.Frames.{within_more, code_here, sits_next, sits_within, Held, Gave, Linked, linked_kept}
+use Rattle.rv32_codegen.proofs.Frames.{size, IsThere, IsLaid, word_at, word_kept, word_framed, places_end, Within}
+use Rattle.rv32_codegen.proofs.Frames.{sits_next, sits_within, Held, Gave, Linked, linked_kept}
 use Rattle.rv32_codegen.proofs.Frames.{Setting, whole, True, Sim}
 use Rattle.rv32_codegen.proofs.LineRuns.{homes, laid_of, inside_of, Setting_line, Behind, Here}
 use Rattle.rv32_codegen.proofs.LineRuns.{Line_sim, named_of}
@@ -77,43 +77,53 @@ module _ (g : Setting) where
   whole_within : (left : List LabelLine) → Within (procs_code g.lay g.procs) left → Within (whole g) left
   whole_within left h = (front ++ h.0, ap (λ l. front ++ l) h.1)
 
-  -- the front of a procedure makes its frame: from word k, behind which the caller's begins
+  -- the front of a procedure makes its frame: from word k, behind which the caller's begins; and its places behind the caller's
   pub enters : (m : Memory) (ws input regs : List ℕ) (k return base : ℕ) (q : WordProc) (tail : List WordProc) → Fits m ws →
       IsLaid (g.lay q.number) q →
       size (g.lay q.number) ≤ k → k ≤ length ws → IsRegs regs → get_or regs 1 0 ≡ return → return < 2 ^ 32 →
       get_or regs 2 0 ≡ word_place m k →
-      get_or regs 3 0 ≡ base → get_or regs 4 0 ≡ statics_at → (new : List ℕ)
-      × Goes_in g.live (whole g) g.at 3 5 (run_at regs m ws input (proc_code (g.lay q.number) q (procs_code g.lay tail)))
+      get_or regs 3 0 ≡ base → base < 2 ^ 32 → get_or regs 4 0 ≡ statics_at → (new : List ℕ)
+      × Goes_in g.live (whole g) g.at 3 8 (run_at regs m ws input (proc_code (g.lay q.number) q (procs_code g.lay tail)))
       (run_at new m (set ws (k - size (g.lay q.number)) return) input (lines_code (g.lay q.number) q q.lines (behind g.lay tail)))
-      × Regs new (word_place m (k - size (g.lay q.number))) base × (get_or new 1 0 ≡ return)
-  enters m ws input regs k return base q tail fits laid under inside good at1 small at2 at3 at4 =
+      × Regs new (word_place m (k - size (g.lay q.number))) (added base q.room) × (get_or new 1 0 ≡ return)
+  enters m ws input regs k return base q tail fits laid under inside good at1 small at2 at3 low at4 =
       let h = g.lay q.number in
       let lines = lines_code h q q.lines (behind g.lay tail) in
       let j = k - size h in
       let most = fits.stack_most in
       let frame = laid.frame in
       let some = laid.some in
-      let third = Do (Sw 2 1 0) ∷ lines in
+      let fourth = Do (Sw 2 1 0) ∷ lines in
+      let third = does (shift 3 q.room) fourth in
       let second = does (sum 2 2 (negative h.frame)) third in
+      let quiet = quiet_does (shift 3 q.room) fourth refl in
       let a : Goes_in g.live (whole g) g.at 1 1 (run_at regs m ws input (proc_code h q (procs_code g.lay tail))) (run_at regs m ws input second) =
       steps_one (step g.live (whole g) g.at) _ _ [] 0 1 refl (omega arith) in
-      let b = sum_any g.live (whole g) g.at m ws input regs 2 2 (negative h.frame) third refl (omega arith) (omega arith) (λ e. omega (arith, e)) good in
-      let at2' : get_or b.0 2 0 ≡ word_place m j = b.2.same ∙ ap (λ n. added n (negative h.frame)) at2
+      let b = sum_any g.live (whole g) g.at m ws input regs 2 2 (negative h.frame) third quiet (omega arith) (omega arith) (λ e. omega (arith, e)) good in
+      let at3' : get_or b.0 3 0 ≡ base = b.2.other 3 (λ e. omega (arith, e)) (λ e. omega (arith, e)) ∙ at3 in
+      let d = shift_any g.live (whole g) g.at m ws input b.0 3 q.room fourth refl (omega arith) (omega arith) (λ e. omega (arith, e))
+      (subst (λ n. n < 2 ^ 32) (sym at3') low) b.2.good in
+      let new = d.0 in
+      let at2' : get_or new 2 0 ≡ word_place m j = d.2.other 2 (λ e. omega (arith, e)) (λ e. omega (arith, e)) ∙ b.2.same
+      ∙ ap (λ n. added n (negative h.frame)) at2
       ∙ (let e : added (word_place m k) (negative h.frame) ≡ word_place m j = omega (arith, under, inside, most, frame) in e) in
-      let at1' : get_or b.0 1 0 ≡ return = b.2.other 1 (λ e. omega (arith, e)) (λ e. omega (arith, e)) ∙ at1 in
+      let at1' : get_or new 1 0 ≡ return =
+      d.2.other 1 (λ e. omega (arith, e)) (λ e. omega (arith, e)) ∙ b.2.other 1 (λ e. omega (arith, e)) (λ e. omega (arith, e)) ∙ at1 in
       let within : j < length ws = omega (arith, under, inside, some) in
-      let c = sw_at g.live (whole g) g.at m ws input b.0 2 1 0 j return lines (quiet_lines h q q.lines (behind g.lay tail) refl)
-      (plain_address (get_or b.0 2 0) (word_place m j) at2' (omega (arith, most, within))) within at1' fits in
+      let c = sw_at g.live (whole g) g.at m ws input new 2 1 0 j return lines (quiet_lines h q q.lines (behind g.lay tail) refl)
+      (plain_address (get_or new 2 0) (word_place m j) at2' (omega (arith, most, within))) within at1' fits in
+      let first = run_at regs m ws input (proc_code h q (procs_code g.lay tail)) in
+      let to_fourth : Goes_in g.live (whole g) g.at 2 7 first (run_at new m ws input fourth) =
+      then_goes g.live (whole g) g.at 2 0 4 3 _ _ _ (then_goes g.live (whole g) g.at 1 1 1 3 _ _ _ a b.1) d.1 in
       let same : return % 2 ^ 32 ≡ return = omega (arith, small) in (
-        b.0,
-        subst (λ n. Goes_in g.live (whole g) g.at 3 5 (run_at regs m ws input (proc_code h q (procs_code g.lay tail)))
-            (run_at b.0 m (set ws j n) input lines)) same
-            (then_goes g.live (whole g) g.at 2 1 4 1 _ _ _ (then_goes g.live (whole g) g.at 1 1 1 3 _ _ _ a b.1) c),
+        new,
+        subst (λ n. Goes_in g.live (whole g) g.at 3 8 first (run_at new m (set ws j n) input lines)) same
+            (then_goes g.live (whole g) g.at 2 1 7 1 _ _ _ to_fourth c),
         record {
-          good = b.2.good;
+          good = d.2.good;
           frame_is = at2';
-          base_is = b.2.other 3 (λ e. omega (arith, e)) (λ e. omega (arith, e)) ∙ at3;
-          data_is = b.2.other 4 (λ e. omega (arith, e)) (λ e. omega (arith, e)) ∙ at4;
+          places_is = d.2.same ∙ ap (λ n. added n q.room) at3';
+          data_is = d.2.other 4 (λ e. omega (arith, e)) (λ e. omega (arith, e)) ∙ b.2.other 4 (λ e. omega (arith, e)) (λ e. omega (arith, e)) ∙ at4;
         },
         at1',
       )
@@ -152,7 +162,7 @@ module _ (g : Setting) where
   called_state t rest to q = record {
     memory = t.memory;
     input = t.input;
-    frame = record { proc = q; left = q.lines; vars = params_of q t.frame.given; given = no_words; base = added t.frame.base t.frame.proc.room; awaits = 0 };
+    frame = record { proc = q; left = q.lines; vars = params_of q t.frame.given; given = no_words; base = places_end t.frame; awaits = 0 };
     callers = record t.frame { left = rest; given = no_words; awaits = to } ∷ t.callers;
   }
 
@@ -212,7 +222,7 @@ module _ (g : Setting) where
 
   -- behind the front of a call
   after_of : (t : WordState) (l : WordInstr) (rest : List WordInstr) (regs ws : List ℕ) (j to : ℕ) → True g t (l ∷ rest) regs ws j → List LabelLine
-  after_of t l rest regs ws j to f = after_call (homes g t) t.frame.proc to (Behind g t l rest regs ws j f)
+  after_of t l rest regs ws j to f = after_call (homes g t) to (Behind g t l rest regs ws j f)
 
   record Call_line (l : WordInstr) (to : ℕ) : Type 0 where
     line : Setting_line g l to
@@ -221,7 +231,7 @@ module _ (g : Setting) where
   call_true : (t : WordState) (l : WordInstr) (rest : List WordInstr) (regs new ws : List ℕ) (j to callee : ℕ) (q : WordProc) (tail : List WordProc)
       (f : True g t (l ∷ rest) regs ws j) → Call_line l to → to < t.frame.proc.vars → from_proc callee g.procs ≡ q ∷ tail →
       Within (whole g) (Jump 1 (Entry callee) ∷ after_of t l rest regs ws j to f) → HasRoom j (counted (t.frame ∷ t.callers)) q →
-      Regs new (word_place t.memory (j - size (g.lay q.number))) (added t.frame.base t.frame.proc.room) →
+      Regs new (word_place t.memory (j - size (g.lay q.number))) (added (places_end t.frame) q.room) →
       get_or new 1 0 ≡ g.at (mark_before (after_of t l rest regs ws j to f)) →
       (x : True g (called_state t rest to q) q.lines new (set ws (j - size (g.lay q.number)) (g.at (mark_before (after_of t l rest regs ws j to f))))
       (j - size (g.lay q.number))) × (x.sits.tail ≡ tail)
@@ -251,7 +261,6 @@ module _ (g : Setting) where
         record {
           fits = fits_words t.memory ws ws' long f.fits;
           kept = kept;
-          base_fits = omega arith;
           sits = record { tail = tail; found = ap (λ n. from_proc n g.procs) number ∙ e; before = []; split = refl };
           held = params_held new ws j return q t.frame.given laid under (omega (arith, inside)) f.given;
           given = λ i w x. absurd (none_some w x);
@@ -262,7 +271,6 @@ module _ (g : Setting) where
               behind_call = subst (λ n. Within (whole g) (Jump 1 (Entry n) ∷ after_of t l rest regs ws j to f)) (sym number) stands;
               returns = here;
               base_is = refl;
-              base_fits = f.base_fits;
               awaits = lt;
               given = refl;
               rests = λ v w lives ne x. let y = f.held v w (before_call v lives ne) x in (
@@ -309,46 +317,38 @@ module _ (g : Setting) where
       let k = Behind g t l rest regs ws j f in
       let p = t.frame.proc in
       let m = t.memory in
-      let base = t.frame.base in
+      let base = places_end t.frame in
       let lt = ltb-true to p.vars (named_of g t l rest f.sits) in
       let r = Here g t l rest regs ws j f in
       entered_sim t r rest to (from_proc callee g.procs) (λ q tail e few.
       let h = g.lay q.number in
       let laid = g.laid callee q tail e in
-      let after = after_call (homes g t) p to k in
+      let after = after_call (homes g t) to k in
       let return = g.at (mark_before after) in
       let jump = Jump 1 (Entry callee) ∷ after in
-      let stands : Within (whole g) jump = within_more (whole g) (code_here g.lay g.procs p (l ∷ rest) f.sits) jump (does (shift 3 p.room) [])
-      (whole_within _ (sits_within g.lay g.procs p (l ∷ rest) f.sits)) (call_split (homes g t) p to callee k) in
+      let stands : Within (whole g) jump = whole_within jump (sits_within g.lay g.procs p (l ∷ rest) f.sits) in
       let fits = return_fits callee after stands in
       let inside = inside_of g t (l ∷ rest) regs ws j f in
       let room = room_for j (counted (t.frame ∷ t.callers)) p q tail callee e f.deep few
       (g.chains p q f.sits.tail tail f.sits.before to callee rest f.sits.found f.sits.split e) in
-      let x = shift_any g.live (whole g) g.at m ws t.input regs 3 p.room jump refl (omega arith) (omega arith) (λ e. omega (arith, e))
-      (subst (λ n. n < 2 ^ 32) (sym f.kept.base_is) f.base_fits) f.kept.good in
-      let two = put x.0 1 return in
+      let two = put regs 1 return in
       let body = proc_code h q (procs_code g.lay tail) in
       let found : from_label (Entry callee) (whole g) ≡ Some body = entry_is g.lay callee g.procs ∙ ap (code_from g.lay) e in
-      let mid = run_at x.0 m ws t.input jump in
       let there = run_at two m ws t.input body in
       let shown : hook_at body ≡ seen_call q.kind =
-      seen_is q.kind _ (quiet_does (sum 2 2 (negative h.frame)) (Do (Sw 2 1 0) ∷ lines_code h q q.lines (behind g.lay tail)) refl) in
-      let z = steps_one (step g.live (whole g) g.at) mid there (seen_call q.kind) 1 1
+      seen_is q.kind _ (quiet_entry h q (lines_code h q q.lines (behind g.lay tail))) in
+      let z = steps_one (step g.live (whole g) g.at) r there (seen_call q.kind) 1 1
       (ap (λ o. goto (state_of two m ws) o t.input) found ∙ ap (λ es. Goes es 1 there) shown) (omega arith) in
-      let good = put_regs x.0 1 return x.2.good in
-      let at2 : get_or two 2 0 ≡ word_place m j =
-      put_other x.0 1 2 return (λ e. omega (arith, e)) ∙ x.2.other 2 (λ e. omega (arith, e)) (λ e. omega (arith, e)) ∙ f.kept.frame_is in
-      let at3 : get_or two 3 0 ≡ added base p.room =
-      put_other x.0 1 3 return (λ e. omega (arith, e)) ∙ x.2.same ∙ ap (λ n. added n p.room) f.kept.base_is in
-      let at4 : get_or two 4 0 ≡ statics_at =
-      put_other x.0 1 4 return (λ e. omega (arith, e)) ∙ x.2.other 4 (λ e. omega (arith, e)) (λ e. omega (arith, e)) ∙ f.kept.data_is in
-      let w = enters m ws t.input two j return (added base p.room) q tail f.fits laid room.under (omega (arith, inside)) good
-      (put_same x.0 1 return x.2.good (omega arith) (omega arith)) fits at2 at3 at4 in
+      let good = put_regs regs 1 return f.kept.good in
+      let at2 : get_or two 2 0 ≡ word_place m j = put_other regs 1 2 return (λ e. omega (arith, e)) ∙ f.kept.frame_is in
+      let at3 : get_or two 3 0 ≡ base = put_other regs 1 3 return (λ e. omega (arith, e)) ∙ f.kept.places_is in
+      let at4 : get_or two 4 0 ≡ statics_at = put_other regs 1 4 return (λ e. omega (arith, e)) ∙ f.kept.data_is in
+      let w = enters m ws t.input two j return base q tail f.fits laid room.under (omega (arith, inside)) good
+      (put_same regs 1 return f.kept.good (omega arith) (omega arith)) fits at2 at3 (omega arith) at4 in
       let x_true = call_true t l rest regs w.0 ws j to callee q tail f (record { line = record { goes = refl; is = refl }; calls = refl }) lt e stands room
       w.2 w.3 in
       let last = run_at w.0 m (set ws (j - size h) return) t.input (lines_code h q q.lines (behind g.lay tail)) in
-      let first = steps_on (step g.live (whole g) g.at) 0 1 3 1 r mid there [] (seen_call q.kind) x.1 z in
-      let all = steps_on (step g.live (whole g) g.at) 1 3 4 5 r there last (seen_call q.kind) [] first w.1 in
+      let all = steps_on (step g.live (whole g) g.at) 1 3 1 8 r there last (seen_call q.kind) [] z w.1 in
       let shown_all = subst (λ es. Steps (step g.live (whole g) g.at) 4 r es 9 last) (append-nil (seen_call q.kind)) all in (
         last,
         4,

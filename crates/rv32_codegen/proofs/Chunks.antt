@@ -22,9 +22,9 @@ use Rattle.reg_scan.specs.declared.homes.Home.TheVariants.{Reg, Frame}
 use Rattle.reg_scan.specs.declared.homes.Homes.{Homes}
 use Rattle.reg_scan.specs.Homes.{home_of}
 use Rattle.rv32_codegen.specs.Code.{does, is_near, negative, constant, datum, sum, shift, load, save, operate, fetch, store, stream_number, bring, move}
-use Rattle.rv32_codegen.specs.Code.{settle, give, target, left_of, right_of, argument_at, datum_at, compare, after_call, bring_both, move_range, keep}
-use Rattle.rv32_codegen.specs.Code.{is_leaf, restore, line_code, lines_code, entry_code}
-use Rattle.rv32_codegen.proofs.Machine.{Quiet}
+use Rattle.rv32_codegen.specs.Code.{settle, give, target, left_of, right_of, argument_at, place_at, datum_at, compare, bring_both, move_range, keep}
+use Rattle.rv32_codegen.specs.Code.{is_leaf, restore, leave_code, line_code, lines_code, entry_code}
+use Rattle.rv32_codegen.proofs.Machine.{Quiet, quiet_does}
 
 -- ---- instructions in front of lines
 
@@ -125,7 +125,8 @@ line_long h p (word.Sum to from value) k =
       few_bring 6 (home_of h from),
       keep_long h 3 to (sum (target h to) (right_of h from) value) k (few_sum (target h to) (right_of h from) value),
     )
-line_long h p (word.Place to a) k = omega (arith, keep_long h 3 to (sum (target h to) 3 a) k (few_sum (target h to) 3 a))
+line_long h p (word.Place to a) k =
+    omega (arith, keep_long h 3 to (sum (target h to) 3 (place_at p a)) k (few_sum (target h to) 3 (place_at p a)))
 line_long h p (word.Datum to a) k =
     omega (arith, keep_long h 2 to (datum (target h to) (datum_at p a)) k (few_datum (target h to) (datum_at p a)))
 line_long h p (word.Load to a size) k =
@@ -150,29 +151,21 @@ line_long h p (word.Argument index from) k =
       few_bring 5 (home_of h from),
       few_save (left_of h from) offset,
     )
-line_long h p (word.Call to callee) k =
-    let back = negative p.room in
-    let after = does (give 10 (home_of h to)) k in
-    omega (
-      arith,
-      length-does (shift 3 p.room) (Jump 1 (Entry callee) ∷ after_call h p to k),
-      few_shift 3 p.room,
-      length-does (shift 3 back) after,
-      few_shift 3 back,
-      length-does (give 10 (home_of h to)) k,
-      few_give 10 (home_of h to),
-    )
+line_long h p (word.Call to callee) k = omega (arith, length-does (give 10 (home_of h to)) k, few_give 10 (home_of h to))
 line_long h p (word.Return from) k =
     let back = restore (is_leaf p.lines) in
     let rest = Do (Jalr 0 1 0) ∷ k in
+    let places = shift 3 (negative p.room) in
     omega (
       arith,
-      length-does (move 10 (home_of h from)) (does back (does (sum 2 2 h.frame) rest)),
+      length-does (move 10 (home_of h from)) (does back (leave_code h p rest)),
       few_move 10 (home_of h from),
-      length-does back (does (sum 2 2 h.frame) rest),
+      length-does back (leave_code h p rest),
       few_restore (is_leaf p.lines),
-      length-does (sum 2 2 h.frame) rest,
+      length-does (sum 2 2 h.frame) (does places rest),
       few_sum 2 2 h.frame,
+      length-does places rest,
+      few_shift 3 (negative p.room),
     )
 line_long h p (word.Read to a len) k =
     let after = does (give 10 (home_of h to)) k in
@@ -198,6 +191,11 @@ range_append h a len xs k =
     ap (does (move 11 (home_of h a))) (does_append (move 12 (home_of h len)) xs k)
     ∙ does_append (move 11 (home_of h a)) (does (move 12 (home_of h len)) xs) k
 
+leave_append : (h : Homes) (p : WordProc) (xs k : List LabelLine) → leave_code h p (xs ++ k) ≡ leave_code h p xs ++ k
+leave_append h p xs k =
+    let places = shift 3 (negative p.room) in
+    ap (does (sum 2 2 h.frame)) (does_append places xs k) ∙ does_append (sum 2 2 h.frame) (does places xs) k
+
 pub line_split : (h : Homes) (p : WordProc) (l : WordInstr) (k : List LabelLine) → line_code h p l k ≡ line_code h p l [] ++ k
 line_split h p (word.Label name) k = refl
 line_split h p (word.Constant to value) k = does_two (constant (target h to) value) (settle (home_of h to)) k
@@ -210,7 +208,7 @@ line_split h p (word.Sum to from value) k =
     let a = bring 6 (home_of h from) in
     let b = sum (target h to) (right_of h from) value in
     ap (does a) (does_two b (settle (home_of h to)) k) ∙ does_append a (does b (keep h to [])) k
-line_split h p (word.Place to a) k = does_two (sum (target h to) 3 a) (settle (home_of h to)) k
+line_split h p (word.Place to a) k = does_two (sum (target h to) 3 (place_at p a)) (settle (home_of h to)) k
 line_split h p (word.Datum to a) k = does_two (datum (target h to) (datum_at p a)) (settle (home_of h to)) k
 line_split h p (word.Load to a size) k =
     let b = give 5 (home_of h to) in
@@ -222,16 +220,14 @@ line_split h p (word.Jump to) k = refl
 line_split h p (word.Branch test left right to) k =
     both_append h left right (Branch (compare test) (left_of h left) (right_of h right) (Inner p.number to) ∷ []) k
 line_split h p (word.Argument index from) k = does_two (bring 5 (home_of h from)) (save (left_of h from) (argument_at index)) k
-line_split h p (word.Call to callee) k =
-    ap (λ x. does (shift 3 p.room) (Jump 1 (Entry callee) ∷ x)) (does_two (shift 3 (negative p.room)) (give 10 (home_of h to)) k)
-    ∙ does_append (shift 3 p.room) (Jump 1 (Entry callee) ∷ after_call h p to []) k
+line_split h p (word.Call to callee) k = ap (λ x. Jump 1 (Entry callee) ∷ x) (does_append (give 10 (home_of h to)) [] k)
 line_split h p (word.Return from) k =
     let first = move 10 (home_of h from) in
     let back = restore (is_leaf p.lines) in
     let last = Do (Jalr 0 1 0) ∷ [] in
-    ap (λ x. does first (does back x)) (does_append (sum 2 2 h.frame) last k)
-    ∙ ap (does first) (does_append back (does (sum 2 2 h.frame) last) k)
-    ∙ does_append first (does back (does (sum 2 2 h.frame) last)) k
+    ap (λ x. does first (does back x)) (leave_append h p last k)
+    ∙ ap (does first) (does_append back (leave_code h p last) k)
+    ∙ does_append first (does back (leave_code h p last)) k
 line_split h p (word.Read to a len) k =
     let b = give 10 (home_of h to) in
     ap (λ x. move_range h a len (Do (Addi 10 0 0) ∷ Do (Addi 17 0 63) ∷ Do Ecall ∷ x)) (does_append b [] k)
@@ -253,27 +249,47 @@ lines_end h p (l ∷ lines) k =
     ∙ sym (append_assoc chunk (lines_code h p lines []) k)
     ∙ ap (λ x. x ++ k) (sym (line_split h p l (lines_code h p lines [])))
 
--- where a call stands, behind the front of its line
-pub call_split : (h : Homes) (p : WordProc) (to callee : ℕ) (k : List LabelLine) →
-    line_code h p (word.Call to callee) k ≡ does (shift 3 p.room) [] ++ Jump 1 (Entry callee) ∷ after_call h p to k
-call_split h p to callee k = does_append (shift 3 p.room) [] (Jump 1 (Entry callee) ∷ after_call h p to k)
+-- ---- what stands where a procedure begins
+
+entry_append : (h : Homes) (p : WordProc) (xs k : List LabelLine) → entry_code h p (xs ++ k) ≡ entry_code h p xs ++ k
+entry_append h p xs k =
+    let last = Do (Sw 2 1 0) ∷ xs in
+    ap (does (sum 2 2 (negative h.frame))) (does_append (shift 3 p.room) last k)
+    ∙ does_append (sum 2 2 (negative h.frame)) (does (shift 3 p.room) last) k
+
+-- the lines of the procedure stand behind it
+pub entry_split : (h : Homes) (p : WordProc) (k : List LabelLine) → entry_code h p k ≡ entry_code h p [] ++ k
+entry_split h p k = entry_append h p [] k
+
+pub entry_long : (h : Homes) (p : WordProc) (k : List LabelLine) → length (entry_code h p k) ≤ 7 + length k
+entry_long h p k =
+    let last = Do (Sw 2 1 0) ∷ k in
+    omega (
+      arith,
+      length-does (sum 2 2 (negative h.frame)) (does (shift 3 p.room) last),
+      few_sum 2 2 (negative h.frame),
+      length-does (shift 3 p.room) last,
+      few_shift 3 p.room,
+    )
+
+pub entry_look : (name : LabelName) (h : Homes) (p : WordProc) (k : List LabelLine) → from_label name (entry_code h p k) ≡ from_label name k
+entry_look name h p k = skip_does name (sum 2 2 (negative h.frame)) _ ∙ skip_does name (shift 3 p.room) (Do (Sw 2 1 0) ∷ k)
+
+pub quiet_entry : (h : Homes) (p : WordProc) (k : List LabelLine) → Quiet (entry_code h p k)
+quiet_entry h p k = quiet_does (sum 2 2 (negative h.frame)) _ (quiet_does (shift 3 p.room) (Do (Sw 2 1 0) ∷ k) refl)
 
 -- the rest of a procedure behind its label
 abbrev pub body : Homes → WordProc → List LabelLine
-body h p = entry_code h (lines_code h p p.lines (Do Ebreak ∷ []))
+body h p = entry_code h p (lines_code h p p.lines (Do Ebreak ∷ []))
 
-pub body_split : (h : Homes) (p : WordProc) (k : List LabelLine) → entry_code h (lines_code h p p.lines (Do Ebreak ∷ k)) ≡ body h p ++ k
+pub body_split : (h : Homes) (p : WordProc) (k : List LabelLine) → entry_code h p (lines_code h p p.lines (Do Ebreak ∷ k)) ≡ body h p ++ k
 body_split h p k =
     let e = Do Ebreak ∷ [] in
     let lines : lines_code h p p.lines (Do Ebreak ∷ k) ≡ lines_code h p p.lines e ++ k =
     lines_end h p p.lines (Do Ebreak ∷ k)
     ∙ sym (append_assoc (lines_code h p p.lines []) e k)
     ∙ ap (λ x. x ++ k) (sym (lines_end h p p.lines e)) in
-    ap (entry_code h) lines ∙ does_append (sum 2 2 (negative h.frame)) (Do (Sw 2 1 0) ∷ lines_code h p p.lines e) k
-
--- its lines stand behind what makes the frame
-pub entry_split : (h : Homes) (k : List LabelLine) → entry_code h k ≡ entry_code h [] ++ k
-entry_split h k = does_append (sum 2 2 (negative h.frame)) (Do (Sw 2 1 0) ∷ []) k
+    ap (entry_code h p) lines ∙ entry_append h p (lines_code h p p.lines e) k
 
 -- ---- a label of the procedure is found where it stands
 
@@ -289,7 +305,7 @@ line_look name h p (word.Compute to o left right) k =
     skip_does _ (bring 5 (home_of h left)) _ ∙ skip_does _ (bring 6 (home_of h right)) _ ∙ skip_does _ (settle (home_of h to)) k
 line_look name h p (word.Sum to from value) k =
     skip_does _ (bring 6 (home_of h from)) _ ∙ skip_does _ (sum (target h to) (right_of h from) value) _ ∙ skip_does _ (settle (home_of h to)) k
-line_look name h p (word.Place to a) k = skip_does _ (sum (target h to) 3 a) _ ∙ skip_does _ (settle (home_of h to)) k
+line_look name h p (word.Place to a) k = skip_does _ (sum (target h to) 3 (place_at p a)) _ ∙ skip_does _ (settle (home_of h to)) k
 line_look name h p (word.Datum to a) k = skip_does _ (datum (target h to) (datum_at p a)) _ ∙ skip_does _ (settle (home_of h to)) k
 line_look name h p (word.Load to a size) k = skip_does _ (bring 5 (home_of h a)) _ ∙ skip_does _ (give 5 (home_of h to)) k
 line_look name h p (word.Store a from size) k = skip_does _ (bring 5 (home_of h a)) _ ∙ skip_does _ (bring 6 (home_of h from)) _
@@ -297,10 +313,10 @@ line_look name h p (word.Jump to) k = refl
 line_look name h p (word.Branch test left right to) k = skip_does _ (bring 5 (home_of h left)) _ ∙ skip_does _ (bring 6 (home_of h right)) _
 line_look name h p (word.Argument index from) k =
     skip_does _ (bring 5 (home_of h from)) _ ∙ skip_does _ (save (left_of h from) (argument_at index)) k
-line_look name h p (word.Call to callee) k =
-    skip_does _ (shift 3 p.room) _ ∙ skip_does _ (shift 3 (negative p.room)) _ ∙ skip_does _ (give 10 (home_of h to)) k
+line_look name h p (word.Call to callee) k = skip_does _ (give 10 (home_of h to)) k
 line_look name h p (word.Return from) k =
     skip_does _ (move 10 (home_of h from)) _ ∙ skip_does _ (restore (is_leaf p.lines)) _ ∙ skip_does _ (sum 2 2 h.frame) _
+    ∙ skip_does _ (shift 3 (negative p.room)) _
 line_look name h p (word.Read to a len) k =
     skip_does _ (move 11 (home_of h a)) _ ∙ skip_does _ (move 12 (home_of h len)) _ ∙ skip_does _ (give 10 (home_of h to)) k
 line_look name h p (word.Write stream a len) k = skip_does _ (move 11 (home_of h a)) _ ∙ skip_does _ (move 12 (home_of h len)) _
@@ -340,16 +356,16 @@ own_line h p (word.Compute to o left right) =
     own_two _ (bring 5 (home_of h left)) (bring 6 (home_of h right)) _ (tt, own_does _ (settle (home_of h to)) [] tt)
 own_line h p (word.Sum to from value) =
     own_two _ (bring 6 (home_of h from)) (sum (target h to) (right_of h from) value) _ (own_does _ (settle (home_of h to)) [] tt)
-own_line h p (word.Place to a) = own_two _ (sum (target h to) 3 a) (settle (home_of h to)) [] tt
+own_line h p (word.Place to a) = own_two _ (sum (target h to) 3 (place_at p a)) (settle (home_of h to)) [] tt
 own_line h p (word.Datum to a) = own_two _ (datum (target h to) (datum_at p a)) (settle (home_of h to)) [] tt
 own_line h p (word.Load to a size) = own_does _ (bring 5 (home_of h a)) _ (tt, own_does _ (give 5 (home_of h to)) [] tt)
 own_line h p (word.Store a from size) = own_two _ (bring 5 (home_of h a)) (bring 6 (home_of h from)) _ (tt, tt)
 own_line h p (word.Jump to) = (tt, tt)
 own_line h p (word.Branch test left right to) = own_two _ (bring 5 (home_of h left)) (bring 6 (home_of h right)) _ (tt, tt)
 own_line h p (word.Argument index from) = own_two _ (bring 5 (home_of h from)) (save (left_of h from) (argument_at index)) [] tt
-own_line h p (word.Call to callee) =
-    own_does _ (shift 3 p.room) _ (tt, own_two _ (shift 3 (negative p.room)) (give 10 (home_of h to)) [] tt)
-own_line h p (word.Return from) = own_two _ (move 10 (home_of h from)) (restore (is_leaf p.lines)) _ (own_does _ (sum 2 2 h.frame) _ (tt, tt))
+own_line h p (word.Call to callee) = (tt, own_does _ (give 10 (home_of h to)) [] tt)
+own_line h p (word.Return from) =
+    own_two _ (move 10 (home_of h from)) (restore (is_leaf p.lines)) _ (own_two _ (sum 2 2 h.frame) (shift 3 (negative p.room)) _ (tt, tt))
 own_line h p (word.Read to a len) =
     own_two _ (move 11 (home_of h a)) (move 12 (home_of h len)) _ (tt, (tt, (tt, own_does _ (give 10 (home_of h to)) [] tt)))
 own_line h p (word.Write stream a len) = own_two _ (move 11 (home_of h a)) (move 12 (home_of h len)) _ (tt, (tt, (tt, tt)))
@@ -363,7 +379,7 @@ own_lines h p (l ∷ lines) =
 pub own_body : (h : Homes) (p : WordProc) → AllOwn p.number (body h p)
 own_body h p =
     let lines = subst (AllOwn p.number) (sym (lines_end h p p.lines (Do Ebreak ∷ []))) (own_append p.number _ _ (own_lines h p p.lines) (tt, tt)) in
-    own_does p.number (sum 2 2 (negative h.frame)) _ (tt, lines)
+    own_two p.number (sum 2 2 (negative h.frame)) (shift 3 p.room) _ (tt, lines)
 
 -- ---- what is true of such lines
 

@@ -1,6 +1,6 @@
 -- Word code's calls, and their frames in the machine's stack.
-use Rattle.std.proofs.Common.{◌≡◌, ◌≢◌, ℕ, suc, ◌+◌, ◌-◌, ◌*◌, ◌/◌, ◌%◌, ◌^◌, ◌<◌, ◌≤◌, ◌⊎◌, inl, inr, List, []}
-use Rattle.std.proofs.Common.{◌∷◌, ◌++◌, length, get_or, set, Some, true, refl}
+use Rattle.std.proofs.Common.{◌≡◌, ◌≢◌, ℕ, suc, ◌+◌, ◌-◌, ◌*◌, ◌/◌, ◌%◌, ◌^◌, ◌<◌, ◌≤◌, ◌⊎◌, inl, inr}
+use Rattle.std.proofs.Common.{List, [], ◌∷◌, ◌++◌, length, get_or, set, Some, true, refl}
 use Rattle.std.proofs.Common.{sym, ap, ◌∙◌, arith, append_assoc, length-set}
 use Rattle.std.specs.Prelude.{◌==◌, false}
 use Rattle.std.proofs.lemmas.Bool.{cases_eq, cases_Bool, eq-eqb, ne_eqb, and_parts, cond-true, cond-false}
@@ -115,6 +115,10 @@ pub word_framed : (regs new ws : List ℕ) (j : ℕ) (home : Home) → IsFrame h
 word_framed regs new ws j (Reg number) h = absurd h
 word_framed regs new ws j (Frame at) h = refl
 
+-- where the places of a call end
+abbrev pub places_end : WordFrame → ℕ
+places_end c = added c.base c.proc.room
+
 -- ---- where lines stand
 
 -- one list is the end of another
@@ -131,9 +135,9 @@ module _ (lay : Layout) where
 
   proc_within : (h : Homes) (p : WordProc) (k : List LabelLine) → Within (proc_code h p k) (lines_code h p p.lines (line.Do Ebreak ∷ k))
   proc_within h p k = (
-    line.Label (Entry p.number) (hook_of p.kind) ∷ entry_code h [],
+    line.Label (Entry p.number) (hook_of p.kind) ∷ entry_code h p [],
     ap (λ l. line.Label (Entry p.number) (hook_of p.kind) ∷ l)
-        (entry_split h (lines_code h p p.lines (line.Do Ebreak ∷ k))),
+        (entry_split h p (lines_code h p p.lines (line.Do Ebreak ∷ k))),
   )
 
   procs_within : (n : ℕ) (procs : List WordProc) (p : WordProc) (tail : List WordProc) → from_proc n procs ≡ p ∷ tail →
@@ -233,14 +237,14 @@ module _ (lay : Layout) where
       abbrev pub Deep : ℕ → WordFrame → List WordFrame → Type 0
       Deep j c cs = 4 * MOST_ARGUMENTS + (need c.proc + total * (most_calls - counted (c ∷ cs))) ≤ 4 * j
 
-      -- a caller whose frame begins at word j, of a procedure of that number, whose return address is given and whose places begin at `base`
+      -- a caller whose frame begins at word j, of a procedure of that number, whose return address is given and whose places begin at `base`,
+      -- where the caller's end
       pub record Waits (ws : List ℕ) (j number return base : ℕ) (c : WordFrame) (cs : List WordFrame) : Type 0 where
         pub sits : Sits c.proc c.left
         pub last : is_leaf c.proc.lines ≡ true → only_calls c.left ≡ true
-        pub behind_call : Within whole (line.Jump 1 (Entry number) ∷ after_call (lay c.proc.number) c.proc c.awaits (code_here c.proc c.left sits))
-        pub returns : return ≡ at (mark_before (after_call (lay c.proc.number) c.proc c.awaits (code_here c.proc c.left sits)))
-        pub base_is : base ≡ added c.base c.proc.room
-        pub base_fits : c.base < 2 ^ 32
+        pub behind_call : Within whole (line.Jump 1 (Entry number) ∷ after_call (lay c.proc.number) c.awaits (code_here c.proc c.left sits))
+        pub returns : return ≡ at (mark_before (after_call (lay c.proc.number) c.awaits (code_here c.proc c.left sits)))
+        pub base_is : base ≡ places_end c
         pub awaits : c.awaits < c.proc.vars
         pub given : c.given ≡ no_words
         pub rests : Rests ws j c
@@ -272,7 +276,6 @@ module _ (lay : Layout) where
               behind_call = x.behind_call;
               returns = same j (inl refl) ∙ x.returns;
               base_is = x.base_is;
-              base_fits = x.base_fits;
               awaits = x.awaits;
               given = x.given;
               rests = λ v w lives ne e. let y = x.rests v w lives ne e in (
@@ -295,8 +298,7 @@ module _ (lay : Layout) where
       -- what is true of word code's state and the words of frames, where the running call's frame begins at word j
       pub record Facts (t : WordState) (lines : List WordInstr) (regs ws : List ℕ) (j : ℕ) : Type 0 where
         pub fits : Fits t.memory ws
-        pub kept : Regs regs (word_place t.memory j) t.frame.base
-        pub base_fits : t.frame.base < 2 ^ 32
+        pub kept : Regs regs (word_place t.memory j) (places_end t.frame)
         pub sits : Sits t.frame.proc lines
         pub held : Held regs ws j t.frame.proc lines t.frame.vars
         pub given : Gave ws j t.frame.given

@@ -1,5 +1,6 @@
 -- What the pieces of label code do that bring words from their homes and put them there.
-use Rattle.std.proofs.Common.{◌≡◌, ◌≢◌, ℕ, ◌+◌, ◌*◌, ◌/◌, ◌%◌, ◌^◌, ◌<◌, ◌≤◌, List, length, get_or, refl, ap, subst, ◌∙◌, arith}
+use Rattle.std.proofs.Common.{◌≡◌, ◌≢◌, ℕ, ◌+◌, ◌*◌, ◌/◌, ◌%◌, ◌^◌, ◌<◌, ◌≤◌, List, length, get_or}
+use Rattle.std.proofs.Common.{refl, ap, subst, ◌∙◌, arith}
 use Rattle.arc_base.proofs.ForCallers.{steps_none}
 use Rattle.rv32_isa.specs.declared.instr.Instr.TheVariants.{Addi}
 use Rattle.rv32_isa.specs.declared.label.LabelLine.{LabelLine}
@@ -49,18 +50,18 @@ seats_past n (Reg number) h = free_apart number 7 h refl
 seats_past n (Frame at) h = λ e. omega (arith, e)
 
 -- a register got the word, others than this one are as they were
-pub record Brought (regs new : List ℕ) (other : ℕ) (home : Home) (value frame base : ℕ) : Type 0 where
-  pub kept : Regs new frame base
+pub record Brought (regs new : List ℕ) (other : ℕ) (home : Home) (value frame places : ℕ) : Type 0 where
+  pub kept : Regs new frame places
   pub same : get_or new (seat other home) 0 ≡ value
   pub others : (r : ℕ) → r ≢ other → get_or new r 0 ≡ get_or regs r 0
 
 -- a home got the word, free registers beside it and x1 are as they were
-pub record Settled (regs new : List ℕ) (home : Home) (value frame base : ℕ) : Type 0 where
-  pub kept : Regs new frame base
+pub record Settled (regs new : List ℕ) (home : Home) (value frame places : ℕ) : Type 0 where
+  pub kept : Regs new frame places
   pub has : HasWord new home value
   pub alike : Alike_but (seat 5 home) regs new
 
-module _ (live : Lives) (whole : List LabelLine) (at : Addresses) (m : Memory) (ws input : List ℕ) (j n base : ℕ) (rest : List LabelLine)
+module _ (live : Lives) (whole : List LabelLine) (at : Addresses) (m : Memory) (ws input : List ℕ) (j n places : ℕ) (rest : List LabelLine)
     (quiet : Quiet rest) (fits : Fits m ws) (inside : j + n ≤ length ws) where
   -- registers, and where the frame begins
   abbrev frame : ℕ
@@ -70,22 +71,23 @@ module _ (live : Lives) (whole : List LabelLine) (at : Addresses) (m : Memory) (
   far offset k e lt = omega (arith, fits.stack_most, e, lt)
 
   pub home_moves : (old : List ℕ) (rd a : ℕ) (home : Home) → IsThere n home → 4 < rd → rd < 32 → word_at old ws j home ≡ a → a < 2 ^ 32 →
-      Regs old frame base → Leads live whole at m ws input 1 3 old (move rd home) rest (λ new. Gets old new rd a frame base)
+      Regs old frame places → Leads live whole at m ws input 1 3 old (move rd home) rest (λ new. Gets old new rd a frame places)
   home_moves old rd a (Reg number) h gt lt e small kept =
       let v = added (get_or old number 0) (signed12 0) in
       let v_is : v ≡ a = plain_address (get_or old number 0) a e small in
       let one = writes live whole at m ws input old (Addi rd number 0) rd v rest quiet refl in (
         put old rd v,
         goes_within live whole at 1 1 1 3 _ _ (omega arith) (omega arith) one,
-        subst (λ x. Gets old (put old rd v) rd x frame base) v_is (put_gets old rd v frame base gt lt kept),
+        subst (λ x. Gets old (put old rd v) rd x frame places) v_is (put_gets old rd v frame places gt lt kept),
       )
   home_moves old rd a (Frame offset) h gt lt e small kept =
       let within : j + offset / 4 < length ws = omega (arith, h.1.1, inside) in
-      load_goes live whole at m ws input old rd offset (j + offset / 4) a frame base rest quiet (far offset (offset / 4) h.0 within)
+      load_goes live whole at m ws input old rd offset (j + offset / 4) a frame places rest quiet (far offset (offset / 4) h.0 within)
       (place_is m ws j (offset / 4) offset fits h.0 within) within fits kept gt lt e small
 
-  pub home_brings : (old : List ℕ) (other a : ℕ) (home : Home) → IsThere n home → 4 < other → other < 32 → word_at old ws j home ≡ a → a < 2 ^ 32 →
-      Regs old frame base → Leads live whole at m ws input 0 3 old (bring other home) rest (λ new. Brought old new other home a frame base)
+  pub home_brings : (old : List ℕ) (other a : ℕ) (home : Home) → IsThere n home → 4 < other → other < 32 → word_at old ws j home ≡ a →
+      a < 2 ^ 32 → Regs old frame places →
+      Leads live whole at m ws input 0 3 old (bring other home) rest (λ new. Brought old new other home a frame places)
   home_brings old other a (Reg number) h gt lt e small kept =
       (old, steps_none (step live whole at) (run_at old m ws input rest) 3, record { kept = kept; same = e; others = λ r _. refl })
   home_brings old other a (Frame offset) h gt lt e small kept =
@@ -96,10 +98,10 @@ module _ (live : Lives) (whole : List LabelLine) (at : Addresses) (m : Memory) (
   abbrev pub Lands : (least most : ℕ) (regs : List ℕ) → List LabelLine → Home → (value : ℕ) → Type 0
   Lands least most regs code home value =
       (new : List ℕ) × Goes_in live whole at least most (run_at regs m ws input code) (run_at new m (saved ws j home value) input rest)
-      × Settled regs new home value frame base
+      × Settled regs new home value frame places
 
-  pub home_gives : (regs : List ℕ) (rs w : ℕ) (home : Home) → IsThere n home → rs < 32 → rs ≢ 7 → get_or regs rs 0 ≡ w → Regs regs frame base →
-      Lands 1 3 regs (does (give rs home) rest) home (w % 2 ^ 32)
+  pub home_gives : (regs : List ℕ) (rs w : ℕ) (home : Home) → IsThere n home → rs < 32 → rs ≢ 7 → get_or regs rs 0 ≡ w →
+      Regs regs frame places → Lands 1 3 regs (does (give rs home) rest) home (w % 2 ^ 32)
   home_gives regs rs w (Reg number) h lt ne e kept =
       let v = added (get_or regs rs 0) (signed12 0) in
       let v_is : v ≡ w % 2 ^ 32 = ap (λ x. added x (signed12 0)) e ∙ (let g : (w + 0) % 2 ^ 32 ≡ w % 2 ^ 32 = omega arith in g) in
@@ -108,19 +110,19 @@ module _ (live : Lives) (whole : List LabelLine) (at : Addresses) (m : Memory) (
         put regs number v,
         goes_within live whole at 1 1 1 3 _ _ (omega arith) (omega arith) one,
         record {
-          kept = put_kept regs number v frame base above kept;
+          kept = put_kept regs number v frame places above kept;
           has = put_same regs number v kept.good (omega (arith, above)) (free_small number h) ∙ v_is;
           alike = λ r kept apart. put_other regs number r v apart;
         },
       )
   home_gives regs rs w (Frame offset) h lt ne e kept =
       let within : j + offset / 4 < length ws = omega (arith, h.1.1, inside) in
-      let x = save_goes live whole at m ws input regs rs offset (j + offset / 4) w frame base rest quiet (far offset (offset / 4) h.0 within)
+      let x = save_goes live whole at m ws input regs rs offset (j + offset / 4) w frame places rest quiet (far offset (offset / 4) h.0 within)
       (place_is m ws j (offset / 4) offset fits h.0 within) within fits kept ne e in
       (x.0, x.1, record { kept = x.2.kept; has = tt; alike = λ r kept apart. x.2.other r (kept_apart r 7 kept refl) })
 
-  pub home_settles : (regs : List ℕ) (w : ℕ) (home : Home) → IsThere n home → get_or regs (seat 5 home) 0 ≡ w → w < 2 ^ 32 → Regs regs frame base →
-      Lands 0 3 regs (does (settle home) rest) home w
+  pub home_settles : (regs : List ℕ) (w : ℕ) (home : Home) → IsThere n home → get_or regs (seat 5 home) 0 ≡ w → w < 2 ^ 32 →
+      Regs regs frame places → Lands 0 3 regs (does (settle home) rest) home w
   home_settles regs w (Reg number) h e small kept =
       (regs, steps_none (step live whole at) (run_at regs m ws input rest) 3, record { kept = kept; has = e; alike = λ r _ _. refl })
   home_settles regs w (Frame offset) h e small kept =

@@ -24,15 +24,16 @@ use Rattle.rv32_codegen.proofs.Machine.{state_of, run_at, Regs, Goes_in, then_go
 use Rattle.rv32_codegen.proofs.HomeRuns.{alike_refl}
 use Rattle.rv32_codegen.proofs.Chunks.{quiet_lines}
 use Rattle.rv32_codegen.proofs.Lookups.{behind, inner_is}
-use Rattle.rv32_codegen.proofs.Frames.{Alike, sits_next}
+use Rattle.rv32_codegen.proofs.Frames.{Alike, places_end, sits_next}
 use Rattle.rv32_codegen.proofs.Frames.{sits_at, Setting, whole, True, Rel, Sim}
-use Rattle.rv32_codegen.proofs.LineRuns.{Behind, Here, Line_sim, at_lines, both_go, frame_at, homes, if_sim, passes_alive, quiet_behind, same_true, sim_goes, using_sim}
+use Rattle.rv32_codegen.proofs.LineRuns.{Behind, Here, Line_sim, at_lines, both_go, frame_at, homes, if_sim}
+use Rattle.rv32_codegen.proofs.LineRuns.{passes_alive, quiet_behind, same_true, sim_goes, using_sim}
 
 module _ (g : Setting) where
   -- ---- jumps
 
   jump_true : (t : WordState) (lines found : List WordInstr) (regs new ws : List ℕ) (j name : ℕ) (f : True g t lines regs ws j) →
-      from_label name t.frame.proc.lines ≡ Some found → Regs new (frame_at g t j) t.frame.base → Alike regs new →
+      from_label name t.frame.proc.lines ≡ Some found → Regs new (frame_at g t j) (places_end t.frame) → Alike regs new →
       ((v : ℕ) → Alive t.frame.proc.lines v found → Alive t.frame.proc.lines v lines) → only_calls lines ≡ false →
       Rel g (run_at new t.memory ws t.input (lines_code (homes g t) t.frame.proc found (behind g.lay f.sits.tail))) (at_lines t found)
   unfolding same_true

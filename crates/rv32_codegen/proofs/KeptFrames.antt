@@ -1,6 +1,6 @@
--- The code of a line leaves x2 and x3 as they are, but around a call and before a return.
-use Rattle.std.proofs.Common.{◌≡◌, ◌≢◌, ℕ, zero, suc, ◌+◌, ◌%◌, ◌^◌, ◌<◌, List, [], ◌∷◌, ◌++◌, length, true, false, Bool}
-use Rattle.std.proofs.Common.{Some, None, Result, Ok, Err, refl, sym, ap, subst, ◌∙◌, arith, inl, inr}
+-- The code of a line leaves x2 and x3 as they are, but before a return.
+use Rattle.std.proofs.Common.{◌≡◌, ◌≢◌, ℕ, zero, suc, ◌+◌, ◌%◌, ◌^◌, ◌<◌, List, [], ◌∷◌, ◌++◌, length}
+use Rattle.std.proofs.Common.{true, false, Bool, Some, None, Result, Ok, Err, refl, sym, ap, subst, ◌∙◌, arith, inl, inr}
 use Rattle.std.specs.Prelude.{◌==◌, map, slice_get}
 use Rattle.std.proofs.lemmas.Bool.{cond_both, cases_Bool, cond-true, cond-false}
 use Rattle.std.proofs.lemmas.List.{get_or-set_other}
@@ -13,9 +13,9 @@ use Rattle.rv32_isa.specs.declared.micro_op.Size.{Size}
 use Rattle.rv32_isa.specs.declared.micro_op.Size.TheVariants as size
 use Rattle.rv32_isa.specs.declared.micro_op.MicroOp.{MicroOp}
 use Rattle.rv32_isa.specs.declared.micro_op.MicroOp.TheVariants.{Write, Jump as To, Branch as Perhaps, Load, LoadSigned, Store, Pass, Ask, Stop}
-use Rattle.rv32_isa.specs.declared.label.LabelName.TheVariants.{Entry, Inner}
+use Rattle.rv32_isa.specs.declared.label.LabelName.TheVariants.{Inner}
 use Rattle.rv32_isa.specs.declared.label.LabelLine.{LabelLine}
-use Rattle.rv32_isa.specs.declared.label.LabelLine.TheVariants.{Do, Jump}
+use Rattle.rv32_isa.specs.declared.label.LabelLine.TheVariants.{Do}
 use Rattle.rv32_isa.specs.Image.{statics_at, heap_at}
 use Rattle.rv32_isa.specs.State.{State, reg, with_reg, skip, lies_in, writable, filled}
 use Rattle.rv32_isa.specs.Steps.{Outcome, Goes, Calls, Faults, size_of, found, low_bytes, loaded, loaded_signed, half_of, stored, micro_op_of, act}
@@ -31,13 +31,13 @@ use Rattle.reg_scan.specs.declared.homes.Home.TheVariants.{Reg, Frame}
 use Rattle.reg_scan.specs.declared.homes.Homes.{Homes}
 use Rattle.reg_scan.specs.Homes.{or_none, home_of, IsPlace, IsHomes}
 use Rattle.rv32_codegen.specs.Code.{does, is_near, negative, constant, datum, sum, shift, load, save, operate, fetch, store, stream_number}
-use Rattle.rv32_codegen.specs.Code.{seat, bring, move, settle, give, target, left_of, right_of, argument_at, datum_at, bring_both, move_range}
+use Rattle.rv32_codegen.specs.Code.{seat, bring, move, settle, give, target, left_of, right_of, argument_at, place_at, datum_at, bring_both, move_range}
 use Rattle.rv32_codegen.specs.Code.{is_leaf, restore, keep, line_code, lines_code}
-use Rattle.rv32_codegen.specs.Lowering.{has_next, up_by, down_by, as_is, MovesStack, LeavesStack, KeepsStack, labelled, leaves, jumps, branches, calls, returns}
+use Rattle.rv32_codegen.specs.Lowering.{has_next, up_by, down_by, MovesStack, LeavesStack, KeepsStack, labelled, leaves, jumps, branches, calls, returns}
 use Rattle.rv32_codegen.proofs.Frees.{free_above}
 use Rattle.rv32_codegen.proofs.Chunks.{line_look}
 use Rattle.rv32_codegen.proofs.Lookups.{none_some, some_same}
-use Rattle.rv32_codegen.proofs.MovedFrames.{frame_up, places_up, places_down}
+use Rattle.rv32_codegen.proofs.MovedFrames.{stack_left}
 
 -- ---- instructions
 
@@ -92,7 +92,8 @@ act_spares s r Pass ne = refl
 act_spares s r Ask ne = tt
 act_spares s r Stop ne = tt
 
-it_leaves : (i : Instr) → has_next i ≡ true → ((s : State) → Spares 2 (micro_op_of s i)) → ((s : State) → Spares 3 (micro_op_of s i)) → LeavesStack i
+it_leaves : (i : Instr) → has_next i ≡ true → ((s : State) → Spares 2 (micro_op_of s i)) → ((s : State) → Spares 3 (micro_op_of s i)) →
+    LeavesStack i
 it_leaves i on two three = record {
   on = on;
   frame = λ s next e. subst (Spared 2 s) e (act_spares s 2 (micro_op_of s i) (two s));
@@ -217,7 +218,8 @@ place_apart : (frame : ℕ) (home : Home) → IsPlace frame home → IsApart hom
 place_apart frame (Reg number) h = let gt = free_above number h in above number (omega (arith, gt))
 place_apart frame (Frame at) h = tt
 
-list_apart : (homes : List Home) → ((v : ℕ) → v < length homes → IsApart (or_none (slice_get homes v))) → (v : ℕ) → IsApart (or_none (slice_get homes v))
+list_apart : (homes : List Home) → ((v : ℕ) → v < length homes → IsApart (or_none (slice_get homes v))) → (v : ℕ) →
+    IsApart (or_none (slice_get homes v))
 list_apart [] h v = tt
 list_apart (home ∷ homes) h zero = h 0 (omega arith)
 list_apart (home ∷ homes) h (suc v) = list_apart homes (λ w lt. h (suc w) (omega (arith, lt))) v
@@ -227,9 +229,13 @@ homes_apart p h is = list_apart h.of (λ v lt. place_apart h.frame (home_of h v)
 
 -- ---- lines
 
-pub does_is : (is : List Instr) (k : List LabelLine) → does is k ≡ map Do is ++ k
+does_is : (is : List Instr) (k : List LabelLine) → does is k ≡ map Do is ++ k
 does_is [] k = refl
 does_is (i ∷ is) k = ap (λ l. Do i ∷ l) (does_is is k)
+
+pub does_both : (a b : List Instr) (k : List LabelLine) → does a (does b k) ≡ map Do (a ++ b) ++ k
+does_both [] b k = does_is b k
+does_both (i ∷ a) b k = ap (λ l. Do i ∷ l) (does_both a b k)
 
 module _ (number frame room : ℕ) where
   abbrev Kept : List LabelLine → Type 0
@@ -242,15 +248,9 @@ module _ (number frame room : ℕ) where
   kept_two : (a b : List Instr) (k : List LabelLine) → AllLeave a → AllLeave b → Kept k → Kept (does a (does b k))
   kept_two a b k h g f = kept_does a (does b k) h (kept_does b k g f)
 
-  kept_call : (before behind : List Instr) (callee : ℕ) (k : List LabelLine) → MovesStack as_is (up_by room) before → MovesStack as_is (down_by room) behind → Kept k →
-      Kept (does before (Jump 1 (Entry callee) ∷ does behind k))
-  kept_call before behind callee k a b g =
-      let e : does before (Jump 1 (Entry callee) ∷ does behind k) ≡ map Do before ++ Jump 1 (Entry callee) ∷ (map Do behind ++ k) =
-      ap (λ l. does before (Jump 1 (Entry callee) ∷ l)) (does_is behind k) ∙ does_is before (Jump 1 (Entry callee) ∷ (map Do behind ++ k)) in
-      subst Kept (sym e) (calls before behind callee a b g)
-
-  kept_return : (before : List Instr) (k : List LabelLine) → MovesStack (up_by frame) as_is before → Kept k → Kept (does before (Do (Jalr 0 1 0) ∷ k))
-  kept_return before k a g = subst Kept (sym (does_is before (Do (Jalr 0 1 0) ∷ k))) (returns before a g)
+  kept_return : (a b : List Instr) (k : List LabelLine) → MovesStack (up_by frame) (down_by room) (a ++ b) → Kept k →
+      Kept (does a (does b (Do (Jalr 0 1 0) ∷ k)))
+  kept_return a b k moves g = subst Kept (sym (does_both a b (Do (Jalr 0 1 0) ∷ k))) (returns (a ++ b) moves g)
 
 module _ (h : Homes) (p : WordProc) (good : (v : ℕ) → IsApart (home_of h v)) where
   abbrev Own : List LabelLine → Type 0
@@ -297,7 +297,8 @@ module _ (h : Homes) (p : WordProc) (good : (v : ℕ) → IsApart (home_of h v))
   own_line (word.Sum to from value) k g =
       own_two (bring 6 (home_of h from)) (sum (target h to) (right_of h from) value) _ (on_bring 6 (home_of h from) six)
       (on_sum (target h to) (right_of h from) value (target_apart to)) (own_keep to k g)
-  own_line (word.Place to a) k g = own_does (sum (target h to) 3 a) _ (on_sum (target h to) 3 a (target_apart to)) (own_keep to k g)
+  own_line (word.Place to a) k g =
+      own_does (sum (target h to) 3 (place_at p a)) _ (on_sum (target h to) 3 (place_at p a) (target_apart to)) (own_keep to k g)
   own_line (word.Datum to a) k g =
       own_does (datum (target h to) (datum_at p a)) _ (on_datum (target h to) (datum_at p a) (target_apart to)) (own_keep to k g)
   own_line (word.Load to a s) k g =
@@ -308,12 +309,10 @@ module _ (h : Homes) (p : WordProc) (good : (v : ℕ) → IsApart (home_of h v))
   own_line (word.Argument index from) k g =
       own_two (bring 5 (home_of h from)) (save (left_of h from) (argument_at index)) k (on_bring 5 (home_of h from) five)
       (on_save (left_of h from) (argument_at index)) g
-  own_line (word.Call to callee) k g =
-      kept_call p.number h.frame p.room (shift 3 p.room) (shift 3 (negative p.room)) callee (does (give 10 (home_of h to)) k) (places_up p.room)
-      (places_down p.room) (own_give 10 to k g)
+  own_line (word.Call to callee) k g = calls (own_give 10 to k g)
   own_line (word.Return from) k g =
       own_two (move 10 (home_of h from)) (restore (is_leaf p.lines)) _ (on_move 10 (home_of h from) ten) (on_restore (is_leaf p.lines))
-      (kept_return p.number h.frame p.room (sum 2 2 h.frame) k (frame_up h.frame) g)
+      (kept_return p.number h.frame p.room (sum 2 2 h.frame) (shift 3 (negative p.room)) k (stack_left h.frame p.room) g)
   own_line (word.Read to a len) k g =
       own_range a len _ (leaves (addi 10 0 0 ten) (own_ask 63 (does (give 10 (home_of h to)) k) (own_give 10 to k g)))
   own_line (word.Write stream a len) k g = own_range a len _ (leaves (addi 10 0 (stream_number stream) ten) (own_ask 64 k g))

@@ -25,18 +25,18 @@ use Rattle.reg_scan.specs.declared.homes.Homes.{Homes}
 use Rattle.reg_scan.specs.Alive.{effect_of, IsOne, Alive, read_by, kept_by}
 use Rattle.reg_scan.specs.Homes.{home_of}
 use Rattle.rv32_codegen.specs.Code.{does, operate, datum_at, seat, bring, move, settle, give, is_call_or_label, only_calls, target, left_of, right_of}
-use Rattle.rv32_codegen.specs.Code.{sum, bring_both, keep}
+use Rattle.rv32_codegen.specs.Code.{negative, sum, bring_both, keep, place_at}
 use Rattle.rv32_codegen.proofs.Machine.{state_of, run_at, fits_words, word_place, Regs, Quiet, quiet_does, Goes_in, then_goes, goes_within}
 use Rattle.rv32_codegen.proofs.Machine.{writes}
 use Rattle.rv32_codegen.proofs.PieceRuns.{Gets, put_gets, Leads, constant_any, datum_any, sum_any}
 use Rattle.rv32_codegen.proofs.Frees.{kept_apart}
 use Rattle.rv32_codegen.proofs.Computed.{computed_small}
-use Rattle.rv32_codegen.proofs.HomeRuns.{seat_above, seat_small, seats_apart, seats_before, Brought, Settled, home_moves, home_brings, Lands, home_gives, home_settles}
-use Rattle.rv32_codegen.proofs.HomeRuns.{alike_refl, word_but}
+use Rattle.rv32_codegen.proofs.HomeRuns.{seat_above, seat_small, seats_apart, seats_before, Brought, Settled, home_moves, home_brings, Lands}
+use Rattle.rv32_codegen.proofs.HomeRuns.{home_gives, home_settles, alike_refl, word_but}
 use Rattle.rv32_codegen.proofs.Chunks.{quiet_lines}
 use Rattle.rv32_codegen.proofs.Lookups.{behind}
 use Rattle.rv32_codegen.proofs.Frames.{size, IsLaid, saved, Alike, Alike_but, length-saved, saved_outside, word_alike, Sits, code_here, sits_next}
-use Rattle.rv32_codegen.proofs.Frames.{sits_named, linked_inside, linked_kept, held_alike, put_held, Setting, whole, True, Rel, Sim}
+use Rattle.rv32_codegen.proofs.Frames.{places_end, sits_named, linked_inside, linked_kept, held_alike, put_held, Setting, whole, True, Rel, Sim}
 
 -- with other lines left
 abbrev pub at_lines : WordState → List WordInstr → WordState
@@ -90,33 +90,33 @@ module _ (g : Setting) where
 
     -- a variable's word into a register
     pub var_moves : (old : List ℕ) (rd v a : ℕ) (rest : List LabelLine) → Quiet rest → 4 < rd → rd < 32 → Alive t.frame.proc.lines v lines →
-        t.frame.vars v ≡ Some a → Regs old (frame_at t j) t.frame.base → Alike regs old →
+        t.frame.vars v ≡ Some a → Regs old (frame_at t j) (places_end t.frame) → Alike regs old →
         Leads g.live (whole g) g.at t.memory ws t.input 1 3 old (move rd (home_of (homes t) v)) rest
-        (λ new. Gets old new rd a (frame_at t j) t.frame.base)
+        (λ new. Gets old new rd a (frame_at t j) (places_end t.frame))
     var_moves old rd v a rest quiet gt lt lives e kept same =
         let laid = laid_of t lines f.sits in
         let x = f.held v a lives e in
         let home = home_of (homes t) v in
         let there = laid.there v x.0 in
-        home_moves g.live (whole g) g.at t.memory ws t.input j (size (homes t)) t.frame.base rest quiet f.fits inside_of old rd a home there gt lt
+        home_moves g.live (whole g) g.at t.memory ws t.input j (size (homes t)) (places_end t.frame) rest quiet f.fits inside_of old rd a home there gt lt
         (word_alike regs old ws j (size (homes t)) home there same ∙ x.1.0) x.1.1 kept
 
     -- into the register in which it is used
-    pub var_brought : (old : List ℕ) (other v a : ℕ) (rest : List LabelLine) → Quiet rest → 4 < other → other < 32 → Alive t.frame.proc.lines v lines →
-        t.frame.vars v ≡ Some a → Regs old (frame_at t j) t.frame.base → Alike regs old →
+    pub var_brought : (old : List ℕ) (other v a : ℕ) (rest : List LabelLine) → Quiet rest → 4 < other → other < 32 →
+        Alive t.frame.proc.lines v lines → t.frame.vars v ≡ Some a → Regs old (frame_at t j) (places_end t.frame) → Alike regs old →
         Leads g.live (whole g) g.at t.memory ws t.input 0 3 old (bring other (home_of (homes t) v)) rest
-        (λ new. Brought old new other (home_of (homes t) v) a (frame_at t j) t.frame.base)
+        (λ new. Brought old new other (home_of (homes t) v) a (frame_at t j) (places_end t.frame))
     var_brought old other v a rest quiet gt lt lives e kept same =
         let laid = laid_of t lines f.sits in
         let x = f.held v a lives e in
         let home = home_of (homes t) v in
         let there = laid.there v x.0 in
-        home_brings g.live (whole g) g.at t.memory ws t.input j (size (homes t)) t.frame.base rest quiet f.fits inside_of old other a home there gt lt
+        home_brings g.live (whole g) g.at t.memory ws t.input j (size (homes t)) (places_end t.frame) rest quiet f.fits inside_of old other a home there gt lt
         (word_alike regs old ws j (size (homes t)) home there same ∙ x.1.0) x.1.1 kept
 
     -- registers with two variables' words
     pub record Both (new : List ℕ) (v w a b : ℕ) : Type 0 where
-      pub kept : Regs new (frame_at t j) t.frame.base
+      pub kept : Regs new (frame_at t j) (places_end t.frame)
       pub first : get_or new (left_of (homes t) v) 0 ≡ a
       pub second : get_or new (right_of (homes t) w) 0 ≡ b
       pub alike : Alike regs new
@@ -187,7 +187,7 @@ module _ (g : Setting) where
     pub is : (effect_of l).to ≡ Some to
 
   set_true : (t : WordState) (l : WordInstr) (rest : List WordInstr) (regs new ws : List ℕ) (j to n : ℕ) (f : True g t (l ∷ rest) regs ws j) →
-      Setting_line l to → to < t.frame.proc.vars → Settled regs new (home_of (homes t) to) (n % 2 ^ 32) (frame_at t j) t.frame.base →
+      Setting_line l to → to < t.frame.proc.vars → Settled regs new (home_of (homes t) to) (n % 2 ^ 32) (frame_at t j) (places_end t.frame) →
       True g (setting t rest to n) rest new (saved ws j (home_of (homes t) to) (n % 2 ^ 32)) j
   set_true t l rest regs new ws j to n f line lt x =
       let p = t.frame.proc in
@@ -205,7 +205,6 @@ module _ (g : Setting) where
       record {
         fits = fits_words t.memory ws ws' long f.fits;
         kept = x.kept;
-        base_fits = f.base_fits;
         sits = sits_next g.lay g.procs p l rest f.sits;
         held = put_held g.lay g.procs new ws j p rest t.frame.vars to n laid lt inside
             (λ v w lives ne e.
@@ -226,15 +225,15 @@ module _ (g : Setting) where
       }
 
   -- registers that lines keep, but the one that is computed into, are as they were, and others still
-  then_settled : (regs mid new : List ℕ) (home : Home) (value frame base : ℕ) → Alike_but (seat 5 home) regs mid →
-      Settled mid new home value frame base → Settled regs new home value frame base
-  then_settled regs mid new home value frame base same x =
+  then_settled : (regs mid new : List ℕ) (home : Home) (value frame places : ℕ) → Alike_but (seat 5 home) regs mid →
+      Settled mid new home value frame places → Settled regs new home value frame places
+  then_settled regs mid new home value frame places same x =
       record { kept = x.kept; has = x.has; alike = λ r kept ne. x.alike r kept ne ∙ same r kept ne }
 
   -- where code comes to what puts a word to its home, and then to what follows
   module _ (t : WordState) (l : WordInstr) (rest : List WordInstr) (regs ws : List ℕ) (j : ℕ) (f : True g t (l ∷ rest) regs ws j) (r : LabelRun)
       (least count to n : ℕ) (mid : List ℕ) (line : Setting_line l to) (lt : to < t.frame.proc.vars) (few : count + 3 ≤ 16)
-      (same : Alike_but (target (homes t) to) regs mid) (kept : Regs mid (frame_at t j) t.frame.base) where
+      (same : Alike_but (target (homes t) to) regs mid) (kept : Regs mid (frame_at t j) (places_end t.frame)) where
     abbrev ends_at : List LabelLine
     ends_at = Behind t l rest regs ws j f
 
@@ -243,12 +242,13 @@ module _ (g : Setting) where
 
     sets_by : (more : ℕ) (code : List LabelLine) → 0 < least + more →
         Goes_in g.live (whole g) g.at least count r (run_at mid t.memory ws t.input code) →
-        Lands g.live (whole g) g.at t.memory ws t.input j (size (homes t)) t.frame.base ends_at (quiet_behind t rest (sits_next g.lay g.procs t.frame.proc l rest f.sits))
+        Lands g.live (whole g) g.at t.memory ws t.input j (size (homes t)) (places_end t.frame) ends_at
+        (quiet_behind t rest (sits_next g.lay g.procs t.frame.proc l rest f.sits))
         f.fits (inside_of t (l ∷ rest) regs ws j f) more 3 mid code its_home (n % 2 ^ 32) → Sim g r t (on (setting t rest to n))
     unfolding set_true
     sets_by more code pos ran x =
         let y = set_true t l rest regs x.0 ws j to n f line lt
-        (then_settled regs mid x.0 its_home (n % 2 ^ 32) (frame_at t j) t.frame.base same x.2) in
+        (then_settled regs mid x.0 its_home (n % 2 ^ 32) (frame_at t j) (places_end t.frame) same x.2) in
         let ws' = saved ws j its_home (n % 2 ^ 32) in
         sim_goes r (run_at x.0 t.memory ws' t.input ends_at) t (setting t rest to n) (least + more) (count + 3)
         (then_goes g.live (whole g) g.at least more count 3 r (run_at mid t.memory ws t.input code)
@@ -260,7 +260,7 @@ module _ (g : Setting) where
         get_or mid (target (homes t) to) 0 ≡ n % 2 ^ 32 → Sim g r t (on (setting t rest to n))
     sets pos ran is =
         sets_by 0 (keep (homes t) to ends_at) (omega (arith, pos)) ran
-        (home_settles g.live (whole g) g.at t.memory ws t.input j (size (homes t)) t.frame.base ends_at
+        (home_settles g.live (whole g) g.at t.memory ws t.input j (size (homes t)) (places_end t.frame) ends_at
         (quiet_behind t rest (sits_next g.lay g.procs t.frame.proc l rest f.sits)) f.fits (inside_of t (l ∷ rest) regs ws j f) mid (n % 2 ^ 32) its_home
         ((laid_of t (l ∷ rest) f.sits).there to lt) is (omega arith) kept)
 
@@ -270,7 +270,7 @@ module _ (g : Setting) where
         get_or mid rs 0 ≡ n → Sim g r t (on (setting t rest to n))
     sets_from rs less ne ran is =
         sets_by 1 (does (give rs its_home) ends_at) (omega arith) ran
-        (home_gives g.live (whole g) g.at t.memory ws t.input j (size (homes t)) t.frame.base ends_at
+        (home_gives g.live (whole g) g.at t.memory ws t.input j (size (homes t)) (places_end t.frame) ends_at
         (quiet_behind t rest (sits_next g.lay g.procs t.frame.proc l rest f.sits)) f.fits (inside_of t (l ∷ rest) regs ws j f) mid rs n its_home
         ((laid_of t (l ∷ rest) f.sits).there to lt) less ne is kept)
 
@@ -278,13 +278,12 @@ module _ (g : Setting) where
 
   -- where only lines and registers changed
   unfoldable pub same_true : (t : WordState) (lines more : List WordInstr) (regs new ws : List ℕ) (j : ℕ) (f : True g t lines regs ws j) →
-      Sits g.lay g.procs t.frame.proc more → Regs new (frame_at t j) t.frame.base → Alike regs new →
+      Sits g.lay g.procs t.frame.proc more → Regs new (frame_at t j) (places_end t.frame) → Alike regs new →
       ((v : ℕ) → Alive t.frame.proc.lines v more → Alive t.frame.proc.lines v lines) → (only_calls more ≡ false → only_calls lines ≡ false) →
       True g (at_lines t more) more new ws j
   same_true t lines more regs new ws j f sits kept same stays returns = record {
     fits = f.fits;
     kept = kept;
-    base_fits = f.base_fits;
     sits = sits;
     held = held_alike g.lay g.procs regs new ws j t.frame.proc lines more t.frame.vars (laid_of t lines f.sits) same stays f.held;
     given = f.given;
@@ -329,8 +328,8 @@ module _ (g : Setting) where
       quiet_does (give rs (home_of (homes t) to)) _ (quiet_behind t rest (sits_next g.lay g.procs t.frame.proc l rest f.sits))
 
   -- a word into the register that a variable is computed into
-  gets_but : (regs new : List ℕ) (rd value frame base : ℕ) → Gets regs new rd value frame base → Alike_but rd regs new
-  gets_but regs new rd value frame base x r kept ne = x.other r ne
+  gets_but : (regs new : List ℕ) (rd value frame places : ℕ) → Gets regs new rd value frame places → Alike_but rd regs new
+  gets_but regs new rd value frame places x r kept ne = x.other r ne
 
   pub constant_sim : (to value : ℕ) → Line_sim (word.Constant to value)
   constant_sim to value t rest regs ws j f =
@@ -338,10 +337,10 @@ module _ (g : Setting) where
       let rd = target (homes t) to in
       let lt = ltb-true to t.frame.proc.vars (named_of t l rest f.sits) in
       let last = keep (homes t) to (Behind t l rest regs ws j f) in
-      let x = constant_any g.live (whole g) g.at t.memory ws t.input regs rd value (frame_at t j) t.frame.base last (keep_quiet t l rest regs ws j f to)
+      let x = constant_any g.live (whole g) g.at t.memory ws t.input regs rd value (frame_at t j) (places_end t.frame) last (keep_quiet t l rest regs ws j f to)
       (target_above t (l ∷ rest) to f.sits lt) (target_small t (l ∷ rest) to f.sits lt) f.kept in
       sets t l rest regs ws j f (Here t l rest regs ws j f) 1 2 to value x.0 (record { goes = refl; is = refl }) lt (omega arith)
-      (gets_but regs x.0 rd (value % 2 ^ 32) (frame_at t j) t.frame.base x.2) x.2.kept (omega arith) x.1 x.2.same
+      (gets_but regs x.0 rd (value % 2 ^ 32) (frame_at t j) (places_end t.frame) x.2) x.2.kept (omega arith) x.1 x.2.same
 
   pub datum_sim : (to a : ℕ) → Line_sim (word.Datum to a)
   datum_sim to a t rest regs ws j f =
@@ -351,11 +350,11 @@ module _ (g : Setting) where
       let last = keep (homes t) to (Behind t l rest regs ws j f) in
       let value = datum_at t.frame.proc a in
       let n = (scene_of t).data_at + a in
-      let x = datum_any g.live (whole g) g.at t.memory ws t.input regs rd value (frame_at t j) t.frame.base last (keep_quiet t l rest regs ws j f to)
+      let x = datum_any g.live (whole g) g.at t.memory ws t.input regs rd value (frame_at t j) (places_end t.frame) last (keep_quiet t l rest regs ws j f to)
       (target_above t (l ∷ rest) to f.sits lt) (target_small t (l ∷ rest) to f.sits lt) (omega arith) f.kept in
       let same : value ≡ n % 2 ^ 32 = omega arith in
       sets t l rest regs ws j f (Here t l rest regs ws j f) 1 2 to n x.0 (record { goes = refl; is = refl }) lt (omega arith)
-      (gets_but regs x.0 rd value (frame_at t j) t.frame.base x.2) x.2.kept (omega arith) x.1 (x.2.same ∙ same)
+      (gets_but regs x.0 rd value (frame_at t j) (places_end t.frame) x.2) x.2.kept (omega arith) x.1 (x.2.same ∙ same)
 
   pub copy_sim : (to from : ℕ) → Line_sim (word.Copy to from)
   copy_sim to from t rest regs ws j f =
@@ -371,7 +370,7 @@ module _ (g : Setting) where
       (target_small t (l ∷ rest) to f.sits lt) lives e f.kept (alike_refl regs) in
       let small = small_of t (l ∷ rest) regs ws j f from a lives e in
       sets t l rest regs ws j f r 1 3 to a x.0 (record { goes = refl; is = refl }) lt (omega arith)
-      (gets_but regs x.0 rd a (frame_at t j) t.frame.base x.2) x.2.kept (omega arith) x.1
+      (gets_but regs x.0 rd a (frame_at t j) (places_end t.frame) x.2) x.2.kept (omega arith) x.1
       (x.2.same ∙ (let g : a ≡ a % 2 ^ 32 = omega (arith, small) in g)))
 
   operate_is : (o : WordOperation) (rd left right : ℕ) (regs : List ℕ) (m : Memory) (ws input : List ℕ) (rest : List LabelLine) →
@@ -420,7 +419,7 @@ module _ (g : Setting) where
       let value : v ≡ computed o a b = ap (λ n. computed o n (get_or x.0 (right_of h right) 0)) x.2.first ∙ ap (computed o a) x.2.second in
       let small = computed_small o a b (small_of t (l ∷ rest) regs ws j f left a lives e) (small_of t (l ∷ rest) regs ws j f right b also k) in
       let low : computed o a b ≡ computed o a b % 2 ^ 32 = omega (arith, small) in
-      let z = put_gets x.0 rd v (frame_at t j) t.frame.base above under x.2.kept in
+      let z = put_gets x.0 rd v (frame_at t j) (places_end t.frame) above under x.2.kept in
       sets t l rest regs ws j f r 1 7 to (computed o a b) (put x.0 rd v) (record { goes = refl; is = refl }) lt (omega arith)
       (λ s kept ne. z.other s ne ∙ x.2.alike s kept) z.kept (omega arith)
       (then_goes g.live (whole g) g.at 0 1 6 1 _ _ _ x.1 y) (z.same ∙ value ∙ low)))
@@ -436,7 +435,7 @@ module _ (g : Setting) where
       let rs = right_of h from in
       let r = Here t l rest regs ws j f in
       let m = t.memory in
-      let base = t.frame.base in
+      let places = places_end t.frame in
       let last = keep h to (Behind t l rest regs ws j f) in
       let above = target_above t (l ∷ rest) to f.sits lt in
       let under = target_small t (l ∷ rest) to f.sits lt in
@@ -449,32 +448,37 @@ module _ (g : Setting) where
       let y = sum_any g.live (whole g) g.at m ws t.input x.0 rd rs value last (keep_quiet t l rest regs ws j f to) (omega (arith, above)) under
       (seats_before (size h) (home_of h from) there) x.2.kept.good in
       let same : added (get_or x.0 rs 0) value ≡ (a + value) % 2 ^ 32 = ap (λ n. added n value) x.2.same in
-      let kept : Regs y.0 (frame_at t j) base = record {
+      let kept : Regs y.0 (frame_at t j) places = record {
         good = y.2.good;
         frame_is = y.2.other 2 (λ e. omega (arith, e, above)) (λ e. omega (arith, e)) ∙ x.2.kept.frame_is;
-        base_is = y.2.other 3 (λ e. omega (arith, e, above)) (λ e. omega (arith, e)) ∙ x.2.kept.base_is;
+        places_is = y.2.other 3 (λ e. omega (arith, e, above)) (λ e. omega (arith, e)) ∙ x.2.kept.places_is;
         data_is = y.2.other 4 (λ e. omega (arith, e, above)) (λ e. omega (arith, e)) ∙ x.2.kept.data_is;
       } in
       sets t l rest regs ws j f r 1 6 to (a + value) y.0 (record { goes = refl; is = refl }) lt (omega arith)
       (λ s kept ne. y.2.other s ne (kept_apart s 5 kept refl) ∙ x.2.others s (kept_apart s 6 kept refl)) kept (omega arith)
       (then_goes g.live (whole g) g.at 0 1 3 3 _ _ _ x.1 y.1) (y.2.same ∙ same))
 
+  place_there : (base room a : ℕ) → added (added base room) ((a + negative room) % 2 ^ 32) ≡ (base + a) % 2 ^ 32
+  place_there base room a = omega arith
+
   pub place_sim : (to a : ℕ) → Line_sim (word.Place to a)
   place_sim to a t rest regs ws j f =
       let l = word.Place to a in
+      let p = t.frame.proc in
       let base = t.frame.base in
+      let offset = place_at p a in
       let rd = target (homes t) to in
-      let lt = ltb-true to t.frame.proc.vars (named_of t l rest f.sits) in
+      let lt = ltb-true to p.vars (named_of t l rest f.sits) in
       let above = target_above t (l ∷ rest) to f.sits lt in
-      let x = sum_any g.live (whole g) g.at t.memory ws t.input regs rd 3 a (keep (homes t) to (Behind t l rest regs ws j f))
+      let x = sum_any g.live (whole g) g.at t.memory ws t.input regs rd 3 offset (keep (homes t) to (Behind t l rest regs ws j f))
       (keep_quiet t l rest regs ws j f to) (omega (arith, above)) (target_small t (l ∷ rest) to f.sits lt)
       (λ e. omega (arith, e)) f.kept.good in
-      let v = added (get_or regs 3 0) a in
-      let same : v ≡ (base + a) % 2 ^ 32 = ap (λ n. added n a) f.kept.base_is in
-      let kept : Regs x.0 (frame_at t j) base = record {
+      let v = added (get_or regs 3 0) offset in
+      let same : v ≡ (base + a) % 2 ^ 32 = ap (λ n. added n offset) f.kept.places_is ∙ place_there base p.room a in
+      let kept : Regs x.0 (frame_at t j) (places_end t.frame) = record {
         good = x.2.good;
         frame_is = x.2.other 2 (λ e. omega (arith, e, above)) (λ e. omega (arith, e)) ∙ f.kept.frame_is;
-        base_is = x.2.other 3 (λ e. omega (arith, e, above)) (λ e. omega (arith, e)) ∙ f.kept.base_is;
+        places_is = x.2.other 3 (λ e. omega (arith, e, above)) (λ e. omega (arith, e)) ∙ f.kept.places_is;
         data_is = x.2.other 4 (λ e. omega (arith, e, above)) (λ e. omega (arith, e)) ∙ f.kept.data_is;
       } in
       sets t l rest regs ws j f (Here t l rest regs ws j f) 1 3 to (base + a) x.0 (record { goes = refl; is = refl }) lt (omega arith)

@@ -2,7 +2,7 @@
 use Rattle.std.proofs.Common.{◌≡◌, ℕ, List, [], ◌∷◌, true, false, Option, Some, None, refl, sym, ap, ◌∙◌, inl, inr}
 use Rattle.std.specs.Prelude.{◌==◌}
 use Rattle.std.proofs.lemmas.Bool.{eqb-true, eqb-false, cases_Bool, cond-true, cond-false}
-use Rattle.rv32_isa.specs.declared.instr.Instr.TheVariants.{Sw, Ebreak}
+use Rattle.rv32_isa.specs.declared.instr.Instr.TheVariants.{Ebreak}
 use Rattle.rv32_isa.specs.declared.label.LabelName.TheVariants.{Entry, Inner}
 use Rattle.rv32_isa.specs.declared.label.LabelLine.{LabelLine}
 use Rattle.rv32_isa.specs.declared.label.LabelLine.TheVariants.{Do}
@@ -11,8 +11,8 @@ use Rattle.mid_code.specs.declared.word.WordInstr.{WordInstr}
 use Rattle.mid_code.specs.declared.word.WordProc.{WordProc}
 use Rattle.mid_code.specs.Words.{from_proc, from_label as from_word_label, is_label}
 use Rattle.reg_scan.specs.declared.homes.Homes.{Homes}
-use Rattle.rv32_codegen.specs.Code.{sum, negative, lines_code, entry_code, proc_code}
-use Rattle.rv32_codegen.proofs.Chunks.{skip_does, line_look, body, body_split, own_body, skip_entry, skip_inner}
+use Rattle.rv32_codegen.specs.Code.{lines_code, entry_code, proc_code}
+use Rattle.rv32_codegen.proofs.Chunks.{entry_look, line_look, body, body_split, own_body, skip_entry, skip_inner}
 
 -- the homes of the procedure of each number
 abbrev pub Layout : Type 0
@@ -71,7 +71,7 @@ module _ (lay : Layout) where
   entry_is n (p ∷ procs) =
       let h = lay p.number in
       let k = procs_code lay procs in
-      let rest = entry_code h (lines_code h p p.lines (Do Ebreak ∷ k)) in
+      let rest = entry_code h p (lines_code h p p.lines (Do Ebreak ∷ k)) in
       elim (cases_Bool (p.number == n)) [
         | inl t ↦
             cond-true (p.number == n) (Some (procs_code lay (p ∷ procs))) (from_label (Entry n) rest) t
@@ -119,7 +119,7 @@ module _ (lay : Layout) where
         let k = behind lay procs in
         let lines = ap (λ x. from_word_label name x.lines) is.first ∙ g in
         ap (λ m. from_label (Inner m name) (procs_code lay (q ∷ procs))) (sym is.number)
-        ∙ skip_does (Inner q.number name) (sum 2 2 (negative h.frame)) (Do (Sw 2 1 0) ∷ lines_code h q q.lines k)
+        ∙ entry_look (Inner q.number name) h q (lines_code h q q.lines k)
         ∙ inner_here h name q q.lines found k lines
         ∙ ap (λ x. Some (lines_code (lay x.number) x found k)) is.first
         ∙ ap (λ x. Some (lines_code (lay p.number) p found (behind lay x))) is.rest

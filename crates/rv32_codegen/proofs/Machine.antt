@@ -58,11 +58,11 @@ fits_words m ws new long h = record {
 abbrev pub word_place : Memory → ℕ → ℕ
 word_place m k = stack_at + (length m.places + 4 * k)
 
--- the registers that code keeps
-pub record Regs (regs : List ℕ) (frame base : ℕ) : Type 0 where
+-- the registers that code keeps: where the frame begins, where the places end, where the data begins
+pub record Regs (regs : List ℕ) (frame places : ℕ) : Type 0 where
   pub good : IsRegs regs
   pub frame_is : get_or regs 2 0 ≡ frame
-  pub base_is : get_or regs 3 0 ≡ base
+  pub places_is : get_or regs 3 0 ≡ places
   pub data_is : get_or regs 4 0 ≡ statics_at
 
 -- another register than the one that was written
@@ -70,11 +70,11 @@ pub put_other : (regs : List ℕ) (r s value : ℕ) → s ≢ r → get_or (put 
 put_other regs zero s value ne = refl
 put_other regs (suc r) s value ne = get_or-set_other regs (suc r) s value 0 ne
 
-pub put_kept : (regs : List ℕ) (r value frame base : ℕ) → 4 < r → Regs regs frame base → Regs (put regs r value) frame base
-put_kept regs r value frame base gt h = record {
+pub put_kept : (regs : List ℕ) (r value frame places : ℕ) → 4 < r → Regs regs frame places → Regs (put regs r value) frame places
+put_kept regs r value frame places gt h = record {
   good = put_regs regs r value h.good;
   frame_is = put_other regs r 2 value (λ e. omega (arith, gt, e)) ∙ h.frame_is;
-  base_is = put_other regs r 3 value (λ e. omega (arith, gt, e)) ∙ h.base_is;
+  places_is = put_other regs r 3 value (λ e. omega (arith, gt, e)) ∙ h.places_is;
   data_is = put_other regs r 4 value (λ e. omega (arith, gt, e)) ∙ h.data_is;
 }
 

@@ -1,5 +1,5 @@
 -- Procedures make the frames of their homes and the places of their calls.
-use Rattle.std.proofs.Common.{◌≡◌, ℕ, List, [], ◌∷◌, true, false, Some, None, refl, sym, ap, subst, ◌∙◌, inl, inr}
+use Rattle.std.proofs.Common.{◌≡◌, ℕ, List, [], ◌∷◌, ◌++◌, true, false, Some, None, refl, sym, ap, subst, ◌∙◌, inl, inr}
 use Rattle.std.specs.Prelude.{◌==◌, ◌||◌, not}
 use Rattle.std.proofs.lemmas.Bool.{cases_Bool, cond-true, cond-false, eqb-true, eqb-false, eq-eqb, true≢false, not-true, and_parts}
 use Rattle.rv32_isa.specs.declared.instr.Instr.TheVariants.{Sw, Ebreak}
@@ -11,12 +11,12 @@ use Rattle.mid_code.specs.declared.word.WordProc.{WordProc}
 use Rattle.mid_code.specs.Words.{from_proc, first_of, has_number, is_proc, are_procs}
 use Rattle.reg_scan.specs.declared.homes.Homes.{Homes}
 use Rattle.reg_scan.specs.Homes.{IsHomes}
-use Rattle.rv32_codegen.specs.Code.{negative, sum, lines_code, hook_of, entry_code, proc_code, homes_code, code_of}
+use Rattle.rv32_codegen.specs.Code.{negative, sum, shift, lines_code, hook_of, entry_code, proc_code, homes_code, code_of}
 use Rattle.rv32_codegen.specs.Stack.{frame_for}
 use Rattle.rv32_codegen.specs.Lowering.{AllHomes, KeepsStack, last, last_before, leaves, MakesFrame, MakeFrames}
-use Rattle.rv32_codegen.proofs.Chunks.{skip_does, body, body_split, own_body, skip_entry, skip_inner}
-use Rattle.rv32_codegen.proofs.MovedFrames.{frame_down, sets_up}
-use Rattle.rv32_codegen.proofs.KeptFrames.{sw, homes_apart, does_is, own_lines, own_labels}
+use Rattle.rv32_codegen.proofs.Chunks.{entry_look, body, body_split, own_body, skip_entry, skip_inner}
+use Rattle.rv32_codegen.proofs.MovedFrames.{stack_made, sets_up}
+use Rattle.rv32_codegen.proofs.KeptFrames.{sw, homes_apart, does_both, own_lines, own_labels}
 
 -- ---- numbers
 
@@ -39,7 +39,7 @@ number_behind p procs number f has = sym (ap (λ b. b || has_number number procs
 past_entry : (h : Homes) (p : WordProc) (k : List LabelLine) (n : ℕ) → (p.number == n) ≡ false →
     from_label (Entry n) (proc_code h p k) ≡ from_label (Entry n) k
 past_entry h p k n f =
-    let rest = entry_code h (lines_code h p p.lines (Do Ebreak ∷ k)) in
+    let rest = entry_code h p (lines_code h p p.lines (Do Ebreak ∷ k)) in
     cond-false (p.number == n) (Some (proc_code h p k)) (from_label (Entry n) rest) f
     ∙ ap (from_label (Entry n)) (body_split h p k)
     ∙ skip_entry p.number n (body h p) k (own_body h p)
@@ -76,20 +76,21 @@ own_frame : (p : WordProc) (procs : List WordProc) (h : Homes) (homes : List Hom
 own_frame p procs h homes is alone =
     let tail = Do Ebreak ∷ homes_code procs homes in
     let lines = Do (Sw 2 1 0) ∷ lines_code h p p.lines tail in
-    let made = sum 2 2 (negative h.frame) in
+    let frame = sum 2 2 (negative h.frame) in
+    let places = shift 3 p.room in
     let good = homes_apart p h is in
     let kept = ends p.number h.frame p.room procs homes in
     let whole = homes_code (p ∷ procs) (h ∷ homes) in
     record {
       hook = hook_of p.kind;
-      made = made;
+      made = frame ++ places;
       body = lines;
-      begins = cond-true (p.number == p.number) (Some whole) (from_label (Entry p.number) (entry_code h (lines_code h p p.lines tail)))
-          (eq-eqb p.number p.number refl) ∙ ap (λ l. Some (Label (Entry p.number) (hook_of p.kind) ∷ l)) (does_is made lines);
-      makes = frame_down h.frame;
+      begins = cond-true (p.number == p.number) (Some whole) (from_label (Entry p.number) (entry_code h p (lines_code h p p.lines tail)))
+          (eq-eqb p.number p.number refl) ∙ ap (λ l. Some (Label (Entry p.number) (hook_of p.kind) ∷ l)) (does_both frame places lines);
+      makes = stack_made h.frame p.room;
       keeps = leaves (sw 2 1 0) (own_lines h p good p.lines tail kept);
       labels = λ name found e. own_labels h p good name p.lines tail found kept (no_inner procs homes p.number name alone)
-          (sym (skip_does (Inner p.number name) made lines) ∙ e);
+          (sym (entry_look (Inner p.number name) h p (lines_code h p p.lines tail)) ∙ e);
     }
 
 -- one behind the first

@@ -1,6 +1,6 @@
 -- Instructions that move x2, where frames begin, or x3, where places do.
-use Rattle.std.proofs.Common.{◌≡◌, ◌≢◌, ℕ, suc, ◌+◌, ◌*◌, ◌/◌, ◌%◌, ◌^◌, ◌<◌, List, [], ◌∷◌, length, get_or, set}
-use Rattle.std.proofs.Common.{true, Some, refl, sym, ap, subst, ◌∙◌, arith, length-set}
+use Rattle.std.proofs.Common.{◌≡◌, ◌≢◌, ℕ, suc, ◌+◌, ◌*◌, ◌/◌, ◌%◌, ◌^◌, ◌<◌, List, [], ◌∷◌, ◌++◌}
+use Rattle.std.proofs.Common.{length, get_or, set, true, Some, refl, sym, ap, subst, ◌∙◌, arith, length-set}
 use Rattle.std.specs.Prelude.{◌==◌}
 use Rattle.std.proofs.lemmas.Bool.{cond_both, eqb-true}
 use Rattle.std.proofs.lemmas.List.{get_or-set_same, get_or-set_other}
@@ -19,13 +19,14 @@ use Rattle.rv32_logic.specs.Placed.{moved}
 use Rattle.rv32_logic.proofs.ForCallers.{constant_is, holds_read, lw_goes}
 use Rattle.mid_code.specs.Memory.{data_of}
 use Rattle.rv32_codegen.specs.Code.{is_near, lower, upper, negative, sum, shift, start_code}
-use Rattle.rv32_codegen.specs.Lowering.{HoldsBehind, there, first, up_by, down_by, as_is, Moved, MovesStack, SetUp}
+use Rattle.rv32_codegen.specs.Lowering.{HoldsBehind, there, first, up_by, down_by, Moved, MovesStack, SetUp}
 use Rattle.rv32_codegen.proofs.PieceRuns.{near_is, sum_low}
 
 -- a register has another word; the others but x5 are as they were
 record Became (old new : State) (rd value : ℕ) : Type 0 where
   is : reg new rd ≡ value
   others : (r : ℕ) → r ≢ rd → r ≢ 5 → reg new r ≡ reg old r
+  long : length new.regs ≡ 32
 
 -- ---- sums
 
@@ -38,6 +39,7 @@ module _ (There : State → Type 0) (s : State) (r value : ℕ) (long : length s
       first refl refl (there (so t (record {
         is = get_or-set_same s.regs (suc r) v 0 (omega (arith, long, lt)) ∙ ap (added (reg s (suc r))) (near_is value small near);
         others = λ o other five. get_or-set_other s.regs (suc r) o v 0 other;
+        long = length-set s.regs (suc r) v ∙ long;
       })))
 
   -- x5 gets the value first
@@ -61,6 +63,7 @@ module _ (There : State → Type 0) (s : State) (r value : ℕ) (long : length s
         is = get_or-set_same two (suc r) v 0 (omega (arith, two_long, lt)) ∙ ap (λ x. added x (get_or two 5 0)) (kept (suc r) ne)
             ∙ ap (added (reg s (suc r))) five;
         others = λ o other apart. get_or-set_other two (suc r) o v 0 other ∙ kept o apart;
+        long = length-set two (suc r) v ∙ two_long;
       })))))
 
 low_sum : (a value : ℕ) → added a (value % 2 ^ 32) ≡ up_by value a
@@ -73,7 +76,7 @@ sum_comes There s r value long lt ne so =
     let w = value % 2 ^ 32 in
     let small : w < 2 ^ 32 = omega arith in
     let to : (t : State) → Became s t (suc r) (added (reg s (suc r)) w) → There t =
-    λ t b. so t (record { is = b.is ∙ low_sum (reg s (suc r)) value; others = b.others }) in
+    λ t b. so t (record { is = b.is ∙ low_sum (reg s (suc r)) value; others = b.others; long = b.long }) in
     subst (HoldsBehind There s) (sym (sum_low (suc r) (suc r) value))
     (cond_both (is_near w) (Addi (suc r) (suc r) (lower w) ∷ []) (Lui 5 (upper w) ∷ Addi 5 5 (lower w) ∷ Add (suc r) (suc r) 5 ∷ [])
     (HoldsBehind There s) (λ near. near_comes There s r w long lt ne small to near) (λ far. far_comes There s r w long lt ne small to))
@@ -84,33 +87,44 @@ lower_is address bytes = omega arith
 unmoved : (address bytes : ℕ) → address < 2 ^ 32 → bytes ≡ 0 → address ≡ up_by bytes address
 unmoved address bytes small e = omega (arith, small, e)
 
+-- the same, where it is none if it becomes no more
+shift_comes : (There : State → Type 0) (s : State) (r amount : ℕ) → length s.regs ≡ 32 → suc r < 32 → suc r ≢ 5 → reg s (suc r) < 2 ^ 32 →
+    ((t : State) → Became s t (suc r) (up_by amount (reg s (suc r))) → There t) → HoldsBehind There s (shift (suc r) amount)
+shift_comes There s r amount long lt ne small so =
+    cond_both (amount == 0) [] (sum (suc r) (suc r) amount) (HoldsBehind There s)
+    (λ e. there (so s (record {
+      is = unmoved (reg s (suc r)) amount small (eqb-true amount 0 e);
+      others = λ o other five. refl;
+      long = long;
+    })))
+    (λ e. sum_comes There s r amount long lt ne so)
+
 -- ---- frames and places
 
-frame_moves : (frame : ℕ → ℕ) (s : State) (value : ℕ) → length s.regs ≡ 32 → up_by value (reg s 2) ≡ frame (reg s 2) →
-    HoldsBehind (Moved frame as_is s) s (sum 2 2 value)
-frame_moves frame s value long is =
-    sum_comes (Moved frame as_is s) s 1 value long (omega arith) (λ e. omega (arith, e))
-    (λ t b. (b.is ∙ is, b.others 3 (λ e. omega (arith, e)) (λ e. omega (arith, e))))
+-- instructions, and then others
+behind_both : (Mid There : State → Type 0) {s : State} {a : List Instr} (b : List Instr) → HoldsBehind Mid s a →
+    ((t : State) → Mid t → HoldsBehind There t b) → HoldsBehind There s (a ++ b)
+behind_both Mid There b (there {s = t} m) go = go t m
+behind_both Mid There b (first on goes h) go = first on goes (behind_both Mid There b h go)
 
-pub frame_up : (bytes : ℕ) → MovesStack (up_by bytes) as_is (sum 2 2 bytes)
-frame_up bytes s long two three = frame_moves (up_by bytes) s bytes long refl
+-- x2 and then x3 move
+both_move : (frame places : ℕ → ℕ) (s : State) (by more : ℕ) → length s.regs ≡ 32 → reg s 3 < 2 ^ 32 →
+    up_by by (reg s 2) ≡ frame (reg s 2) → up_by more (reg s 3) ≡ places (reg s 3) → HoldsBehind (Moved frame places s) s (sum 2 2 by ++ shift 3 more)
+both_move frame places s by more long small two three =
+    let Mid : State → Type 0 = λ t. Became s t 2 (up_by by (reg s 2)) in
+    behind_both Mid (Moved frame places s) (shift 3 more) (sum_comes Mid s 1 by long (omega arith) (λ e. omega (arith, e)) (λ t b. b))
+    (λ t b.
+    let same : reg t 3 ≡ reg s 3 = b.others 3 (λ e. omega (arith, e)) (λ e. omega (arith, e)) in
+    shift_comes (Moved frame places s) t 2 more b.long (omega arith) (λ e. omega (arith, e)) (subst (λ n. n < 2 ^ 32) (sym same) small)
+    (λ u d. (d.others 2 (λ e. omega (arith, e)) (λ e. omega (arith, e)) ∙ b.is ∙ two, d.is ∙ ap (up_by more) same ∙ three)))
 
-pub frame_down : (bytes : ℕ) → MovesStack (down_by bytes) as_is (sum 2 2 (negative bytes))
-frame_down bytes s long two three = frame_moves (down_by bytes) s (negative bytes) long (lower_is (reg s 2) bytes)
+pub stack_made : (frame room : ℕ) → MovesStack (down_by frame) (up_by room) (sum 2 2 (negative frame) ++ shift 3 room)
+stack_made frame room s long two three =
+    both_move (down_by frame) (up_by room) s (negative frame) room long three (lower_is (reg s 2) frame) refl
 
-places_move : (places : ℕ → ℕ) (s : State) (value : ℕ) → length s.regs ≡ 32 → reg s 3 < 2 ^ 32 → up_by value (reg s 3) ≡ places (reg s 3) →
-    HoldsBehind (Moved as_is places s) s (shift 3 value)
-places_move places s value long small is =
-    cond_both (value == 0) [] (sum 3 3 value) (HoldsBehind (Moved as_is places s) s)
-    (λ e. there (refl, unmoved (reg s 3) value small (eqb-true value 0 e) ∙ is))
-    (λ e. sum_comes (Moved as_is places s) s 2 value long (omega arith) (λ d. omega (arith, d))
-    (λ t b. (b.others 2 (λ d. omega (arith, d)) (λ d. omega (arith, d)), b.is ∙ is)))
-
-pub places_up : (bytes : ℕ) → MovesStack as_is (up_by bytes) (shift 3 bytes)
-places_up bytes s long two three = places_move (up_by bytes) s bytes long three refl
-
-pub places_down : (bytes : ℕ) → MovesStack as_is (down_by bytes) (shift 3 (negative bytes))
-places_down bytes s long two three = places_move (down_by bytes) s (negative bytes) long three (lower_is (reg s 3) bytes)
+pub stack_left : (frame room : ℕ) → MovesStack (up_by frame) (down_by room) (sum 2 2 frame ++ shift 3 (negative room))
+stack_left frame room s long two three =
+    both_move (up_by frame) (down_by room) s frame (negative room) long three refl (lower_is (reg s 3) room)
 
 -- ---- the start
 

@@ -30,15 +30,15 @@ use Rattle.rv32_codegen.proofs.Machine.{Goes_in, then_goes, goes_within, instr_g
 -- ---- registers
 
 -- a register got a value, the others are as they were
-pub record Gets (regs new : List ℕ) (rd value frame base : ℕ) : Type 0 where
-  pub kept : Regs new frame base
+pub record Gets (regs new : List ℕ) (rd value frame places : ℕ) : Type 0 where
+  pub kept : Regs new frame places
   pub same : get_or new rd 0 ≡ value
   pub other : (r : ℕ) → r ≢ rd → get_or new r 0 ≡ get_or regs r 0
 
-pub put_gets : (regs : List ℕ) (rd value frame base : ℕ) → 4 < rd → rd < 32 → Regs regs frame base →
-    Gets regs (put regs rd value) rd value frame base
-put_gets regs rd value frame base gt lt h = record {
-  kept = put_kept regs rd value frame base gt h;
+pub put_gets : (regs : List ℕ) (rd value frame places : ℕ) → 4 < rd → rd < 32 → Regs regs frame places →
+    Gets regs (put regs rd value) rd value frame places
+put_gets regs rd value frame places gt lt h = record {
+  kept = put_kept regs rd value frame places gt h;
   same = put_same regs rd value h.good (omega (arith, gt)) lt;
   other = λ r ne. put_other regs rd r value ne;
 }
@@ -56,8 +56,8 @@ pub record Sums (regs new : List ℕ) (rd from value : ℕ) : Type 0 where
   pub other : (r : ℕ) → r ≢ rd → r ≢ 5 → get_or new r 0 ≡ get_or regs r 0
 
 -- x7 may have changed
-pub record Saves (regs new : List ℕ) (frame base : ℕ) : Type 0 where
-  pub kept : Regs new frame base
+pub record Saves (regs new : List ℕ) (frame places : ℕ) : Type 0 where
+  pub kept : Regs new frame places
   pub other : (r : ℕ) → r ≢ 7 → get_or new r 0 ≡ get_or regs r 0
 
 -- twelve bits with their sign that are the word
@@ -101,17 +101,17 @@ module _ (live : Lives) (whole : List LabelLine) (at : Addresses) (m : Memory) (
 
   -- ---- constants
 
-  constant_near : (regs : List ℕ) (rd value frame base : ℕ) (rest : List LabelLine) → Quiet rest → 4 < rd → rd < 32 → value < 2 ^ 32 →
+  constant_near : (regs : List ℕ) (rd value frame places : ℕ) (rest : List LabelLine) → Quiet rest → 4 < rd → rd < 32 → value < 2 ^ 32 →
       is_near value ≡ true →
-      Regs regs frame base → Leads 1 2 regs (Addi rd 0 (lower value) ∷ []) rest (λ new. Gets regs new rd value frame base)
-  constant_near regs rd value frame base rest quiet gt lt fits near h =
+      Regs regs frame places → Leads 1 2 regs (Addi rd 0 (lower value) ∷ []) rest (λ new. Gets regs new rd value frame places)
+  constant_near regs rd value frame places rest quiet gt lt fits near h =
       let v = added (get_or regs 0 0) (signed12 (lower value)) in
       let v_is : v ≡ value = ap (λ n. added n (signed12 (lower value))) h.good.none ∙ ap (added 0) (near_is value fits near)
       ∙ (let g : (0 + value) % 2 ^ 32 ≡ value = omega (arith, fits) in g) in
       let one = writes live whole at m ws input regs (Addi rd 0 (lower value)) rd v rest quiet refl in (
         put regs rd v,
         goes_within live whole at 1 1 1 2 _ _ (omega arith) (omega arith) one,
-        subst (λ n. Gets regs (put regs rd v) rd n frame base) v_is (put_gets regs rd v frame base gt lt h),
+        subst (λ n. Gets regs (put regs rd v) rd n frame places) v_is (put_gets regs rd v frame places gt lt h),
       )
 
   -- whatever the registers hold
@@ -134,10 +134,10 @@ module _ (live : Lives) (whole : List LabelLine) (at : Addresses) (m : Memory) (
         },
       )
 
-  constant_far : (regs : List ℕ) (rd value frame base : ℕ) (rest : List LabelLine) → Quiet rest → 4 < rd → rd < 32 → value < 2 ^ 32 →
-      Regs regs frame base →
-      Leads 1 2 regs (Lui rd (upper value) ∷ Addi rd rd (lower value) ∷ []) rest (λ new. Gets regs new rd value frame base)
-  constant_far regs rd value frame base rest quiet gt lt fits h =
+  constant_far : (regs : List ℕ) (rd value frame places : ℕ) (rest : List LabelLine) → Quiet rest → 4 < rd → rd < 32 → value < 2 ^ 32 →
+      Regs regs frame places →
+      Leads 1 2 regs (Lui rd (upper value) ∷ Addi rd rd (lower value) ∷ []) rest (λ new. Gets regs new rd value frame places)
+  constant_far regs rd value frame places rest quiet gt lt fits h =
       let x = constant_puts regs rd value rest quiet (omega (arith, gt)) lt fits h.good in
       let y = x.2 in (
         x.0,
@@ -146,7 +146,7 @@ module _ (live : Lives) (whole : List LabelLine) (at : Addresses) (m : Memory) (
           kept = record {
             good = y.good;
             frame_is = y.other 2 (λ e. omega (arith, e, gt)) ∙ h.frame_is;
-            base_is = y.other 3 (λ e. omega (arith, e, gt)) ∙ h.base_is;
+            places_is = y.other 3 (λ e. omega (arith, e, gt)) ∙ h.places_is;
             data_is = y.other 4 (λ e. omega (arith, e, gt)) ∙ h.data_is;
           };
           same = y.same;
@@ -154,29 +154,29 @@ module _ (live : Lives) (whole : List LabelLine) (at : Addresses) (m : Memory) (
         },
       )
 
-  constant_goes : (regs : List ℕ) (rd value frame base : ℕ) (rest : List LabelLine) → Quiet rest → 4 < rd → rd < 32 → value < 2 ^ 32 →
-      Regs regs frame base → Leads 1 2 regs (constant rd value) rest (λ new. Gets regs new rd value frame base)
-  constant_goes regs rd value frame base rest quiet gt lt fits h =
+  constant_goes : (regs : List ℕ) (rd value frame places : ℕ) (rest : List LabelLine) → Quiet rest → 4 < rd → rd < 32 → value < 2 ^ 32 →
+      Regs regs frame places → Leads 1 2 regs (constant rd value) rest (λ new. Gets regs new rd value frame places)
+  constant_goes regs rd value frame places rest quiet gt lt fits h =
       cond_both (is_near value) (Addi rd 0 (lower value) ∷ []) (Lui rd (upper value) ∷ Addi rd rd (lower value) ∷ [])
-      (λ is. Leads 1 2 regs is rest (λ new. Gets regs new rd value frame base))
-      (λ near. constant_near regs rd value frame base rest quiet gt lt fits near h)
-      (λ far. constant_far regs rd value frame base rest quiet gt lt fits h)
+      (λ is. Leads 1 2 regs is rest (λ new. Gets regs new rd value frame places))
+      (λ near. constant_near regs rd value frame places rest quiet gt lt fits near h)
+      (λ far. constant_far regs rd value frame places rest quiet gt lt fits h)
 
   -- any constant is one of 32 bits
-  pub constant_any : (regs : List ℕ) (rd value frame base : ℕ) (rest : List LabelLine) → Quiet rest → 4 < rd → rd < 32 → Regs regs frame base →
-      Leads 1 2 regs (constant rd value) rest (λ new. Gets regs new rd (value % 2 ^ 32) frame base)
-  constant_any regs rd value frame base rest quiet gt lt h =
-      subst (λ is. Leads 1 2 regs is rest (λ new. Gets regs new rd (value % 2 ^ 32) frame base)) (sym (constant_low rd value))
-      (constant_goes regs rd (value % 2 ^ 32) frame base rest quiet gt lt (omega arith) h)
+  pub constant_any : (regs : List ℕ) (rd value frame places : ℕ) (rest : List LabelLine) → Quiet rest → 4 < rd → rd < 32 →
+      Regs regs frame places → Leads 1 2 regs (constant rd value) rest (λ new. Gets regs new rd (value % 2 ^ 32) frame places)
+  constant_any regs rd value frame places rest quiet gt lt h =
+      subst (λ is. Leads 1 2 regs is rest (λ new. Gets regs new rd (value % 2 ^ 32) frame places)) (sym (constant_low rd value))
+      (constant_goes regs rd (value % 2 ^ 32) frame places rest quiet gt lt (omega arith) h)
 
   -- ---- addresses of data
 
-  pub datum_any : (regs : List ℕ) (rd address frame base : ℕ) (rest : List LabelLine) → Quiet rest → 4 < rd → rd < 32 → address < 2 ^ 32 →
-      Regs regs frame base → Leads 1 2 regs (datum rd address) rest (λ new. Gets regs new rd address frame base)
-  datum_any regs rd address frame base rest quiet gt lt fits h =
+  pub datum_any : (regs : List ℕ) (rd address frame places : ℕ) (rest : List LabelLine) → Quiet rest → 4 < rd → rd < 32 → address < 2 ^ 32 →
+      Regs regs frame places → Leads 1 2 regs (datum rd address) rest (λ new. Gets regs new rd address frame places)
+  datum_any regs rd address frame places rest quiet gt lt fits h =
       let offset = (address + negative statics_at) % 2 ^ 32 in
       cond_both (is_near offset) (Addi rd 4 (lower offset) ∷ []) (constant rd address)
-      (λ is. Leads 1 2 regs is rest (λ new. Gets regs new rd address frame base))
+      (λ is. Leads 1 2 regs is rest (λ new. Gets regs new rd address frame places))
       (λ near.
       let v = added (get_or regs 4 0) (signed12 (lower offset)) in
       let v_is : v ≡ address = ap (λ n. added n (signed12 (lower offset))) h.data_is ∙ ap (added statics_at) (near_is offset (omega arith) near)
@@ -184,9 +184,9 @@ module _ (live : Lives) (whole : List LabelLine) (at : Addresses) (m : Memory) (
       let one = writes live whole at m ws input regs (Addi rd 4 (lower offset)) rd v rest quiet refl in (
         put regs rd v,
         goes_within live whole at 1 1 1 2 _ _ (omega arith) (omega arith) one,
-        subst (λ n. Gets regs (put regs rd v) rd n frame base) v_is (put_gets regs rd v frame base gt lt h),
+        subst (λ n. Gets regs (put regs rd v) rd n frame places) v_is (put_gets regs rd v frame places gt lt h),
       ))
-      (λ far. constant_goes regs rd address frame base rest quiet gt lt fits h)
+      (λ far. constant_goes regs rd address frame places rest quiet gt lt fits h)
 
   -- ---- sums
 
@@ -310,26 +310,26 @@ module _ (live : Lives) (whole : List LabelLine) (at : Addresses) (m : Memory) (
       (ap (led live whole at (run_at regs m ws input (Do (Sw rs1 rs offset) ∷ rest)) rest) goes)
 
   -- the upper part of an address, and the frame
-  record Reached (regs new : List ℕ) (rd offset frame base : ℕ) : Type 0 where
-    kept : Regs new frame base
+  record Reached (regs new : List ℕ) (rd offset frame places : ℕ) : Type 0 where
+    kept : Regs new frame places
     place : added (get_or new rd 0) (signed12 (lower offset)) ≡ added frame offset
     other : (r : ℕ) → r ≢ rd → get_or new r 0 ≡ get_or regs r 0
 
   sum_is : (high low frame offset : ℕ) → added high low ≡ offset → added (added high frame) low ≡ added frame offset
   sum_is high low frame offset e = omega (arith, e)
 
-  reach_goes : (regs : List ℕ) (rd offset frame base : ℕ) (rest : List LabelLine) → Quiet rest → 4 < rd → rd < 32 → offset < 2 ^ 32 →
-      Regs regs frame base →
-      Leads 2 2 regs (Lui rd (upper offset) ∷ Add rd rd 2 ∷ []) rest (λ new. Reached regs new rd offset frame base)
-  reach_goes regs rd offset frame base rest quiet gt lt fits h =
+  reach_goes : (regs : List ℕ) (rd offset frame places : ℕ) (rest : List LabelLine) → Quiet rest → 4 < rd → rd < 32 → offset < 2 ^ 32 →
+      Regs regs frame places →
+      Leads 2 2 regs (Lui rd (upper offset) ∷ Add rd rd 2 ∷ []) rest (λ new. Reached regs new rd offset frame places)
+  reach_goes regs rd offset frame places rest quiet gt lt fits h =
       let high = upper offset * 2 ^ 12 in
       let low = signed12 (lower offset) in
       let one = put regs rd high in
       let v = added (get_or one rd 0) (get_or one 2 0) in
-      let x = put_gets regs rd high frame base gt lt h in
+      let x = put_gets regs rd high frame places gt lt h in
       let a = writes live whole at m ws input regs (Lui rd (upper offset)) rd high (Do (Add rd rd 2) ∷ rest) refl refl in
       let b = writes live whole at m ws input one (Add rd rd 2) rd v rest quiet refl in
-      let y = put_gets one rd v frame base gt lt x.kept in
+      let y = put_gets one rd v frame places gt lt x.kept in
       let v_is : v ≡ added high frame = ap (λ n. added n (get_or one 2 0)) x.same ∙ ap (added high) x.kept.frame_is in (
         put one rd v,
         then_goes live whole at 1 1 1 1 _ _ _ a b,
@@ -340,25 +340,25 @@ module _ (live : Lives) (whole : List LabelLine) (at : Addresses) (m : Memory) (
         },
       )
 
-  near_place : (regs : List ℕ) (offset frame base : ℕ) → offset < 2 ^ 32 → is_near offset ≡ true → Regs regs frame base →
+  near_place : (regs : List ℕ) (offset frame places : ℕ) → offset < 2 ^ 32 → is_near offset ≡ true → Regs regs frame places →
       added (get_or regs 2 0) (signed12 (lower offset)) ≡ added frame offset
-  near_place regs offset frame base fits near h = ap (λ n. added n (signed12 (lower offset))) h.frame_is ∙ ap (added frame) (near_is offset fits near)
+  near_place regs offset frame places fits near h = ap (λ n. added n (signed12 (lower offset))) h.frame_is ∙ ap (added frame) (near_is offset fits near)
 
   -- a word that is so far from where the frame begins, into a register
-  module _ (regs : List ℕ) (rd offset k w frame base : ℕ) (rest : List LabelLine) (quiet : Quiet rest) (fits : offset < 2 ^ 32)
-      (place : added frame offset ≡ word_place m k) (within : k < length ws) (room : Fits m ws) (h : Regs regs frame base) where
+  module _ (regs : List ℕ) (rd offset k w frame places : ℕ) (rest : List LabelLine) (quiet : Quiet rest) (fits : offset < 2 ^ 32)
+      (place : added frame offset ≡ word_place m k) (within : k < length ws) (room : Fits m ws) (h : Regs regs frame places) where
     pub load_goes : 4 < rd → rd < 32 → get_or ws k 0 ≡ w → w < 2 ^ 32 →
-        Leads 1 3 regs (load rd offset) rest (λ new. Gets regs new rd w frame base)
+        Leads 1 3 regs (load rd offset) rest (λ new. Gets regs new rd w frame places)
     load_goes gt lt word_is small =
         cond_both (is_near offset) (Lw rd 2 (lower offset) ∷ []) (Lui rd (upper offset) ∷ Add rd rd 2 ∷ Lw rd rd (lower offset) ∷ [])
-        (λ is. Leads 1 3 regs is rest (λ new. Gets regs new rd w frame base))
+        (λ is. Leads 1 3 regs is rest (λ new. Gets regs new rd w frame places))
         (λ near.
-        let a = lw_at regs rd 2 (lower offset) k w rest quiet (near_place regs offset frame base fits near h ∙ place) within word_is small room in
-        (put regs rd w, goes_within live whole at 1 1 1 3 _ _ (omega arith) (omega arith) a, put_gets regs rd w frame base gt lt h))
+        let a = lw_at regs rd 2 (lower offset) k w rest quiet (near_place regs offset frame places fits near h ∙ place) within word_is small room in
+        (put regs rd w, goes_within live whole at 1 1 1 3 _ _ (omega arith) (omega arith) a, put_gets regs rd w frame places gt lt h))
         (λ far.
-        let x = reach_goes regs rd offset frame base (Do (Lw rd rd (lower offset)) ∷ rest) refl gt lt fits h in
+        let x = reach_goes regs rd offset frame places (Do (Lw rd rd (lower offset)) ∷ rest) refl gt lt fits h in
         let a = lw_at x.0 rd rd (lower offset) k w rest quiet (x.2.place ∙ place) within word_is small room in
-        let y = put_gets x.0 rd w frame base gt lt x.2.kept in (
+        let y = put_gets x.0 rd w frame places gt lt x.2.kept in (
           put x.0 rd w,
           goes_within live whole at 3 1 3 3 _ _ (omega arith) (omega arith) (then_goes live whole at 2 1 2 1 _ _ _ x.1 a),
           record { kept = y.kept; same = y.same; other = λ r ne. y.other r ne ∙ x.2.other r ne },
@@ -367,16 +367,16 @@ module _ (live : Lives) (whole : List LabelLine) (at : Addresses) (m : Memory) (
     -- a register into such a word
     pub save_goes : rd ≢ 7 → get_or regs rd 0 ≡ w → (new : List ℕ)
         × Goes_in live whole at 1 3 (run_at regs m ws input (does (save rd offset) rest)) (run_at new m (set ws k (w % 2 ^ 32)) input rest)
-        × Saves regs new frame base
+        × Saves regs new frame places
     save_goes ne word_is =
         cond_both (is_near offset) (Sw 2 rd (lower offset) ∷ []) (Lui 7 (upper offset) ∷ Add 7 7 2 ∷ Sw 7 rd (lower offset) ∷ [])
         (λ is. (new : List ℕ) × Goes_in live whole at 1 3 (run_at regs m ws input (does is rest)) (run_at new m (set ws k (w % 2 ^ 32)) input rest)
-        × Saves regs new frame base)
+        × Saves regs new frame places)
         (λ near.
-        let a = sw_at regs 2 rd (lower offset) k w rest quiet (near_place regs offset frame base fits near h ∙ place) within word_is room in
+        let a = sw_at regs 2 rd (lower offset) k w rest quiet (near_place regs offset frame places fits near h ∙ place) within word_is room in
         (regs, goes_within live whole at 1 1 1 3 _ _ (omega arith) (omega arith) a, record { kept = h; other = λ r _. refl }))
         (λ far.
-        let x = reach_goes regs 7 offset frame base (Do (Sw 7 rd (lower offset)) ∷ rest) refl (omega arith) (omega arith) fits h in
+        let x = reach_goes regs 7 offset frame places (Do (Sw 7 rd (lower offset)) ∷ rest) refl (omega arith) (omega arith) fits h in
         let a = sw_at x.0 7 rd (lower offset) k w rest quiet (x.2.place ∙ place) within (x.2.other rd ne ∙ word_is) room in (
           x.0,
           goes_within live whole at 3 1 3 3 _ _ (omega arith) (omega arith) (then_goes live whole at 2 1 2 1 _ _ _ x.1 a),

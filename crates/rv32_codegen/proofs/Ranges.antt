@@ -21,7 +21,7 @@ use Rattle.reg_scan.specs.declared.homes.Home.TheVariants.{Reg, Frame}
 use Rattle.reg_scan.specs.declared.homes.Homes.{Homes}
 use Rattle.reg_scan.specs.Homes.{or_none, home_of, IsPlace, IsHomes}
 use Rattle.rv32_codegen.specs.Code.{does, is_near, lower, upper, negative, constant, datum, sum, shift, load, save, operate, fetch, store, stream_number}
-use Rattle.rv32_codegen.specs.Code.{seat, bring, move, settle, give, target, left_of, right_of, argument_at, datum_at, bring_both, move_range}
+use Rattle.rv32_codegen.specs.Code.{seat, bring, move, settle, give, target, left_of, right_of, argument_at, place_at, datum_at, bring_both, move_range}
 use Rattle.rv32_codegen.specs.Code.{is_leaf, restore, keep, line_code, lines_code, homes_code, code_of}
 use Rattle.rv32_codegen.specs.Lowering.{AllHomes}
 use Rattle.rv32_codegen.proofs.Frees.{free_small}
@@ -182,7 +182,7 @@ module _ (h : Homes) (good : (v : ℕ) → IsSmall (home_of h v)) where
       fields_two (bring 6 (home_of h from)) (sum (target h to) (right_of h from) value) _ (in_bring 6 (home_of h from) (omega arith))
       (in_sum (target h to) (right_of h from) value (small_target to) (small_right from)) (fields_keep to k g)
   fields_line p (word.Place to a) k g =
-      fields_does (sum (target h to) 3 a) _ (in_sum (target h to) 3 a (small_target to) (omega arith)) (fields_keep to k g)
+      fields_does (sum (target h to) 3 (place_at p a)) _ (in_sum (target h to) 3 (place_at p a) (small_target to) (omega arith)) (fields_keep to k g)
   fields_line p (word.Datum to a) k g =
       fields_does (datum (target h to) (datum_at p a)) _ (in_datum (target h to) (datum_at p a) (small_target to)) (fields_keep to k g)
   fields_line p (word.Load to a size) k g =
@@ -194,13 +194,12 @@ module _ (h : Homes) (good : (v : ℕ) → IsSmall (home_of h v)) where
   fields_line p (word.Argument index from) k g =
       fields_two (bring 5 (home_of h from)) (save (left_of h from) (argument_at index)) k (in_bring 5 (home_of h from) (omega arith))
       (in_save (left_of h from) (argument_at index) (small_left from)) g
-  fields_line p (word.Call to callee) k g =
-      fields_does (shift 3 p.room) _ (in_shift 3 p.room (omega arith))
-      (omega arith, fields_does (shift 3 (negative p.room)) _ (in_shift 3 (negative p.room) (omega arith)) (fields_give 10 to k (omega arith) g))
+  fields_line p (word.Call to callee) k g = (omega arith, fields_give 10 to k (omega arith) g)
   fields_line p (word.Return from) k g =
       fields_two (move 10 (home_of h from)) (restore (is_leaf p.lines)) _ (in_move 10 (home_of h from) (omega arith) (good from))
       (in_restore (is_leaf p.lines))
-      (fields_does (sum 2 2 h.frame) _ (in_sum 2 2 h.frame (omega arith) (omega arith)) ((omega arith, omega arith, omega arith), g))
+      (fields_two (sum 2 2 h.frame) (shift 3 (negative p.room)) _ (in_sum 2 2 h.frame (omega arith) (omega arith))
+      (in_shift 3 (negative p.room) (omega arith)) ((omega arith, omega arith, omega arith), g))
   fields_line p (word.Read to a len) k g =
       fields_range a len _ ((omega arith, omega arith, omega arith), ((omega arith, omega arith, omega arith), (tt, fields_give 10 to k (omega arith) g)))
   fields_line p (word.Write stream a len) k g =
@@ -219,7 +218,8 @@ small_place : (frame : ℕ) (home : Home) → IsPlace frame home → IsSmall hom
 small_place frame (Reg number) h = free_small number h
 small_place frame (Frame at) h = tt
 
-small_list : (homes : List Home) → ((v : ℕ) → v < length homes → IsSmall (or_none (slice_get homes v))) → (v : ℕ) → IsSmall (or_none (slice_get homes v))
+small_list : (homes : List Home) → ((v : ℕ) → v < length homes → IsSmall (or_none (slice_get homes v))) → (v : ℕ) →
+    IsSmall (or_none (slice_get homes v))
 small_list [] h v = tt
 small_list (home ∷ homes) h zero = h 0 (omega arith)
 small_list (home ∷ homes) h (suc v) = small_list homes (λ w lt. h (suc w) (omega (arith, lt))) v
@@ -234,12 +234,15 @@ homes_fields (p ∷ procs) (h ∷ homes) all =
     let good = small_homes p h all.0 in
     let rest = homes_fields procs homes all.1 in (
       tt,
-      fields_does (sum 2 2 (negative h.frame)) _ (in_sum 2 2 (negative h.frame) (omega arith) (omega arith))
-          ((omega arith, omega arith, omega arith), fields_lines h good p p.lines _ (tt, rest)),
+      fields_two (sum 2 2 (negative h.frame)) (shift 3 p.room) _ (in_sum 2 2 (negative h.frame) (omega arith) (omega arith))
+          (in_shift 3 p.room (omega arith)) ((omega arith, omega arith, omega arith), fields_lines h good p p.lines _ (tt, rest)),
     )
 
 pub code_fields : (procs : List WordProc) (homes : List Homes) → AllHomes procs homes → AreLines (code_of procs homes)
 code_fields procs homes all = (
   (omega arith, omega arith),
-  ((omega arith, omega arith, omega arith), ((omega arith, omega arith), ((omega arith, omega arith, omega arith), (omega arith, homes_fields procs homes all)))),
+  (
+    (omega arith, omega arith, omega arith),
+    ((omega arith, omega arith), ((omega arith, omega arith, omega arith), (omega arith, homes_fields procs homes all))),
+  ),
 )

@@ -1,5 +1,5 @@
 -- What returns of word code do, their label code does.
-use Rattle.std.proofs.Common.{◌≡◌, ℕ, ◌+◌, ◌*◌, ◌/◌, ◌%◌, ◌^◌, ◌<◌, ◌≤◌, inl, inr}
+use Rattle.std.proofs.Common.{◌≡◌, ◌≢◌, ℕ, ◌+◌, ◌*◌, ◌/◌, ◌%◌, ◌^◌, ◌<◌, inl, inr}
 use Rattle.std.proofs.Common.{List, [], ◌∷◌, length, get_or, Bool, true, false}
 use Rattle.std.proofs.Common.{Some, refl, sym, ap, subst, ◌∙◌, arith}
 use Rattle.std.proofs.lemmas.Bool.{true≢false}
@@ -17,7 +17,6 @@ use Rattle.rv32_logic.specs.Registers.{put, IsRegs}
 use Rattle.rv32_logic.proofs.ForCallers.{put_regs, put_same, plain_address}
 use Rattle.mid_code.specs.declared.word.WordInstr.{WordInstr}
 use Rattle.mid_code.specs.declared.word.WordInstr.TheVariants as word
-use Rattle.mid_code.specs.declared.word.WordProc.{WordProc}
 use Rattle.mid_code.specs.Memory.{Memory}
 use Rattle.reg_scan.specs.Alive.{Alive, read_by}
 use Rattle.reg_scan.specs.Homes.{home_of}
@@ -29,7 +28,7 @@ use Rattle.rv32_codegen.proofs.Machine.{goes_within}
 use Rattle.rv32_codegen.proofs.PieceRuns.{Leads, Puts, shift_any, sum_any, lw_at}
 use Rattle.rv32_codegen.proofs.Chunks.{quiet_lines}
 use Rattle.rv32_codegen.proofs.Lookups.{behind, none_some}
-use Rattle.rv32_codegen.proofs.Frames.{size, IsLaid, saved, HasWord, length-saved, saved_outside, Within}
+use Rattle.rv32_codegen.proofs.Frames.{size, saved, HasWord, length-saved, saved_outside, places_end, Within}
 use Rattle.rv32_codegen.proofs.Frames.{code_here, Waits, Linked, linked_inside, linked_kept, put_held}
 use Rattle.rv32_codegen.proofs.Frames.{Setting, whole, True, Sim}
 use Rattle.rv32_codegen.proofs.HomeRuns.{home_gives, alike_refl}
@@ -63,7 +62,7 @@ module _ (g : Setting) where
 
   return_true : (t : WordState) (lines : List WordInstr) (regs new ws : List ℕ) (j a : ℕ) (c : WordFrame) (cs : List WordFrame)
       (f : True g t lines regs ws j) →
-      (x : Waiting t ws j c cs) → Above t ws j c cs → Regs new (word_place t.memory (j + size (homes g t))) c.base →
+      (x : Waiting t ws j c cs) → Above t ws j c cs → Regs new (word_place t.memory (j + size (homes g t))) (places_end c) →
       HasWord new (home_of (g.lay c.proc.number) c.awaits) (a % 2 ^ 32) →
       True g (return_state t a c cs) c.left new (saved ws (j + size (homes g t)) (home_of (g.lay c.proc.number) c.awaits) (a % 2 ^ 32))
       (j + size (homes g t))
@@ -80,7 +79,6 @@ module _ (g : Setting) where
       record {
         fits = fits_words t.memory ws ws' long f.fits;
         kept = kept;
-        base_fits = x.base_fits;
         sits = x.sits;
         held = put_held g.lay g.procs new ws n c.proc c.left c.vars c.awaits a laid x.awaits inside
             (λ v w lives ne e. let y = x.rests v w lives ne e in (y.0, (y.1.0 new, y.1.1))) x.apart has;
@@ -111,24 +109,28 @@ module _ (g : Setting) where
       )
 
   -- what stands where a call has returned
-  record Left (regs : List ℕ) (frame base a : ℕ) : Type 0 where
-    kept : Regs regs frame base
+  record Left (regs : List ℕ) (frame places a : ℕ) : Type 0 where
+    kept : Regs regs frame places
     ten : get_or regs 10 0 ≡ a
 
-  -- the end of a procedure: the frame goes, and the mark behind the call is next
+  places_gone : (base room : ℕ) → base < 2 ^ 32 → added (added base room) (negative room) ≡ base
+  places_gone base room small = omega (arith, small)
+
+  -- the end of a procedure: frame and places go, and the mark behind the call is next
   leaves : (t : WordState) (from : ℕ) (rest : List WordInstr) (regs ws : List ℕ) (j a : ℕ) (f : True g t (word.Return from ∷ rest) regs ws j)
       (k after : List LabelLine)
-      → t.frame.vars from ≡ Some a → get_or ws j 0 ≡ g.at (mark_before after) → Within (whole g) (Jump 1 (Entry t.frame.proc.number) ∷ after) →
-      Quiet after →
-      (new : List ℕ) × Goes_in g.live (whole g) g.at 3 8
+      → t.frame.vars from ≡ Some a → t.frame.base < 2 ^ 32 → get_or ws j 0 ≡ g.at (mark_before after) →
+      Within (whole g) (Jump 1 (Entry t.frame.proc.number) ∷ after) → Quiet after →
+      (new : List ℕ) × Goes_in g.live (whole g) g.at 3 11
       (run_at regs t.memory ws t.input (line_code (homes g t) t.frame.proc (word.Return from) k)) (run_at new t.memory ws t.input after)
       × Left new (word_place t.memory (j + size (homes g t))) t.frame.base a
-  leaves t from rest regs ws j a f k after e returns stands quiet =
+  leaves t from rest regs ws j a f k after e fits returns stands quiet =
       let h = homes g t in
+      let p = t.frame.proc in
       let m = t.memory in
       let fr = word_place m j in
       let base = t.frame.base in
-      let leaf = is_leaf t.frame.proc.lines in
+      let leaf = is_leaf p.lines in
       let n = j + size h in
       let inside = inside_of g t (word.Return from ∷ rest) regs ws j f in
       let laid = laid_of g t (word.Return from ∷ rest) f.sits in
@@ -136,73 +138,58 @@ module _ (g : Setting) where
       let frame = laid.frame in
       let most = f.fits.stack_most in
       let return = g.at (mark_before after) in
-      let small = return_fits g t.frame.proc.number after stands in
-      let fourth = Do (Jalr 0 1 0) ∷ k in
+      let small = return_fits g p.number after stands in
+      let fifth = Do (Jalr 0 1 0) ∷ k in
+      let fourth = does (shift 3 (negative p.room)) fifth in
       let third = does (sum 2 2 h.frame) fourth in
       let second = does (restore leaf) third in
-      let quiet_third = quiet_does (sum 2 2 h.frame) fourth refl in
-      let r = run_at regs m ws t.input (line_code h t.frame.proc (word.Return from) k) in
+      let quiet_fourth = quiet_does (shift 3 (negative p.room)) fifth refl in
+      let quiet_third = quiet_does (sum 2 2 h.frame) fourth quiet_fourth in
+      let r = run_at regs m ws t.input (line_code h p (word.Return from) k) in
       let within : j < length ws = omega (arith, inside, some) in
-      let lives : Alive t.frame.proc.lines from (word.Return from ∷ rest) = read_by (inl refl) in
+      let lives : Alive p.lines from (word.Return from ∷ rest) = read_by (inl refl) in
       let x = var_moves g t (word.Return from ∷ rest) regs ws j f regs 10 from a second (quiet_does (restore leaf) third quiet_third) (omega arith)
       (omega arith) lives e f.kept (alike_refl regs) in
       let still : leaf ≡ true → get_or x.0 1 0 ≡ return = λ b. x.2.other 1 (λ e. omega (arith, e)) ∙ f.leaf b refl ∙ returns in
       let y = restores m ws t.input x.0 j return leaf third quiet_third f.fits within x.2.kept.good x.2.kept.frame_is returns small still in
       let one = y.0 in
-      let z = sum_any g.live (whole g) g.at m ws t.input one 2 2 h.frame fourth refl (omega arith) (omega arith) (λ e. omega (arith, e)) y.2.good in
-      let at2 : get_or z.0 2 0 ≡ word_place m n =
+      let z = sum_any g.live (whole g) g.at m ws t.input one 2 2 h.frame fourth quiet_fourth (omega arith) (omega arith) (λ e. omega (arith, e)) y.2.good in
+      let two = z.0 in
+      let at2 : get_or two 2 0 ≡ word_place m n =
       z.2.same ∙ ap (λ i. added i h.frame) (y.2.other 2 (λ e. omega (arith, e)) ∙ x.2.kept.frame_is)
       ∙ (let w : added fr h.frame ≡ word_place m n = omega (arith, inside, most, frame) in w) in
-      let kept : Regs z.0 (word_place m n) base = record {
-        good = z.2.good;
-        frame_is = at2;
-        base_is = z.2.other 3 (λ e. omega (arith, e)) (λ e. omega (arith, e)) ∙ y.2.other 3 (λ e. omega (arith, e)) ∙ x.2.kept.base_is;
-        data_is = z.2.other 4 (λ e. omega (arith, e)) (λ e. omega (arith, e)) ∙ y.2.other 4 (λ e. omega (arith, e)) ∙ x.2.kept.data_is;
+      let at3 : get_or two 3 0 ≡ places_end t.frame =
+      z.2.other 3 (λ e. omega (arith, e)) (λ e. omega (arith, e)) ∙ y.2.other 3 (λ e. omega (arith, e)) ∙ x.2.kept.places_is in
+      let u = shift_any g.live (whole g) g.at m ws t.input two 3 (negative p.room) fifth refl (omega arith) (omega arith) (λ e. omega (arith, e))
+      (subst (λ i. i < 2 ^ 32) (sym at3) (omega arith)) z.2.good in
+      let new = u.0 in
+      let same : (i : ℕ) → i ≢ 3 → i ≢ 2 → i ≢ 5 → get_or new i 0 ≡ get_or one i 0 =
+      λ i third second fifth. u.2.other i third fifth ∙ z.2.other i second fifth in
+      let kept : Regs new (word_place m n) base = record {
+        good = u.2.good;
+        frame_is = u.2.other 2 (λ e. omega (arith, e)) (λ e. omega (arith, e)) ∙ at2;
+        places_is = u.2.same ∙ ap (λ i. added i (negative p.room)) at3 ∙ places_gone base p.room fits;
+        data_is = same 4 (λ e. omega (arith, e)) (λ e. omega (arith, e)) (λ e. omega (arith, e)) ∙ y.2.other 4 (λ e. omega (arith, e))
+            ∙ x.2.kept.data_is;
       } in
-      let at1 : get_or z.0 1 0 ≡ return = z.2.other 1 (λ e. omega (arith, e)) (λ e. omega (arith, e)) ∙ y.2.same in
-      let at10 : get_or z.0 10 0 ≡ a =
-      z.2.other 10 (λ e. omega (arith, e)) (λ e. omega (arith, e)) ∙ y.2.other 10 (λ e. omega (arith, e)) ∙ x.2.same in
-      let mid = run_at z.0 m ws t.input fourth in
-      let to = run_at z.0 m ws t.input after in
-      let marked : from_mark g.at (added (get_or z.0 1 0) (signed12 0) / 2 * 2) (whole g) ≡ Some after =
-      ap (λ i. from_mark g.at i (whole g)) (target_is (get_or z.0 1 0) return at1 (return_whole g t.frame.proc.number after stands) small)
-      ∙ returns_to g t.frame.proc.number after stands in
+      let at1 : get_or new 1 0 ≡ return = same 1 (λ e. omega (arith, e)) (λ e. omega (arith, e)) (λ e. omega (arith, e)) ∙ y.2.same in
+      let at10 : get_or new 10 0 ≡ a =
+      same 10 (λ e. omega (arith, e)) (λ e. omega (arith, e)) (λ e. omega (arith, e)) ∙ y.2.other 10 (λ e. omega (arith, e)) ∙ x.2.same in
+      let mid = run_at new m ws t.input fifth in
+      let to = run_at new m ws t.input after in
+      let marked : from_mark g.at (added (get_or new 1 0) (signed12 0) / 2 * 2) (whole g) ≡ Some after =
+      ap (λ i. from_mark g.at i (whole g)) (target_is (get_or new 1 0) return at1 (return_whole g p.number after stands) small)
+      ∙ returns_to g p.number after stands in
       let back : Goes_in g.live (whole g) g.at 1 1 mid to =
-      steps_one (step g.live (whole g) g.at) mid to [] 1 1 (ap (λ o. goto (state_of z.0 m ws) o t.input) marked
+      steps_one (step g.live (whole g) g.at) mid to [] 1 1 (ap (λ o. goto (state_of new m ws) o t.input) marked
       ∙ ap (λ es. Goes es 1 to) quiet) (omega arith) in
       let at_second = run_at x.0 m ws t.input second in
       let at_third = run_at one m ws t.input third in
       let to_third : Goes_in g.live (whole g) g.at 1 4 r at_third = then_goes g.live (whole g) g.at 1 0 3 1 r at_second at_third x.1 y.1 in
-      let to_mid : Goes_in g.live (whole g) g.at 2 7 r mid = then_goes g.live (whole g) g.at 1 1 4 3 r at_third mid to_third z.1 in
-      (z.0, then_goes g.live (whole g) g.at 2 1 7 1 r mid to to_mid back, record { kept = kept; ten = at10 })
-
-  -- behind a call: the places of the callee go, and the result comes to its variable's home
-  resumes : (m : Memory) (ws input regs : List ℕ) (n to base a : ℕ) (q : WordProc) (code : List LabelLine) → Fits m ws → IsLaid (g.lay q.number) q →
-      n + size (g.lay q.number) ≤ length ws → to < q.vars → base < 2 ^ 32 → Left regs (word_place m n) (added base q.room) a → Quiet code →
-      (new : List ℕ) × Goes_in g.live (whole g) g.at 1 6 (run_at regs m ws input (after_call (g.lay q.number) q to code))
-      (run_at new m (saved ws n (home_of (g.lay q.number) to) (a % 2 ^ 32)) input code) × Regs new (word_place m n) base
-      × HasWord new (home_of (g.lay q.number) to) (a % 2 ^ 32)
-  resumes m ws input regs n to base a q code fits laid inside lt small left quiet =
-      let h = g.lay q.number in
-      let fr = word_place m n in
-      let old = added base q.room in
-      let home = home_of h to in
-      let second = does (give 10 home) code in
-      let low : old < 2 ^ 32 = omega arith in
-      let x = shift_any g.live (whole g) g.at m ws input regs 3 (negative q.room) second (quiet_does (give 10 home) code quiet) (omega arith)
-      (omega arith)
-      (λ e. omega (arith, e)) (subst (λ i. i < 2 ^ 32) (sym left.kept.base_is) low) left.kept.good in
-      let back : added old (negative q.room) ≡ base = omega (arith, small) in
-      let kept : Regs x.0 fr base = record {
-        good = x.2.good;
-        frame_is = x.2.other 2 (λ e. omega (arith, e)) (λ e. omega (arith, e)) ∙ left.kept.frame_is;
-        base_is = x.2.same ∙ ap (λ i. added i (negative q.room)) left.kept.base_is ∙ back;
-        data_is = x.2.other 4 (λ e. omega (arith, e)) (λ e. omega (arith, e)) ∙ left.kept.data_is;
-      } in
-      let ten : get_or x.0 10 0 ≡ a = x.2.other 10 (λ e. omega (arith, e)) (λ e. omega (arith, e)) ∙ left.ten in
-      let s = home_gives g.live (whole g) g.at m ws input n (size h) base code quiet fits inside x.0 10 a home (laid.there to lt) (omega arith)
-      (λ e. omega (arith, e)) ten kept in
-      (s.0, then_goes g.live (whole g) g.at 0 1 3 3 _ _ _ x.1 s.1, s.2.kept, s.2.has)
+      let at_fourth = run_at two m ws t.input fourth in
+      let to_fourth : Goes_in g.live (whole g) g.at 2 7 r at_fourth = then_goes g.live (whole g) g.at 1 1 4 3 r at_third at_fourth to_third z.1 in
+      let to_mid : Goes_in g.live (whole g) g.at 2 10 r mid = then_goes g.live (whole g) g.at 2 0 7 3 r at_fourth mid to_fourth u.1 in
+      (new, then_goes g.live (whole g) g.at 2 1 10 1 r mid to to_mid back, record { kept = kept; ten = at10 })
 
   back_sim : (t : WordState) (from : ℕ) (rest : List WordInstr) (regs ws : List ℕ) (j a : ℕ) (f : True g t (word.Return from ∷ rest) regs ws j)
       (c : WordFrame)
@@ -220,18 +207,18 @@ module _ (g : Setting) where
       let inside = linked_inside g.lay g.procs g.need g.total (whole g) g.at ws n c.proc c.base cs more in
       let laid = g.laid c.proc.number c.proc wait.sits.tail wait.sits.found in
       let code = code_here g.lay g.procs c.proc c.left wait.sits in
-      let after = after_call h c.proc c.awaits code in
+      let after = after_call h c.awaits code in
       let quiet = quiet_lines h c.proc c.left (behind g.lay wait.sits.tail) refl in
-      let quiet_after = quiet_does (shift 3 (negative c.proc.room)) _ (quiet_does (give 10 home) code quiet) in
-      let x = leaves t from rest regs ws j a f k after e wait.returns wait.behind_call quiet_after in
-      let left : Left x.0 (word_place m n) (added c.base c.proc.room) a =
-      record { kept = subst (Regs x.0 (word_place m n)) wait.base_is x.2.kept; ten = x.2.ten } in
-      let y = resumes m ws t.input x.0 n c.awaits c.base a c.proc code f.fits laid inside wait.awaits wait.base_fits left quiet in
+      let small = subst (λ i. i < 2 ^ 32) (sym wait.base_is) (omega arith) in
+      let x = leaves t from rest regs ws j a f k after e small wait.returns wait.behind_call (quiet_does (give 10 home) code quiet) in
+      let kept = subst (Regs x.0 (word_place m n)) wait.base_is x.2.kept in
+      let y = home_gives g.live (whole g) g.at m ws t.input n (size h) (places_end c) code quiet f.fits inside x.0 10 a home
+      (laid.there c.awaits wait.awaits) (omega arith) (λ e. omega (arith, e)) x.2.ten kept in
       let ws' = saved ws n home (a % 2 ^ 32) in
       let s = run_at y.0 m ws' t.input code in
-      sim_goes g r s t (return_state t a c cs) 4 14 (then_goes g.live (whole g) g.at 3 1 8 6 r (run_at x.0 m ws t.input after) s x.1 y.1) (omega arith)
+      sim_goes g r s t (return_state t a c cs) 4 14 (then_goes g.live (whole g) g.at 3 1 11 3 r (run_at x.0 m ws t.input after) s x.1 y.1) (omega arith)
       (omega arith)
-      (record { regs = y.0; ws = ws'; j = n; facts = return_true t (l ∷ rest) regs y.0 ws j a c cs f wait more y.2 y.3; is = refl })
+      (record { regs = y.0; ws = ws'; j = n; facts = return_true t (l ∷ rest) regs y.0 ws j a c cs f wait more y.2.kept y.2.has; is = refl })
 
   pub return_sim : (from : ℕ) → Line_sim g (word.Return from)
   return_sim from t rest regs ws j f =

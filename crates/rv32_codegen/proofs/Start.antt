@@ -10,7 +10,7 @@ use Rattle.arc_base.specs.Pace.{Paced}
 use Rattle.arc_base.specs.Stepping.{Next, Goes, Ends, Faults, Errs, run, seen, behaviour}
 use Rattle.arc_base.specs.Simulation.{Steps, Stops, Does}
 use Rattle.arc_base.proofs.ForCallers.{steps_one, steps_on, steps_none, agrees_by_simulation, paced_by_simulation}
-use Rattle.rv32_isa.specs.declared.instr.Instr.TheVariants.{Lui, Lw, Sw, Add}
+use Rattle.rv32_isa.specs.declared.instr.Instr.TheVariants.{Lui, Lw, Add}
 use Rattle.rv32_isa.specs.declared.label.LabelName.TheVariants.{Entry}
 use Rattle.rv32_isa.specs.declared.label.LabelLine.{LabelLine}
 use Rattle.rv32_isa.specs.declared.label.LabelLine.TheVariants.{Do, Jump}
@@ -39,9 +39,10 @@ use Rattle.mid_code.specs.Words.{WordScene, WordDid, Passes, Leaps, Calls, Retur
 use Rattle.mid_code.specs.Words.{settled}
 use Rattle.mid_code.specs.Words.{step_lines}
 use Rattle.mid_code.specs.Words as words
-use Rattle.rv32_codegen.specs.Code.{sum, negative, lines_code, proc_code}
+use Rattle.rv32_codegen.specs.Code.{lines_code, proc_code}
 use Rattle.rv32_codegen.proofs.Area.{area}
-use Rattle.rv32_codegen.proofs.Machine.{state_of, run_at, Fits, word_place, put_other, quiet_does, Goes_in, then_goes, instr_goes, writes}
+use Rattle.rv32_codegen.proofs.Machine.{state_of, run_at, Fits, word_place, put_other, Goes_in, then_goes, instr_goes, writes}
+use Rattle.rv32_codegen.proofs.Chunks.{quiet_entry}
 use Rattle.rv32_codegen.proofs.Lookups.{procs_code, behind, none_some, number_is, code_from, entry_is}
 use Rattle.rv32_codegen.proofs.Frames.{size, code_here, Setting, whole, True, Rel, Sim}
 use Rattle.rv32_codegen.proofs.LineRuns.{Line_sim, label_sim, constant_sim, datum_sim, copy_sim, compute_sim, sum_sim, place_sim}
@@ -279,7 +280,7 @@ module _ (g : Setting) where
       kind_is : q.kind ≡ Counted
       kind_is = ap (λ l. (first_of l).kind) (sym found) ∙ room.starts
 
-      begins : (s : LabelRun) × Goes_in g.live (whole g) g.at 8 10 (run_at zeros memory ws input (whole g)) s × Rel g s first
+      begins : (s : LabelRun) × Goes_in g.live (whole g) g.at 8 13 (run_at zeros memory ws input (whole g)) s × Rel g s first
       begins =
           let h = g.lay q.number in
           let body = proc_code h q (procs_code g.lay tail) in
@@ -288,7 +289,7 @@ module _ (g : Setting) where
           let there = run_at x.0 memory ws input body in
           let place : from_label (Entry 0) (whole g) ≡ Some body = entry_is g.lay 0 g.procs ∙ ap (code_from g.lay) found in
           let shown : hook_at body ≡ [] =
-          seen_is q.kind _ (quiet_does (sum 2 2 (negative h.frame)) (Do (Sw 2 1 0) ∷ lines_code h q q.lines (behind g.lay tail)) refl)
+          seen_is q.kind _ (quiet_entry h q (lines_code h q q.lines (behind g.lay tail)))
           ∙ ap words.seen_call kind_is in
           let e : Goes_in g.live (whole g) g.at 1 1 mid there =
           steps_one (step g.live (whole g) g.at) mid there [] 1 1 (ap (λ o. goto (state_of x.0 memory ws) o input) place
@@ -303,8 +304,7 @@ module _ (g : Setting) where
           let split = mul-suc g.total ACTIVE_CALLS in
           let under : size h ≤ count = omega (arith, least, all, split, stack_is, total, frame) in
           let w = enters g memory ws input x.0 count 0 stack_at q tail fits laid under (omega (arith, long)) x.2.good x.2.one (omega arith) x.2.two x.2.three
-          x.2.four
-          in
+          (omega arith) x.2.four in
           let k = count - size h in
           let new = set ws k 0 in
           let long_new : length new ≡ length ws = length-set ws k 0 in
@@ -320,7 +320,6 @@ module _ (g : Setting) where
               whole = fits.whole;
             };
             kept = w.2;
-            base_fits = omega arith;
             sits = record { tail = tail; found = ap (λ n. from_proc n g.procs) number ∙ found; before = []; split = refl };
             held = λ v x lives e. absurd (none_some x e);
             given = λ v x e. absurd (none_some x e);
@@ -330,7 +329,7 @@ module _ (g : Setting) where
                 (omega (arith, least, all, split, stack_is, total, frame, under));
           } in (
             s,
-            then_goes g.live (whole g) g.at 5 3 5 5 _ there s (then_goes g.live (whole g) g.at 4 1 4 1 _ mid there x.1 e) w.1,
+            then_goes g.live (whole g) g.at 5 3 5 8 _ there s (then_goes g.live (whole g) g.at 4 1 4 1 _ mid there x.1 e) w.1,
             record { regs = w.0; ws = new; j = k; facts = facts; is = refl },
           )
 
@@ -393,7 +392,7 @@ module _ (g : Setting) where
           frame = record { proc = first_of l; left = (first_of l).lines; vars = no_words; given = no_words; base = stack_at; awaits = 0 };
           callers = [];
         }) (sym found) in
-        let ran = subst (λ r. Goes_in g.live (whole g) g.at 8 10 r x.0) (sym first_is) x.1 in
+        let ran = subst (λ r. Goes_in g.live (whole g) g.at 8 13 r x.0) (sym first_is) x.1 in
         (x.0, 8, record { work = ran.work; within = omega (arith, ran.within); by = ran.by }, subst (Rel g x.0) same x.2)
 
     -- without start code word code is at a fault at once

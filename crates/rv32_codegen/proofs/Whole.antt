@@ -25,11 +25,11 @@ use Rattle.mid_code.specs.Words.{from_proc, first_of, chain, longest, is_kind, i
 use Rattle.mid_code.specs.Words.{word_meaning}
 use Rattle.mid_code.specs.Words as words
 use Rattle.reg_scan.specs.declared.homes.Homes.{Homes}
-use Rattle.rv32_codegen.specs.Code.{does, sum, negative, lines_code, hook_of, entry_code, homes_code, start_code, code_of}
+use Rattle.rv32_codegen.specs.Code.{does, sum, shift, negative, lines_code, hook_of, entry_code, homes_code, start_code, code_of}
 use Rattle.rv32_codegen.specs.Stack.{frame_for, most_frame}
 use Rattle.rv32_codegen.specs.Layout.{is_none, enters_no_hook}
 use Rattle.rv32_codegen.specs.Lowering.{AllHomes, CanRun, DoesWords, AlwaysDoes, most_lines}
-use Rattle.rv32_codegen.proofs.Chunks.{line_long, length-does, few_sum, body, body_split, own_body, leads_own, unhooked_own}
+use Rattle.rv32_codegen.proofs.Chunks.{line_long, entry_long, body, body_split, own_body, leads_own, unhooked_own}
 use Rattle.rv32_codegen.proofs.Lookups.{Layout, procs_code, number_is}
 use Rattle.rv32_codegen.proofs.Frames.{IsLaid, Setting}
 use Rattle.rv32_codegen.proofs.Depth.{need, chain_fits, need_most, proc_parts, kind_known, places_whole}
@@ -147,9 +147,9 @@ homes_lead [] homes h = refl
 homes_lead (p ∷ procs) [] h = refl
 homes_lead (p ∷ procs) (own ∷ homes) h =
     let parts = proc_parts p procs h in
-    let rest = entry_code own (lines_code own p p.lines (Do Ebreak ∷ homes_code procs homes)) in
-    let first : begins rest ≡ true = begins_does (sum 2 2 (negative own.frame))
-    (Do (Sw 2 1 0) ∷ lines_code own p p.lines (Do Ebreak ∷ homes_code procs homes)) refl in
+    let lines = lines_code own p p.lines (Do Ebreak ∷ homes_code procs homes) in
+    let rest = entry_code own p lines in
+    let first : begins rest ≡ true = begins_does (sum 2 2 (negative own.frame)) _ (begins_does (shift 3 p.room) (Do (Sw 2 1 0) ∷ lines) refl) in
     and_from (leads (hook_of p.kind) rest) (hooks_lead rest) (hook_leads p.kind rest (kind_known p parts.0) first)
     (ap hooks_lead (body_split own p (homes_code procs homes))
     ∙ leads_own p.number (body own p) (homes_code procs homes) (own_body own p) (homes_lead procs homes parts.1))
@@ -167,7 +167,7 @@ homes_unhooked [] homes h = refl
 homes_unhooked (p ∷ procs) [] h = refl
 homes_unhooked (p ∷ procs) (own ∷ homes) h =
     let parts = and_parts (is_no_hook p.kind) (have_no_hooks procs) h in
-    let rest = entry_code own (lines_code own p p.lines (Do Ebreak ∷ homes_code procs homes)) in
+    let rest = entry_code own p (lines_code own p p.lines (Do Ebreak ∷ homes_code procs homes)) in
     and_from (is_none (hook_of p.kind)) (enters_no_hook rest) (no_hook_of p.kind parts.0)
     (ap enters_no_hook (body_split own p (homes_code procs homes))
     ∙ unhooked_own p.number (body own p) (homes_code procs homes) (own_body own p) (homes_unhooked procs homes parts.1))
@@ -188,8 +188,7 @@ code_long (p ∷ procs) (h ∷ homes) =
     let lines = lines_code h p p.lines rest in
     omega (
       arith,
-      length-does (sum 2 2 (negative h.frame)) (Do (Sw 2 1 0) ∷ lines),
-      few_sum 2 2 (negative h.frame),
+      entry_long h p lines,
       lines_long h p p.lines rest,
       code_long procs homes,
     )

@@ -1,7 +1,8 @@
 -- The label code of word code. No public contract speaks of it.
 --
--- x2 is where the frame of the running call begins, x3 where its places begin, x4 where the data begins. The frame's first word is the return address, and the
--- caller's frame follows behind its last one. Arguments are put right below the frame, where the last words of the callee's will be.
+-- x2 is where the frame of the running call begins, x3 where its places end, x4 where the data begins. The frame's first word is the return
+-- address, and the caller's frame follows behind its last one. Arguments are put right below the frame, where the last words of the callee's
+-- will be. Where a call's places end those of what it calls begin.
 use Rattle.std.specs.Prelude.{ℕ, suc, ◌+◌, ◌-◌, ◌*◌, ◌/◌, ◌%◌, ◌^◌, Bool, true, false, ◌&&◌, nat_lt, ◌==◌}
 use Rattle.std.specs.Prelude.{if◌then◌else◌, List, [], ◌∷◌, Option, Some, None}
 use Rattle.arc_base.specs.declared.outside.Stream.{Stream}
@@ -155,6 +156,10 @@ give rs (Frame at) = save rs at
 abbrev pub argument_at : ℕ → ℕ
 argument_at index = negative (4 * suc index)
 
+-- how far a byte of a procedure's places, or one behind them, is from where they end
+abbrev pub place_at : WordProc → ℕ → ℕ
+place_at p at = (at + negative p.room) % 2 ^ 32
+
 -- the address of a byte of a procedure's data
 abbrev pub datum_at : WordProc → ℕ → ℕ
 datum_at p at = (own_data_at + p.data_from + at) % 2 ^ 32
@@ -185,8 +190,8 @@ restore false = Lw 1 2 0 ∷ []
 -- ---- lines
 
 -- behind a call
-abbrev pub after_call : Homes → WordProc → ℕ → List LabelLine → List LabelLine
-after_call h p to k = does (shift 3 (negative p.room)) (does (give 10 (home_of h to)) k)
+abbrev pub after_call : Homes → ℕ → List LabelLine → List LabelLine
+after_call h to k = does (give 10 (home_of h to)) k
 
 -- two variables into registers, x5 and x6 where they have none
 abbrev pub bring_both : Homes → (left right : ℕ) → List LabelLine → List LabelLine
@@ -211,9 +216,13 @@ left_of h left = seat 5 (home_of h left)
 abbrev pub right_of : Homes → (right : ℕ) → ℕ
 right_of h right = seat 6 (home_of h right)
 
--- the end of a call: the result goes to x10, and the frame goes
-abbrev pub return_code : Homes → (leaf : Bool) → (from : ℕ) → List LabelLine → List LabelLine
-return_code h leaf from k = does (move 10 (home_of h from)) (does (restore leaf) (does (sum 2 2 h.frame) (Do (Jalr 0 1 0) ∷ k)))
+-- frame and places go
+abbrev pub leave_code : Homes → WordProc → List LabelLine → List LabelLine
+leave_code h p k = does (sum 2 2 h.frame) (does (shift 3 (negative p.room)) k)
+
+-- the end of a call: the result goes to x10
+abbrev pub return_code : Homes → WordProc → (leaf : Bool) → (from : ℕ) → List LabelLine → List LabelLine
+return_code h p leaf from k = does (move 10 (home_of h from)) (does (restore leaf) (leave_code h p (Do (Jalr 0 1 0) ∷ k)))
 
 abbrev pub line_code : Homes → WordProc → WordInstr → List LabelLine → List LabelLine
 line_code h p (word.Label name) k = Label (Inner p.number name) None ∷ k
@@ -222,7 +231,7 @@ line_code h p (word.Copy to from) k = does (move (target h to) (home_of h from))
 line_code h p (word.Compute to operation left right) k =
     bring_both h left right (Do (operate operation (target h to) (left_of h left) (right_of h right)) ∷ keep h to k)
 line_code h p (word.Sum to from value) k = does (bring 6 (home_of h from)) (does (sum (target h to) (right_of h from) value) (keep h to k))
-line_code h p (word.Place to at) k = does (sum (target h to) 3 at) (keep h to k)
+line_code h p (word.Place to at) k = does (sum (target h to) 3 (place_at p at)) (keep h to k)
 line_code h p (word.Datum to at) k = does (datum (target h to) (datum_at p at)) (keep h to k)
 line_code h p (word.Load to address size) k =
     does (bring 5 (home_of h address)) (Do (fetch size (left_of h address)) ∷ does (give 5 (home_of h to)) k)
@@ -231,8 +240,8 @@ line_code h p (word.Jump to) k = Jump 0 (Inner p.number to) ∷ k
 line_code h p (word.Branch test left right to) k =
     bring_both h left right (Branch (compare test) (left_of h left) (right_of h right) (Inner p.number to) ∷ k)
 line_code h p (word.Argument index from) k = does (bring 5 (home_of h from)) (does (save (left_of h from) (argument_at index)) k)
-line_code h p (word.Call to callee) k = does (shift 3 p.room) (Jump 1 (Entry callee) ∷ after_call h p to k)
-line_code h p (word.Return from) k = return_code h (is_leaf p.lines) from k
+line_code h p (word.Call to callee) k = Jump 1 (Entry callee) ∷ after_call h to k
+line_code h p (word.Return from) k = return_code h p (is_leaf p.lines) from k
 line_code h p (word.Read to address len) k =
     move_range h address len (Do (Addi 10 0 0) ∷ Do (Addi 17 0 63) ∷ Do Ecall ∷ does (give 10 (home_of h to)) k)
 line_code h p (word.Write stream address len) k =
@@ -250,13 +259,13 @@ hook_of kind.Counted = None
 hook_of (kind.Hook kind of) = Some (record { kind = kind; of = of })
 hook_of kind.Uncounted = None
 
--- what is done where a procedure begins: its frame is made
-abbrev pub entry_code : Homes → List LabelLine → List LabelLine
-entry_code h k = does (sum 2 2 (negative h.frame)) (Do (Sw 2 1 0) ∷ k)
+-- what is done where a procedure begins: there is its frame, with the return address, and there are its places
+abbrev pub entry_code : Homes → WordProc → List LabelLine → List LabelLine
+entry_code h p k = does (sum 2 2 (negative h.frame)) (does (shift 3 p.room) (Do (Sw 2 1 0) ∷ k))
 
 -- a procedure; behind its last line stands an instruction, so that no line comes to what follows
 abbrev pub proc_code : Homes → WordProc → List LabelLine → List LabelLine
-proc_code h p k = Label (Entry p.number) (hook_of p.kind) ∷ entry_code h (lines_code h p p.lines (Do Ebreak ∷ k))
+proc_code h p k = Label (Entry p.number) (hook_of p.kind) ∷ entry_code h p (lines_code h p p.lines (Do Ebreak ∷ k))
 
 abbrev pub homes_code : List WordProc → List Homes → List LabelLine
 homes_code [] homes = []

@@ -58,7 +58,7 @@ AlwaysDoes lines code homes =
     CanRun code homes heap stack →
     Sound (word_meaning live code heap stack input) → DoesWords lines code live at heap stack input
 
--- ---- the frames and places that lines make: x2 is where the frame of the running call begins, x3 where its places do
+-- ---- the frames and places that lines make: x2 is where the frame of the running call begins, x3 where its places end
 
 -- behind it the next line follows, if any does
 abbrev pub has_next : Instr → Bool
@@ -77,9 +77,6 @@ up_by bytes address = added address bytes
 abbrev pub down_by : (bytes address : ℕ) → ℕ
 down_by bytes address = subtracted address (bytes % 2 ^ 32)
 
-abbrev pub as_is : (address : ℕ) → ℕ
-as_is address = address
-
 -- what x2 and x3 are now comes from what they were
 abbrev pub Moved : (frame places : ℕ → ℕ) → (old new : State) → Type 0
 Moved frame places old new = (reg new 2 ≡ frame (reg old 2)) × (reg new 3 ≡ places (reg old 3))
@@ -95,9 +92,9 @@ pub record LeavesStack (i : Instr) : Type 0 where
   pub frame : (s next : State) → obey s 0 0 i ≡ Goes next → reg next 2 ≡ reg s 2
   pub places : (s next : State) → obey s 0 0 i ≡ Goes next → reg next 3 ≡ reg s 3
 
--- These lines of a procedure, up to the next one, leave x2 and x3 as they are: only around a call x3 goes up by the room of the places and
--- comes back, and before a return x2 goes up by the frame. Control stays in them: jumps lead to the procedure's own labels, and the last
--- line is an `ebreak`.
+-- These lines of a procedure, up to the next one, leave x2 and x3 as they are: only before a return x2 goes up by the frame, and x3 down by
+-- the room of the places. Control stays in them but for calls and returns: jumps lead to the procedure's own labels, and the last line is an
+-- `ebreak`.
 pub data KeepsStack (number frame room : ℕ) : List LabelLine → Type 0 where
   last : KeepsStack number frame room (Do Ebreak ∷ [])
   last_before : {other : ℕ} {hook : Option HookLabel} {lines : List LabelLine} →
@@ -108,22 +105,23 @@ pub data KeepsStack (number frame room : ℕ) : List LabelLine → Type 0 where
   jumps : {name : ℕ} {lines : List LabelLine} → KeepsStack number frame room lines → KeepsStack number frame room (Jump 0 (Inner number name) ∷ lines)
   branches : {test : Test} {left right name : ℕ} {lines : List LabelLine} → KeepsStack number frame room lines →
       KeepsStack number frame room (Branch test left right (Inner number name) ∷ lines)
-  calls : (before behind : List Instr) (callee : ℕ) {lines : List LabelLine} → MovesStack as_is (up_by room) before → MovesStack as_is (down_by room) behind →
-      KeepsStack number frame room lines → KeepsStack number frame room (map Do before ++ Jump 1 (Entry callee) ∷ (map Do behind ++ lines))
-  returns : (before : List Instr) {lines : List LabelLine} → MovesStack (up_by frame) as_is before → KeepsStack number frame room lines →
+  calls : {callee : ℕ} {lines : List LabelLine} → KeepsStack number frame room lines → KeepsStack number frame room (Jump 1 (Entry callee) ∷ lines)
+  returns : (before : List Instr) {lines : List LabelLine} → MovesStack (up_by frame) (down_by room) before → KeepsStack number frame room lines →
       KeepsStack number frame room (map Do before ++ Do (Jalr 0 1 0) ∷ lines)
 
--- Right behind its label the procedure of that number makes a frame of so many bytes, and its lines keep it, also where its labels lead.
+-- Right behind its label the procedure of that number makes a frame of so many bytes, and places of so many behind those of the call that
+-- called it; and its lines keep them, also where its labels lead.
 pub record MakesFrame (lines : List LabelLine) (number frame room : ℕ) : Type 0 where
   pub hook : Option HookLabel
   pub made : List Instr
   pub body : List LabelLine
   pub begins : from_label (Entry number) lines ≡ Some (Label (Entry number) hook ∷ (map Do made ++ body))
-  pub makes : MovesStack (down_by frame) as_is made
+  pub makes : MovesStack (down_by frame) (up_by room) made
   pub keeps : KeepsStack number frame room body
   pub labels : (name : ℕ) (found : List LabelLine) → from_label (Inner number name) lines ≡ Some found → KeepsStack number frame room found
 
--- The lines begin with these instructions, behind which x2 is the end of the stack and x3 where it begins, and go on in procedure 0.
+-- The lines begin with these instructions, behind which x2 is the end of the stack and x3 where it begins: there are no frames and no
+-- places yet. They go on in procedure 0.
 pub record SetUp (lines : List LabelLine) : Type 0 where
   pub made : List Instr
   pub rest : List LabelLine

@@ -9,7 +9,7 @@ ghost use Rattle.rv32_codegen.specs.Lowering.{AllHomes, AlwaysDoes, MakeFrames};
 ghost use Rattle.rv32_codegen.specs.Lowering.{most_lines, most_bytes};
 
 use crate::lines::emit_lines;
-use crate::pieces::{emit, emit_sum, negative, push};
+use crate::pieces::{emit, emit_shift, emit_sum, negative, push};
 use arc_base::{Items, Memory};
 use mid_code::{ProcKind, WordCode, WordProc};
 use reg_scan::Homes;
@@ -24,7 +24,7 @@ pub const CODE_PACE: u32 = 32;
 pub const LINES_OF_LINE: u32 = 12;
 
 /// A procedure has at most so many lines beside those of its lines.
-pub const LINES_OF_PROC: u32 = 6;
+pub const LINES_OF_PROC: u32 = 9;
 
 /// So many lines stand in front of all procedures.
 pub const LINES_OF_START: u32 = 5;
@@ -47,6 +47,17 @@ fn hook_of(kind: ProcKind) -> Option<HookLabel>
     }
 }
 
+// What is done where a procedure begins: there is its frame, with the return address, and there
+// are its places.
+fn emit_entry(lines: &mut LabelCode, homes: &Homes, proc: &WordProc) -> Result<(), Memory>
+    ensures { OnOk result ((k : List Line) →
+        lines.new ++ k ≡ lines.old ++ spec.entry_code homes.now proc.now k) }
+{
+    emit_sum(lines, 2, 2, negative(homes.frame))?;
+    emit_shift(lines, 3, proc.room)?;
+    emit(lines, &[sw(2, 1, 0)])
+}
+
 // A procedure.
 fn emit_proc(lines: &mut LabelCode, homes: &Homes, proc: &WordProc) -> Result<(), Memory>
     ensures { OnOk result ((k : List Line) →
@@ -61,8 +72,7 @@ fn emit_proc(lines: &mut LabelCode, homes: &Homes, proc: &WordProc) -> Result<()
             hook: hook_of(proc.kind),
         },
     )?;
-    emit_sum(lines, 2, 2, negative(homes.frame))?;
-    emit(lines, &[sw(2, 1, 0)])?;
+    emit_entry(lines, homes, proc)?;
     emit_lines(lines, homes, proc, proc.lines.as_slice())?;
     emit(lines, &[ebreak()])
 }
@@ -113,8 +123,7 @@ fn emit_code(alloc: Global, words: &WordCode, homes: &[Homes]) -> Result<LabelCo
 
 /// Label code that does, under all addresses of its marks that rise, what the word code does: over
 /// the word code's data, and with each heap and each stack from `stack_need` on that a machine may
-/// have. Each procedure makes the frame of its homes where it begins, and keeps it; around a call
-/// places move on by the room of the caller.
+/// have. Each procedure makes the frame of its homes and its places where it begins, and keeps them.
 ///
 /// There are homes for each procedure, in order.
 pub fn code(alloc: Global, words: &WordCode, homes: &[Homes]) -> Result<LabelCode, Memory>

@@ -161,12 +161,13 @@ fn emit_more(
     keep(lines, homes, to)
 }
 
-fn emit_place(lines: &mut LabelCode, homes: &Homes, to: u32, at: u32) -> Result<(), Memory>
+// The place that is so far from where the places end.
+fn emit_place(lines: &mut LabelCode, homes: &Homes, to: u32, offset: u32) -> Result<(), Memory>
     ensures { OnOk result ((k : List Line) →
-        lines.new ++ k ≡ lines.old ++ code.does (code.sum (code.target homes.now to) 3 at)
+        lines.new ++ k ≡ lines.old ++ code.does (code.sum (code.target homes.now to) 3 offset)
         (code.keep homes.now to k)) }
 {
-    emit_sum(lines, target(homes, to), 3, at)?;
+    emit_sum(lines, target(homes, to), 3, offset)?;
     keep(lines, homes, to)
 }
 
@@ -243,17 +244,10 @@ fn emit_argument(lines: &mut LabelCode, homes: &Homes, index: u32, from: u32) ->
     emit_save(lines, left_of(homes, from), argument_at(index))
 }
 
-fn emit_call(
-    lines: &mut LabelCode,
-    homes: &Homes,
-    proc: &WordProc,
-    to: u32,
-    callee: u32,
-) -> Result<(), Memory>
-    ensures { OnOk result ((k : List Line) →
-        lines.new ++ k ≡ lines.old ++ code.line_code homes.now proc.now (word.Call to callee) k) }
+fn emit_call(lines: &mut LabelCode, homes: &Homes, to: u32, callee: u32) -> Result<(), Memory>
+    ensures { OnOk result ((k : List Line) → lines.new ++ k ≡ lines.old ++
+        (LabelLine.Jump 1 (LabelName.Entry callee) ∷ code.after_call homes.now to k)) }
 {
-    emit_shift(lines, 3, proc.room)?;
     push(
         lines,
         LabelLine::Jump {
@@ -261,7 +255,6 @@ fn emit_call(
             to: LabelName::Entry { procedure: callee },
         },
     )?;
-    emit_shift(lines, 3, negative(proc.room))?;
     emit_give(lines, 10, home_of(homes, to))
 }
 
@@ -276,13 +269,28 @@ fn emit_restore(lines: &mut LabelCode, leaf: bool) -> Result<(), Memory>
     emit(lines, &[lw(1, 2, 0)])
 }
 
-fn emit_return(lines: &mut LabelCode, homes: &Homes, leaf: bool, from: u32) -> Result<(), Memory>
+// Frame and places go.
+fn emit_leave(lines: &mut LabelCode, homes: &Homes, proc: &WordProc) -> Result<(), Memory>
     ensures { OnOk result ((k : List Line) →
-        lines.new ++ k ≡ lines.old ++ code.return_code homes.now leaf from k) }
+        lines.new ++ k ≡ lines.old ++ code.leave_code homes.now proc.now k) }
+{
+    emit_sum(lines, 2, 2, homes.frame)?;
+    emit_shift(lines, 3, negative(proc.room))
+}
+
+fn emit_return(
+    lines: &mut LabelCode,
+    homes: &Homes,
+    proc: &WordProc,
+    leaf: bool,
+    from: u32,
+) -> Result<(), Memory>
+    ensures { OnOk result ((k : List Line) →
+        lines.new ++ k ≡ lines.old ++ code.return_code homes.now proc.now leaf from k) }
 {
     emit_move(lines, 10, home_of(homes, from))?;
     emit_restore(lines, leaf)?;
-    emit_sum(lines, 2, 2, homes.frame)?;
+    emit_leave(lines, homes, proc)?;
     emit(lines, &[jalr(0, 1, 0)])
 }
 
@@ -364,7 +372,7 @@ fn emit_line(
             right,
         } => emit_compute(lines, homes, to, operation, left, right),
         WordInstr::Sum { to, from, value } => emit_more(lines, homes, to, from, value),
-        WordInstr::Place { to, at } => emit_place(lines, homes, to, at),
+        WordInstr::Place { to, at } => emit_place(lines, homes, to, place_at(proc, at)),
         WordInstr::Datum { to, at } => emit_address(lines, homes, to, datum_at(proc, at)),
         WordInstr::Load { to, address, size } => emit_fetch(lines, homes, to, address, size),
         WordInstr::Store {
@@ -380,8 +388,8 @@ fn emit_line(
             to,
         } => emit_branch(lines, homes, test, left, right, inner(proc, to)),
         WordInstr::Argument { index, from } => emit_argument(lines, homes, index, from),
-        WordInstr::Call { to, callee } => emit_call(lines, homes, proc, to, callee),
-        WordInstr::Return { from } => emit_return(lines, homes, leaf, from),
+        WordInstr::Call { to, callee } => emit_call(lines, homes, to, callee),
+        WordInstr::Return { from } => emit_return(lines, homes, proc, leaf, from),
         WordInstr::Read { to, address, len } => emit_read(lines, homes, proc, to, address, len),
         WordInstr::Write {
             stream,
@@ -390,6 +398,13 @@ fn emit_line(
         } => emit_write(lines, homes, proc, stream, address, len),
         WordInstr::Exit { status } => emit_exit(lines, homes, proc, status),
     }
+}
+
+// How far a byte of a procedure's places, or one behind them, is from where they end.
+fn place_at(proc: &WordProc, at: u32) -> u32
+    ensures { result ≡ code.place_at proc.now at }
+{
+    at.wrapping_add(negative(proc.room))
 }
 
 // The address of a byte of a procedure's data.
