@@ -5,11 +5,12 @@ An int, char or member of an enum is an int, a bool a bool, a text the bytes, an
 from __future__ import annotations
 
 import operator
-from typing import Any, Tuple, Union
+from typing import Any, Optional, Tuple, Union
 
 import tree
 from meanings import (BUILT_IN_DOLLAR, BuiltInCall, Constant, Conversion, DollarCall, EmptyConstruction, Meaning,
                       Operation, Procedure)
+from tree import without_parentheses
 from type_table import BOOL, LARGEST_SIZE, WORD_SIZE, HANDLE_SIZE, Form, TypeTable
 
 INT_BITS = 32
@@ -66,6 +67,25 @@ def bytes_of(value: Union[int, bytes]) -> bytes:
     return value if isinstance(value, bytes) else bytes([value])
 
 
+def is_fixed(expression: tree.Expression) -> bool:
+    """Whether the text alone decides what the ordinal is: a literal, a member or a constant, or operators, `ord`, `chr` and
+    conversions on such, none of them to an enum."""
+    inner = without_parentheses(expression)
+    if isinstance(inner, tree.Name):
+        return isinstance(inner.declaration, Constant) and isinstance(inner.declaration.value, int)
+    if isinstance(inner, tree.Unary):
+        return inner.operator != '$' and is_fixed(inner.operand)
+    if isinstance(inner, tree.Binary):
+        return inner.operator != '&' and is_fixed(inner.left) and is_fixed(inner.right)
+    if isinstance(inner, (tree.Call, tree.Dot)):
+        meaning = inner.meaning
+        if isinstance(meaning, Conversion):
+            return not meaning.to_enum and is_fixed(meaning.argument)
+        if isinstance(meaning, BuiltInCall):
+            return meaning.name in ('low int', 'high int') or meaning.name in ('ord', 'chr') and is_fixed(meaning.arguments[0])
+    return isinstance(inner, (tree.IntLiteral, tree.CharLiteral))
+
+
 class Evaluator:
     """Needs an expression that has been typed. What isn't constant goes to `other`, which interp.py overrides."""
 
@@ -92,6 +112,13 @@ class Evaluator:
         if isinstance(expression, (tree.Call, tree.Dot)) and expression.meaning is not None:
             return self.call(expression, expression.meaning)
         return self.other(expression)
+
+    def fixed_value(self, expression: tree.Expression) -> Optional[int]:
+        """None also where it would trap."""
+        try:
+            return self.evaluate(expression) if is_fixed(expression) else None
+        except Trap:
+            return None
 
     def other(self, expression: tree.Expression) -> Any:
         raise AssertionError('not constant: %r' % expression)

@@ -12,7 +12,7 @@ import tree
 from check import RECURSION_LIMIT, Program, check
 from meanings import BuiltInCall, Conversion, DollarCall, Meaning, Procedure, ProcedureCall, Variable
 from scan import Position, Refusal
-from tree import place_of, walk, without_parentheses
+from tree import is_step, place_of, walk, without_parentheses
 from type_table import TypeTable
 
 MOST_BYTES = 16_384
@@ -139,7 +139,7 @@ class _Sums:
         inner = without_parentheses(expression)
         if isinstance(inner, tree.Name) and isinstance(inner.declaration, Variable):
             return PATH_BYTES
-        if _is_step(inner):
+        if is_step(inner):
             return PATH_BYTES + self.step(inner)
         return self.value(inner)
 
@@ -161,7 +161,7 @@ class _Sums:
             return sum(map(self.value, inner.parts))
         if isinstance(inner, tree.Construction):
             return sum(self.value(value) for _, value in inner.fields)
-        if _is_step(inner):
+        if is_step(inner):
             return self.step(inner)
         if isinstance(inner, (tree.Dot, tree.Call)):
             return self.operands(inner.meaning)
@@ -188,11 +188,6 @@ class _Sums:
         arguments = list(meaning.arguments)
         paths = {'swap': 2, 'len': 1, 'high': 1, 'inc': 1, 'dec': 1, 'move': 1}.get(meaning.name, 0)
         return sum(map(self.in_place, arguments[:paths])) + sum(map(self.value, arguments[paths:]))
-
-
-def _is_step(expression: tree.Expression) -> bool:
-    is_field = isinstance(expression, tree.Dot) and expression.field_number is not None
-    return is_field or isinstance(expression, tree.Index)
 
 
 def has_only_written_texts(program: Program) -> bool:

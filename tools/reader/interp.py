@@ -14,7 +14,7 @@ from check import Program
 from evaluate import Evaluator, Trap, bytes_of, copy_of, in_range
 from meanings import (NEW_SEQ, READ_LINE, SET_LEN, BuiltInCall, Constant, Meaning, Operation, Procedure, ProcedureCall,
                       Variable)
-from tree import without_parentheses
+from tree import is_step, without_parentheses
 from type_table import STRING
 
 CALL_DEPTH = 2_000
@@ -149,6 +149,19 @@ class Interpreter(Evaluator):
             return _element(left, self.evaluate(inner.arguments[0]))
         value = self.evaluate(inner)
         return lambda: ([value], 0)
+
+    def is_same_path(self, path: tree.Expression, other: tree.Expression) -> bool:
+        """Whether names, fields and indexes are equal, and the indexes known before the program runs."""
+        left, right = without_parentheses(path), without_parentheses(other)
+        if isinstance(left, tree.Name) or isinstance(right, tree.Name):
+            return isinstance(left, tree.Name) and isinstance(right, tree.Name) and left.declaration is right.declaration
+        if not is_step(left) or not is_step(right) or _part_number(left) != _part_number(right):
+            return False
+        if _part_number(left) is None:
+            index = self.fixed_value(left.arguments[0])
+            if index is None or index != self.fixed_value(right.arguments[0]):
+                return False
+        return self.is_same_path(left.left, right.left)
 
     def read(self, expression: tree.Expression) -> Any:
         """The value of a path, not copied."""
@@ -369,6 +382,8 @@ class Interpreter(Evaluator):
                     self.start(variable, self.evaluate(definition.value))
 
     def assignment(self, statement: tree.Assignment) -> None:
+        if statement.operator == '=' and self.is_same_path(statement.left, statement.right):
+            return
         lazy = self.locate(statement.left)
         value = self.evaluate(statement.right)
         container, key = lazy()
@@ -428,6 +443,11 @@ class Interpreter(Evaluator):
 def _behind_loop(flow: Flow) -> Optional[Flow]:
     """A `break` ends its loop alone."""
     return flow if flow is Flow.RETURN else None
+
+
+def _part_number(step: Union[tree.Dot, tree.Index]) -> Optional[int]:
+    """Of a field or part; None of an element."""
+    return step.field_number if isinstance(step, tree.Dot) else step.part
 
 
 def _part(left: Lazy, number: int) -> Lazy:

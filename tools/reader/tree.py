@@ -380,6 +380,11 @@ def place_of(expression: Expression) -> Position:
     return without_parentheses(expression).position
 
 
+def is_step(expression: Expression) -> bool:
+    """Whether it is a field, a part or an element of what stands before it."""
+    return isinstance(expression, Index) or isinstance(expression, Dot) and expression.field_number is not None
+
+
 def is_open(expression: Expression) -> bool:
     """Whether it is `@[]`, whose type follows from its place."""
     inner = without_parentheses(expression)
