@@ -259,7 +259,7 @@ hook_of kind.Counted = None
 hook_of (kind.Hook kind of) = Some (record { kind = kind; of = of })
 hook_of kind.Uncounted = None
 
--- what is done where a procedure begins: there is its frame, with the return address, and there are its places
+-- what is done where a procedure begins: its frame and its places are made, and the return address is stored
 abbrev pub entry_code : Homes → WordProc → List LabelLine → List LabelLine
 entry_code h p k = does (sum 2 2 (negative h.frame)) (does (shift 3 p.room) (Do (Sw 2 1 0) ∷ k))
 

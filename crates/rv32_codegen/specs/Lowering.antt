@@ -70,7 +70,7 @@ pub data HoldsBehind (There : State → Type 0) : State → List Instr → Type 
   first : {s next : State} {i : Instr} {is : List Instr} → has_next i ≡ true → obey s 0 0 i ≡ Goes next → HoldsBehind There next is →
       HoldsBehind There s (i ∷ is)
 
--- where an address leads that moves by so many bytes, and one that doesn't
+-- where an address leads that moves up by so many bytes, and down
 abbrev pub up_by : (bytes address : ℕ) → ℕ
 up_by bytes address = added address bytes
 
@@ -99,8 +99,8 @@ pub data KeepsStack (number frame room : ℕ) : List LabelLine → Type 0 where
   last : KeepsStack number frame room (Do Ebreak ∷ [])
   last_before : {other : ℕ} {hook : Option HookLabel} {lines : List LabelLine} →
       KeepsStack number frame room (Do Ebreak ∷ Label (Entry other) hook ∷ lines)
-  labelled : {of name : ℕ} {hook : Option HookLabel} {lines : List LabelLine} → KeepsStack number frame room lines →
-      KeepsStack number frame room (Label (Inner of name) hook ∷ lines)
+  labelled : {name : ℕ} {hook : Option HookLabel} {lines : List LabelLine} → KeepsStack number frame room lines →
+      KeepsStack number frame room (Label (Inner number name) hook ∷ lines)
   leaves : {i : Instr} {lines : List LabelLine} → LeavesStack i → KeepsStack number frame room lines → KeepsStack number frame room (Do i ∷ lines)
   jumps : {name : ℕ} {lines : List LabelLine} → KeepsStack number frame room lines → KeepsStack number frame room (Jump 0 (Inner number name) ∷ lines)
   branches : {test : Test} {left right name : ℕ} {lines : List LabelLine} → KeepsStack number frame room lines →

@@ -47,8 +47,8 @@ fn hook_of(kind: ProcKind) -> Option<HookLabel>
     }
 }
 
-// What is done where a procedure begins: there is its frame, with the return address, and there
-// are its places.
+// What is done where a procedure begins: its frame and its places are made, and the return address
+// is stored.
 fn emit_entry(lines: &mut LabelCode, homes: &Homes, proc: &WordProc) -> Result<(), Memory>
     ensures { OnOk result ((k : List Line) →
         lines.new ++ k ≡ lines.old ++ spec.entry_code homes.now proc.now k) }
