@@ -1,0 +1,5 @@
+pub mod Program
+pub mod View
+pub mod Folds
+pub mod Sizes
+pub mod Uses

@@ -1,0 +1,74 @@
+// The node and the type of an expression.
+ghost use Rattle.std.specs.Prelude.{◌≡◌, List};
+ghost use Rattle.nim_types.specs.Types.{Ty};
+ghost use Rattle.nim_program.specs.Program.{node_of, node_at, type_of, type_at};
+ghost use Rattle.nim_program.specs.View.{expr_of, path_of, if_type};
+
+use crate::expr::{Expr, Node, Path};
+use nim_types::TypeId;
+
+impl Expr {
+    /// Its node: that of its path, where it is read.
+    #[cycle(nodes)]
+    pub fn node(&self) -> Node
+        ensures { (ts : List Ty) → result ≡ node_of (expr_of ts self.now) }
+    {
+        match self {
+            Expr::Apply { node, .. }
+            | Expr::Call { node, .. }
+            | Expr::Construct { node, .. }
+            | Expr::Constant { node, .. }
+            | Expr::Early { node, .. }
+            | Expr::If { node, .. }
+            | Expr::Case { node, .. } => *node,
+            Expr::Read { path } => path.node(),
+        }
+    }
+
+    /// The type of its value, None where it gives none.
+    #[cycle(types)]
+    pub fn ty(&self) -> Option<TypeId>
+        ensures { (ts : List Ty) → if_type ts result ≡ type_of (expr_of ts self.now) }
+    {
+        match self {
+            Expr::Apply { ty, .. }
+            | Expr::Call { ty, .. }
+            | Expr::If { ty, .. }
+            | Expr::Case { ty, .. } => *ty,
+            Expr::Construct { ty, .. } | Expr::Constant { ty, .. } | Expr::Early { ty, .. } => {
+                Some(*ty)
+            }
+            Expr::Read { path } => path.ty(),
+        }
+    }
+}
+
+impl Path {
+    /// Its last node.
+    #[cycle(nodes)]
+    pub fn node(&self) -> Node
+        ensures { (ts : List Ty) → result ≡ node_at (path_of ts self.now) }
+    {
+        match self {
+            Path::Variable { node, .. } | Path::Field { node, .. } | Path::Element { node, .. } => {
+                *node
+            }
+            Path::Fresh { value } => value.node(),
+            Path::Deref { base, .. } => base.node(),
+        }
+    }
+
+    /// The type of what stands there.
+    #[cycle(types)]
+    pub fn ty(&self) -> Option<TypeId>
+        ensures { (ts : List Ty) → if_type ts result ≡ type_at (path_of ts self.now) }
+    {
+        match self {
+            Path::Variable { ty, .. }
+            | Path::Field { ty, .. }
+            | Path::Element { ty, .. }
+            | Path::Deref { ty, .. } => Some(*ty),
+            Path::Fresh { value } => value.ty(),
+        }
+    }
+}
