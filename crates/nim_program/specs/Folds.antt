@@ -30,14 +30,14 @@ pub record Sum (A : Type 0) : Type 0 where
   pub none : A
   pub plus : A → A → A
 
--- over all parts, in order of text but for the branches of an `if`, whose conditions come before its values and blocks
+-- over all parts, in order of text but for the statement `if`, whose conditions come before its blocks
 module _ {A : Type 0} (sum : Sum A) (own : Seen → A) where
   abbrev mutual
     pub total : Expr → A
     total (Apply node ty act operands) = sum.plus (own (AtApply node ty act)) (totals operands)
     total (Read path) = total_at true path
     total (Early node ty short left right) = sum.plus (own (AtEarly node ty short)) (sum.plus (total left) (total right))
-    total (Choose node ty chooser tests values) = sum.plus (own (AtChoose node ty chooser)) (sum.plus (totals tests) (totals values))
+    total (Choose node ty chooser parts) = sum.plus (own (AtChoose node ty chooser)) (totals parts)
 
     pub total_at : (read : Bool) → Path → A
     total_at read (Variable node ty place global) = own (AtPath read node ty (Named place global))

@@ -48,8 +48,9 @@ mutual
     Read : (path : Path) → Expr
     -- `and` and `or`, which stop early
     Early : (node : Node) (ty : Ty) (short : Short) (left right : Expr) → Expr
-    -- A value of several. The tests are the conditions, or the one selector; `else` is one value more than there are conditions or labels.
-    Choose : (node : Node) (ty : Option Ty) (chooser : Chooser) (tests values : Args) → Expr
+    -- A value of several, with its parts in order of text: for an `if` each condition before its value, for a `case` the selector and then the
+    -- values; the value of `else` comes last.
+    Choose : (node : Node) (ty : Option Ty) (chooser : Chooser) (parts : Args) → Expr
 
   -- a name or a fresh value, followed by fields, indexes and dereferences; each part but a dereference is a node with a type
   pub data Path : Type 0 where
@@ -155,7 +156,7 @@ abbrev mutual
   type_of (Apply node ty act operands) = ty
   type_of (Read path) = type_at path
   type_of (Early node ty short left right) = Some ty
-  type_of (Choose node ty chooser tests values) = ty
+  type_of (Choose node ty chooser parts) = ty
 
   pub type_at : Path → Option Ty
   type_at (Variable node ty place global) = Some ty
@@ -169,7 +170,7 @@ abbrev mutual
   node_of (Apply node ty act operands) = node
   node_of (Read path) = node_at path
   node_of (Early node ty short left right) = node
-  node_of (Choose node ty chooser tests values) = node
+  node_of (Choose node ty chooser parts) = node
 
   -- its last node
   pub node_at : Path → Node

@@ -67,9 +67,9 @@ abbrev mutual
   expr_of ts (E.Read path) = T.Read (path_of ts path)
   expr_of ts (E.Early' node ty short p left q right) = T.Early node (type_at ts ty) short (expr_of ts left) (expr_of ts right)
   expr_of ts (E.If' node ty p branches q otherwise) =
-      T.Choose node (if_type ts ty) T.ByConditions (condition_row ts branches) (choice_row ts branches (T.ByValue (expr_of ts otherwise) T.NoArg))
+      T.Choose node (if_type ts ty) T.ByConditions (choice_row ts branches (T.ByValue (expr_of ts otherwise) T.NoArg))
   expr_of ts (E.Case' node ty p selector q branches otherwise) =
-      T.Choose node (if_type ts ty) (T.ByLabels (label_row branches)) (operand_before ts selector T.NoArg) (pick_row ts branches (else_of ts otherwise))
+      T.Choose node (if_type ts ty) (T.ByLabels (label_row branches)) (operand_before ts selector (pick_row ts branches (else_of ts otherwise)))
 
   -- the value of `else`, where there is one
   pub else_of : List Ty → Held-Expr-Case-4 → Args
@@ -92,14 +92,10 @@ abbrev mutual
   operand_row ts end_of-Operand = T.NoArg
   operand_row ts (more_of-Operand first row) = operand_before ts first (operand_row ts row)
 
-  pub condition_row : {m : _} → List Ty → Row_of-Choice m → Args
-  condition_row ts end_of-Choice = T.NoArg
-  condition_row ts (more_of-Choice condition value row) = T.ByValue (expr_of ts condition) (condition_row ts row)
-
-  -- the values of branches before others
+  -- the conditions of branches, each before its value, and then the rest
   pub choice_row : {m : _} → List Ty → Row_of-Choice m → Args → Args
   choice_row ts end_of-Choice rest = rest
-  choice_row ts (more_of-Choice condition value row) rest = T.ByValue (expr_of ts value) (choice_row ts row rest)
+  choice_row ts (more_of-Choice condition value row) rest = T.ByValue (expr_of ts condition) (T.ByValue (expr_of ts value) (choice_row ts row rest))
 
   pub pick_row : {m : _} → List Ty → Row_of-Pick m → Args → Args
   pick_row ts end_of-Pick rest = rest
@@ -115,13 +111,9 @@ abbrev pub operands_of : List Ty → List RustOperand → Args
 operands_of ts [] = T.NoArg
 operands_of ts (first ∷ rest) = operand_before ts first (operands_of ts rest)
 
-abbrev pub conditions_of : List Ty → List RustChoice → Args
-conditions_of ts [] = T.NoArg
-conditions_of ts (first ∷ rest) = T.ByValue (expr_of ts first.condition) (conditions_of ts rest)
-
 abbrev pub choices_of : List Ty → List RustChoice → Args → Args
 choices_of ts [] last = last
-choices_of ts (first ∷ rest) last = T.ByValue (expr_of ts first.value) (choices_of ts rest last)
+choices_of ts (first ∷ rest) last = T.ByValue (expr_of ts first.condition) (T.ByValue (expr_of ts first.value) (choices_of ts rest last))
 
 abbrev pub picks_of : List Ty → List RustPick → Args → Args
 picks_of ts [] last = last
