@@ -3,19 +3,11 @@
 use Rattle.std.specs.Prelude.{ℕ, zero, suc, Bool, true, false, List, [], ◌∷◌}
 use Rattle.nim_program.specs.declared.operation.Operation.{Operation}
 use Rattle.nim_program.specs.declared.operation.Operation.TheVariants as O
+use Rattle.nim_program.specs.declared.operation.Use.{Use}
+use Rattle.nim_program.specs.declared.operation.Use.TheVariants.{Owned, Given, Held, Lent, Looked}
 use Rattle.nim_program.specs.declared.program.Mode.{Mode}
 use Rattle.nim_program.specs.declared.program.Mode.TheVariants as M
 use Rattle.nim_program.specs.Program.{Act, Doing, Building, Giving, Calling}
-
--- What becomes of a value of a type with hooks. It is handed on at once to what takes it (Owned); or to a place, which gets it by a copy, a
--- move or a borrow (Given); or held while further operands are evaluated, until its operation takes it (Held); or an operation reads it
--- (Lent); or it is read where it is (Looked).
-pub data Use : Type 0 where
-  Owned : Use
-  Given : Use
-  Held : Use
-  Lent : Use
-  Looked : Use
 
 -- of each operand of an operation
 abbrev pub use_by : Operation → Use

@@ -8,6 +8,6 @@ mod stmt;
 mod typed;
 
 pub use expr::{Choice, Expr, Label, Literal, Node, Operand, Path, Pick};
-pub use operation::{Comparison, Measure, Operation, Operator, Short, UnaryOperator};
+pub use operation::{Comparison, Measure, Operation, Operator, Short, UnaryOperator, Use};
 pub use program::{ACTIVE_CALLS, Body, HookOf, Mode, Param, Proc, Program};
 pub use stmt::{Branch, CaseBranch, Handler, Kind, Leaving, PlaceDecl, Stmt};

@@ -131,3 +131,19 @@ pub enum Short {
     /// `or`
     Or,
 }
+
+/// What becomes of the value of an operand, where its type has something to do when a value is
+/// copied, moved or destroyed.
+#[derive(Clone, Copy)]
+pub enum Use {
+    /// It is handed on at once to what takes it.
+    Owned,
+    /// A place gets it, by a copy, a move or a borrow.
+    Given,
+    /// It is held while further operands are evaluated, until its operation takes it.
+    Held,
+    /// An operation reads it.
+    Lent,
+    /// It is read where it is.
+    Looked,
+}
