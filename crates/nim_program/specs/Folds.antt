@@ -1,5 +1,5 @@
 -- What is put together over all parts of a tree: said once, for whatever is counted or listed.
-use Rattle.std.specs.Prelude.{ℕ, ℤ, ◌+◌, Bool, true, false, List, [], ◌∷◌, ◌++◌, Option, Some, None}
+use Rattle.std.specs.Prelude.{ℕ, suc, ℤ, ◌+◌, min, max, nat_eq, if◌then◌else◌, Bool, true, false, List, [], ◌∷◌, ◌++◌, Option, Some, None}
 use Rattle.nim_types.specs.Types.{Ty}
 use Rattle.nim_program.specs.declared.expr.Node.{Node}
 use Rattle.nim_program.specs.declared.operation.Short.{Short}
@@ -30,7 +30,19 @@ pub record Sum (A : Type 0) : Type 0 where
   pub none : A
   pub plus : A → A → A
 
--- over all parts, in order of text but for the statement `if`, whose conditions come before its blocks
+-- ---- over all parts, in order of text
+
+module _ {A : Type 0} (sum : Sum A) where
+  abbrev pub together : List A → A
+  together [] = sum.none
+  together (x ∷ xs) = sum.plus x (together xs)
+
+  -- each of the first before one of the second, and then what is left
+  abbrev pub in_turn : List A → List A → A
+  in_turn [] ys = together ys
+  in_turn (x ∷ xs) [] = sum.plus x (together xs)
+  in_turn (x ∷ xs) (y ∷ ys) = sum.plus x (sum.plus y (in_turn xs ys))
+
 module _ {A : Type 0} (sum : Sum A) (own : Seen → A) where
   abbrev mutual
     pub total : Expr → A
@@ -52,13 +64,19 @@ module _ {A : Type 0} (sum : Sum A) (own : Seen → A) where
     totals (ByValue value rest) = sum.plus (total value) (totals rest)
     totals (ByPath path rest) = sum.plus (total_at false path) (totals rest)
 
+  abbrev pub each : Args → List A
+  each NoArg = []
+  each (ByValue value rest) = total value ∷ each rest
+  each (ByPath path rest) = total_at false path ∷ each rest
+
   abbrev mutual
     pub total_in : Stmt → A
     total_in (Do value) = total value
     total_in (Idle node parts) = sum.plus (own (AtStmt node)) (totals parts)
     total_in (Give node back value) = sum.plus (own (AtStmt node)) (total value)
     total_in (Leave node leaving parts) = sum.plus (own (AtStmt node)) (totals parts)
-    total_in (Select node chooser tests blocks) = sum.plus (own (AtStmt node)) (sum.plus (totals tests) (total_of_blocks blocks))
+    -- each condition stands before its block, and a selector before all
+    total_in (Select node chooser tests blocks) = sum.plus (own (AtStmt node)) (in_turn sum (each tests) (each_block blocks))
     total_in (Loop node kind head body) = sum.plus (own (AtLoop node kind)) (sum.plus (totals head) (total_of body))
     total_in (Raise node exception message) = sum.plus (own (AtStmt node)) (totals message)
     total_in (Try node body handlers last) =
@@ -70,9 +88,9 @@ module _ {A : Type 0} (sum : Sum A) (own : Seen → A) where
     total_of (Declare node place cursor value rest) = sum.plus (own (AtDeclare node place cursor)) (sum.plus (totals value) (total_of rest))
     total_of (Defer node last rest) = sum.plus (own (AtStmt node)) (sum.plus (total_of last) (total_of rest))
 
-    pub total_of_blocks : Blocks → A
-    total_of_blocks (Otherwise block) = total_of block
-    total_of_blocks (Block first rest) = sum.plus (total_of first) (total_of_blocks rest)
+    pub each_block : Blocks → List A
+    each_block (Otherwise block) = total_of block ∷ []
+    each_block (Block first rest) = total_of first ∷ each_block rest
 
     pub total_of_handlers : Handlers → A
     total_of_handlers NoHandler = sum.none
@@ -82,6 +100,16 @@ module _ {A : Type 0} (sum : Sum A) (own : Seen → A) where
 
 abbrev pub numbers : Sum ℕ
 numbers = record { none = 0; plus = λ a b. a + b }
+
+-- as far as they matter: what is beyond a most is as one more than it
+abbrev pub capped : (most : ℕ) → ℕ → ℕ
+capped most n = min n (suc most)
+
+abbrev pub capped_numbers : (most : ℕ) → Sum ℕ
+capped_numbers most = record { none = 0; plus = λ a b. capped most (a + b) }
+
+abbrev pub greatest : Sum ℕ
+greatest = record { none = 0; plus = λ a b. max a b }
 
 abbrev pub lists : {A : Type 0} → Sum (List A)
 lists = record { none = []; plus = λ xs ys. xs ++ ys }
@@ -106,6 +134,36 @@ node_numbers (AtStmt node) = node.number ∷ []
 node_numbers (AtDeclare node place cursor) = node.number ∷ []
 node_numbers (AtLoop node kind) = node.number ∷ []
 node_numbers (AtHandler name) = []
+
+-- the node itself
+abbrev part_node : Seen → Option Node
+part_node (AtApply node ty act) = Some node
+part_node (AtEarly node ty short) = Some node
+part_node (AtChoose node ty chooser) = Some node
+part_node (AtPath read node ty step) = Some node
+part_node (AtStmt node) = Some node
+part_node (AtDeclare node place cursor) = Some node
+part_node (AtLoop node kind) = Some node
+part_node (AtHandler name) = None
+
+abbrev pub if_number : ℕ → Node → Option Node
+if_number n node = if nat_eq node.number n then Some node else None
+
+abbrev and_then : Option Node → (Node → Option Node) → Option Node
+and_then None go = None
+and_then (Some node) go = go node
+
+-- where it has this number
+abbrev pub node_with : ℕ → Seen → Option Node
+node_with n seen = and_then (part_node seen) (if_number n)
+
+-- the greatest of some, 0 of none
+abbrev pub greatest_of : List ℕ → ℕ
+greatest_of [] = 0
+greatest_of (n ∷ ns) = max n (greatest_of ns)
+
+abbrev pub own_node : Seen → ℕ
+own_node seen = greatest_of (node_numbers seen)
 
 -- the nodes of an expression, and of a block
 abbrev pub nodes : Expr → List ℕ

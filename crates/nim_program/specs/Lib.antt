@@ -1,7 +1,17 @@
 pub mod Program
 pub mod View
 pub mod Folds
+pub mod FoldParts
 pub mod Sizes
+pub mod TextSizes
 pub mod Uses
 pub mod Traps
 pub mod Ints
+pub mod Kinds
+pub mod Fitting
+pub mod Scopes
+pub mod Typed
+pub mod Numbering
+pub mod ExampleParts
+pub mod TypedExamples
+pub mod FoldExamples

@@ -198,6 +198,13 @@ node_in (Loop node kind head body) = node
 node_in (Raise node exception message) = node
 node_in (Try node body handlers last) = node
 
+-- of the first statement of a block
+abbrev pub first_node : Stmts → Option Node
+first_node Empty = None
+first_node (Then first rest) = Some (node_in first)
+first_node (Declare node place cursor value rest) = Some node
+first_node (Defer node last rest) = Some node
+
 -- The number of the last statement of a block, where the one before these has number n. What follows a `defer` is a block of its own, so
 -- that statement is the last one of the block around it.
 abbrev pub last_after : ℕ → Stmts → ℕ

@@ -1,13 +1,24 @@
 -- How many bytes a procedure's places and nodes take, one beside the other: its sum, by which a procedure is too large, and which a call of
 -- it has as its work.
-use Rattle.std.specs.Prelude.{ℕ, ◌+◌, Bool, true, false, ◌||◌, if◌then◌else◌, nat_eq, List, [], ◌∷◌, Option, Some, None}
+use Rattle.std.specs.Prelude.{◌≡◌, ℕ, ◌+◌, ◌-◌, ◌^◌, ◌<◌, min, length, Bool, true, false, ◌||◌, if◌then◌else◌, nat_eq, List, [], ◌∷◌, Option, Some, None}
 use Rattle.nim_types.specs.Types.{Ty, Facts}
-use Rattle.nim_types.specs.Forms.{size, form_of}
-use Rattle.nim_program.specs.Program.{Declared, Kind, While, Count, Each, Param, Body, Program}
-use Rattle.nim_program.specs.Folds.{Seen, AtApply, AtEarly, AtChoose, AtPath, AtStmt, AtDeclare, AtLoop, AtHandler, numbers, total, total_at, totals, total_of}
+use Rattle.nim_types.specs.declared.types.TypeDef.{TypeDef}
+use Rattle.nim_types.specs.Forms.{Form, HasForm, size, form_of}
+use Rattle.nim_types.specs.Table.{type_at, types_in, facts_in, HasSize}
+use Rattle.nim_program.specs.Program.{Declared, Kind, While, Count, Each, Param, Body}
+use Rattle.nim_program.specs.Folds.{Seen, AtApply, AtEarly, AtChoose, AtPath, AtStmt, AtDeclare, AtLoop, AtHandler, numbers, total_of}
 
 abbrev pub type_bytes : Facts → Ty → ℕ
 type_bytes facts ty = size (form_of facts ty)
+
+-- no type of a table contains itself by value
+abbrev pub HaveForms : List TypeDef → Type 0
+HaveForms table = (ty : ℕ) → ty < length table → (f : Form) × HasForm (facts_in table) (type_at (types_in table) ty) f
+
+-- what a table says of the size of a type is that of its form, as far as 32 bits go
+abbrev pub HaveSizes : List TypeDef → Type 0
+HaveSizes table =
+    (ty bytes : ℕ) → ty < length table → HasSize table ty bytes → bytes ≡ min (type_bytes (facts_in table) (type_at (types_in table) ty)) (2 ^ 32 - 1)
 
 -- of a node that may give no value
 abbrev pub value_bytes : Facts → Option Ty → ℕ

@@ -1,6 +1,6 @@
 -- The table of operations, by what becomes of their operands. A value of a type without hooks is a number or the parts of a row, and
 -- nobody owns it: this column says nothing of it.
-use Rattle.std.specs.Prelude.{ℕ, zero, suc, Bool, true, false, List, [], ◌∷◌}
+use Rattle.std.specs.Prelude.{ℕ}
 use Rattle.nim_program.specs.declared.operation.Operation.{Operation}
 use Rattle.nim_program.specs.declared.operation.Operation.TheVariants as O
 use Rattle.nim_program.specs.declared.operation.Use.{Use}

@@ -24,6 +24,9 @@ use Rattle.nim_program.specs.declared.stmt.Stmt.TheVariants as S
 use Rattle.nim_program.specs.declared.stmt.Stmt.TheBlock.{Row_of-Stmt, end_of-Stmt, more_of-Stmt, Row_of-Branch, end_of-Branch, more_of-Branch}
 use Rattle.nim_program.specs.declared.stmt.Stmt.TheBlock.{Row_of-CaseBranch, end_of-CaseBranch, more_of-CaseBranch}
 use Rattle.nim_program.specs.declared.stmt.Stmt.TheBlock.{Row_of-Handler, end_of-Handler, more_of-Handler}
+use Rattle.nim_program.specs.declared.stmt.Branch.{Branch as RustBranch}
+use Rattle.nim_program.specs.declared.stmt.CaseBranch.{CaseBranch as RustCaseBranch}
+use Rattle.nim_program.specs.declared.stmt.Handler.{Handler as RustHandler}
 use Rattle.nim_program.specs.declared.program.Param.{Param as RustParam}
 use Rattle.nim_program.specs.declared.program.Body.{Body as RustBody}
 use Rattle.nim_program.specs.declared.program.Proc.{Proc as RustProc}
@@ -189,6 +192,27 @@ abbrev mutual
 abbrev pub stmts_of : List Ty → List RustStmt → Stmts
 stmts_of ts [] = T.Empty
 stmts_of ts (first ∷ rest) = stmt_before ts first (stmts_of ts rest)
+
+abbrev pub branch_conditions : List Ty → List RustBranch → Args
+branch_conditions ts [] = T.NoArg
+branch_conditions ts (first ∷ rest) = T.ByValue (expr_of ts first.condition) (branch_conditions ts rest)
+
+abbrev pub branch_blocks : List Ty → List RustBranch → Stmts → Blocks
+branch_blocks ts [] otherwise = T.Otherwise otherwise
+branch_blocks ts (first ∷ rest) otherwise = T.Block (stmts_of ts first.body.items) (branch_blocks ts rest otherwise)
+
+abbrev pub case_blocks : List Ty → List RustCaseBranch → Stmts → Blocks
+case_blocks ts [] otherwise = T.Otherwise otherwise
+case_blocks ts (first ∷ rest) otherwise = T.Block (stmts_of ts first.body.items) (case_blocks ts rest otherwise)
+
+abbrev pub branch_labels : List RustCaseBranch → List (List Label)
+branch_labels [] = []
+branch_labels (first ∷ rest) = map label_of first.labels ∷ branch_labels rest
+
+abbrev pub handlers_of : List Ty → List RustHandler → Handlers
+handlers_of ts [] = T.NoHandler
+handlers_of ts (first ∷ rest) =
+    T.Handler (map (type_at ts) first.types) (option_map (declared_of ts) first.name) (stmts_of ts first.body.items) (handlers_of ts rest)
 
 abbrev pub param_of : List Ty → RustParam → Param
 param_of ts p = record { place = declared_of ts p.place; mode = p.mode }

@@ -1,10 +1,11 @@
-// The node and the type of an expression.
+// The nodes of expressions, paths and statements, and the types of their values.
 ghost use Rattle.std.specs.Prelude.{◌≡◌, List};
 ghost use Rattle.nim_types.specs.Types.{Ty};
-ghost use Rattle.nim_program.specs.Program.{node_of, node_at, type_of, type_at};
-ghost use Rattle.nim_program.specs.View.{expr_of, path_of, if_type};
+ghost use Rattle.nim_program.specs.Program.{Stmts, node_of, node_at, first_node, type_of, type_at};
+ghost use Rattle.nim_program.specs.View.{expr_of, path_of, stmt_before, if_type};
 
 use crate::expr::{Expr, Node, Path};
+use crate::stmt::Stmt;
 use nim_types::TypeId;
 
 impl Expr {
@@ -69,6 +70,28 @@ impl Path {
             | Path::Element { ty, .. }
             | Path::Deref { ty, .. } => Some(*ty),
             Path::Fresh { value } => value.ty(),
+        }
+    }
+}
+
+impl Stmt {
+    /// Its node: that of its expression, where it is one.
+    pub fn node(&self) -> Node
+        ensures { (ts : List Ty) (rest : Stmts)
+            → first_node (stmt_before ts self.now rest) ≡ Some result }
+    {
+        match self {
+            Stmt::Do { value } => value.node(),
+            Stmt::Idle { node, .. }
+            | Stmt::Give { node, .. }
+            | Stmt::Leave { node, .. }
+            | Stmt::Declare { node, .. }
+            | Stmt::If { node, .. }
+            | Stmt::Case { node, .. }
+            | Stmt::Loop { node, .. }
+            | Stmt::Raise { node, .. }
+            | Stmt::Try { node, .. }
+            | Stmt::Defer { node, .. } => *node,
         }
     }
 }

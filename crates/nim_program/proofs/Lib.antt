@@ -1,0 +1,7 @@
+mod ExprRows
+mod StmtRows
+mod LiteralRows
+mod FoldLemmas
+mod TypeNumbers
+mod GlobalMarks
+mod Ranges
