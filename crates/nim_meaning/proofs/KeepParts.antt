@@ -1,0 +1,97 @@
+-- What changes of the world keep, and a call's frame, every program keeps.
+use Rattle.std.proofs.Common.{◌≡◌, ℕ, suc, true, List, [], ◌∷◌}
+use Rattle.nim_plan.specs.declared.plan.Plan.{Plan}
+use Rattle.nim_program.specs.Program.{Param, Body, Program, last_of}
+use Rattle.nim_meaning.specs.Heap.{Contents, has_room}
+use Rattle.nim_meaning.specs.Values.{Value, Slot}
+use Rattle.nim_meaning.specs.State.{Frame, World, with_frame, down_to}
+use Rattle.nim_meaning.specs.Acts.{Broke, Continued, Returned, Raised, Flow, On, Out, exit_of, change}
+use Rattle.nim_meaning.specs.Deeds.{Change, changed, with_block}
+use Rattle.nim_meaning.specs.Here.{Calls, Here}
+use Rattle.nim_meaning.specs.Meaning.{exec_all, frame_of, params_end, handing, handed, entered_body, from_level, goes_through}
+use Rattle.nim_meaning.proofs.Keeps.{Keeps, Only, Stays, keeps_then, keeps_costs, keeps_looks, keeps_on, keeps_past, stays_got, stays_end, stays_then}
+use Rattle.nim_meaning.proofs.Keeps.{stays_seq, stays_costs, stays_says, stays_looks, stays_change, stays_takes, stays_passing, stays_elsewhere}
+use Rattle.nim_meaning.proofs.Keeps.{stays_spending, stays_loop, stays_again}
+use Rattle.nim_meaning.proofs.Parts.{Said, Closed}
+use Rattle.nim_meaning.proofs.Calls.{ClosedCalls, whole_program}
+
+-- At each level of calls the world is as I says, so always as K says.
+pub record Invariant (K : World → Type 0) (I : ℕ → World → Type 0) : Type 0 where
+  pub within : (level : ℕ) (world : World) → I level world → K world
+  pub changes : (level : ℕ) (c : Change) (world : World) → I level world → I level (changed c world)
+  pub takes : (level class : ℕ) (contents : Contents) (world : World) → has_room world.heap class ≡ true → I level world →
+      I level (with_block class contents world)
+  pub enters : (level : ℕ) (frame : Frame) (world : World) → I level world → I (suc level) (with_frame world frame)
+  pub leaves : (level : ℕ) (world : World) → I (suc level) world → I level (down_to (suc level) world)
+
+module _ (K : World → Type 0) (I : ℕ → World → Type 0) (inv : Invariant K I) where
+  abbrev kept : ℕ → Said
+  kept level = record { of = Stays K (I level); turn = Stays K (I level); errs = ⊥ }
+
+  closed : (level : ℕ) → Closed (kept level)
+  closed level =
+      let J = I level in
+      let w : (world : World) → J world → K world = inv.within level in
+      record {
+        got = stays_got K J w;
+        ended = stays_end K J w;
+        errs = λ e. absurd e;
+        then = stays_then K J w;
+        costs = stays_costs K J w;
+        says = stays_says K J w;
+        looks = stays_looks K J w;
+        changes = λ c. stays_change K J w (changed c) (inv.changes level c);
+        takes = λ class contents rest fails. stays_takes K J w class contents rest fails (inv.takes level class contents);
+        passes = stays_passing K J w;
+        turn_again = stays_again K J w;
+        turn_last = stays_got K J w _;
+        turn_then = stays_seq K J w;
+        turn_passes = stays_passing K J w;
+        loops = stays_loop K J w;
+      }
+
+  -- ---- calls
+
+  params_stay : (at : ℕ) (here : Here) (params : List Param) (exit : ℕ) → Keeps K (I at) (params_end here params exit) (Only K (I at))
+  params_stay at here [] exit = record { at = λ s i. i }
+  params_stay at here (param ∷ params) exit =
+      keeps_past K (I at) (I at) (Only K (I at)) (params_end here params exit) _ (params_stay at here params exit) (record { at = λ s i. i })
+
+  handing_stays : (level : ℕ) (flow : Flow (Unit {0})) (v : Value) → Stays K (I level) (handing flow v)
+  handing_stays level (On x) v = record { at = λ s i. i }
+  handing_stays level (Out (Broke by)) v = record { at = λ s i. i }
+  handing_stays level (Out (Continued by)) v = record { at = λ s i. i }
+  handing_stays level (Out (Returned by)) v = record { at = λ s i. i }
+  handing_stays level (Out (Raised exception by)) v = record { at = λ s i. i }
+
+  module _ (level : ℕ) (program : Program) (plan : Plan) (call : Calls) (params : List Param) (body : Body) where
+    abbrev here : Here
+    here = from_level program plan (suc level) call body
+
+    handed_back : (flow : Flow (Unit {0})) → Keeps K (I (suc level)) (handed params (last_of body.stmts) here flow) (λ x. I level)
+    handed_back flow =
+        let exit = exit_of (last_of body.stmts) flow in
+        keeps_looks K (I (suc level)) (λ x. I level) _
+        (λ world. keeps_past K (I (suc level)) (I (suc level)) (λ x. I level) (params_end here params exit) _ (params_stay (suc level) here params exit)
+        (keeps_past K (I (suc level)) (I level) (λ x. I level) (change (down_to (suc level))) _
+        (keeps_on K (I (suc level)) (I level) (down_to (suc level)) (inv.leaves level))
+        (keeps_costs K (I level) (λ x. I level) _ _ (handing_stays level flow _))))
+
+    bodies : (slots : List Slot) → Stays K (I (suc level)) (exec_all body.stmts here) → Stays K (I level) (entered_body program.globals params body slots here)
+    bodies slots h =
+        let frame = frame_of program.facts body slots in
+        keeps_costs K (I level) (λ x. I level) _ _
+        (keeps_past K (I level) (I (suc level)) (λ x. I level) (change (λ world. with_frame world frame)) _
+        (keeps_on K (I level) (I (suc level)) (λ world. with_frame world frame) (inv.enters level frame))
+        (keeps_then K (I (suc level)) (λ x. I (suc level)) (λ x. I level) (exec_all body.stmts here) (handed params (last_of body.stmts) here) h handed_back))
+
+  calls : ClosedCalls kept
+  calls = record {
+    parts = closed;
+    spends = λ level. stays_spending K (I level) (inv.within level);
+    leads_away = λ level. stays_elsewhere K (I level) (inv.within level);
+    bodies = bodies;
+  }
+
+  pub keeps_program : (program : Program) (plan : Plan) → Stays K (I 0) (goes_through program plan)
+  keeps_program program plan = whole_program kept calls program plan

@@ -1,0 +1,59 @@
+-- Whole runs: with more units what was seen stays, and no run is wrong.
+use Rattle.std.proofs.Common.{◌≤◌, ℕ, List, refl, arith}
+use Rattle.arc_base.specs.Behaviour.{Steady, Sound}
+use Rattle.arc_base.specs.BigStep.{Res, Got, Over, Going, Errs}
+use Rattle.arc_base.specs.Growth.{Right}
+use Rattle.arc_base.proofs.ForCallers.{steady_by_tame, sound_by_right}
+use Rattle.nim_plan.specs.declared.plan.Plan.{Plan}
+use Rattle.nim_program.specs.Program.{Program}
+use Rattle.nim_meaning.specs.Heap.{demand}
+use Rattle.nim_meaning.specs.State.{World, State, live}
+use Rattle.nim_meaning.specs.Meaning.{at_first, goes_through, meaning}
+use Rattle.nim_meaning.specs.Kept.{IsKept, IsAlways, Framed, IsBalanced}
+use Rattle.nim_meaning.proofs.Tame.{metered}
+use Rattle.nim_meaning.proofs.TameParts.{tame_program}
+use Rattle.nim_meaning.proofs.KeepParts.{keeps_program}
+use Rattle.nim_meaning.proofs.Framed.{framed}
+use Rattle.nim_meaning.proofs.Balanced.{Balanced, balanced, balanced_first}
+use Rattle.nim_meaning.proofs.HeapKept.{InHeap, heap_kept, Within, within}
+
+pub meaning_steady : (program : Program) (plan : Plan) (heap : ℕ) (input : List ℕ) → Steady (meaning program plan heap input)
+meaning_steady program plan heap input =
+    steady_by_tame metered (λ _. 0) (λ s. live s.world) (λ a s. refl) (goes_through program plan) (tame_program program plan).units
+    (at_first program heap input 0)
+
+pub frames_kept : (program : Program) (plan : Plan) (heap : ℕ) (input : List ℕ) (n : ℕ) →
+    IsKept (λ flow. Framed 0) (goes_through program plan (at_first program heap input n))
+frames_kept program plan heap input n = (keeps_program (λ world. Unit {0}) Framed framed program plan).at (at_first program heap input n) refl
+
+is_right : {A : Type 0} (J : A → World → Type 0) (r : Res State A) → IsKept J r → Right r
+is_right J (Got x s) kept = tt
+is_right J (Over status live s) kept = tt
+is_right J (Going s) kept = tt
+is_right J (Errs s) kept = absurd kept
+
+pub meaning_sound : (program : Program) (plan : Plan) (heap : ℕ) (input : List ℕ) → Sound (meaning program plan heap input)
+meaning_sound program plan heap input =
+    sound_by_right (λ s. s.meter) (λ _. 0) (λ s. live s.world) (λ n. goes_through program plan (at_first program heap input n))
+    (λ n. is_right (λ x. Framed 0) (goes_through program plan (at_first program heap input n)) (frames_kept program plan heap input n))
+
+-- what holds everywhere, holds of what is weaker
+weaker : {A : Type 0} (K L : World → Type 0) → ((world : World) → K world → L world) → (r : Res State A) → IsAlways K r → IsAlways L r
+weaker K L h (Got x s) k = h s.world k
+weaker K L h (Over status live s) k = h s.world k
+weaker K L h (Going s) k = h s.world k
+weaker K L h (Errs s) k = absurd k
+
+pub demand_within : (program : Program) (plan : Plan) (heap : ℕ) (input : List ℕ) (n : ℕ) →
+    IsAlways (λ world. demand world.heap.classes ≤ heap) (goes_through program plan (at_first program heap input n))
+demand_within program plan heap input n =
+    let InRoom = InHeap (Within heap) (within heap) in
+    weaker InRoom (λ world. demand world.heap.classes ≤ heap) (λ world w. w.1) (goes_through program plan (at_first program heap input n))
+    ((keeps_program InRoom (λ level. InRoom) (heap_kept (Within heap) (within heap)) program plan).at (at_first program heap input n) (refl, omega arith))
+
+pub blocks_balanced : (program : Program) (plan : Plan) (heap : ℕ) (input : List ℕ) (n : ℕ) →
+    IsAlways IsBalanced (goes_through program plan (at_first program heap input n))
+blocks_balanced program plan heap input n =
+    let Counted = InHeap Balanced balanced in
+    weaker Counted IsBalanced (λ world b. b.sums) (goes_through program plan (at_first program heap input n))
+    ((keeps_program Counted (λ level. Counted) (heap_kept Balanced balanced) program plan).at (at_first program heap input n) (balanced_first heap))

@@ -1,0 +1,17 @@
+use Rattle.nim_meaning.proofs.Whole.{meaning_steady, meaning_sound, frames_kept, demand_within, blocks_balanced}
+use Rattle.nim_meaning.proofs.laws.meanings.Goals as goal
+
+pub returns-clause-steady : goal.returns-clause-steady
+returns-clause-steady c = meaning_steady
+
+pub returns-clause-sound : goal.returns-clause-sound
+returns-clause-sound c = meaning_sound
+
+pub returns-clause-framed : goal.returns-clause-framed
+returns-clause-framed c = frames_kept
+
+pub returns-clause-demand : goal.returns-clause-demand
+returns-clause-demand c = demand_within
+
+pub returns-clause-balanced : goal.returns-clause-balanced
+returns-clause-balanced c = blocks_balanced

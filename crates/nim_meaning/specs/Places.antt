@@ -1,0 +1,86 @@
+-- How places are found, read and written.
+use Rattle.std.specs.Prelude.{ℕ, ℤ, unsigned_abs, Bool, true, false, List, [], ◌∷◌, Option, Some, None}
+use Rattle.nim_plan.specs.declared.plan.Act.{Act}
+use Rattle.nim_program.specs.Traps.{IndexOutOfBounds, NilDereference}
+use Rattle.nim_program.specs.Ints.{inside}
+use Rattle.nim_program.specs.declared.operation.Use.{Use}
+use Rattle.nim_meaning.specs.Values.{Value, Parts, Handle, Fixed, Ref, nothing, length_of, bytes, Base, Standing, Waiting, InBlock, Made, Location, at_base, deeper, nowhere, through}
+use Rattle.nim_meaning.specs.State.{World, slot_at, temporary_at, load}
+use Rattle.nim_meaning.specs.Values.{Slot}
+use Rattle.nim_meaning.specs.Deeds.{Deed, Gives, Works, Looks, Errs, Stores, does, give, ◌>>=◌, ◌>>◌, branch, costs, looks, stop}
+
+-- ---- paths
+
+abbrev pub place_at : (level number : ℕ) → Location
+place_at level number = at_base (Standing level number)
+
+abbrev pub through_slot : Base → Option Slot → Location
+through_slot base None = at_base base
+through_slot base (Some slot) = through (at_base base) slot
+
+-- where a path begins: a name that stands for a location leads to it
+abbrev pub root_of : Base → World → Location
+root_of (Standing level number) world = through_slot (Standing level number) (slot_at world level number)
+root_of (Waiting level node) world = through_slot (Waiting level node) (temporary_at world level node)
+root_of base world = at_base base
+
+-- an element of what stands at a location: in it, or in its block
+abbrev pub item_of : Value → Location → ℕ → Location
+item_of (Handle n (Some k)) location i = record location { base = InBlock k; path = i ∷ [] }
+item_of v location i = deeper location i
+
+-- the object of a ref; nil has none
+abbrev pub object_of : Value → Deed Location
+object_of (Ref (Some k)) = Gives (record { base = InBlock k; path = []; through = Some k })
+object_of (Ref None) = stop NilDereference
+object_of v = Gives nowhere
+
+-- The steps of a look-up, each a node of the path and a work of one, but for a dereference, which is no node: where it begins, a field or a
+-- part of what is there, an element, and the object of a ref.
+abbrev pub rooted : Base → Deed Location
+rooted base = costs 1 (looks (λ world. give (root_of base world)))
+
+abbrev pub to_part : Location → ℕ → Deed Location
+to_part location i = costs 1 (give (deeper location i))
+
+abbrev pub to_item : Location → ℤ → Deed Location
+to_item location z = costs 1 (looks (λ world. branch (inside z (length_of (load world location)))
+    (give (item_of (load world location) location (unsigned_abs z))) (stop IndexOutOfBounds)))
+
+abbrev pub to_object : Location → Deed Location
+to_object location = looks (λ world. object_of (load world location))
+
+-- where a fresh value stands: nobody owns a plain one, and its node is counted already
+abbrev pub made : Value → Deed Location
+made v = give (at_base (Made v))
+
+-- ---- values at places
+
+-- What comes with the heap: all values that have anything to do when they are copied, moved or destroyed. A program that has any of it is
+-- refused before it runs, so nobody sees this value.
+abbrev pub from_heap : Deed Value
+from_heap = give nothing
+
+-- the bits at a location
+abbrev pub fetched : Location → Deed Value
+fetched location = looks (λ world. costs (bytes (load world location)) (give (load world location)))
+
+-- The value of a path that is read, as its use asks. One with hooks is copied, handed on or lent, as the plan says of the site.
+abbrev pub taken_by : (hooked : Bool) → Use → Option Act → Location → Deed Value
+taken_by false how act location = fetched location
+taken_by true how act location = from_heap
+
+-- The value that a node made, as its use asks: one with hooks is handed on, or waits for its operation or for the end of its statement. A text that
+-- nobody owns is read as it is.
+abbrev pub made_by : (hooked : Bool) → Use → Value → Deed Value
+made_by false how v = give v
+made_by true how (Fixed t) = give (Fixed t)
+made_by true how v = from_heap
+
+-- a value becomes that at a location, where one without hooks stood
+abbrev pub put : Location → Value → Deed Value
+put location v = costs (bytes v) (does (Stores location v) >> give nothing)
+
+-- the value at a location is taken, and another one put in its place
+abbrev pub exchanged : Location → Value → Deed Value
+exchanged location v = costs (bytes v) (looks (λ world. does (Stores location v) >> give (load world location)))

@@ -1,0 +1,125 @@
+-- That each run does the acts of a way through the tree of acts, in order. The trail of a state has the points that the running call came by, the last
+-- one first; a run puts the points in front of it that it passes.
+use Rattle.std.specs.Prelude.{◌≡◌, ℕ, Bool, true, not, ◌&&◌, ◌⊎◌, List, [], ◌∷◌, ◌++◌, Option, Some, None}
+use Rattle.arc_base.specs.BigStep.{Res, Got, Over, Going, Errs}
+use Rattle.nim_types.specs.Types.{Ty}
+use Rattle.nim_program.specs.Program.{Declared, Kind, While, Count, Each, Expr, Stmts, Param, Body, Proc, Program}
+use Rattle.nim_program.specs.Folds.{Seen, AtApply, AtEarly, AtChoose, AtPath, AtStmt, AtDeclare, AtLoop, AtHandler, Sum, total, total_of}
+use Rattle.nim_meaning.specs.ActTree as tree
+use Rattle.nim_meaning.specs.ActTree.{Out, Turn_over, Back}
+use Rattle.nim_meaning.specs.Ways.{Point, Exits, Raises, Graph, Behind, Trail, follows, start}
+use Rattle.nim_meaning.specs.State.{State}
+use Rattle.nim_meaning.specs.Acts.{Way, Broke, Continued, Returned, Raised, Flow, On, Out as LeftBy}
+use Rattle.nim_meaning.specs.Here.{is_hooked}
+use Rattle.nim_meaning.specs.ActsOf.{start_acts, procedure_acts}
+
+-- the points of a way, the last one first
+abbrev pub points_of : List Behind → List Point
+points_of [] = []
+points_of (e ∷ es) = e.from ∷ points_of es
+
+-- What a trail got in front are the points of a way from p to q, each of which does its act: E says what a point may do, and where control may go then.
+pub record GoneBy (E : Graph) (p : Point) (before after : List Point) (q : Point) : Type 0 where
+  pub way : List Behind
+  pub trail : after ≡ points_of way ++ before
+  pub is : Trail E p way q
+
+-- It came out of a part, to where this flow leads. No exception leaves, since no construct raises one yet.
+abbrev pub LeavesBy : (E : Graph) (p : Point) (exits : Exits) (before after : List Point) → Way → Type 0
+LeavesBy E p exits before after (Broke by) = GoneBy E p before after (exits (Out by))
+LeavesBy E p exits before after (Continued by) = GoneBy E p before after (exits (Turn_over by))
+LeavesBy E p exits before after (Returned by) = GoneBy E p before after (exits (Back by))
+LeavesBy E p exits before after (Raised exception by) = ⊥
+
+-- It came to a point, by a way, and no further.
+pub record StandsBy (E : Graph) (p : Point) (before after : List Point) : Type 0 where
+  pub to : Point
+  pub gone : GoneBy E p before after to
+
+-- A run that is over, or that has no unit left, stands in this body or elsewhere: in a call, whose trail is its own.
+abbrev pub StopsBy : (E : Graph) (p : Point) (elsewhere : List Point → Type 0) (before after : List Point) → Type 0
+StopsBy E p elsewhere before after = StandsBy E p before after ⊎ elsewhere after
+
+-- From p on, what a part came to went by a way: to where its flow leads, or as far as it came.
+abbrev pub GoesBy : {A : Type 0} (E : Graph) (p : Point) (exits : Exits) (elsewhere : List Point → Type 0) (before : List Point) → Res State (Flow A) → Type 0
+GoesBy E p exits elsewhere before (Got (On x) s) = GoneBy E p before s.trail (exits tree.On)
+GoesBy E p exits elsewhere before (Got (LeftBy way) s) = LeavesBy E p exits before s.trail way
+GoesBy E p exits elsewhere before (Over status live s) = StopsBy E p elsewhere before s.trail
+GoesBy E p exits elsewhere before (Going s) = StopsBy E p elsewhere before s.trail
+GoesBy E p exits elsewhere before (Errs s) = StopsBy E p elsewhere before s.trail
+
+-- ---- what has no hooks
+
+abbrev pub everywhere : Sum Bool
+everywhere = record { none = true; plus = λ a b. a && b }
+
+module _ (hooked : Ty → Bool) where
+  abbrev pub is_plain_type : Option Ty → Bool
+  is_plain_type None = true
+  is_plain_type (Some ty) = not (hooked ty)
+
+  abbrev pub is_plain_place : Option Declared → Bool
+  is_plain_place None = true
+  is_plain_place (Some place) = not (hooked place.of)
+
+  abbrev pub is_plain_loop : Kind → Bool
+  is_plain_loop While = true
+  is_plain_loop (Count variable inclusive) = not (hooked variable.of)
+  is_plain_loop (Each variable) = not (hooked variable.of)
+
+  -- the value of a part, or the place that it declares
+  abbrev pub is_plain : Seen → Bool
+  is_plain (AtApply node ty act) = is_plain_type ty
+  is_plain (AtEarly node ty short) = not (hooked ty)
+  is_plain (AtChoose node ty chooser) = is_plain_type ty
+  is_plain (AtPath read node ty step) = not (hooked ty)
+  is_plain (AtStmt node) = true
+  is_plain (AtDeclare node place cursor) = not (hooked place.of)
+  is_plain (AtLoop node kind) = is_plain_loop kind
+  is_plain (AtHandler name) = is_plain_place name
+
+  abbrev pub is_plain_value : Expr → Bool
+  is_plain_value = total everywhere is_plain
+
+  abbrev pub is_plain_block : Stmts → Bool
+  is_plain_block = total_of everywhere is_plain
+
+  abbrev pub is_plain_body : Body → Bool
+  is_plain_body body = is_plain_place body.result && is_plain_block body.stmts
+
+  abbrev pub are_plain_params : List Param → Bool
+  are_plain_params [] = true
+  are_plain_params (param ∷ params) = not (hooked param.place.of) && are_plain_params params
+
+  abbrev pub is_plain_if_body : Option Body → Bool
+  is_plain_if_body None = true
+  is_plain_if_body (Some body) = is_plain_body body
+
+  abbrev pub are_plain_procs : List Proc → Bool
+  are_plain_procs [] = true
+  are_plain_procs (p ∷ procs) = are_plain_params p.params && is_plain_if_body p.body && are_plain_procs procs
+
+-- no value and no place of a program has hooks
+abbrev pub has_no_hooks : Program → Bool
+has_no_hooks program = are_plain_procs (is_hooked program.facts) program.procs && is_plain_body (is_hooked program.facts) program.start
+
+-- ---- programs
+
+-- the ways through the start code, and through a procedure by its number, where these parameters became `sink` by inference
+module _ (raises : Raises) (sinks : List ℕ) (program : Program) where
+  abbrev pub start_graph : Graph
+  start_graph = follows raises (start_acts (is_hooked program.facts) sinks program)
+
+  abbrev pub first_point : Point
+  first_point = start (start_acts (is_hooked program.facts) sinks program)
+
+  abbrev pub procedure_graph : (proc : ℕ) → Graph
+  procedure_graph proc = follows raises (procedure_acts (is_hooked program.facts) sinks program proc)
+
+  abbrev pub first_point_of : (proc : ℕ) → Point
+  first_point_of proc = start (procedure_acts (is_hooked program.facts) sinks program proc)
+
+  -- A run stands in a call: its trail has the points of a way from the start of the procedure that is called.
+  pub record StandsInCall (trail : List Point) : Type 0 where
+    pub proc : ℕ
+    pub stands : StandsBy (procedure_graph proc) (first_point_of proc) [] trail

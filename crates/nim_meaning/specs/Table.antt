@@ -1,0 +1,134 @@
+-- The table of operations, by what each does with its operands.
+use Rattle.std.specs.Prelude.{ℕ, zero, suc, ◌+◌, ℤ, pos, ◌-ℤ◌, Bool, true, false, List, [], ◌∷◌, length, Option, Some, None}
+use Rattle.arc_base.specs.declared.outside.Stream.TheVariants.{Out as Output}
+use Rattle.nim_types.specs.Types.{Ty, int, char, enum, Facts, fact_of, members_in}
+use Rattle.nim_program.specs.declared.operation.Operation.{Operation}
+use Rattle.nim_program.specs.declared.operation.Operation.TheVariants as O
+use Rattle.nim_program.specs.declared.operation.Operator.{Operator}
+use Rattle.nim_program.specs.declared.operation.Measure.{Measure}
+use Rattle.nim_program.specs.declared.operation.Measure.TheVariants.{Len, High}
+use Rattle.nim_program.specs.Ints.{Checked, Fine, Trapped, applied, applied_to, compared, truth, within, low_byte}
+use Rattle.nim_program.specs.Program.{Act, Doing, Building, Giving, Calling, Literal}
+use Rattle.nim_program.specs.Program as P
+use Rattle.nim_meaning.specs.Values.{Value, Number, Parts, Values, Nil, More, nothing, number_of, length_of, with_part, bytes, default_of, literal_value}
+use Rattle.nim_meaning.specs.Values.{Operand, Given, At, Location, value, number, location, value_of, values_in}
+use Rattle.nim_meaning.specs.State.{load}
+use Rattle.nim_meaning.specs.Acts.{line_of}
+use Rattle.nim_meaning.specs.Texts.{texts_of}
+use Rattle.nim_meaning.specs.Places.{from_heap, put, exchanged}
+use Rattle.nim_meaning.specs.Deeds.{Deed, give, ◌>>=◌, ◌>>◌, costs, looks, write, end, stop}
+
+-- ---- what rows are made of
+
+abbrev pub outcome : Checked → Deed Value
+outcome (Fine z) = give (Number z)
+outcome (Trapped trap) = stop trap
+
+abbrev pub operate : Operator → ℤ → ℤ → Deed Value
+operate operator x y = outcome (applied operator x y)
+
+abbrev pub type_in : Option Ty → Ty
+type_in None = int
+type_in (Some ty) = ty
+
+-- the default of what a node gives
+abbrev pub default_for : Facts → Option Ty → Value
+default_for facts None = nothing
+default_for facts (Some ty) = default_of facts ty
+
+-- how many values a type has to which an int is converted with a check
+abbrev pub limit_of : Facts → Ty → Option ℕ
+limit_of facts char = Some 256
+limit_of facts (enum key) = Some (length (members_in (fact_of facts (enum key))))
+limit_of facts _ = None
+
+abbrev pub limit_for : Facts → Option Ty → Option ℕ
+limit_for facts None = None
+limit_for facts (Some ty) = limit_of facts ty
+
+abbrev pub converted : Option ℕ → Value → Deed Value
+converted None v = give v
+converted (Some values) v = outcome (within values (number_of v))
+
+-- a value is handed on
+abbrev pub moved : Value → Deed Value
+moved v = costs (bytes v) (give v)
+
+abbrev pub measured : Measure → ℕ → ℤ
+measured Len n = pos n
+measured High n = pos n -ℤ pos 1
+
+-- `inc` and `dec` without a value go by one
+abbrev pub step_by : List Operand → ℤ
+step_by [] = pos 1
+step_by (x ∷ []) = pos 1
+step_by (x ∷ y ∷ rest) = number_of (value_of y)
+
+-- the number at a location becomes another one
+abbrev pub updated : Location → (ℤ → Deed Value) → Deed Value
+updated location next =
+    looks (λ world. costs (bytes (load world location)) (next (number_of (load world location)) >>= put location))
+
+-- `quit` without a status ends with 0
+abbrev pub status_of : List Operand → ℕ
+status_of [] = 0
+status_of (x ∷ xs) = low_byte (number_of (value_of x))
+
+-- the values of two locations trade places
+abbrev pub swapped : Location → Location → Deed Value
+swapped left right =
+    looks (λ world. exchanged right (load world left)) >>= (λ v. exchanged left v >> give nothing)
+
+-- ---- operations
+
+-- over what is known of types, with the type of the value, those of the operands, and the operands
+abbrev pub does : Operation → Facts → Option Ty → List (Option Ty) → List Operand → Deed Value
+does O.Default facts ty of xs = costs (bytes (default_for facts ty)) (give (default_for facts ty))
+does (O.Unary operator) facts ty of xs = outcome (applied_to operator (number xs 0))
+does (O.Binary operator) facts ty of xs = operate operator (number xs 0) (number xs 1)
+does (O.Compare comparison) facts ty of xs =
+    costs (bytes (value xs 0)) (give (Number (truth (compared comparison (number xs 0) (number xs 1)))))
+does O.Convert facts ty of xs = converted (limit_for facts ty) (value xs 0) >>= moved
+does O.Join facts ty of xs = from_heap
+does O.Show facts ty of xs = from_heap
+does O.Make facts ty of xs = costs (bytes (Parts (values_in xs))) (give (Parts (values_in xs)))
+does O.Sequence facts ty of xs = from_heap
+does O.NewSequence facts ty of xs = from_heap
+does (O.Measure measure) facts ty of xs = looks (λ world. give (Number (measured measure (length_of (load world (location xs 0))))))
+does O.IsNil facts ty of xs = from_heap
+does O.Echo facts ty of xs = write Output (line_of (texts_of facts of xs)) >> give nothing
+does O.Quit facts ty of xs = end (status_of xs)
+does O.ReadLine facts ty of xs = from_heap
+does O.ReadLineInto facts ty of xs = from_heap
+does O.Assign facts ty of xs = put (location xs 0) (value xs 1)
+does (O.Update operator) facts ty of xs = updated (location xs 0) (λ x. operate operator x (step_by xs))
+does O.Add facts ty of xs = from_heap
+does O.Append facts ty of xs = from_heap
+does O.SetLength facts ty of xs = from_heap
+does O.Pop facts ty of xs = from_heap
+does O.Move facts ty of xs = exchanged (location xs 0) (default_for facts ty)
+does O.Swap facts ty of xs = swapped (location xs 0) (location xs 1)
+does O.Discard facts ty of xs = give nothing
+does O.Destroy facts ty of xs = from_heap
+does O.Blank facts ty of xs = from_heap
+
+-- ---- constants and objects
+
+-- the bytes of a constant that is built; a number and a text that is read have none
+abbrev pub literal_bytes : Literal → ℕ
+literal_bytes (P.Number z) = 0
+literal_bytes (P.Characters text) = 0
+literal_bytes literal = bytes (literal_value literal)
+
+abbrev pub with_fields : Value → List ℕ → Values → Value
+with_fields v [] vs = v
+with_fields v (field ∷ fields) Nil = v
+with_fields v (field ∷ fields) (More new vs) = with_fields (with_part v field new) fields vs
+
+-- All that is done with operands but calls, of which the meaning takes care. A node is a work of one.
+abbrev pub acts : Act → Facts → Option Ty → List (Option Ty) → List Operand → Deed Value
+acts (Doing operation) facts ty of xs = costs 1 (does operation facts ty of xs)
+acts (Building fields) facts ty of xs =
+    costs 1 (costs (bytes (default_for facts ty)) (give (with_fields (default_for facts ty) fields (values_in xs))))
+acts (Giving literal) facts ty of xs = costs 1 (costs (literal_bytes literal) (give (literal_value literal)))
+acts (Calling proc types) facts ty of xs = give nothing
