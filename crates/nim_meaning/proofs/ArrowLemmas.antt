@@ -1,16 +1,16 @@
 -- The ways as a family of edges, and as a list of arrows, are the same.
-use Rattle.std.proofs.Common.{◌≡◌, refl, sym, ap, subst, inl, inr, ⊎_elim, ◌↔◌, ◌⊎◌, ℕ, List, [], ◌∷◌, ◌++◌, Bool, true, false, ◌&&◌, ◌||◌, if◌then◌else◌}
-use Rattle.std.proofs.lemmas.Bool.{false≢true, and_parts, and_from, or_left, or_right, or_cases}
+use Rattle.std.proofs.Common.{◌≡◌, refl, sym, ap, subst, inl, inr, ⊎_elim, ◌↔◌, ◌⊎◌, ℕ, List, [], ◌∷◌, ◌++◌, true, false}
+use Rattle.std.proofs.lemmas.Bool.{false≢true}
 use Rattle.nim_meaning.specs.ActTree.{Root, Flow, On, Out, Turn_over, Back, Act, Pass, Fill, Invoke, Turns, Chooses, Leaves, Does, goes_on, leaving, closing}
 use Rattle.nim_meaning.specs.ActTree.{Control, Do, Choose, Loop, Break, Continue, Return, Call, Group, Arms, No_arm, An_arm, Acts, Done, Then, Bind, Result}
 use Rattle.nim_meaning.specs.Ways.{Point, At, Enter, Leave, Exits, Raises, entry, onto, looped, scoped, leaves_loop}
-use Rattle.nim_meaning.specs.Ways.{May, may_do, may_choose, may_end, may_test, may_turn, may_break, may_continue, may_return, may_call, may_group}
-use Rattle.nim_meaning.specs.Ways.{May_arm, may_arm, may_other, Mays, may_done, may_here, may_later, may_bind, may_result}
+use Rattle.nim_meaning.specs.Ways.{May, may_choose, may_test, may_turn, may_break, may_continue, may_return, may_group, MayEnd}
+use Rattle.nim_meaning.specs.Ways.{May_arm, may_arm, may_other, Mays, may_here, may_later, may_bind, may_result}
 use Rattle.nim_meaning.specs.Ways.{Edge, doing, choosing, in_choice, turn_begins, in_condition, loop_goes_on, loop_ends, in_turn, breaking, continuing}
 use Rattle.nim_meaning.specs.Ways.{returning}
 use Rattle.nim_meaning.specs.Ways.{call_returns, group_begins, in_group, Begins_arm, this_arm, other_arm, Edge_arm, in_this, in_other}
 use Rattle.nim_meaning.specs.Ways.{Edges, here, later, inside, closes, begins_result, in_result, ends_result}
-use Rattle.nim_meaning.specs.Arrows.{goes, any_goes, all_goes, out_of_loop, leaves, arms_leave, all_leave, flows, Arrow, arrow, arms_begin, scope_ends}
+use Rattle.nim_meaning.specs.Arrows.{out_of_loop, leaves, arms_leave, all_leave, flows, Arrow, arrow, arms_begin, scope_ends}
 use Rattle.nim_meaning.specs.Arrows.{result_ends}
 use Rattle.nim_meaning.specs.Arrows.{arrows, arm_arrows, all_arrows, Among, Is_flow}
 
@@ -29,14 +29,6 @@ flow_cases : (f : Flow) (fs gs : List Flow) → Is_flow f (fs ++ gs) → Is_flow
 flow_cases f [] gs h = inr h
 flow_cases f (g ∷ fs) gs (inl h) = inl (inl h)
 flow_cases f (g ∷ fs) gs (inr h) = ⊎_elim (λ a. inl (inr a)) (λ b. inr b) (flow_cases f fs gs h)
-
-flow_if : (f : Flow) (b : Bool) (fs : List Flow) → b ≡ true → Is_flow f fs → Is_flow f (if b then fs else [])
-flow_if f true fs e h = h
-flow_if f false fs e h = absurd (false≢true e)
-
-flow_if_parts : (f : Flow) (b : Bool) (fs : List Flow) → Is_flow f (if b then fs else []) → (b ≡ true) × Is_flow f fs
-flow_if_parts f true fs h = (refl, h)
-flow_if_parts f false fs h = absurd h
 
 into_loop : (e : ℕ) (fs : List Flow) → Is_flow (Back e) fs → Is_flow (Back e) (out_of_loop fs)
 into_loop e [] h = absurd h
@@ -73,208 +65,76 @@ among_cases p d q (x ∷ xs) ys (inr h) = ⊎_elim (λ a. inl (inr a)) (λ b. in
 
 -- ---- flows
 
--- a part that goes on, if it does, and leaves by these flows leaves by f
-abbrev Holds : Bool → List Flow → Flow → Type 0
-Holds g fs On = g ≡ true
-Holds g fs (Out e) = Is_flow (Out e) fs
-Holds g fs (Turn_over e) = Is_flow (Turn_over e) fs
-Holds g fs (Back e) = Is_flow (Back e) fs
-
-held : (g : Bool) (fs : List Flow) (f : Flow) → goes_on f ≡ false → Holds g fs f → Is_flow f fs
-held g fs On e h = absurd (false≢true (sym e))
-held g fs (Out i) e h = h
-held g fs (Turn_over i) e h = h
-held g fs (Back i) e h = h
-
-holds : (g : Bool) (fs : List Flow) (f : Flow) → goes_on f ≡ false → Is_flow f fs → Holds g fs f
-holds g fs On e h = absurd (false≢true (sym e))
-holds g fs (Out i) e h = h
-holds g fs (Turn_over i) e h = h
-holds g fs (Back i) e h = h
-
--- from one part to a larger one
-wider : (g g2 : Bool) (fs gs : List Flow) (f : Flow) → (g ≡ true → g2 ≡ true) → (Is_flow f fs → Is_flow f gs) → Holds g fs f → Holds g2 gs f
-wider g g2 fs gs On a b h = a h
-wider g g2 fs gs (Out i) a b h = b h
-wider g g2 fs gs (Turn_over i) a b h = b h
-wider g g2 fs gs (Back i) a b h = b h
-
-back_leaves : (g : Bool) (fs : List Flow) (f : Flow) → leaves_loop f ≡ true → Holds g fs f → Is_flow f (out_of_loop fs)
-back_leaves g fs On e h = absurd (false≢true e)
-back_leaves g fs (Out i) e h = absurd (false≢true e)
-back_leaves g fs (Turn_over i) e h = absurd (false≢true e)
-back_leaves g fs (Back i) e h = into_loop i fs h
-
-back_stays : (f : Flow) → leaves_loop f ≡ true → goes_on f ≡ false
-back_stays On e = absurd (false≢true e)
-back_stays (Out i) e = refl
-back_stays (Turn_over i) e = refl
-back_stays (Back i) e = refl
+back_leaves : (fs : List Flow) (f : Flow) → leaves_loop f ≡ true → Is_flow f fs → Is_flow f (out_of_loop fs)
+back_leaves fs On e h = absurd (false≢true e)
+back_leaves fs (Out i) e h = absurd (false≢true e)
+back_leaves fs (Turn_over i) e h = absurd (false≢true e)
+back_leaves fs (Back i) e h = into_loop i fs h
 
 module _ (raises : Raises) where
   mutual
-    to_leaves : {s : Control} {f : Flow} → May raises s f → Holds (goes raises s) (leaves raises s) f
-    to_leaves may_do = refl
+    to_leaves : {s : Control} {f : Flow} → May raises s f → Is_flow f (leaves raises s)
     to_leaves (may_choose m) = to_arms_leave m
-    to_leaves may_end = refl
-    to_leaves (may_test {c = c} {b = b} {f = f} e m) =
-        holds true (all_leave raises c ++ out_of_loop (all_leave raises b)) f e
-        (flow_left f (all_leave raises c) (out_of_loop (all_leave raises b)) (held (all_goes raises c) (all_leave raises c) f e (to_all_leave m)))
+    to_leaves (may_test {c = c} {b = b} {f = f} m) = flow_left f (all_leave raises c) (out_of_loop (all_leave raises b)) (to_all_leave m)
     to_leaves (may_turn {c = c} {b = b} {f = f} e m) =
-        holds true (all_leave raises c ++ out_of_loop (all_leave raises b)) f (back_stays f e)
-        (flow_right f (all_leave raises c) (out_of_loop (all_leave raises b)) (back_leaves (all_goes raises b) (all_leave raises b) f e (to_all_leave m)))
+        flow_right f (all_leave raises c) (out_of_loop (all_leave raises b)) (back_leaves (all_leave raises b) f e (to_all_leave m))
     to_leaves may_break = inl refl
     to_leaves may_continue = inl refl
     to_leaves may_return = inl refl
-    to_leaves may_call = refl
     to_leaves (may_group m) = to_all_leave m
 
-    to_arms_leave : {arms : Arms} {f : Flow} → May_arm raises arms f → Holds (any_goes raises arms) (arms_leave raises arms) f
-    to_arms_leave (may_arm {a = a} {rest = rest} {f = f} m) =
-        wider (all_goes raises a) (all_goes raises a || any_goes raises rest) (all_leave raises a) (all_leave raises a ++ arms_leave raises rest) f
-        (or_left (all_goes raises a) (any_goes raises rest))
-        (flow_left f (all_leave raises a) (arms_leave raises rest)) (to_all_leave m)
-    to_arms_leave (may_other {a = a} {rest = rest} {f = f} m) =
-        wider (any_goes raises rest) (all_goes raises a || any_goes raises rest) (arms_leave raises rest) (all_leave raises a ++ arms_leave raises rest) f
-        (or_right (all_goes raises a) (any_goes raises rest))
-        (flow_right f (all_leave raises a) (arms_leave raises rest)) (to_arms_leave m)
+    to_arms_leave : {arms : Arms} {f : Flow} → May_arm raises arms f → Is_flow f (arms_leave raises arms)
+    to_arms_leave (may_arm {a = a} {rest = rest} {f = f} m) = flow_left f (all_leave raises a) (arms_leave raises rest) (to_all_leave m)
+    to_arms_leave (may_other {a = a} {rest = rest} {f = f} m) = flow_right f (all_leave raises a) (arms_leave raises rest) (to_arms_leave m)
 
-    to_all_leave : {b : Acts} {f : Flow} → Mays raises b f → Holds (all_goes raises b) (all_leave raises b) f
-    to_all_leave may_done = refl
-    to_all_leave (may_here {s = s} {b = b} {f = f} e m) =
-        holds (goes raises s && all_goes raises b) (leaves raises s ++ (if goes raises s then all_leave raises b else [])) f e
-        (flow_left f (leaves raises s) (if goes raises s then all_leave raises b else []) (held (goes raises s) (leaves raises s) f e (to_leaves m)))
-    to_all_leave (may_later {s = s} {b = b} {f = f} m n) =
-        wider (all_goes raises b) (goes raises s && all_goes raises b) (all_leave raises b)
-        (leaves raises s ++ (if goes raises s then all_leave raises b else [])) f
-        (and_from (goes raises s) (all_goes raises b) (to_leaves m))
-        (λ h. flow_right f (leaves raises s) (if goes raises s then all_leave raises b else [])
-        (flow_if f (goes raises s) (all_leave raises b) (to_leaves m) h))
-        (to_all_leave n)
+    to_all_leave : {b : Acts} {f : Flow} → Mays raises b f → Is_flow f (all_leave raises b)
+    to_all_leave (may_here {s = s} {b = b} {f = f} m) = flow_left f (leaves raises s) (all_leave raises b) (to_leaves m)
+    to_all_leave (may_later {s = s} {b = b} {f = f} m) = flow_right f (leaves raises s) (all_leave raises b) (to_all_leave m)
     to_all_leave (may_bind m) = to_all_leave m
     to_all_leave (may_result m) = to_all_leave m
 
   mutual
-    from_leaves : (s : Control) (f : Flow) → goes_on f ≡ false → Is_flow f (leaves raises s) → May raises s f
-    from_leaves (Do n r a) f e h = absurd h
-    from_leaves (Choose n r arms) f e h = may_choose (from_arms_leave arms f e h)
-    from_leaves (Loop n c b) f e h = ⊎_elim
-        (λ x. may_test e (from_all_leave c f e x))
-        (λ x. let r = from_loop f (all_leave raises b) x in may_turn r.0 (from_all_leave b f e r.1))
+    from_leaves : (s : Control) (f : Flow) → Is_flow f (leaves raises s) → May raises s f
+    from_leaves (Do n r a) f h = absurd h
+    from_leaves (Choose n r arms) f h = may_choose (from_arms_leave arms f h)
+    from_leaves (Loop n c b) f h = ⊎_elim
+        (λ x. may_test (from_all_leave c f x))
+        (λ x. let r = from_loop f (all_leave raises b) x in may_turn r.0 (from_all_leave b f r.1))
         (flow_cases f (all_leave raises c) (out_of_loop (all_leave raises b)) h)
-    from_leaves (Break n) f e (inl h) = subst (λ g. May raises (Break n) g) (sym h) may_break
-    from_leaves (Break n) f e (inr h) = absurd h
-    from_leaves (Continue n) f e (inl h) = subst (λ g. May raises (Continue n) g) (sym h) may_continue
-    from_leaves (Continue n) f e (inr h) = absurd h
-    from_leaves (Return n) f e (inl h) = subst (λ g. May raises (Return n) g) (sym h) may_return
-    from_leaves (Return n) f e (inr h) = absurd h
-    from_leaves (Call n p on) f e h = absurd h
-    from_leaves (Group n r b) f e h = may_group (from_all_leave b f e h)
+    from_leaves (Break n) f (inl h) = subst (λ g. May raises (Break n) g) (sym h) may_break
+    from_leaves (Break n) f (inr h) = absurd h
+    from_leaves (Continue n) f (inl h) = subst (λ g. May raises (Continue n) g) (sym h) may_continue
+    from_leaves (Continue n) f (inr h) = absurd h
+    from_leaves (Return n) f (inl h) = subst (λ g. May raises (Return n) g) (sym h) may_return
+    from_leaves (Return n) f (inr h) = absurd h
+    from_leaves (Call n p on) f h = absurd h
+    from_leaves (Group n r b) f h = may_group (from_all_leave b f h)
 
-    from_arms_leave : (arms : Arms) (f : Flow) → goes_on f ≡ false → Is_flow f (arms_leave raises arms) → May_arm raises arms f
-    from_arms_leave No_arm f e h = absurd h
-    from_arms_leave (An_arm a rest) f e h = ⊎_elim
-        (λ x. may_arm (from_all_leave a f e x))
-        (λ x. may_other (from_arms_leave rest f e x))
+    from_arms_leave : (arms : Arms) (f : Flow) → Is_flow f (arms_leave raises arms) → May_arm raises arms f
+    from_arms_leave No_arm f h = absurd h
+    from_arms_leave (An_arm a rest) f h = ⊎_elim
+        (λ x. may_arm (from_all_leave a f x))
+        (λ x. may_other (from_arms_leave rest f x))
         (flow_cases f (all_leave raises a) (arms_leave raises rest) h)
 
-    from_all_leave : (b : Acts) (f : Flow) → goes_on f ≡ false → Is_flow f (all_leave raises b) → Mays raises b f
-    from_all_leave Done f e h = absurd h
-    from_all_leave (Then s b) f e h = ⊎_elim
-        (λ x. may_here e (from_leaves s f e x))
-        (λ x. let r = flow_if_parts f (goes raises s) (all_leave raises b) x in may_later (from_goes s r.0) (from_all_leave b f e r.1))
-        (flow_cases f (leaves raises s) (if goes raises s then all_leave raises b else []) h)
-    from_all_leave (Bind x l b) f e h = may_bind (from_all_leave b f e h)
-    from_all_leave (Result x l b) f e h = may_result (from_all_leave b f e h)
+    from_all_leave : (b : Acts) (f : Flow) → Is_flow f (all_leave raises b) → Mays raises b f
+    from_all_leave Done f h = absurd h
+    from_all_leave (Then s b) f h = ⊎_elim
+        (λ x. may_here (from_leaves s f x))
+        (λ x. may_later (from_all_leave b f x))
+        (flow_cases f (leaves raises s) (all_leave raises b) h)
+    from_all_leave (Bind x l b) f h = may_bind (from_all_leave b f h)
+    from_all_leave (Result x l b) f h = may_result (from_all_leave b f h)
 
-    from_goes : (s : Control) → goes raises s ≡ true → May raises s On
-    from_goes (Do n r a) h = may_do
-    from_goes (Choose n r arms) h = may_choose (from_any_goes arms h)
-    from_goes (Loop n c b) h = may_end
-    from_goes (Break n) h = absurd (false≢true h)
-    from_goes (Continue n) h = absurd (false≢true h)
-    from_goes (Return n) h = absurd (false≢true h)
-    from_goes (Call n p on) h = may_call
-    from_goes (Group n r b) h = may_group (from_all_goes b h)
+  from_flows : (b : Acts) (f : Flow) → Is_flow f (flows raises b) → MayEnd raises b f
+  from_flows b f (inl e) = inl e
+  from_flows b f (inr h) = inr (from_all_leave b f h)
 
-    from_any_goes : (arms : Arms) → any_goes raises arms ≡ true → May_arm raises arms On
-    from_any_goes No_arm h = absurd (false≢true h)
-    from_any_goes (An_arm a rest) h =
-        ⊎_elim (λ x. may_arm (from_all_goes a x)) (λ x. may_other (from_any_goes rest x)) (or_cases (all_goes raises a) (any_goes raises rest) h)
+  to_flows : (b : Acts) (f : Flow) → MayEnd raises b f → Is_flow f (flows raises b)
+  to_flows b f (inl e) = inl e
+  to_flows b f (inr m) = inr (to_all_leave m)
 
-    from_all_goes : (b : Acts) → all_goes raises b ≡ true → Mays raises b On
-    from_all_goes Done h = may_done
-    from_all_goes (Then s b) h = let r = and_parts (goes raises s) (all_goes raises b) h in may_later (from_goes s r.0) (from_all_goes b r.1)
-    from_all_goes (Bind x l b) h = may_bind (from_all_goes b h)
-    from_all_goes (Result x l b) h = may_result (from_all_goes b h)
-
-  -- what leaves a part doesn't go on
-  mutual
-    never_on : (s : Control) → Is_flow On (leaves raises s) → ⊥
-    never_on (Do n r a) h = absurd h
-    never_on (Choose n r arms) h = arms_never_on arms h
-    never_on (Loop n c b) h =
-        ⊎_elim (all_never_on c) (λ x. false≢true (from_loop On (all_leave raises b) x).0)
-        (flow_cases On (all_leave raises c) (out_of_loop (all_leave raises b)) h)
-    never_on (Break n) (inl h) = false≢true (sym (ap goes_on h))
-    never_on (Break n) (inr h) = absurd h
-    never_on (Continue n) (inl h) = false≢true (sym (ap goes_on h))
-    never_on (Continue n) (inr h) = absurd h
-    never_on (Return n) (inl h) = false≢true (sym (ap goes_on h))
-    never_on (Return n) (inr h) = absurd h
-    never_on (Call n p on) h = absurd h
-    never_on (Group n r b) h = all_never_on b h
-
-    arms_never_on : (arms : Arms) → Is_flow On (arms_leave raises arms) → ⊥
-    arms_never_on No_arm h = absurd h
-    arms_never_on (An_arm a rest) h = ⊎_elim (all_never_on a) (arms_never_on rest) (flow_cases On (all_leave raises a) (arms_leave raises rest) h)
-
-    all_never_on : (b : Acts) → Is_flow On (all_leave raises b) → ⊥
-    all_never_on Done h = absurd h
-    all_never_on (Then s b) h =
-        ⊎_elim (never_on s) (λ x. all_never_on b (flow_if_parts On (goes raises s) (all_leave raises b) x).1)
-        (flow_cases On (leaves raises s) (if goes raises s then all_leave raises b else []) h)
-    all_never_on (Bind x l b) h = all_never_on b h
-    all_never_on (Result x l b) h = all_never_on b h
-
-  listed : (g : Bool) (fs : List Flow) (f : Flow) → Holds g fs f → Is_flow f (if g then On ∷ fs else fs)
-  listed true fs On h = inl refl
-  listed false fs On h = absurd (false≢true h)
-  listed true fs (Out e) h = inr h
-  listed false fs (Out e) h = h
-  listed true fs (Turn_over e) h = inr h
-  listed false fs (Turn_over e) h = h
-  listed true fs (Back e) h = inr h
-  listed false fs (Back e) h = h
-
-  goes_of : (f : Flow) → (goes_on f ≡ false) ⊎ (f ≡ On)
-  goes_of On = inr refl
-  goes_of (Out e) = inl refl
-  goes_of (Turn_over e) = inl refl
-  goes_of (Back e) = inl refl
-
-  -- a flow of the list is one that goes on, or another one
-  unlisted : (g : Bool) (fs : List Flow) (f : Flow) → Is_flow f (if g then On ∷ fs else fs) → ((g ≡ true) × (f ≡ On)) ⊎ Is_flow f fs
-  unlisted true fs f (inl h) = inl (refl, h)
-  unlisted true fs f (inr h) = inr h
-  unlisted false fs f h = inr h
-
-  leaves_by : (b : Acts) (f : Flow) → Is_flow f (all_leave raises b) → Mays raises b f
-  leaves_by b f h = ⊎_elim
-      (λ e. from_all_leave b f e h)
-      (λ e. absurd (all_never_on b (subst (λ g. Is_flow g (all_leave raises b)) e h)))
-      (goes_of f)
-
-  pub from_flows : (b : Acts) (f : Flow) → Is_flow f (flows raises b) → Mays raises b f
-  from_flows b f h = ⊎_elim
-      (λ (r : (all_goes raises b ≡ true) × (f ≡ On)). subst (λ g. Mays raises b g) (sym r.1) (from_all_goes b r.0))
-      (leaves_by b f)
-      (unlisted (all_goes raises b) (all_leave raises b) f h)
-
-  pub to_flows : (b : Acts) (f : Flow) → Mays raises b f → Is_flow f (flows raises b)
-  to_flows b f m = listed (all_goes raises b) (all_leave raises b) f (to_all_leave m)
-
-  pub flows_same : (b : Acts) (f : Flow) → Mays raises b f ↔ Is_flow f (flows raises b)
+  pub flows_same : (b : Acts) (f : Flow) → MayEnd raises b f ↔ Is_flow f (flows raises b)
   flows_same b f = (to_flows b f, from_flows b f)
 
   -- ---- arrows
@@ -370,13 +230,13 @@ module _ (raises : Raises) where
   begins_arm n r arms k p d q h = edge_at (Choose n r arms) k (At n r) Pass q p d q (choosing h.2) (h.0, h.1, refl)
 
   from_scope_ends : (x : Root) (l : ℕ) (b : Acts) (k : Exits) (fs : List Flow) (p : Point) (d : Act) (q : Point) →
-      ((f : Flow) → Is_flow f fs → Mays raises b f) → Among p d q (scope_ends x l k fs) → Edges raises (Bind x l b) k p d q
+      ((f : Flow) → Is_flow f fs → MayEnd raises b f) → Among p d q (scope_ends x l k fs) → Edges raises (Bind x l b) k p d q
   from_scope_ends x l b k [] p d q m h = absurd h
   from_scope_ends x l b k (f ∷ fs) p d q m (inl h) = edges_at (Bind x l b) k (Leave x f) (leaving x l f) (k f) p d q (closes (m f (inl refl))) h
   from_scope_ends x l b k (f ∷ fs) p d q m (inr h) = from_scope_ends x l b k fs p d q (λ g i. m g (inr i)) h
 
   from_result_ends : (x : Root) (l : ℕ) (b : Acts) (k : Exits) (fs : List Flow) (p : Point) (d : Act) (q : Point) →
-      ((f : Flow) → Is_flow f fs → Mays raises b f) → Among p d q (result_ends x l k fs) → Edges raises (Result x l b) k p d q
+      ((f : Flow) → Is_flow f fs → MayEnd raises b f) → Among p d q (result_ends x l k fs) → Edges raises (Result x l b) k p d q
   from_result_ends x l b k [] p d q m h = absurd h
   from_result_ends x l b k (f ∷ fs) p d q m (inl h) = edges_at (Result x l b) k (Leave x f) (closing x l f) (k f) p d q (ends_result (m f (inl refl))) h
   from_result_ends x l b k (f ∷ fs) p d q m (inr h) = from_result_ends x l b k fs p d q (λ g i. m g (inr i)) h

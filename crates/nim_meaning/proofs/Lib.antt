@@ -29,3 +29,4 @@ mod Rows
 mod Tame
 mod TameParts
 mod Whole
+pub mod ForCallers

@@ -3,7 +3,7 @@ use Rattle.std.proofs.Common.{◌≡◌, refl, sym, ◌∙◌, ap, subst, ◌↔
 use Rattle.std.proofs.lemmas.Bool.{false≢true, or_parts}
 use Rattle.nim_meaning.specs.ActTree.{Root, Named, Temporary, Literal, same_root, Flow, On, Act, leaving, closing}
 use Rattle.nim_meaning.specs.ActTree.{Control, Arms, Acts, Bind, Result}
-use Rattle.nim_meaning.specs.Ways.{Point, At, Enter, Leave, Stop, Exits, Raises, Mays}
+use Rattle.nim_meaning.specs.Ways.{Point, At, Enter, Leave, Stop, Exits, Raises, MayEnd}
 use Rattle.nim_meaning.specs.Ways.{Edge, doing, choosing, in_choice, turn_begins, in_condition, loop_goes_on, loop_ends, in_turn, breaking, continuing}
 use Rattle.nim_meaning.specs.Ways.{returning}
 use Rattle.nim_meaning.specs.Ways.{call_returns, group_begins, in_group, Edge_arm, in_this, in_other}
@@ -65,21 +65,21 @@ module _ (raises : Raises) where
 
   scope_left : (x : Root) {l : ℕ} {b : Acts} {k : Exits} {p q : Point} {d : Act} (f : Flow) → all_scopes x b ≡ false → Edges raises (Bind x l b) k p d q →
       p ≡ Leave x f →
-      Mays raises b f × (d ≡ leaving x l f) × (q ≡ k f)
+      MayEnd raises b f × (d ≡ leaving x l f) × (q ≡ k f)
   scope_left x f h (inside {p = p} e) i = absurd (still_inside x f p (not_in x h e) i)
   scope_left x f h (closes {l = l} {b = b} {k = k} {f = g} m) i =
-      let e : g ≡ f = ap flow_at i in (subst (λ y. Mays raises b y) e m, ap (leaving x l) e, ap k e)
+      let e : g ≡ f = ap flow_at i in (subst (λ y. MayEnd raises b y) e m, ap (leaving x l) e, ap k e)
 
   result_left : (x : Root) {l : ℕ} {b : Acts} {k : Exits} {p q : Point} {d : Act} (f : Flow) → all_scopes x b ≡ false → Edges raises (Result x l b) k p d q →
       p ≡ Leave x f →
-      Mays raises b f × (d ≡ closing x l f) × (q ≡ k f)
+      MayEnd raises b f × (d ≡ closing x l f) × (q ≡ k f)
   result_left x f h begins_result i = absurd (still_inside x f (Enter x) refl i)
   result_left x f h (in_result {p = p} e) i = absurd (still_inside x f p (not_in x h e) i)
   result_left x f h (ends_result {l = l} {b = b} {k = k} {f = g} m) i =
-      let e : g ≡ f = ap flow_at i in (subst (λ y. Mays raises b y) e m, ap (closing x l) e, ap k e)
+      let e : g ≡ f = ap flow_at i in (subst (λ y. MayEnd raises b y) e m, ap (closing x l) e, ap k e)
 
   pub scope_left_once : (x : Root) (l : ℕ) (b : Acts) (k : Exits) (f : Flow) (d : Act) (q : Point) → all_scopes x b ≡ false →
-      Edges raises (Bind x l b) k (Leave x f) d q ↔ (Mays raises b f × (d ≡ leaving x l f) × (q ≡ k f))
+      Edges raises (Bind x l b) k (Leave x f) d q ↔ (MayEnd raises b f × (d ≡ leaving x l f) × (q ≡ k f))
   scope_left_once x l b k f d q h = (
     λ e. scope_left x f h e refl,
     λ r.
@@ -88,7 +88,7 @@ module _ (raises : Raises) where
   )
 
   pub result_left_once : (x : Root) (l : ℕ) (b : Acts) (k : Exits) (f : Flow) (d : Act) (q : Point) → all_scopes x b ≡ false →
-      Edges raises (Result x l b) k (Leave x f) d q ↔ (Mays raises b f × (d ≡ closing x l f) × (q ≡ k f))
+      Edges raises (Result x l b) k (Leave x f) d q ↔ (MayEnd raises b f × (d ≡ closing x l f) × (q ≡ k f))
   result_left_once x l b k f d q h = (
     λ e. result_left x f h e refl,
     λ r.

@@ -34,32 +34,8 @@ result_ends x l k [] = []
 result_ends x l k (f ∷ fs) = arrow (Leave x f) (closing x l f) (k f) ∷ result_ends x l k fs
 
 module _ (raises : Raises) where
-  -- ---- how a part may leave
-
   abbrev mutual
-    -- whether it may go on to what follows
-    pub goes : Control → Bool
-    goes (Do n r a) = true
-    goes (Choose n r arms) = any_goes arms
-    goes (Loop n c b) = true
-    goes (Break n) = false
-    goes (Continue n) = false
-    goes (Return n) = false
-    goes (Call n p on) = true
-    goes (Group n r b) = all_goes b
-
-    pub any_goes : Arms → Bool
-    any_goes No_arm = false
-    any_goes (An_arm a rest) = all_goes a || any_goes rest
-
-    pub all_goes : Acts → Bool
-    all_goes Done = true
-    all_goes (Then s b) = goes s && all_goes b
-    all_goes (Bind x l b) = all_goes b
-    all_goes (Result x l b) = all_goes b
-
-  abbrev mutual
-    -- the other ways by which it may leave
+    -- how control may leave a part other than by going on behind it
     pub leaves : Control → List Flow
     leaves (Do n r a) = []
     leaves (Choose n r arms) = arms_leave arms
@@ -76,13 +52,13 @@ module _ (raises : Raises) where
 
     pub all_leave : Acts → List Flow
     all_leave Done = []
-    all_leave (Then s b) = leaves s ++ (if goes s then all_leave b else [])
+    all_leave (Then s b) = leaves s ++ all_leave b
     all_leave (Bind x l b) = all_leave b
     all_leave (Result x l b) = all_leave b
 
-  -- the flows by which a scope may be left
+  -- how a scope may be left
   abbrev pub flows : Acts → List Flow
-  flows b = if all_goes b then On ∷ all_leave b else all_leave b
+  flows b = On ∷ all_leave b
 
   abbrev mutual
     pub arrows : Control → Exits → List Arrow

@@ -1,8 +1,8 @@
 -- Ways through a tree of acts: which point may follow which, by cases on the tree.
-use Rattle.std.specs.Prelude.{◌≡◌, ℕ, List, [], ◌∷◌, Bool, true, false, ◌||◌}
+use Rattle.std.specs.Prelude.{◌≡◌, ℕ, List, [], ◌∷◌, Bool, true, false, ◌||◌, ◌⊎◌}
 use Rattle.nim_types.specs.Types.{Ty}
 use Rattle.nim_meaning.specs.ActTree.{Root, same_root, Flow, On, Out, Turn_over, Back, Operands, Act, Pass, Fill, Invoke}
-use Rattle.nim_meaning.specs.ActTree.{Role, Turns, Chooses, Leaves, Does, goes_on, leaving, closing}
+use Rattle.nim_meaning.specs.ActTree.{Role, Turns, Chooses, Leaves, Does, leaving, closing}
 use Rattle.nim_meaning.specs.ActTree.{Control, Do, Choose, Loop, Break, Continue, Return, Call, Group, Arms, No_arm, An_arm, Acts, Done, Then, Bind, Result}
 
 -- a node in a role; where a result is filled; where the scope of a place is left by a flow; where a body is left
@@ -67,18 +67,16 @@ abbrev pub Raises : Type 0
 Raises = ℕ → Ty → Bool
 
 module _ (raises : Raises) where
-  -- how a part of the tree may leave, as the tree says
+  -- How control may leave a part of the tree other than by going on behind it, as the cases of the tree say: what stands behind a statement
+  -- counts, whether or not control comes there.
   mutual
     pub data May : Control → Flow → Type 0 where
-      may_do : {n : ℕ} {r : Role} {a : Act} → May (Do n r a) On
       may_choose : {n : ℕ} {r : Role} {arms : Arms} {f : Flow} → May_arm arms f → May (Choose n r arms) f
-      may_end : {n : ℕ} {c b : Acts} → May (Loop n c b) On
-      may_test : {n : ℕ} {c b : Acts} {f : Flow} → goes_on f ≡ false → Mays c f → May (Loop n c b) f
+      may_test : {n : ℕ} {c b : Acts} {f : Flow} → Mays c f → May (Loop n c b) f
       may_turn : {n : ℕ} {c b : Acts} {f : Flow} → leaves_loop f ≡ true → Mays b f → May (Loop n c b) f
       may_break : {n : ℕ} → May (Break n) (Out n)
       may_continue : {n : ℕ} → May (Continue n) (Turn_over n)
       may_return : {n : ℕ} → May (Return n) (Back n)
-      may_call : {n p : ℕ} {on : Operands} → May (Call n p on) On
       may_group : {n : ℕ} {r : Role} {b : Acts} {f : Flow} → Mays b f → May (Group n r b) f
 
     pub data May_arm : Arms → Flow → Type 0 where
@@ -86,11 +84,14 @@ module _ (raises : Raises) where
       may_other : {a : Acts} {rest : Arms} {f : Flow} → May_arm rest f → May_arm (An_arm a rest) f
 
     pub data Mays : Acts → Flow → Type 0 where
-      may_done : Mays Done On
-      may_here : {s : Control} {b : Acts} {f : Flow} → goes_on f ≡ false → May s f → Mays (Then s b) f
-      may_later : {s : Control} {b : Acts} {f : Flow} → May s On → Mays b f → Mays (Then s b) f
+      may_here : {s : Control} {b : Acts} {f : Flow} → May s f → Mays (Then s b) f
+      may_later : {s : Control} {b : Acts} {f : Flow} → Mays b f → Mays (Then s b) f
       may_bind : {x : Root} {l : ℕ} {b : Acts} {f : Flow} → Mays b f → Mays (Bind x l b) f
       may_result : {x : Root} {l : ℕ} {b : Acts} {f : Flow} → Mays b f → Mays (Result x l b) f
+
+  -- how a scope may be left: control goes on behind it, or leaves it early
+  abbrev pub MayEnd : Acts → Flow → Type 0
+  MayEnd b f = (f ≡ On) ⊎ Mays b f
 
   -- control may go from p, which does d, to q, where each flow out of the part leads to a point
   mutual
@@ -118,10 +119,10 @@ module _ (raises : Raises) where
       here : {s : Control} {b : Acts} {k : Exits} {p q : Point} {d : Act} → Edge s (onto (entry b (k On)) k) p d q → Edges (Then s b) k p d q
       later : {s : Control} {b : Acts} {k : Exits} {p q : Point} {d : Act} → Edges b k p d q → Edges (Then s b) k p d q
       inside : {x : Root} {l : ℕ} {b : Acts} {k : Exits} {p q : Point} {d : Act} → Edges b (scoped x) p d q → Edges (Bind x l b) k p d q
-      closes : {x : Root} {l : ℕ} {b : Acts} {k : Exits} {f : Flow} → Mays b f → Edges (Bind x l b) k (Leave x f) (leaving x l f) (k f)
+      closes : {x : Root} {l : ℕ} {b : Acts} {k : Exits} {f : Flow} → MayEnd b f → Edges (Bind x l b) k (Leave x f) (leaving x l f) (k f)
       begins_result : {x : Root} {l : ℕ} {b : Acts} {k : Exits} → Edges (Result x l b) k (Enter x) (Fill x) (entry b (Leave x On))
       in_result : {x : Root} {l : ℕ} {b : Acts} {k : Exits} {p q : Point} {d : Act} → Edges b (scoped x) p d q → Edges (Result x l b) k p d q
-      ends_result : {x : Root} {l : ℕ} {b : Acts} {k : Exits} {f : Flow} → Mays b f → Edges (Result x l b) k (Leave x f) (closing x l f) (k f)
+      ends_result : {x : Root} {l : ℕ} {b : Acts} {k : Exits} {f : Flow} → MayEnd b f → Edges (Result x l b) k (Leave x f) (closing x l f) (k f)
 
 abbrev pub Graph : Type 1
 Graph = Point → Act → Point → Type 0

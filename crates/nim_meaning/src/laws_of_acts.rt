@@ -12,7 +12,7 @@ ghost use Rattle.nim_program.specs.Folds.{nodes, block_nodes, block_places, body
 ghost use Rattle.nim_meaning.specs.ActTree.{Root, Flow, On, Act, Acts, Bind, Result, leaving};
 ghost use Rattle.nim_meaning.specs.ActTree.{closing};
 ghost use Rattle.nim_meaning.specs.ActTree.{Done, Temporary, until_read};
-ghost use Rattle.nim_meaning.specs.Ways.{Point, Leave, Exits, Raises, Mays, Edges, all_scopes};
+ghost use Rattle.nim_meaning.specs.Ways.{Point, Leave, Exits, Raises, MayEnd, Edges, all_scopes};
 ghost use Rattle.nim_meaning.specs.Ways.{Stop, entry, onto};
 ghost use Rattle.nim_meaning.specs.Arrows.{flows, all_arrows, Among, Is_flow};
 ghost use Rattle.nim_meaning.specs.State.{State};
@@ -47,7 +47,7 @@ ghost use Rattle.nim_meaning.specs.SiteExamples.{covered_acts};
 /// The ways as a family of edges are those of a list that is computed.
 pub fn ways()
     ensures flows { (raises : Raises) (b : Acts) (f : Flow) →
-        Mays raises b f ↔ Is_flow f (flows raises b) }
+        MayEnd raises b f ↔ Is_flow f (flows raises b) }
     ensures arrows { (raises : Raises) (b : Acts) (k : Exits) (p : Point) (d : Act) (q : Point) →
         Edges raises b k p d q ↔ Among p d q (all_arrows raises b k) }
 {}
@@ -58,11 +58,11 @@ pub fn exits()
     ensures scope { (raises : Raises) (x : Root) (last : ℕ) (b : Acts) (k : Exits) (f : Flow)
         (d : Act) (q : Point) → all_scopes x b ≡ false →
         Edges raises (Bind x last b) k (Leave x f) d q
-        ↔ (Mays raises b f × (d ≡ leaving x last f) × (q ≡ k f)) }
+        ↔ (MayEnd raises b f × (d ≡ leaving x last f) × (q ≡ k f)) }
     ensures result { (raises : Raises) (x : Root) (last : ℕ) (b : Acts) (k : Exits) (f : Flow)
         (d : Act) (q : Point) → all_scopes x b ≡ false →
         Edges raises (Result x last b) k (Leave x f) d q
-        ↔ (Mays raises b f × (d ≡ closing x last f) × (q ≡ k f)) }
+        ↔ (MayEnd raises b f × (d ≡ closing x last f) × (q ≡ k f)) }
 {}
 
 /// Each run does the acts of a way through the tree of acts, in order. An expression leads from its

@@ -5,3 +5,4 @@ mod FoldLemmas
 mod TypeNumbers
 mod GlobalMarks
 mod Ranges
+pub mod ForCallers

@@ -19,28 +19,28 @@ use Rattle.nim_program.specs.Kinds.{is_there, is_held}
 -- ---- operators
 
 -- `not` is of bools and all else of ints
-abbrev unary_takes : UnaryOperator → TypeKind → Bool
+abbrev pub unary_takes : UnaryOperator → TypeKind → Bool
 unary_takes Not k = is_bool k
 unary_takes operator k = is_int k
 
-abbrev is_bitwise : Operator → Bool
+abbrev pub is_bitwise : Operator → Bool
 is_bitwise BitAnd = true
 is_bitwise BitOr = true
 is_bitwise BitXor = true
 is_bitwise operator = false
 
 -- ints, and bit by bit also bools
-abbrev binary_takes : Operator → TypeKind → Bool
+abbrev pub binary_takes : Operator → TypeKind → Bool
 binary_takes operator k = is_int k || (is_bitwise operator && is_bool k)
 
 -- by which a place may be updated, and also without a value
-abbrev updates : Operator → Bool
+abbrev pub updates : Operator → Bool
 updates Add = true
 updates Subtract = true
 updates Multiply = true
 updates operator = false
 
-abbrev steps : Operator → Bool
+abbrev pub steps : Operator → Bool
 steps Add = true
 steps Subtract = true
 steps operator = false
@@ -48,7 +48,7 @@ steps operator = false
 -- ---- types
 
 -- Conversions: to an int from an ordinal, to a char or an enum from an int, to a distinct type from its base.
-abbrev is_converted : (to : TypeKind) → Ty → (from : TypeKind) → Bool
+abbrev pub is_converted : (to : TypeKind) → Ty → (from : TypeKind) → Bool
 is_converted int t from = is_ordinal from
 is_converted char t from = is_int from
 is_converted (enum n) t from = is_int from
@@ -56,52 +56,52 @@ is_converted (distinct base) t from = same base t
 is_converted to t from = false
 
 -- from a distinct type to its base
-abbrev is_base_of : (from : TypeKind) → Ty → Bool
+abbrev pub is_base_of : (from : TypeKind) → Ty → Bool
 is_base_of (distinct base) t = same base t
 is_base_of from t = false
 
 -- what a construction gives values of fields of: an object, or the object of a ref
-abbrev built : Facts → TypeKind → TypeKind
+abbrev pub built : Facts → TypeKind → TypeKind
 built facts (ref t) = kind_of facts t
 built facts k = k
 
-abbrev is_built : TypeKind → Bool
+abbrev pub is_built : TypeKind → Bool
 is_built (object resource all) = true
 is_built k = false
 
-abbrev is_in : ℕ → List ℕ → Bool
+abbrev pub is_in : ℕ → List ℕ → Bool
 is_in n [] = false
 is_in n (m ∷ ms) = nat_eq n m || is_in n ms
 
-abbrev are_distinct : List ℕ → Bool
+abbrev pub are_distinct : List ℕ → Bool
 are_distinct [] = true
 are_distinct (n ∷ ns) = not (is_in n ns) && are_distinct ns
 
 -- the parts of a value of some kind, from a position on
-abbrev are_parts : TypeKind → ℕ → List (Option Ty) → Bool
+abbrev pub are_parts : TypeKind → ℕ → List (Option Ty) → Bool
 are_parts k i [] = true
 are_parts k i (a ∷ rest) = is_of a (part_at k i) && are_parts k (suc i) rest
 
 -- values of these fields
-abbrev are_fields : TypeKind → List ℕ → List (Option Ty) → Bool
+abbrev pub are_fields : TypeKind → List ℕ → List (Option Ty) → Bool
 are_fields k [] [] = true
 are_fields k (field ∷ fields) (a ∷ rest) = is_of a (field_at k field) && are_fields k fields rest
 are_fields k _ _ = false
 
 module _ (facts : Facts) where
-  abbrev kind : Option Ty → TypeKind
+  abbrev pub kind : Option Ty → TypeKind
   kind ty = kind_if facts ty
 
   -- with distinct types looked through
-  abbrev plain : Option Ty → TypeKind
+  abbrev pub plain : Option Ty → TypeKind
   plain ty = plain_kind_if facts ty
 
   -- what `echo` writes
-  abbrev are_shown : List (Option Ty) → Bool
+  abbrev pub are_shown : List (Option Ty) → Bool
   are_shown [] = true
   are_shown (a ∷ rest) = is_shown (plain a) && are_shown rest
 
-  abbrev converts : Option Ty → Option Ty → Bool
+  abbrev pub converts : Option Ty → Option Ty → Bool
   converts (Some ty) (Some t) = is_converted (kind_of facts ty) t (kind_of facts t) || is_base_of (kind_of facts t) ty
   converts _ _ = false
 
@@ -134,7 +134,7 @@ module _ (facts : Facts) where
   fits O.Pop ty (a ∷ []) = is_sequence (kind a) && is_of (element_of (kind a)) ty
   fits O.Move ty (a ∷ []) = is_of a ty
   fits O.Swap None (a ∷ b ∷ []) = is_of a b
-  fits O.Discard None (a ∷ []) = is_there a
+  fits O.Discard None (a ∷ []) = true
   fits O.Destroy None (a ∷ []) = is_resource (kind a)
   fits O.Blank None (a ∷ []) = is_resource (kind a)
   fits operation ty operands = false
@@ -167,15 +167,15 @@ places_in operation = 0
 -- ---- labels of a `case`
 
 -- ordinals are ints
-abbrev label_fits : TypeKind → Label → Bool
+abbrev pub label_fits : TypeKind → Label → Bool
 label_fits k (Ordinals a b) = is_ordinal k && (is_int_value a && is_int_value b)
 label_fits k (Exactly t) = is_text k
 
-abbrev labels_fit : TypeKind → List Label → Bool
+abbrev pub labels_fit : TypeKind → List Label → Bool
 labels_fit k [] = true
 labels_fit k (label ∷ labels) = label_fits k label && labels_fit k labels
 
-abbrev has_label : List Label → Bool
+abbrev pub has_label : List Label → Bool
 has_label [] = false
 has_label (label ∷ labels) = true
 
@@ -184,26 +184,26 @@ abbrev pub are_labels : TypeKind → List (List Label) → Bool
 are_labels k [] = true
 are_labels k (labels ∷ rest) = (has_label labels && labels_fit k labels) && are_labels k rest
 
-abbrev joined : List (List Label) → List Label
+abbrev pub joined : List (List Label) → List Label
 joined [] = []
 joined (labels ∷ rest) = labels ++ joined rest
 
-abbrev last_if : Bool → ℤ → Option ℤ → Option ℤ
+abbrev pub last_if : Bool → ℤ → Option ℤ → Option ℤ
 last_if true z rest = Some z
 last_if false z rest = rest
 
 -- the last value of the first label that has a number
-abbrev last_with : ℤ → List Label → Option ℤ
+abbrev pub last_with : ℤ → List Label → Option ℤ
 last_with z [] = None
 last_with z (Ordinals a b ∷ labels) = last_if (int_le a z && int_le z b) b (last_with z labels)
 last_with z (Exactly t ∷ labels) = last_with z labels
 
-abbrev goes_on : Option ℤ → (ℤ → Bool) → Bool
+abbrev pub goes_on : Option ℤ → (ℤ → Bool) → Bool
 goes_on None go = false
 goes_on (Some z) go = go (z +ℤ pos 1)
 
 -- each number from one up to another is in a label: from label to label, at most so often
-abbrev reaches : ℕ → (from behind : ℤ) → List Label → Bool
+abbrev pub reaches : ℕ → (from behind : ℤ) → List Label → Bool
 reaches zero from behind labels = int_le behind from
 reaches (suc n) from behind labels = int_le behind from || goes_on (last_with from labels) (λ next. reaches n next behind labels)
 
@@ -219,19 +219,19 @@ are_enough k gives labels = cover k (joined labels)
 
 module _ (facts : Facts) (ty : Option Ty) where
   -- each condition before its value, and at last the value for all else
-  abbrev conditions_fit : List (Option Ty) → Bool
+  abbrev pub conditions_fit : List (Option Ty) → Bool
   conditions_fit [] = false
   conditions_fit (a ∷ []) = same_value a ty
   conditions_fit (a ∷ b ∷ rest) = (is_bool (kind_if facts a) && same_value b ty) && conditions_fit rest
 
   -- a value for each branch, and one for all else unless the labels are enough
-  abbrev values_fit : (enough : Bool) → List (List Label) → List (Option Ty) → Bool
+  abbrev pub values_fit : (enough : Bool) → List (List Label) → List (Option Ty) → Bool
   values_fit enough [] [] = enough
   values_fit enough [] (a ∷ []) = same_value a ty
   values_fit enough (labels ∷ all) (a ∷ rest) = same_value a ty && values_fit enough all rest
   values_fit enough _ _ = false
 
-  abbrev labels_choose : TypeKind → List (List Label) → List (Option Ty) → Bool
+  abbrev pub labels_choose : TypeKind → List (List Label) → List (Option Ty) → Bool
   labels_choose k labels values = (is_selected k && are_labels k labels) && values_fit (are_enough k ty labels) labels values
 
   abbrev pub chooser_fits : Chooser → List (Option Ty) → Bool

@@ -48,7 +48,7 @@ kind_of facts (type.ref name t) = ref t
 kind_of facts ty = declared_kind (fact_of facts ty)
 
 -- a distinct type is looked through, to its base and on, at most so often
-abbrev base_or : (known : Ty → Ty) → Ty → Option Ty → Ty
+abbrev pub base_or : (known : Ty → Ty) → Ty → Option Ty → Ty
 base_or known ty None = ty
 base_or known ty (Some t) = known t
 
@@ -161,7 +161,7 @@ abbrev pub count_types : Tys → ℕ
 count_types no_types = 0
 count_types (types t ts) = suc (count_types ts)
 
-abbrev message : ℕ → Option Ty
+abbrev pub message : ℕ → Option Ty
 message zero = Some type.text
 message (suc i) = None
 
@@ -178,11 +178,6 @@ element_of text = Some type.char
 element_of (sequence t) = Some t
 element_of (array n t) = Some t
 element_of _ = None
-
--- one at an index; of a tuple at the number of a constant one
-abbrev pub element_at : TypeKind → (constant : Option ℤ) → Option Ty
-element_at (tuple ts) (Some (pos i)) = nth_type ts i
-element_at k constant = element_of k
 
 -- what a ref leads to
 abbrev pub object_of : TypeKind → Option Ty
@@ -207,7 +202,7 @@ has_parts _ count = false
 -- ---- ordinals
 
 -- whether a number is a value
-abbrev is_among : TypeKind → ℤ → Bool
+abbrev pub is_among : TypeKind → ℤ → Bool
 is_among int z = true
 is_among bool z = inside z 2
 is_among char z = inside z 256
@@ -259,18 +254,19 @@ is_there (Some t) = true
 
 -- ---- constants
 
-abbrev count_literals : Literals → ℕ
+abbrev pub count_literals : Literals → ℕ
 count_literals NoLiteral = 0
 count_literals (ALiteral first rest) = suc (count_literals rest)
 
 abbrev mutual
-  -- a value of the type
+  -- a value of the type, whose length is an int
   pub is_constant : Facts → Ty → Literal → Bool
   is_constant facts ty (Number z) = is_value (plain_kind facts ty) z
   is_constant facts ty (Characters bytes) = is_text (plain_kind facts ty)
   is_constant facts ty NoObject = is_ref (plain_kind facts ty)
   is_constant facts ty (PartsOf all) = has_parts (plain_kind facts ty) (count_literals all) && are_constants facts (plain_kind facts ty) 0 all
-  is_constant facts ty (ElementsOf all) = is_sequence (plain_kind facts ty) && are_constants facts (plain_kind facts ty) 0 all
+  is_constant facts ty (ElementsOf all) =
+      (is_sequence (plain_kind facts ty) && fits (pos (count_literals all))) && are_constants facts (plain_kind facts ty) 0 all
 
   -- the parts of one, from a position on
   pub are_constants : Facts → TypeKind → ℕ → Literals → Bool

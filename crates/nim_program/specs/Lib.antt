@@ -15,3 +15,7 @@ pub mod Numbering
 pub mod ExampleParts
 pub mod TypedExamples
 pub mod FoldExamples
+pub mod Nodes
+pub mod Texts
+pub mod Defaults
+pub mod SelfAssignment

@@ -14,7 +14,7 @@ abbrev pub follow : (from : ℕ) → List ℕ → Bool
 follow from [] = true
 follow from (n ∷ ns) = nat_eq from n && follow (suc from) ns
 
-abbrev numbers_of : List Declared → List ℕ
+abbrev pub numbers_of : List Declared → List ℕ
 numbers_of places = map (λ d. d.number) places
 
 -- Nodes are numbered from those before the body on, below a bound. So are places, among those of the body, the first ones its parameters
@@ -25,11 +25,11 @@ is_numbered params body =
     && (follow body.first (numbers_of (param_places params ++ if_declared body.result))
     && rise_to body.first (body.first + body.places) (numbers_of (body_places params body)))
 
-abbrev is_numbered_if : List Param → Option Body → Bool
+abbrev pub is_numbered_if : List Param → Option Body → Bool
 is_numbered_if params None = true
 is_numbered_if params (Some body) = is_numbered params body
 
-abbrev are_numbered : List Proc → Bool
+abbrev pub are_numbered : List Proc → Bool
 are_numbered [] = true
 are_numbered (p ∷ procs) = is_numbered_if p.params p.body && are_numbered procs
 

@@ -40,7 +40,7 @@ with_global here = record here { filled = suc here.filled }
 
 -- ---- places by number
 
-abbrev look : List Placed → ℕ → Option Ty
+abbrev pub look : List Placed → ℕ → Option Ty
 look [] n = None
 look (p ∷ ps) n = if nat_eq p.number n then Some p.of else look ps n
 
@@ -49,7 +49,7 @@ abbrev pub type_in : Here → (global : Bool) → ℕ → Option Ty
 type_in here true n = look (take here.filled here.globals) n
 type_in here false n = look here.places n
 
-abbrev one_more : Bool → ℕ → ℕ
+abbrev pub one_more : Bool → ℕ → ℕ
 one_more true n = suc n
 one_more false n = n
 
@@ -70,7 +70,7 @@ is_written (Deref ty base) = true
 
 -- ---- calls
 
-abbrev parameter_or : ℕ → Option Ty → Ty
+abbrev pub parameter_or : ℕ → Option Ty → Ty
 parameter_or n None = parameter n
 parameter_or n (Some ty) = ty
 
@@ -95,26 +95,26 @@ abbrev mutual
   all_given args no_types = no_types
   all_given args (types t ts) = types (given args t) (all_given args ts)
 
-abbrev given_if : List Ty → Option Ty → Option Ty
+abbrev pub given_if : List Ty → Option Ty → Option Ty
 given_if args None = None
 given_if args (Some ty) = Some (given args ty)
 
 -- A body knows the globals that stand before it. All of them have a value where it is called.
-abbrev is_ready : Here → Option Body → Bool
+abbrev pub is_ready : Here → Option Body → Bool
 is_ready here None = false
 is_ready here (Some body) = nat_le (count_below body.first here.globals) here.filled
 
 -- hooks aren't called by name
-abbrev is_no_hook : Option HookOf → Bool
+abbrev pub is_no_hook : Option HookOf → Bool
 is_no_hook None = true
 is_no_hook (Some hook) = false
 
-abbrev is_var : Mode → Bool
+abbrev pub is_var : Mode → Bool
 is_var Var = true
 is_var mode = false
 
 -- a place for each `var` parameter, and a value for each other one
-abbrev are_taken : List Ty → List Param → Args → Bool
+abbrev pub are_taken : List Ty → List Param → Args → Bool
 are_taken args [] NoArg = true
 are_taken args (p ∷ params) (ByValue value rest) =
     not (is_var p.mode) && (is_of (type_of value) (Some (given args p.place.of)) && are_taken args params rest)

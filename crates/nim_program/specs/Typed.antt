@@ -18,7 +18,7 @@ use Rattle.nim_program.specs.Program.{Stmts, Empty, Then, Declare, Defer, Blocks
 use Rattle.nim_program.specs.Program.{type_of, type_at, types_in}
 use Rattle.nim_program.specs.Folds.{Seen, AtApply, AtEarly, AtChoose, AtPath, AtStmt, AtDeclare, AtLoop, AtHandler, lists, total_of, loop_places, if_declared}
 use Rattle.nim_program.specs.Kinds.{TypeKind, kind_of, kind_if, is_int, is_bool, is_text, is_exception, is_held, is_resource, is_selected, has_length}
-use Rattle.nim_program.specs.Kinds.{field_at, element_of, element_at, object_of, is_of, same_value, for_some, is_there, is_constant}
+use Rattle.nim_program.specs.Kinds.{field_at, element_of, object_of, is_of, same_value, for_some, is_there, is_constant}
 use Rattle.nim_program.specs.Kinds.{is_among_types, are_among_types, are_declared}
 use Rattle.nim_program.specs.Fitting.{fits, early_fits, building_fits, chooser_fits, places_in, are_labels, are_enough}
 use Rattle.nim_program.specs.Scopes.{Placed, placed, Here, with_place, with_place_if, with_global, type_in, count_below, is_written, call_fits}
@@ -26,40 +26,40 @@ use Rattle.nim_program.specs.Scopes.{Placed, placed, Here, with_place, with_plac
 -- ---- expressions
 
 -- no path that is read: what begins a path is another value
-abbrev is_fresh : Expr → Bool
+abbrev pub is_fresh : Expr → Bool
 is_fresh (Read path) = false
 is_fresh value = true
 
 -- A path is no ref's object whole: a field of it follows. Nor is it an exception whole, of which the message is read alone.
-abbrev is_whole : Facts → Path → Bool
+abbrev pub is_whole : Facts → Path → Bool
 is_whole facts (Deref ty base) = false
 is_whole facts path = is_held (kind_if facts (type_at path))
 
 -- the first so many are places, and all others values
-abbrev are_placed : ℕ → Args → Bool
+abbrev pub are_placed : ℕ → Args → Bool
 are_placed zero NoArg = true
 are_placed zero (ByValue value rest) = are_placed zero rest
 are_placed (suc n) (ByPath path rest) = are_placed n rest
 are_placed n operands = false
 
-abbrev is_place : Option ℕ → Path → Bool
+abbrev pub is_place : Option ℕ → Path → Bool
 is_place (Some n) (Variable node ty place false) = nat_eq place n
 is_place dest path = false
 
 -- Places are written, but for those whose length is asked. A hook ends or blanks its own one alone.
-abbrev may_take : Here → Operation → Path → Bool
+abbrev pub may_take : Here → Operation → Path → Bool
 may_take here (O.Measure measure) path = true
 may_take here O.Destroy path = is_place here.dest path
 may_take here O.Blank path = is_place here.dest path
 may_take here operation path = is_written path
 
-abbrev may_take_all : Here → Operation → Args → Bool
+abbrev pub may_take_all : Here → Operation → Args → Bool
 may_take_all here operation NoArg = true
 may_take_all here operation (ByValue value rest) = may_take_all here operation rest
 may_take_all here operation (ByPath path rest) = may_take here operation path && may_take_all here operation rest
 
 -- what is done with the operands
-abbrev act_fits : Here → (ty : Option Ty) → Act → Args → Bool
+abbrev pub act_fits : Here → (ty : Option Ty) → Act → Args → Bool
 act_fits here ty (Doing operation) operands =
     fits here.facts operation ty (types_in operands) && (are_placed (places_in operation) operands && may_take_all here operation operands)
 act_fits here ty (Building fields) operands = building_fits here.facts ty fields (types_in operands) && are_placed 0 operands
@@ -68,16 +68,16 @@ act_fits here ty (Giving literal) operands = false
 act_fits here ty (Calling proc types) operands = call_fits here (slice_get here.procs proc) types ty operands
 
 -- a selector at a path is read in place, and so is no value
-abbrev is_selector : Args → Bool
+abbrev pub is_selector : Args → Bool
 is_selector (ByValue value rest) = is_fresh value
 is_selector operands = true
 
-abbrev behind_first : Args → Args
+abbrev pub behind_first : Args → Args
 behind_first NoArg = NoArg
 behind_first (ByValue value rest) = rest
 behind_first (ByPath path rest) = rest
 
-abbrev choice_is_placed : Chooser → Args → Bool
+abbrev pub choice_is_placed : Chooser → Args → Bool
 choice_is_placed ByConditions parts = are_placed 0 parts
 choice_is_placed (ByLabels labels) parts = is_selector parts && are_placed 0 (behind_first parts)
 
@@ -95,7 +95,7 @@ abbrev mutual
   is_typed_path here (Fresh value) = (is_fresh value && is_there (type_of value)) && is_typed here value
   is_typed_path here (Field node ty base field) = is_of (field_at (kind_if here.facts (type_at base)) field) (Some ty) && is_typed_path here base
   is_typed_path here (Element node ty base index constant) =
-      (is_of (element_at (kind_if here.facts (type_at base)) constant) (Some ty) && is_int (kind_if here.facts (type_of index)))
+      (is_of (element_of (kind_if here.facts (type_at base))) (Some ty) && is_int (kind_if here.facts (type_of index)))
       && (is_typed_path here base && is_typed here index)
   is_typed_path here (Deref ty base) = is_of (object_of (kind_if here.facts (type_at base))) (Some ty) && is_typed_path here base
 
@@ -120,17 +120,17 @@ module_code = record { gives = None; returns = false; in_loop = false; in_handle
 abbrev pub procedure : (gives : Option Ty) → Around
 procedure gives = record { gives = gives; returns = true; in_loop = false; in_handler = false }
 
-abbrev looping : Around → Around
+abbrev pub looping : Around → Around
 looping around = record around { in_loop = true }
 
-abbrev handling : Around → Around
+abbrev pub handling : Around → Around
 handling around = record around { in_handler = true }
 
 -- A block that is done in any case isn't left.
-abbrev in_any_case : Around → Around
+abbrev pub in_any_case : Around → Around
 in_any_case around = record around { gives = None; returns = false; in_loop = false }
 
-abbrev may_leave : Around → Leaving → Bool
+abbrev pub may_leave : Around → Leaving → Bool
 may_leave around Break = around.in_loop
 may_leave around Continue = around.in_loop
 may_leave around Return = around.returns
@@ -140,41 +140,41 @@ is_empty Empty = true
 is_empty block = false
 
 -- one value, of which this holds
-abbrev is_one : (Option Ty → Bool) → Args → Bool
+abbrev pub is_one : (Option Ty → Bool) → Args → Bool
 is_one holds (ByValue value NoArg) = holds (type_of value)
 is_one holds operands = false
 
-abbrev are_conditions : Facts → Args → Bool
+abbrev pub are_conditions : Facts → Args → Bool
 are_conditions facts NoArg = true
 are_conditions facts (ByValue value rest) = is_bool (kind_if facts (type_of value)) && are_conditions facts rest
 are_conditions facts (ByPath path rest) = false
 
 -- as many blocks, and one for all else
-abbrev are_blocks : {A : Type 0} → List A → Blocks → Bool
+abbrev pub are_blocks : {A : Type 0} → List A → Blocks → Bool
 are_blocks [] (Otherwise block) = true
 are_blocks (x ∷ xs) (Block first rest) = are_blocks xs rest
 are_blocks xs blocks = false
 
-abbrev has_else : Blocks → Bool
+abbrev pub has_else : Blocks → Bool
 has_else (Otherwise block) = not (is_empty block)
 has_else (Block first rest) = has_else rest
 
-abbrev labels_select : TypeKind → List (List Label) → Blocks → Bool
+abbrev pub labels_select : TypeKind → List (List Label) → Blocks → Bool
 labels_select k labels blocks =
     ((is_selected k && are_labels k labels) && are_blocks labels blocks) && (has_else blocks || are_enough k None labels)
 
 -- of the one selector
-abbrev selector_kind : Facts → Args → TypeKind
+abbrev pub selector_kind : Facts → Args → TypeKind
 selector_kind facts (ByValue value NoArg) = kind_if facts (type_of value)
 selector_kind facts (ByPath path NoArg) = kind_if facts (type_at path)
 selector_kind facts operands = TypeKind.other
 
-abbrev chooses : Facts → Chooser → Args → Blocks → Bool
+abbrev pub chooses : Facts → Chooser → Args → Blocks → Bool
 chooses facts ByConditions tests blocks = are_conditions facts tests && are_blocks (types_in tests) blocks
 chooses facts (ByLabels labels) tests blocks = is_selector tests && labels_select (selector_kind facts tests) labels blocks
 
 -- the head of a loop
-abbrev head_fits : Facts → Kind → Args → Bool
+abbrev pub head_fits : Facts → Kind → Args → Bool
 head_fits facts While head = is_one (λ ty. is_bool (kind_if facts ty)) head
 head_fits facts (Count variable inclusive) (ByValue first last) =
     (is_int (kind_of facts variable.of) && is_int (kind_if facts (type_of first))) && is_one (λ ty. is_int (kind_if facts ty)) last
@@ -182,30 +182,30 @@ head_fits facts (Each variable) (ByPath path NoArg) =
     has_length (kind_if facts (type_at path)) && is_of (element_of (kind_if facts (type_at path))) (Some variable.of)
 head_fits facts kind head = false
 
-abbrev with_places : Here → List Declared → Here
+abbrev pub with_places : Here → List Declared → Here
 with_places here [] = here
 with_places here (d ∷ ds) = with_places (with_place here d) ds
 
 -- a new exception has a message, and the one that is handled has none
-abbrev raises : Facts → (handled : Bool) → Option Ty → Args → Bool
+abbrev pub raises : Facts → (handled : Bool) → Option Ty → Args → Bool
 raises facts handled (Some ty) message = is_exception (kind_of facts ty) && is_one (λ t. is_text (kind_if facts t)) message
 raises facts handled None NoArg = handled
 raises facts handled None message = false
 
-abbrev has_handler : Handlers → Bool
+abbrev pub has_handler : Handlers → Bool
 has_handler NoHandler = false
 has_handler (Handler types name body rest) = true
 
-abbrev are_exceptions : Facts → List Ty → Bool
+abbrev pub are_exceptions : Facts → List Ty → Bool
 are_exceptions facts [] = true
 are_exceptions facts (ty ∷ tys) = is_exception (kind_of facts ty) && are_exceptions facts tys
 
-abbrev is_caught : Facts → Option Declared → Bool
+abbrev pub is_caught : Facts → Option Declared → Bool
 is_caught facts None = true
 is_caught facts (Some d) = is_exception (kind_of facts d.of)
 
 -- a place with the value that it starts with, or with its default
-abbrev starts : Facts → Ty → Args → Bool
+abbrev pub starts : Facts → Ty → Args → Bool
 starts facts ty NoArg = is_held (kind_of facts ty)
 starts facts ty operands = is_one (λ t. is_of t (Some ty)) operands
 
@@ -247,7 +247,7 @@ abbrev mutual
 -- ---- the code of modules: what it declares itself are the globals, in their order
 
 -- the place is the next global
-abbrev is_next : Option Placed → Placed → Bool
+abbrev pub is_next : Option Placed → Placed → Bool
 is_next None place = false
 is_next (Some g) place = nat_eq g.number place.number && same g.of place.of
 
@@ -261,15 +261,15 @@ is_typed_code here (Defer node last rest) = false
 
 -- ---- bodies
 
-abbrev type_if : Option Ty → List Ty
+abbrev pub type_if : Option Ty → List Ty
 type_if None = []
 type_if (Some ty) = ty ∷ []
 
-abbrev act_types : Act → List Ty
+abbrev pub act_types : Act → List Ty
 act_types (Calling proc types) = types
 act_types act = []
 
-abbrev place_types : List Declared → List Ty
+abbrev pub place_types : List Declared → List Ty
 place_types places = map (λ d. d.of) places
 
 -- the types that stand in a part alone
@@ -283,7 +283,7 @@ own_types (AtDeclare node place cursor) = place.of ∷ []
 own_types (AtLoop node kind) = place_types (loop_places kind)
 own_types (AtHandler name) = place_types (if_declared name)
 
-abbrev param_declared : List Param → List Declared
+abbrev pub param_declared : List Param → List Declared
 param_declared params = map (λ param. param.place) params
 
 -- all that stand in a body with its parameters and result
@@ -291,21 +291,21 @@ abbrev pub body_types : List Param → Body → List Ty
 body_types params body =
     place_types (param_declared params) ++ (place_types (if_declared body.result) ++ total_of lists own_types body.stmts)
 
-abbrev are_held : Facts → List Declared → Bool
+abbrev pub are_held : Facts → List Declared → Bool
 are_held facts [] = true
 are_held facts (d ∷ ds) = is_held (kind_of facts d.of) && are_held facts ds
 
-abbrev type_of_place : Option Declared → Option Ty
+abbrev pub type_of_place : Option Declared → Option Ty
 type_of_place None = None
 type_of_place (Some d) = Some d.of
 
 -- a hook that copies or sinks may end and blank the place that it fills
-abbrev dest_of : Option HookOf → List Param → Option ℕ
+abbrev pub dest_of : Option HookOf → List Param → Option ℕ
 dest_of (Some hook) (dest ∷ source ∷ []) = Some dest.place.number
 dest_of hook params = None
 
 -- a body that stands behind so many globals
-abbrev in_body : Program → (filled : ℕ) → (dest : Option ℕ) → List Param → Body → Here
+abbrev pub in_body : Program → (filled : ℕ) → (dest : Option ℕ) → List Param → Body → Here
 in_body program filled dest params body = record {
   facts = program.facts;
   procs = program.procs;
@@ -315,41 +315,41 @@ in_body program filled dest params body = record {
   dest = dest;
 }
 
-abbrev before : Program → ℕ → ℕ
+abbrev pub before : Program → ℕ → ℕ
 before program n = count_below n (map placed program.globals)
 
 -- of a procedure, among whose places no global stands
-abbrev is_typed_body : Program → (dest : Option ℕ) → List Param → (gives : Option Ty) → Body → Bool
+abbrev pub is_typed_body : Program → (dest : Option ℕ) → List Param → (gives : Option Ty) → Body → Bool
 is_typed_body program dest params gives body =
     (are_among_types program.types (body_types params body)
     && (are_held program.facts (param_declared params ++ if_declared body.result)
     && same_value (type_of_place body.result) gives && nat_eq (before program body.first) (before program (body.first + body.places))))
     && (not (is_empty body.stmts) && is_typed_block (in_body program (before program body.first) dest params body) (procedure gives) body.stmts)
 
-abbrev is_typed_if : Program → (dest : Option ℕ) → List Param → (gives : Option Ty) → Option Body → Bool
+abbrev pub is_typed_if : Program → (dest : Option ℕ) → List Param → (gives : Option Ty) → Option Body → Bool
 is_typed_if program dest params gives None = true
 is_typed_if program dest params gives (Some body) = is_typed_body program dest params gives body
 
 -- ---- hooks
 
-abbrev same_mode : Mode → Mode → Bool
+abbrev pub same_mode : Mode → Mode → Bool
 same_mode Plain Plain = true
 same_mode Sink Sink = true
 same_mode Var Var = true
 same_mode m n = false
 
-abbrev takes : Ty → Mode → Param → Bool
+abbrev pub takes : Ty → Mode → Param → Bool
 takes ty mode param = same param.place.of ty && same_mode param.mode mode
 
 -- of a destroy, of what blanks, and of a sink or a copy
-abbrev params_fit : (kind : ℕ) → Ty → List Param → Bool
+abbrev pub params_fit : (kind : ℕ) → Ty → List Param → Bool
 params_fit zero ty (x ∷ []) = takes ty Plain x
 params_fit (suc zero) ty (x ∷ []) = takes ty Var x
 params_fit (suc (suc zero)) ty (dest ∷ source ∷ []) = takes ty Var dest && takes ty Plain source
 params_fit (suc (suc (suc zero))) ty (dest ∷ source ∷ []) = takes ty Var dest && takes ty Plain source
 params_fit kind ty params = false
 
-abbrev hook_fits : Program → Option HookOf → List Param → (gives : Option Ty) → Bool
+abbrev pub hook_fits : Program → Option HookOf → List Param → (gives : Option Ty) → Bool
 hook_fits program None params gives = true
 hook_fits program (Some hook) params gives =
     is_resource (kind_of program.facts (type_by_number program.types hook.of))
@@ -360,12 +360,12 @@ hook_fits program (Some hook) params gives =
 abbrev pub is_typed_proc : Program → Proc → Bool
 is_typed_proc program p = hook_fits program p.hook p.params p.gives && is_typed_if program (dest_of p.hook p.params) p.params p.gives p.body
 
-abbrev are_typed_procs : Program → List Proc → Bool
+abbrev pub are_typed_procs : Program → List Proc → Bool
 are_typed_procs program [] = true
 are_typed_procs program (p ∷ procs) = is_typed_proc program p && are_typed_procs program procs
 
 -- the code of all modules, which takes and gives nothing
-abbrev is_typed_start : Program → Body → Bool
+abbrev pub is_typed_start : Program → Body → Bool
 is_typed_start program body =
     (are_among_types program.types (body_types [] body) && not (is_there (type_of_place body.result)))
     && is_typed_code (in_body program 0 None [] body) body.stmts

@@ -77,7 +77,7 @@ typed_exprs =
     Read (Field (at 0) type.text (Deref item n) 1) ∷
     Read (Field (at 0) type.text (Deref item (Field (at 0) node (Deref item n) 0)) 1) ∷
     Read (Element (at 0) type.int q (number 0) (Some (pos 0))) ∷
-    Read (Element (at 0) type.text t (number 1) (Some (pos 1))) ∷
+    Read (Field (at 0) type.text t 1) ∷
     Read (Field (at 0) type.text e 0) ∷
     Read (Element (at 0) type.char (Fresh (letters (codes "a"))) (number 0) (Some (pos 0))) ∷
     -- what is written through a ref that no place holds

@@ -1,0 +1,6 @@
+-- The lemmas that proofs of other crates may cite.
+
+-- ---- expressions that hold lists
+pub use Rattle.nim_program.proofs.ExprRows.{applied, called, constructed, chosen, selected}
+-- ---- statements that hold lists
+pub use Rattle.nim_program.proofs.StmtRows.{decided, selected as selected_statement, repeated}
