@@ -1,0 +1,9 @@
+mod Firsts
+mod Limiting
+mod Summing
+mod Rounds
+mod Listing
+mod FormRows
+mod Capping
+mod Globals
+mod TypeNames

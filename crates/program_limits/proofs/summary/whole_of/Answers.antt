@@ -1,0 +1,9 @@
+use Rattle.std.proofs.Common.{ap, ap₂, sym, ◌∙◌}
+use Rattle.std.specs.Prelude.{◌||◌}
+use Rattle.program_limits.specs.Summaries.{above}
+use Rattle.program_limits.proofs.Summing.{object_is}
+use Rattle.program_limits.proofs.summary.whole_of.Goals as goal
+
+pub returns : goal.returns
+returns c = λ fs e.
+    c.above.ensures ∙ ap₂ (λ h l. above h l) (c.either.ensures ∙ ap (λ s. c.args.own || s.hooked) e) (ap (λ s. s.levels) e) ∙ sym (object_is c.args.own fs)

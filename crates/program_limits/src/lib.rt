@@ -1,0 +1,18 @@
+//! Which typed programs have code: those whose whole meaning is built, and which aren't too large
+//! for it, as far as that is said of the program alone.
+#![tactic(auto)]
+
+mod data;
+mod frames;
+mod known;
+mod lacking;
+mod laws;
+mod limits;
+mod parts;
+mod plain;
+mod summary;
+mod types;
+
+pub use laws::limit_examples;
+pub use limits::{left_out, within};
+pub use summary::MOST_LEVELS;
