@@ -1,0 +1,76 @@
+-- Flat code line by line under a plan is owned code of it.
+use Rattle.std.proofs.Common.{◌≡◌, refl, sym, subst, ℕ, List, [], map}
+use Rattle.arc_base.specs.Event.{Event}
+use Rattle.arc_base.specs.Behaviour.{Behaviour, Steady, Sound, Agrees}
+use Rattle.nim_types.specs.declared.types.TypeDef.{TypeDef}
+use Rattle.nim_plan.specs.declared.plan.Plan.{Plan}
+use Rattle.flat_code.specs.declared.code.Code.{Code}
+use Rattle.flat_code.specs.declared.code.CodeProc.{CodeProc}
+use Rattle.flat_code.specs.declared.line.Line.{Line}
+use Rattle.flat_code.specs.declared.line.Line.TheVariants as L
+use Rattle.flat_code.specs.declared.owned.OwnedLine.{OwnedLine}
+use Rattle.flat_code.specs.Scene.{Known, known_in, Scene}
+use Rattle.flat_code.specs.Lines.{does}
+use Rattle.flat_code.specs.Whole.{label_in}
+use Rattle.flat_code.specs.Codes.{each_line, by_lines, flat_plain, flat_meaning, under, owned_plain, owned_label, owned_does, owned_meaning}
+use Rattle.flat_code.proofs.ForCallers.{same_agrees, same_pace, runs_by_lines, Alike, same, got, form_by_lines}
+use Rattle.destructor_injection.specs.Injecting.{IsOwned}
+
+-- each line is alike and labelled as it was, and does what it did under the plan
+same_line : (known : Known) (plan : Plan) (line : Line) →
+    Alike (owned_plain (under plan line)) line × (owned_label (under plan line) ≡ label_in line)
+    × ((x : Scene) → owned_does known x (under plan line) ≡ does known plan x line)
+same_line known plan (L.Apply to operation how ty of from) = (same, refl, λ x. refl)
+same_line known plan (L.Construct to how ty fields from) = (same, refl, λ x. refl)
+same_line known plan (L.Constant to how ty pieces) = (same, refl, λ x. refl)
+same_line known plan (L.Call to how ty proc from) = (same, refl, λ x. refl)
+same_line known plan (L.Get to from how site ty) = (got, refl, λ x. refl)
+same_line known plan (L.Look to from) = (same, refl, λ x. refl)
+same_line known plan (L.Root to place global) = (same, refl, λ x. refl)
+same_line known plan (L.Fresh to from) = (same, refl, λ x. refl)
+same_line known plan (L.Part to from field) = (same, refl, λ x. refl)
+same_line known plan (L.Item to from index) = (same, refl, λ x. refl)
+same_line known plan (L.Object to from) = (same, refl, λ x. refl)
+same_line known plan (L.Pass to from how ty) = (same, refl, λ x. refl)
+same_line known plan (L.Truth to value) = (same, refl, λ x. refl)
+same_line known plan (L.Fill place from) = (same, refl, λ x. refl)
+same_line known plan (L.Blank place ty) = (same, refl, λ x. refl)
+same_line known plan (L.Give place from) = (same, refl, λ x. refl)
+same_line known plan (L.Zero to) = (same, refl, λ x. refl)
+same_line known plan (L.Length to from) = (same, refl, λ x. refl)
+same_line known plan (L.Still from len) = (same, refl, λ x. refl)
+same_line known plan (L.Element to from index) = (same, refl, λ x. refl)
+same_line known plan (L.Beyond counter last inclusive to) = (same, refl, λ x. refl)
+same_line known plan (L.Next counter last) = (same, refl, λ x. refl)
+same_line known plan (L.Label name) = (same, refl, λ x. refl)
+same_line known plan (L.Jump to) = (same, refl, λ x. refl)
+same_line known plan (L.Unless from to) = (same, refl, λ x. refl)
+same_line known plan (L.Fits from low high to) = (same, refl, λ x. refl)
+same_line known plan L.Enter = (same, refl, λ x. refl)
+same_line known plan (L.Turn to) = (same, refl, λ x. refl)
+same_line known plan (L.TurnIf from to) = (same, refl, λ x. refl)
+same_line known plan (L.CountTurn counter last inclusive to) = (same, refl, λ x. refl)
+same_line known plan (L.Return result) = (same, refl, λ x. refl)
+
+shown : (table : List TypeDef) (plan : Plan) (flat : Code Line) (heap : ℕ) (input : List ℕ) (n : ℕ) →
+    owned_meaning table (by_lines (under plan) flat) heap input n ≡ flat_meaning table flat plan heap input n
+shown table plan flat heap input n =
+    let known = known_in table in
+    runs_by_lines (under plan) label_in owned_label (λ line. (same_line known plan line).1)
+    (does known plan) (owned_does known) (λ x line. (same_line known plan line).2 x) known flat heap input n
+
+abbrev owned_with : List (CodeProc OwnedLine) → Code OwnedLine
+owned_with procs = record { procs = procs }
+
+pub owned_by : (flat : Code Line) (plan : Plan) (procs : List (CodeProc OwnedLine)) → procs ≡ map (each_line (under plan)) flat.procs →
+    ((b : Behaviour Event) → Steady b → Sound b → Agrees b b) →
+    ((table : List TypeDef) (flat : Code Line) (plan : Plan) (heap : ℕ) (input : List ℕ) → Steady (flat_meaning table flat plan heap input)) →
+    IsOwned flat plan (owned_with procs)
+owned_by flat plan procs e itself steady = subst (λ ps. IsOwned flat plan (owned_with ps)) (sym e) (record {
+  agrees = λ table heap input sound.
+      same_agrees (owned_meaning table (by_lines (under plan) flat) heap input) (flat_meaning table flat plan heap input)
+      (shown table plan flat heap input) (itself (flat_meaning table flat plan heap input) (steady table flat plan heap input) sound);
+  paced = λ table heap input sound.
+      same_pace (owned_meaning table (by_lines (under plan) flat) heap input) (flat_meaning table flat plan heap input) (shown table plan flat heap input);
+  form = form_by_lines (under plan) flat_plain owned_plain (λ line. (same_line (known_in []) plan line).0) flat;
+})

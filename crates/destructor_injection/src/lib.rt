@@ -1,0 +1,6 @@
+//! Flat code under a plan becomes owned code, in whose lines stands what the plan says.
+#![tactic(auto)]
+
+mod owned;
+
+pub use owned::{LINES_EACH, PACE, owned_of};

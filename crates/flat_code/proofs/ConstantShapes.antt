@@ -1,0 +1,193 @@
+-- A constant of a type is a value of its shape.
+use Rattle.std.proofs.Common.{◌≡◌, ℕ, zero, suc, ◌+◌, Bool, true, false, List, [], ◌∷◌, length, Option, Some, None, refl, sym, ap, ap₂, ◌∙◌, subst, arith}
+use Rattle.std.specs.Prelude.{◌&&◌, ◌||◌, ℤ, pos}
+use Rattle.std.proofs.lemmas.Bool.{both_ways, and_parts, and_from, or_parts, eqb-true}
+use Rattle.nim_types.specs.Types as type
+use Rattle.nim_types.specs.Types.{Ty, Tys, no_types, types, Key, Fact, members, fields, base, below, Facts, fact_of}
+use Rattle.nim_types.specs.Forms as form
+use Rattle.nim_types.specs.Forms.{Form, Forms, HasForm, IsForm, of_int, of_bool, of_char, of_text, of_sequence, of_any_sequence, of_array, of_tuple, of_parameter}
+use Rattle.nim_types.specs.Forms.{of_enum, of_object, of_distinct, of_ref, of_exception, AreForms, none_of, more_of, object_form, wrapped, types_of, hooked, hooked_any}
+use Rattle.nim_program.specs.Ints.{fits}
+use Rattle.nim_program.specs.Kinds as kind
+use Rattle.nim_program.specs.Kinds.{TypeKind, kind_of, plain_kind, is_value, is_among, is_text, is_ref, is_sequence, part_at, nth_type, count_types, has_parts, for_some}
+use Rattle.nim_program.specs.Kinds.{count_literals, is_constant, are_constants}
+use Rattle.nim_program.specs.Program.{Literal, Number as Ordinal, Characters, NoObject, PartsOf, ElementsOf, Literals, NoLiteral, ALiteral}
+use Rattle.nim_meaning.specs.Values.{Value, Number, Parts, Fixed, Ref, literal_value, literal_values}
+use Rattle.flat_code.specs.Shapes.{Shape, number, reference, block, elements, row, parts, resource, Shapes, no_shapes, shapes, object_shape, shape_by, shape_within, shape_of, has_shape, are_rows}
+use Rattle.flat_code.specs.Shapes.{have_shapes}
+use Rattle.flat_code.proofs.ShapeDepths.{AreSorted, object_said, distinct_said, enum_said}
+use Rattle.flat_code.proofs.ShapeKinds.{shapes_of, Matches, AllHave, PartsHave, plain_shaped}
+
+pub never : {A : Type 0} → false ≡ true → A
+never e = absurd (both_ways false refl e)
+
+-- nothing in it is owned
+abbrev mutual
+  pub is_free : Shape → Bool
+  is_free (number values) = true
+  is_free reference = false
+  is_free block = false
+  is_free (elements s) = false
+  is_free (row zero s) = true
+  is_free (row (suc n) s) = is_free s
+  is_free (parts ss) = are_free ss
+  is_free (resource ss) = false
+
+  pub are_free : Shapes → Bool
+  are_free no_shapes = true
+  are_free (shapes s ss) = is_free s && are_free ss
+
+module _ (facts : Facts) (sorted : AreSorted facts) where
+  -- ---- types without hooks
+
+  no_hook : (a b : Bool) → a || b ≡ false → (a ≡ false) × (b ≡ false)
+  no_hook true b h = never (sym h)
+  no_hook false b h = (refl, h)
+
+  row_free : (n : ℕ) (s : Shape) (b : Bool) → form.of_some n b ≡ false → (b ≡ false → is_free s ≡ true) → is_free (row n s) ≡ true
+  row_free zero s b h go = refl
+  row_free (suc n) s b h go = go h
+
+  enum_free : (key : Key) (o : Option Fact) → fact_of facts (type.enum key) ≡ o → is_free (shape_of facts (type.enum key)) ≡ true
+  enum_free key None e = ap is_free (enum_said facts sorted key ∙ ap (shape_by (shape_within (length facts) facts)) e)
+  enum_free key (Some (members names)) e = ap is_free (enum_said facts sorted key ∙ ap (shape_by (shape_within (length facts) facts)) e)
+  enum_free key (Some (fields all own_hooks)) e = absurd (sorted (type.enum key) (fields all own_hooks) e)
+  enum_free key (Some (base t)) e = absurd (sorted (type.enum key) (base t) e)
+  enum_free key (Some (below parent)) e = absurd (sorted (type.enum key) (below parent) e)
+
+  object_free : (own_hooks : Bool) (fs : Forms) (ss : Shapes) → hooked (object_form own_hooks fs) ≡ false → (hooked_any fs ≡ false → are_free ss ≡ true) →
+      is_free (object_shape own_hooks ss) ≡ true
+  object_free true fs ss h go = never (sym h)
+  object_free false fs ss h go = go h
+
+  mutual
+    pub free_of : {ty : Ty} {f : Form} → HasForm facts ty f → hooked f ≡ false → is_free (shape_of facts ty) ≡ true
+    free_of of_int h = refl
+    free_of of_bool h = refl
+    free_of of_char h = refl
+    free_of of_text h = never (sym h)
+    free_of (of_sequence d a) h = never (sym h)
+    free_of (of_any_sequence d) h = never (sym h)
+    free_of (of_array {n} {t} {f} a) h = row_free n (shape_of facts t) (hooked f) h (λ u. free_of a u)
+    free_of (of_tuple a) h = all_free a h
+    free_of of_parameter h = refl
+    free_of (of_enum {key}) h = enum_free key (fact_of facts (type.enum key)) refl
+    free_of (of_object {key} {arguments} {all} {own_hooks} {fs} e a) h =
+        ap is_free (object_said facts sorted key arguments (object_form own_hooks fs) (of_object e a) ∙ ap (shape_by (shape_within (length facts) facts)) e)
+        ∙ object_free own_hooks fs (shapes_of facts (types_of all)) h (λ u. all_free a u)
+    free_of (of_distinct {key} {t} {f} e a) h =
+        ap is_free (distinct_said facts sorted key (wrapped f) (of_distinct e a) ∙ ap (shape_by (shape_within (length facts) facts)) e) ∙ free_of a h
+    free_of of_ref h = never (sym h)
+    free_of of_exception h = refl
+
+    all_free : {ts : Tys} {fs : Forms} → AreForms true facts ts fs → hooked_any fs ≡ false → are_free (shapes_of facts ts) ≡ true
+    all_free none_of h = refl
+    all_free (more_of {f = f} {fs = fs} a s) h = let q = no_hook (hooked f) (hooked_any fs) h in and_from _ _ (free_of a q.0) (all_free s q.1)
+
+  -- ---- constants
+
+  number_right : (k : TypeKind) (s : Shape) (z : ℤ) → Matches facts k s → is_value k z ≡ true → has_shape (Number z) s ≡ true
+  number_right kind.int s z m h = ap (has_shape (Number z)) m ∙ (and_parts (fits z) true h).0
+  number_right kind.bool s z m h = ap (has_shape (Number z)) m ∙ h
+  number_right kind.char s z m h = ap (has_shape (Number z)) m ∙ h
+  number_right (kind.enum n) s z m h = ap (has_shape (Number z)) m ∙ h
+  number_right k s z m h = never (and_parts (fits z) false h).1
+
+  text_right : (k : TypeKind) (s : Shape) (bytes : List ℕ) → Matches facts k s → is_text k ≡ true → has_shape (Fixed bytes) s ≡ true
+  text_right kind.text s bytes m h = ap (has_shape (Fixed bytes)) m
+  text_right k s bytes m h = never h
+
+  nil_right : (k : TypeKind) (s : Shape) → Matches facts k s → is_ref k ≡ true → has_shape (Ref None) s ≡ true
+  nil_right (kind.ref t) s m h = ap (has_shape (Ref None)) m
+  nil_right k s m h = never h
+
+  elements_free : {A : Type 0} (k : TypeKind) (s : Shape) → Matches facts k s → is_sequence k ≡ true → is_free s ≡ true → A
+  elements_free (kind.sequence t) s m h free = never (sym (ap is_free m) ∙ free)
+  elements_free k s m h free = never h
+
+  at_part : (o : Option Ty) (t : Ty) (l : Literal) → o ≡ Some t → for_some o (λ ty. is_constant facts ty l) ≡ true → is_constant facts t l ≡ true
+  at_part None t l e h = never h
+  at_part (Some u) t l e h = subst (λ t. is_constant facts t l ≡ true) (some_it e) h
+    where
+      some_it : Some u ≡ Some t → u ≡ t
+      some_it e = cc
+
+  zero_behind : (j : ℕ) → j + 0 ≡ j
+  zero_behind j = omega arith
+
+  -- parts, by what holds of rows and of fields
+  parts_right : (all : Literals) →
+      ((t : Ty) (f : Form) → HasForm facts t f → (i m n : ℕ) → n ≡ count_literals all → is_free (row n (shape_of facts t)) ≡ true →
+      are_constants facts (kind.array m t) i all ≡ true → are_rows (literal_values all) n (shape_of facts t) ≡ true) →
+      ((k : TypeKind) (i : ℕ) (ts : Tys) → ((j : ℕ) → part_at k (j + i) ≡ nth_type ts j) → AllHave facts ts → are_free (shapes_of facts ts) ≡ true →
+      count_types ts ≡ count_literals all → are_constants facts k i all ≡ true → have_shapes (literal_values all) (shapes_of facts ts) ≡ true) →
+      (k : TypeKind) (s : Shape) → Matches facts k s → PartsHave facts k → is_free s ≡ true → has_parts k (count_literals all) ≡ true →
+      are_constants facts k 0 all ≡ true → has_shape (Parts (literal_values all)) s ≡ true
+  parts_right all rows parts_of (kind.array n t) s m p free count h =
+      ap (has_shape (Parts (literal_values all))) m
+      ∙ rows t p.0 p.1 0 n n (eqb-true n (count_literals all) count) (sym (ap is_free m) ∙ free) h
+  parts_right all rows parts_of (kind.tuple ts) s m p free count h =
+      ap (has_shape (Parts (literal_values all))) m
+      ∙ parts_of (kind.tuple ts) 0 ts (λ j. ap (nth_type ts) (zero_behind j)) p (sym (ap is_free m) ∙ free) (eqb-true (count_types ts) (count_literals all) count) h
+  parts_right all rows parts_of (kind.object true ts) s m p free count h = never (sym (ap is_free m) ∙ free)
+  parts_right all rows parts_of (kind.object false ts) s m p free count h =
+      ap (has_shape (Parts (literal_values all))) m
+      ∙ parts_of (kind.object false ts) 0 ts (λ j. ap (nth_type ts) (zero_behind j)) p (sym (ap is_free m) ∙ free)
+      (eqb-true (count_types ts) (count_literals all) count) h
+  parts_right all rows parts_of k s m p free count h = never count
+
+  -- a row has one that is free where it has any
+  one_free : (n : ℕ) (s : Shape) → is_free (row (suc n) s) ≡ true → is_free (row n s) ≡ true
+  one_free zero s h = refl
+  one_free (suc n) s h = h
+
+  mutual
+    pub constant_shape : {ty : Ty} {f : Form} → HasForm facts ty f → is_free (shape_of facts ty) ≡ true → (l : Literal) → is_constant facts ty l ≡ true →
+        has_shape (literal_value l) (shape_of facts ty) ≡ true
+    constant_shape {ty} has free (Ordinal z) h = number_right (plain_kind facts ty) (shape_of facts ty) z (plain_shaped facts sorted has).matches h
+    constant_shape {ty} has free (Characters bytes) h = text_right (plain_kind facts ty) (shape_of facts ty) bytes (plain_shaped facts sorted has).matches h
+    constant_shape {ty} has free NoObject h = nil_right (plain_kind facts ty) (shape_of facts ty) (plain_shaped facts sorted has).matches h
+    constant_shape {ty} has free (PartsOf all) h =
+        let q = and_parts (has_parts (plain_kind facts ty) (count_literals all)) (are_constants facts (plain_kind facts ty) 0 all) h in
+        let p = plain_shaped facts sorted has in
+        parts_right all (λ t f is i m n count free h. row_values is i m n all count free h)
+        (λ k i ts same have free count h. part_values k i ts all same have free count h)
+        (plain_kind facts ty) (shape_of facts ty) p.matches p.parts_have free q.0 q.1
+    constant_shape {ty} has free (ElementsOf all) h =
+        elements_free (plain_kind facts ty) (shape_of facts ty) (plain_shaped facts sorted has).matches
+        (and_parts (is_sequence (plain_kind facts ty)) (fits (pos (count_literals all)))
+        (and_parts (is_sequence (plain_kind facts ty) && fits (pos (count_literals all))) (are_constants facts (plain_kind facts ty) 0 all) h).0).0 free
+
+    row_values : {t : Ty} {f : Form} → HasForm facts t f → (i m n : ℕ) (all : Literals) → n ≡ count_literals all → is_free (row n (shape_of facts t)) ≡ true →
+        are_constants facts (kind.array m t) i all ≡ true → are_rows (literal_values all) n (shape_of facts t) ≡ true
+    row_values has i m zero NoLiteral count free h = refl
+    row_values has i m (suc n) NoLiteral count free h = absurd (omega (arith, count))
+    row_values has i m zero (ALiteral first rest) count free h = absurd (omega (arith, count))
+    row_values {t} has i m (suc n) (ALiteral first rest) count free h =
+        let q = and_parts (is_constant facts t first) (are_constants facts (kind.array m t) (suc i) rest) h in
+        and_from _ _ (constant_shape has free first q.0)
+        (row_values has (suc i) m n rest (omega (arith, count)) (one_free n (shape_of facts t) free) q.1)
+
+    part_values : (k : TypeKind) (i : ℕ) (ts : Tys) (all : Literals) → ((j : ℕ) → part_at k (j + i) ≡ nth_type ts j) → AllHave facts ts →
+        are_free (shapes_of facts ts) ≡ true → count_types ts ≡ count_literals all → are_constants facts k i all ≡ true →
+        have_shapes (literal_values all) (shapes_of facts ts) ≡ true
+    part_values k i no_types NoLiteral same have free count h = refl
+    part_values k i (types t ts) NoLiteral same have free count h = absurd (omega (arith, count))
+    part_values k i no_types (ALiteral first rest) same have free count h = absurd (omega (arith, count))
+    part_values k i (types t ts) (ALiteral first rest) same have free count h =
+        let q = and_parts (for_some (part_at k i) (λ ty. is_constant facts ty first)) (are_constants facts k (suc i) rest) h in
+        let one = at_part (part_at k i) t first (ap (part_at k) (here_at i) ∙ same 0) q.0 in
+        let u = and_parts (is_free (shape_of facts t)) (are_free (shapes_of facts ts)) free in
+        and_from _ _ (constant_shape have.0.1 u.0 first one)
+        (part_values k (suc i) ts rest (λ j. ap (part_at k) (next i j) ∙ same (suc j)) have.1 u.1 (omega (arith, count)) q.1)
+      where
+        here_at : (i : ℕ) → i ≡ 0 + i
+        here_at i = omega arith
+
+        next : (i j : ℕ) → j + suc i ≡ suc j + i
+        next i j = omega arith
+
+  -- a text is one of a text's shape, whoever owns it
+  pub text_shape : {ty : Ty} {f : Form} → HasForm facts ty f → (bytes : List ℕ) → is_constant facts ty (Characters bytes) ≡ true →
+      has_shape (Fixed bytes) (shape_of facts ty) ≡ true
+  text_shape {ty} has bytes h = text_right (plain_kind facts ty) (shape_of facts ty) bytes (plain_shaped facts sorted has).matches h

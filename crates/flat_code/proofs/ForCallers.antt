@@ -1,0 +1,10 @@
+-- The lemmas that proofs of other crates may cite.
+
+pub use Rattle.flat_code.proofs.Same.{same_agrees, same_pace}
+pub use Rattle.flat_code.proofs.ByLines.{runs_by_lines}
+pub use Rattle.flat_code.proofs.KeptForms.{Alike, same, got, form_by_lines}
+-- ---- shapes of types that have forms
+pub use Rattle.flat_code.proofs.ShapeDepths.{IsSorted, AreSorted}
+pub use Rattle.flat_code.proofs.SortedTables.{sorted_table}
+pub use Rattle.flat_code.proofs.ShapeKinds.{Matches, AllHave, PartsHave, Shaped}
+pub use Rattle.flat_code.proofs.ConstantShapes.{free_of, constant_shape, text_shape}

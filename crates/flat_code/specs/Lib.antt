@@ -1,0 +1,9 @@
+pub mod Scene
+pub mod Pieces
+pub mod Lines
+pub mod Running
+pub mod Whole
+pub mod Shapes
+pub mod Fits
+pub mod Sizes
+pub mod Codes

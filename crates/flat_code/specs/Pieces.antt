@@ -1,0 +1,61 @@
+-- The value of a constant, from its pieces: parts stand before the whole.
+use Rattle.std.specs.Prelude.{ℕ, zero, suc, ◌-◌, nat_eq, nat_le, Bool, ◌&&◌, List, [], ◌∷◌, ◌++◌, None}
+use Rattle.nim_program.specs.Program.{Literal, Number as Ordinal, Characters, NoObject, PartsOf, ElementsOf, Literals, NoLiteral, ALiteral}
+use Rattle.nim_meaning.specs.Values.{Value, Number, Parts, Fixed, Ref, Values, Nil, More, nothing, bytes}
+use Rattle.flat_code.specs.declared.line.Piece.{Piece}
+use Rattle.flat_code.specs.declared.line.Piece.TheVariants as P
+
+-- the last so many values are the parts of one, and the values before it stay
+abbrev pub gathered : ℕ → (before : List Value) → (parts : Values) → List Value
+gathered zero before parts = Parts parts ∷ before
+gathered (suc n) [] parts = Parts parts ∷ []
+gathered (suc n) (v ∷ before) parts = gathered n before (More v parts)
+
+-- the values that are read so far, the last one first
+abbrev pub read_on : List Piece → List Value → List Value
+read_on [] before = before
+read_on (P.Ordinal z ∷ pieces) before = read_on pieces (Number z ∷ before)
+read_on (P.Text text ∷ pieces) before = read_on pieces (Fixed text ∷ before)
+read_on (P.Nil ∷ pieces) before = read_on pieces (Ref None ∷ before)
+read_on (P.Parts n ∷ pieces) before = read_on pieces (gathered n before Nil)
+read_on (P.Elements n ∷ pieces) before = read_on pieces (gathered n before Nil)
+
+abbrev pub last_read : List Value → Value
+last_read [] = nothing
+last_read (v ∷ before) = v
+
+abbrev pub value_of : List Piece → Value
+value_of pieces = last_read (read_on pieces [])
+
+-- behind so many values, these pieces come to one value: parts stand before each whole, and none is left over
+abbrev pub are_one : List Piece → (before : ℕ) → Bool
+are_one [] before = nat_eq before 1
+are_one (P.Ordinal z ∷ pieces) before = are_one pieces (suc before)
+are_one (P.Text text ∷ pieces) before = are_one pieces (suc before)
+are_one (P.Nil ∷ pieces) before = are_one pieces (suc before)
+are_one (P.Parts n ∷ pieces) before = nat_le n before && are_one pieces (suc (before - n))
+are_one (P.Elements n ∷ pieces) before = nat_le n before && are_one pieces (suc (before - n))
+
+-- the bytes of a constant that is built; a number and a text that is read have none
+abbrev pub pieces_bytes : List Piece → ℕ
+pieces_bytes (P.Ordinal z ∷ []) = 0
+pieces_bytes (P.Text text ∷ []) = 0
+pieces_bytes pieces = bytes (value_of pieces)
+
+-- ---- the pieces of a constant's value
+
+abbrev pub count_of : Literals → ℕ
+count_of NoLiteral = 0
+count_of (ALiteral first rest) = suc (count_of rest)
+
+abbrev mutual
+  pub pieces_of : Literal → List Piece
+  pieces_of (Ordinal z) = P.Ordinal z ∷ []
+  pieces_of (Characters text) = P.Text text ∷ []
+  pieces_of NoObject = P.Nil ∷ []
+  pieces_of (PartsOf all) = pieces_of_all all ++ P.Parts (count_of all) ∷ []
+  pieces_of (ElementsOf all) = pieces_of_all all ++ P.Elements (count_of all) ∷ []
+
+  pub pieces_of_all : Literals → List Piece
+  pieces_of_all NoLiteral = []
+  pieces_of_all (ALiteral first rest) = pieces_of first ++ pieces_of_all rest

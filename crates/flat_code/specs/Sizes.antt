@@ -1,0 +1,193 @@
+-- How much code there is, how many bytes the variables of a procedure take, and how many data: what passes bound.
+use Rattle.std.specs.Prelude.{ℕ, suc, ◌+◌, ◌*◌, pos, if◌then◌else◌, List, [], ◌∷◌, length, map}
+use Rattle.std.specs.Ordering.{int_eq}
+use Rattle.nim_types.specs.declared.types.TheConstants.{WORD_BYTES}
+use Rattle.nim_types.specs.declared.types.TypeDef.{TypeDef}
+use Rattle.nim_types.specs.declared.types.TypeDef.TheVariants as D
+use Rattle.nim_types.specs.Table.{type_at}
+use Rattle.nim_program.specs.declared.operation.Operation.{Operation}
+use Rattle.nim_program.specs.declared.operation.Operation.TheVariants as O
+use Rattle.nim_program.specs.declared.program.Mode.TheVariants.{Plain, Sink, Var}
+use Rattle.nim_program.specs.Sizes.{type_bytes}
+use Rattle.nim_program.specs.TextSizes.{text_bytes}
+use Rattle.flat_code.specs.declared.code.CodeProc.{CodeProc}
+use Rattle.flat_code.specs.declared.line.Line.{Line}
+use Rattle.flat_code.specs.declared.line.Line.TheVariants as L
+use Rattle.flat_code.specs.declared.line.Piece.{Piece}
+use Rattle.flat_code.specs.declared.line.Piece.TheVariants as P
+use Rattle.flat_code.specs.declared.place.PlaceKind.{PlaceKind}
+use Rattle.flat_code.specs.declared.place.PlaceKind.TheVariants.{Local, Cursor, Result, Param, ForVar, Caught, Global, Temp, Location, Within, Counter}
+use Rattle.flat_code.specs.declared.place.FlatPlace.{FlatPlace}
+use Rattle.flat_code.specs.Fits.{start_places}
+use Rattle.flat_code.specs.Scene.{Known, known_in}
+
+-- ---- variables
+
+-- a `var` parameter and a location are a word, whatever stands there; a global is no variable of its procedure
+abbrev pub kind_bytes : PlaceKind → (value : ℕ) → ℕ
+kind_bytes Local value = value
+kind_bytes Cursor value = value
+kind_bytes Result value = value
+kind_bytes (Param Plain) value = value
+kind_bytes (Param Sink) value = value
+kind_bytes (Param Var) value = WORD_BYTES
+kind_bytes ForVar value = value
+kind_bytes Caught value = value
+kind_bytes Global value = 0
+kind_bytes Temp value = value
+kind_bytes Location value = WORD_BYTES
+kind_bytes Within value = WORD_BYTES
+kind_bytes Counter value = WORD_BYTES
+
+abbrev pub place_bytes : Known → FlatPlace → ℕ
+place_bytes known p = kind_bytes p.kind (type_bytes known.facts (type_at known.types p.ty))
+
+-- the bytes of the variables of a procedure
+abbrev pub places_bytes : Known → List FlatPlace → ℕ
+places_bytes known [] = 0
+places_bytes known (p ∷ places) = place_bytes known p + places_bytes known places
+
+-- ---- weights: at least one for each line, and at least as many as the lines of word code that it becomes, with labels
+
+-- a value comes to another place, by a routine where it is no word; zeros come to one; and an argument comes to its parameter, by a loop of its own
+-- where it is no word
+abbrev pub move_weight : ℕ
+move_weight = 7
+
+abbrev pub clear_weight : ℕ
+clear_weight = 5
+
+abbrev pub argument_weight : ℕ
+argument_weight = 11
+
+-- what `echo` writes of an operand: the longest is that of a member of an enum
+abbrev pub text_weight : ℕ
+text_weight = 12
+
+-- an operation with so many operands. What comes with the heap has no word code yet.
+abbrev pub weight_of : Operation → (operands : ℕ) → ℕ
+weight_of O.Default n = clear_weight
+weight_of (O.Unary operator) n = 4
+weight_of (O.Binary operator) n = 8
+weight_of (O.Compare comparison) n = 3
+weight_of O.Convert n = move_weight
+weight_of O.Make n = suc (move_weight * n)
+weight_of (O.Measure measure) n = 1
+weight_of O.Echo n = 3 + text_weight * n
+weight_of O.Quit n = 2
+weight_of O.Assign n = move_weight
+weight_of (O.Update operator) n = 13
+weight_of O.Move n = move_weight + clear_weight
+weight_of O.Swap n = 7
+weight_of operation n = 1
+
+-- what is zero stands already; a text has an address and a length
+abbrev pub piece_weight : Piece → ℕ
+piece_weight (P.Ordinal z) = if int_eq z (pos 0) then 0 else 3
+piece_weight (P.Text text) = 6
+piece_weight P.Nil = 0
+piece_weight (P.Parts n) = 0
+piece_weight (P.Elements n) = 0
+
+abbrev pub pieces_weight : List Piece → ℕ
+pieces_weight [] = 0
+pieces_weight (piece ∷ pieces) = piece_weight piece + pieces_weight pieces
+
+abbrev pub weight : Line → ℕ
+weight (L.Apply to operation how ty of from) = weight_of operation (length from)
+weight (L.Construct to how ty fields from) = clear_weight + move_weight * length from
+weight (L.Constant to how ty pieces) = clear_weight + pieces_weight pieces
+-- the test of how many calls are active, and the result
+weight (L.Call to how ty proc from) = 5 + move_weight + argument_weight * length from
+weight (L.Get to from how site ty) = move_weight
+weight (L.Look to from) = move_weight
+weight (L.Root to place global) = 1
+weight (L.Fresh to from) = 1
+weight (L.Part to from field) = 2
+weight (L.Item to from index) = 6
+weight (L.Object to from) = 3
+weight (L.Pass to from how ty) = move_weight
+weight (L.Truth to holds) = 1
+weight (L.Fill place from) = move_weight
+weight (L.Blank place ty) = clear_weight
+weight (L.Give place from) = move_weight
+weight (L.Zero to) = 1
+weight (L.Length to from) = 1
+weight (L.Still from len) = 2
+weight (L.Element to from index) = 11
+weight (L.Beyond counter last inclusive to) = 8
+weight (L.Next counter last) = 2
+weight (L.Label name) = 1
+weight (L.Jump to) = 1
+weight (L.Unless from to) = 2
+weight (L.Fits from low high to) = 4
+weight L.Enter = 1
+weight (L.Turn to) = 1
+weight (L.TurnIf from to) = 2
+weight (L.CountTurn counter last inclusive to) = 8
+weight (L.Return result) = 3
+
+-- ---- data
+
+abbrev pub piece_bytes : Piece → ℕ
+piece_bytes (P.Text text) = text_bytes text
+piece_bytes piece = 0
+
+abbrev pub pieces_texts : List Piece → ℕ
+pieces_texts [] = 0
+pieces_texts (piece ∷ pieces) = piece_bytes piece + pieces_texts pieces
+
+-- the texts of constants, each as often as it stands there
+abbrev pub texts_in : Line → ℕ
+texts_in (L.Constant to how ty pieces) = pieces_texts pieces
+texts_in line = 0
+
+abbrev pub global_bytes : PlaceKind → (value : ℕ) → ℕ
+global_bytes Global value = value
+global_bytes kind value = 0
+
+abbrev pub globals_bytes : Known → List FlatPlace → ℕ
+globals_bytes known [] = 0
+globals_bytes known (p ∷ places) = global_bytes p.kind (type_bytes known.facts (type_at known.types p.ty)) + globals_bytes known places
+
+-- the names of the members of enums
+abbrev pub all_bytes : List (List ℕ) → ℕ
+all_bytes [] = 0
+all_bytes (text ∷ texts) = text_bytes text + all_bytes texts
+
+abbrev pub members_bytes : TypeDef → ℕ
+members_bytes (D.Enum name at members) = all_bytes members
+members_bytes def = 0
+
+abbrev pub names_bytes : List TypeDef → ℕ
+names_bytes [] = 0
+names_bytes (def ∷ table) = members_bytes def + names_bytes table
+
+-- ---- whole code
+
+-- a measure of lines, over some
+abbrev pub summed : (Line → ℕ) → List Line → ℕ
+summed measure [] = 0
+summed measure (line ∷ lines) = measure line + summed measure lines
+
+-- Around its lines a procedure has at most so many more, with one that stands for itself: the result at its default, and the ends by traps.
+abbrev pub around_weight : ℕ
+around_weight = 18
+
+-- what has no lines is no procedure of word code
+abbrev pub proc_weight : List Line → ℕ
+proc_weight [] = 0
+proc_weight (line ∷ lines) = around_weight + summed weight (line ∷ lines)
+
+module _ {L : Type 0} (plain : L → Line) where
+  abbrev pub code_weight : List (CodeProc L) → ℕ
+  code_weight [] = 0
+  code_weight (p ∷ procs) = proc_weight (map plain p.lines) + code_weight procs
+
+  abbrev pub code_texts : List (CodeProc L) → ℕ
+  code_texts [] = 0
+  code_texts (p ∷ procs) = summed texts_in (map plain p.lines) + code_texts procs
+
+  -- globals are places of the start code
+  abbrev pub data_bytes : List TypeDef → List (CodeProc L) → ℕ
+  data_bytes table procs = globals_bytes (known_in table) (start_places procs) + (names_bytes table + code_texts procs)

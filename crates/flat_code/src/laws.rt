@@ -1,0 +1,20 @@
+// The laws of the codes.
+ghost use Rattle.std.specs.Prelude.{ℕ, List};
+ghost use Rattle.arc_base.specs.Behaviour.{Steady};
+ghost use Rattle.nim_types.specs.declared.types.TypeDef.{TypeDef};
+ghost use Rattle.nim_plan.specs.declared.plan.Plan.{Plan};
+ghost use Rattle.flat_code.specs.declared.code.Code.{Code};
+ghost use Rattle.flat_code.specs.declared.line.Line.{Line};
+ghost use Rattle.flat_code.specs.declared.owned.OwnedLine.{OwnedLine};
+ghost use Rattle.flat_code.specs.declared.block.BlockLine.{BlockLine};
+ghost use Rattle.flat_code.specs.Codes.{flat_meaning, owned_meaning, block_meaning};
+
+/// What flat, owned and block code have shown only grows, and what is over stays so.
+pub fn codes()
+    ensures flat { (table : List TypeDef) (flat : Code Line) (plan : Plan) (heap : ℕ)
+        (input : List ℕ) → Steady (flat_meaning table flat plan heap input) }
+    ensures owned { (table : List TypeDef) (owned : Code OwnedLine) (heap : ℕ) (input : List ℕ) →
+        Steady (owned_meaning table owned heap input) }
+    ensures blocks { (table : List TypeDef) (blocks : Code BlockLine) (heap : ℕ)
+        (input : List ℕ) → Steady (block_meaning table blocks heap input) }
+{}

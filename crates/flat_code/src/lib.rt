@@ -1,0 +1,20 @@
+//! Flat, owned and block code: lines of one operation each, with their meanings.
+#![tactic(auto)]
+
+mod block;
+mod code;
+mod copy;
+mod flat;
+mod laws;
+mod line;
+mod owned;
+mod place;
+
+pub use block::{BlockLine, Blocks};
+pub use code::{Code, CodeProc};
+pub use copy::copied;
+pub use flat::Flat;
+pub use laws::codes;
+pub use line::{From, Line, Piece};
+pub use owned::{Owned, OwnedLine};
+pub use place::{FlatPlace, PlaceKind};

@@ -1,0 +1,106 @@
+-- Expressions without dereferences and without calls that have types for type parameters: those of programs of which nothing is left out.
+use Rattle.std.proofs.Common.{◌≡◌, ℕ, Bool, true, false, List, [], ◌∷◌, Option, Some, None, refl, ap, ◌∙◌}
+use Rattle.std.specs.Prelude.{not, ◌&&◌, ◌||◌}
+use Rattle.std.proofs.lemmas.Bool.{both_ways, and_parts, and_from, or_parts, not-false}
+use Rattle.nim_types.specs.Types.{Ty, Facts}
+use Rattle.nim_program.specs.declared.expr.Node.{Node}
+use Rattle.nim_program.specs.Program.{Literal, Characters, Number, NoObject, PartsOf, ElementsOf, Act, Doing, Building, Giving, Calling, Expr, Apply, Read, Early, Choose}
+use Rattle.nim_program.specs.Program.{Path, Variable, Fresh, Field, Element, Deref, Args, NoArg, ByValue, ByPath, types_in}
+use Rattle.nim_meaning.specs.Here.{is_hooked, gives_hooked}
+use Rattle.nim_meaning.specs.LeftOut.{is_act_built, writes_literals, unless_literal, out_if, first_hooked, left_out_in, left_out_in_path, left_out_in_args}
+use Rattle.flattening.proofs.Plain.{kept, neither, found}
+
+-- a text, which a line reads where it stands
+abbrev pub is_text : Literal → Bool
+is_text (Characters text) = true
+is_text _ = false
+
+module _ (facts : Facts) where
+  -- of an operation whose operands are such; a constant has none
+  abbrev pub of_act : (ty : Option Ty) → Act → Bool → Bool
+  of_act ty (Giving literal) all = is_text literal || not (gives_hooked facts ty)
+  of_act ty (Calling proc (first ∷ types)) all = false
+  of_act ty act all = all
+
+  abbrev mutual
+    pub is_direct : Expr → Bool
+    is_direct (Apply node ty act operands) = of_act ty act (are_direct operands)
+    is_direct (Read path) = is_direct_path path
+    is_direct (Early node ty short left right) = is_direct left && is_direct right
+    is_direct (Choose node ty chooser parts) = are_direct parts
+
+    pub is_direct_path : Path → Bool
+    is_direct_path (Variable node ty place global) = true
+    is_direct_path (Fresh value) = is_direct value
+    is_direct_path (Field node ty base field) = is_direct_path base
+    is_direct_path (Element node ty base index constant) = is_direct_path base && is_direct index
+    is_direct_path (Deref ty base) = false
+
+    pub are_direct : Args → Bool
+    are_direct NoArg = true
+    are_direct (ByValue value rest) = is_direct value && are_direct rest
+    are_direct (ByPath path rest) = is_direct_path path && are_direct rest
+
+  unhooked_right : (literal : Literal) (b : Bool) → b ≡ false → is_text literal || not b ≡ true
+  unhooked_right literal b h = ap (λ c. is_text literal || not c) h ∙ or_true (is_text literal)
+    where
+      or_true : (c : Bool) → c || true ≡ true
+      or_true true = refl
+      or_true false = refl
+
+  acted : (ty : Option Ty) (act : Act) (of : List (Option Ty)) (all : Bool) → gives_hooked facts ty ≡ false → is_act_built act facts of ≡ true → all ≡ true →
+      of_act ty act all ≡ true
+  acted ty (Doing operation) of all u b h = h
+  acted ty (Building fields) of all u b h = h
+  acted ty (Giving literal) of all u b h = unhooked_right literal (gives_hooked facts ty) u
+  acted ty (Calling proc []) of all u b h = h
+  acted ty (Calling proc (first ∷ types)) of all u b h = absurd (both_ways false refl b)
+
+  -- a literal that `echo` writes is one
+  literal_direct : (written : Bool) (value : Expr) → (left_out_in facts value ≡ None → is_direct value ≡ true) →
+      unless_literal written value (left_out_in facts value) ≡ None → is_direct value ≡ true
+  literal_direct false value go p = go p
+  literal_direct true (Apply node ty (Giving (Characters text)) operands) go p = refl
+  literal_direct true (Apply node ty (Giving (Number z)) operands) go p = go p
+  literal_direct true (Apply node ty (Giving NoObject) operands) go p = go p
+  literal_direct true (Apply node ty (Giving (PartsOf all)) operands) go p = go p
+  literal_direct true (Apply node ty (Giving (ElementsOf all)) operands) go p = go p
+  literal_direct true (Apply node ty (Doing operation) operands) go p = go p
+  literal_direct true (Apply node ty (Building fields) operands) go p = go p
+  literal_direct true (Apply node ty (Calling proc types) operands) go p = go p
+  literal_direct true (Read path) go p = go p
+  literal_direct true (Early node ty short left right) go p = go p
+  literal_direct true (Choose node ty chooser parts) go p = go p
+
+  mutual
+    pub direct : (e : Expr) → left_out_in facts e ≡ None → is_direct e ≡ true
+    direct (Apply node ty act operands) p =
+        let q = neither (out_if (gives_hooked facts ty || not (is_act_built act facts (types_in operands))) node)
+        (left_out_in_args facts (writes_literals act) operands) p in
+        let b = or_parts (gives_hooked facts ty) (not (is_act_built act facts (types_in operands))) (kept _ node q.0) in
+        acted ty act (types_in operands) (are_direct operands) b.0 (not-false (is_act_built act facts (types_in operands)) b.1)
+        (all_direct (writes_literals act) operands q.1)
+    direct (Read path) p = direct_path path p
+    direct (Early node ty short left right) p =
+        let q = neither (left_out_in facts left) (left_out_in facts right) p in
+        and_from (is_direct left) (is_direct right) (direct left q.0) (direct right q.1)
+    direct (Choose node ty chooser parts) p =
+        all_direct false parts (neither (out_if (gives_hooked facts ty || first_hooked facts (types_in parts)) node) (left_out_in_args facts false parts) p).1
+
+    pub direct_path : (path : Path) → left_out_in_path facts path ≡ None → is_direct_path path ≡ true
+    direct_path (Variable node ty place global) p = refl
+    direct_path (Fresh value) p = direct value p
+    direct_path (Field node ty base field) p = direct_path base (neither _ _ p).1
+    direct_path (Element node ty base index constant) p =
+        let q = neither (left_out_in_path facts base) (left_out_in facts index) (neither (out_if (is_hooked facts ty) node) _ p).1 in
+        and_from (is_direct_path base) (is_direct index) (direct_path base q.0) (direct index q.1)
+    direct_path (Deref ty base) p = found _ p
+
+    pub all_direct : (written : Bool) (args : Args) → left_out_in_args facts written args ≡ None → are_direct args ≡ true
+    all_direct written NoArg p = refl
+    all_direct written (ByValue value rest) p =
+        let q = neither (unless_literal written value (left_out_in facts value)) (left_out_in_args facts written rest) p in
+        and_from (is_direct value) (are_direct rest) (literal_direct written value (λ h. direct value h) q.0) (all_direct written rest q.1)
+    all_direct written (ByPath path rest) p =
+        let q = neither (left_out_in_path facts path) (left_out_in_args facts written rest) p in
+        and_from (is_direct_path path) (are_direct rest) (direct_path path q.0) (all_direct written rest q.1)

@@ -1,0 +1,361 @@
+-- The places of a body: its parameters and its result come first, and each place in scope is found by its number.
+use Rattle.std.proofs.Common.{◌≡◌, ℕ, zero, suc, ◌+◌, ◌≤◌, inl, inr, Bool, true, false, List, [], ◌∷◌, ◌++◌, Option, Some, None, refl, sym, ap, ap₂, ◌∙◌, subst, arith, append_assoc, append-nil}
+use Rattle.std.specs.Prelude.{nat_eq, nat_le, ◌&&◌, not, if◌then◌else◌, map, length}
+use Rattle.std.proofs.lemmas.Bool.{and_parts, and_from, eqb-true, eq-eqb}
+use Rattle.nim_types.specs.Types.{Ty, Facts}
+use Rattle.nim_types.specs.Table.{type_at}
+use Rattle.nim_program.specs.declared.nodes.TheConstants.{MOST_NODES}
+use Rattle.nim_program.specs.Program.{Declared, Param, Body, Stmts}
+use Rattle.nim_program.specs.Folds.{lists, total_of, own_places, if_declared}
+use Rattle.nim_program.specs.Folds as folds
+use Rattle.nim_program.specs.Numbering as numbering
+use Rattle.nim_program.specs.Scopes.{Placed, placed, look}
+use Rattle.nim_program.specs.Typed.{own_types, param_declared, type_of_place}
+use Rattle.flat_code.specs.declared.place.PlaceKind.{PlaceKind}
+use Rattle.flat_code.specs.declared.place.PlaceKind.TheVariants as K
+use Rattle.flat_code.specs.declared.place.FlatPlace.{FlatPlace}
+use Rattle.flat_code.specs.Scene.{Known}
+use Rattle.flat_code.specs.Fits.{Taken, is_value, is_location, is_declared, is_own, place_named, place_type, type_by_kind, if_type_of, taken_by, given_by, result_at, params_at, results_at, and_param, and_number, and_result, or_result}
+use Rattle.flat_code.specs.Fits.{is_var, follow, are_within, same_place}
+use Rattle.flattening.specs.Formed.{IsListed}
+use Rattle.flattening.specs.Numbering.{type_number}
+use Rattle.flattening.specs.Places.{of_declared, own_declared, param_places, result_places, block_places, body_places}
+use Rattle.flattening.specs.StmtLines.{number_of}
+use Rattle.flattening.proofs.Declared.{is_block, block_own, block_declared, declared_type, Like, Likes, block_like, block_listed, numbers, Member, member_first, member_second}
+use Rattle.flattening.proofs.Declared.{found_by, rise_within}
+use Rattle.flattening.proofs.FitParts.{never, takes_of}
+use Rattle.flattening.proofs.Numbered.{named_past, named_behind, Owns}
+use Rattle.flattening.proofs.Parts.{Each, both}
+use Rattle.flattening.proofs.PlaceNumbers.{block_numbers}
+
+-- ---- what isn't a parameter or a result
+
+abbrev pub is_other : PlaceKind → Bool
+is_other (K.Param mode) = false
+is_other K.Result = false
+is_other kind = true
+
+block_other : (kind : PlaceKind) → is_block kind ≡ true → is_other kind ≡ true
+block_other (K.Param mode) h = never h
+block_other K.Result h = never h
+block_other kind h = refl
+
+temporary_other : (kind : PlaceKind) → is_declared kind ≡ false → is_other kind ≡ true
+temporary_other (K.Param mode) h = never (sym h)
+temporary_other K.Result h = never (sym h)
+temporary_other kind h = refl
+
+abbrev pub Others : List FlatPlace → Type 0
+Others = Each (λ (p : FlatPlace). is_other p.kind ≡ true)
+
+no_number : (kind : PlaceKind) (n : ℕ) (rest : List ℕ) → is_other kind ≡ true → (and_number kind n rest ≡ rest) × (and_result kind n rest ≡ rest)
+no_number (K.Param mode) n rest h = never h
+no_number K.Result n rest h = never h
+no_number kind n rest h = (refl, refl)
+
+no_param : (kind : PlaceKind) (ty : Ty) (rest : List Taken) → is_other kind ≡ true → and_param kind ty rest ≡ rest
+no_param (K.Param mode) ty rest h = never h
+no_param K.Result ty rest h = never h
+no_param kind ty rest h = refl
+
+no_result : {A : Type 0} (kind : PlaceKind) (x : A) (rest : Option A) → is_other kind ≡ true → or_result kind x rest ≡ rest
+no_result (K.Param mode) x rest h = never h
+no_result K.Result x rest h = never h
+no_result kind x rest h = refl
+
+params_none : (ps : List FlatPlace) → Others ps → params_at ps ≡ []
+params_none [] h = refl
+params_none (p ∷ ps) h = (no_number p.kind p.number (params_at ps) h.0).0 ∙ params_none ps h.1
+
+results_none : (ps : List FlatPlace) → Others ps → results_at ps ≡ []
+results_none [] h = refl
+results_none (p ∷ ps) h = (no_number p.kind p.number (results_at ps) h.0).1 ∙ results_none ps h.1
+
+module _ (known : Known) where
+  takes_none : (ps : List FlatPlace) → Others ps → taken_by known ps ≡ []
+  takes_none [] h = refl
+  takes_none (p ∷ ps) h = no_param p.kind (place_type known p) (taken_by known ps) h.0 ∙ takes_none ps h.1
+
+  gives_none : (ps : List FlatPlace) → Others ps → given_by known ps ≡ None
+  gives_none [] h = refl
+  gives_none (p ∷ ps) h = no_result p.kind (place_type known p) (given_by known ps) h.0 ∙ gives_none ps h.1
+
+  result_none : (ps : List FlatPlace) → Others ps → result_at known ps ≡ None
+  result_none [] h = refl
+  result_none (p ∷ ps) h = no_result p.kind p.number (result_at known ps) h.0 ∙ result_none ps h.1
+
+not_temporary : (kind : PlaceKind) → is_declared kind ≡ true → (is_value kind ≡ false) × (is_location kind ≡ false)
+not_temporary K.Temp h = never h
+not_temporary K.Counter h = never h
+not_temporary K.Location h = never h
+not_temporary K.Within h = never h
+not_temporary kind h = (refl, refl)
+
+-- ---- parameters and the result, before others
+
+abbrev numbers_of : List Declared → List ℕ
+numbers_of ds = map (λ (d : Declared). d.number) ds
+
+module _ (types : List Ty) where
+  pub head_numbers : (params : List Param) (result : Option Declared) (others : List FlatPlace) → Others others →
+      params_at (param_places types params ++ (result_places types result ++ others))
+      ++ results_at (param_places types params ++ (result_places types result ++ others))
+      ≡ numbers_of (folds.param_places params ++ if_declared result)
+  head_numbers [] None others h = ap₂ (λ xs ys. xs ++ ys) (params_none others h) (results_none others h)
+  head_numbers [] (Some d) others h = ap₂ (λ xs ys. xs ++ d.number ∷ ys) (params_none others h) (results_none others h)
+  head_numbers (p ∷ params) result others h = ap (λ ns. p.place.number ∷ ns) (head_numbers params result others h)
+
+  one_result : (params : List Param) (result : Option Declared) (others : List FlatPlace) → Others others →
+      results_at (param_places types params ++ (result_places types result ++ others)) ≡ numbers_of (if_declared result)
+  one_result [] None others h = results_none others h
+  one_result [] (Some d) others h = ap (λ ns. d.number ∷ ns) (results_none others h)
+  one_result (p ∷ params) result others h = one_result params result others h
+
+  at_most_one : (result : Option Declared) → nat_le (length (numbers_of (if_declared result))) 1 ≡ true
+  at_most_one None = refl
+  at_most_one (Some d) = refl
+
+  module _ (facts : Facts) where
+    abbrev known : Known
+    known = record { types = types; facts = facts }
+
+    abbrev Listed : List Declared → Type 0
+    Listed = Each (λ (d : Declared). IsListed types d.of)
+
+    pub takes : (params : List Param) (result : Option Declared) (others : List FlatPlace) → Others others → Listed (param_declared params) →
+        taken_by known (param_places types params ++ (result_places types result ++ others)) ≡ takes_of params
+    takes [] None others h listed = takes_none known others h
+    takes [] (Some d) others h listed = takes_none known others h
+    takes (p ∷ params) result others h listed =
+        ap₂ (λ ty rest. record { by_location = is_var p.mode; of = ty } ∷ rest) listed.0 (takes params result others h listed.1)
+
+    pub gives : (params : List Param) (result : Option Declared) (others : List FlatPlace) → Others others → Listed (if_declared result) →
+        given_by known (param_places types params ++ (result_places types result ++ others)) ≡ type_of_place result
+    gives [] None others h listed = gives_none known others h
+    gives [] (Some d) others h listed = ap Some listed.0
+    gives (p ∷ params) result others h listed = gives params result others h listed
+
+    pub returns : (params : List Param) (result : Option Declared) (others : List FlatPlace) → Others others →
+        same_place (number_of result) (result_at known (param_places types params ++ (result_places types result ++ others))) ≡ true
+    returns [] None others h = ap (same_place None) (result_none known others h)
+    returns [] (Some d) others h = eq-eqb d.number d.number refl
+    returns (p ∷ params) result others h = returns params result others h
+
+-- numbers one after another
+pub followed : (from : ℕ) (ns : List ℕ) → numbering.follow from ns ≡ true → follow from ns ≡ true
+followed from [] h = refl
+followed from (n ∷ ns) h =
+    let k = and_parts (nat_eq from n) (numbering.follow (suc from) ns) h in
+    and_from _ _ (eq-eqb n from (sym (eqb-true from n k.0))) (followed (suc from) ns k.1)
+
+-- ---- a body
+
+module _ (types : List Ty) (facts : Facts) (globals : List Declared) (params : List Param) (body : Body) where
+  abbrev known' : Known
+  known' = record { types = types; facts = facts }
+
+  abbrev pub declared : List FlatPlace
+  declared = total_of lists (own_declared types globals) body.stmts
+
+  abbrev pub temporaries : List FlatPlace
+  temporaries = block_places types body.stmts 0
+
+  abbrev pub whole : List FlatPlace
+  whole = body_places types globals params body
+
+  -- all that is declared
+  abbrev pub front : List FlatPlace
+  front = param_places types params ++ (result_places types body.result ++ declared)
+
+  pub split : front ++ temporaries ≡ whole
+  split =
+      append_assoc (param_places types params) (result_places types body.result ++ declared) temporaries
+      ∙ ap (λ rest. param_places types params ++ rest) (append_assoc (result_places types body.result) declared temporaries)
+
+  pub undeclared : Each (λ (p : FlatPlace). is_declared p.kind ≡ false) temporaries
+  undeclared = (block_numbers types body.stmts 0).undeclared
+
+  others_of : (holds : FlatPlace → Type 0) → ((p : FlatPlace) → holds p → is_other p.kind ≡ true) → (ps : List FlatPlace) → Each holds ps → Others ps
+  others_of holds to [] h = tt
+  others_of holds to (p ∷ ps) h = (to p h.0, others_of holds to ps h.1)
+
+  like_blocks : (ps : List FlatPlace) (ds : List Declared) → Likes types ps ds → Each (λ (p : FlatPlace). is_block p.kind ≡ true) ps
+  like_blocks [] [] h = tt
+  like_blocks [] (d ∷ ds) h = tt
+  like_blocks (p ∷ ps) [] h = absurd h
+  like_blocks (p ∷ ps) (d ∷ ds) h = (h.0.block, like_blocks ps ds h.1)
+
+  blocks : Each (λ (p : FlatPlace). is_block p.kind ≡ true) declared
+  blocks = like_blocks declared (total_of lists own_places body.stmts) (block_like types globals body.stmts)
+
+  pub others : Others (declared ++ temporaries)
+  others = both (λ (p : FlatPlace). is_other p.kind ≡ true) declared temporaries
+      (others_of (λ (p : FlatPlace). is_block p.kind ≡ true) (λ p h. block_other p.kind h) declared blocks)
+      (others_of (λ (p : FlatPlace). is_declared p.kind ≡ false) (λ p h. temporary_other p.kind h) temporaries undeclared)
+
+  of_blocks : (ps : List FlatPlace) → Each (λ (p : FlatPlace). is_block p.kind ≡ true) ps → Each (λ (p : FlatPlace). is_declared p.kind ≡ true) ps
+  of_blocks [] h = tt
+  of_blocks (p ∷ ps) h = (block_declared p.kind h.0, of_blocks ps h.1)
+
+  of_result : (result : Option Declared) → Each (λ (p : FlatPlace). is_declared p.kind ≡ true) (result_places types result ++ declared)
+  of_result None = of_blocks declared blocks
+  of_result (Some d) = (refl, of_blocks declared blocks)
+
+  of_params : (ps : List Param) → Each (λ (p : FlatPlace). is_declared p.kind ≡ true) (param_places types ps ++ (result_places types body.result ++ declared))
+  of_params [] = of_result body.result
+  of_params (p ∷ ps) = (refl, of_params ps)
+
+  -- ---- temporaries
+
+  -- none of what is declared is one
+  no_temporary : (ps : List FlatPlace) (n : ℕ) → Each (λ (p : FlatPlace). is_declared p.kind ≡ true) ps →
+      (place_named is_value ps n ≡ None) × (place_named is_location ps n ≡ None)
+  no_temporary [] n h = (refl, refl)
+  no_temporary (p ∷ ps) n h =
+      let k = not_temporary p.kind h.0 in
+      let r = no_temporary ps n h.1 in
+      (named_past is_value p ps n k.0 ∙ r.0, named_past is_location p ps n k.1 ∙ r.1)
+
+  pub owned : (behind : ℕ) → Owns whole temporaries 0 0 behind
+  owned behind = subst (λ ps. Owns ps temporaries 0 0 behind) split (record {
+    values = λ n low high. named_behind is_value front temporaries n (no_temporary front n (of_params params)).0;
+    locations = λ n low high. named_behind is_location front temporaries n (no_temporary front n (of_params params)).1;
+  })
+
+  -- ---- numbers
+
+  like_numbers : (ps : List FlatPlace) (ds : List Declared) → Likes types ps ds → numbers ps ≡ numbers_of ds
+  like_numbers [] [] h = refl
+  like_numbers [] (d ∷ ds) h = absurd h
+  like_numbers (p ∷ ps) [] h = absurd h
+  like_numbers (p ∷ ps) (d ∷ ds) h = ap₂ (λ n ns. n ∷ ns) h.0.number (like_numbers ps ds h.1)
+
+  same_numbers : numbers declared ≡ numbers_of (total_of lists own_places body.stmts)
+  same_numbers = like_numbers declared (total_of lists own_places body.stmts) (block_like types globals body.stmts)
+
+  result_numbers : (result : Option Declared) → numbers (result_places types result ++ declared) ≡ numbers_of (if_declared result ++ folds.block_places body.stmts)
+  result_numbers None = same_numbers
+  result_numbers (Some d) = ap (λ ns. d.number ∷ ns) same_numbers
+
+  front_numbers : (ps : List Param) → numbers (param_places types ps ++ (result_places types body.result ++ declared))
+      ≡ numbers_of (folds.param_places ps ++ (if_declared body.result ++ folds.block_places body.stmts))
+  front_numbers [] = result_numbers body.result
+  front_numbers (p ∷ ps) = ap (λ ns. p.place.number ∷ ns) (front_numbers ps)
+
+  -- ---- in order
+
+  module _ (numbered : numbering.is_numbered params body ≡ true) where
+    two : (numbering.follow body.first (numbers_of (folds.param_places params ++ if_declared body.result)) ≡ true)
+        × (numbering.rise_to body.first (body.first + body.places) (numbers_of (folds.body_places params body)) ≡ true)
+    two = and_parts _ _ (and_parts (numbering.rise_to body.before MOST_NODES (folds.block_nodes body.stmts)) _ numbered).1
+
+    pub rise : numbering.rise_to body.first (body.first + body.places) (numbers front) ≡ true
+    rise = ap (numbering.rise_to body.first (body.first + body.places)) (front_numbers params) ∙ two.1
+
+    pub ordered : nat_le (length (results_at whole)) 1
+        && (follow body.first (params_at whole ++ results_at whole) && are_within body.first (body.first + body.places) whole) ≡ true
+    ordered =
+        and_from _ _
+        (ap (λ ns. nat_le (length ns) 1) (one_result types params body.result (declared ++ temporaries) others) ∙ at_most_one types body.result)
+        (and_from _ _
+        (ap (follow body.first) (head_numbers types params body.result (declared ++ temporaries) others)
+        ∙ followed body.first (numbers_of (folds.param_places params ++ if_declared body.result)) two.0)
+        (ap (are_within body.first (body.first + body.places)) (sym split)
+        ∙ rise_within body.first (body.first + body.places) front temporaries (of_params params) undeclared rise))
+
+    -- ---- places by number
+
+    pub found : (is_kind : PlaceKind → Bool) (p : FlatPlace) → Member p front → is_kind p.kind ≡ true → place_named is_kind whole p.number ≡ Some p
+    found is_kind p m is =
+        subst (λ ps. place_named is_kind ps p.number ≡ Some p) split (found_by is_kind body.first (body.first + body.places) front temporaries p rise m is)
+
+    -- of a declared place, by its number and its type
+    pub type_found : (is_kind : PlaceKind → Bool) (p : FlatPlace) (d : Declared) → Member p front → is_kind p.kind ≡ true → is_declared p.kind ≡ true →
+        p.number ≡ d.number → p.ty ≡ type_number types d.of → IsListed types d.of → if_type_of known' (place_named is_kind whole d.number) ≡ Some d.of
+    type_found is_kind p d m is is_declared number of listed =
+        subst (λ n. if_type_of known' (place_named is_kind whole n) ≡ Some d.of) number
+        (ap (if_type_of known') (found is_kind p m is)
+        ∙ ap Some (declared_type p.kind (type_at types p.ty) is_declared ∙ ap (type_at types) of ∙ listed))
+
+    abbrev Named : Declared → Type 0
+    Named d = if_type_of known' (place_named is_declared whole d.number) ≡ Some d.of
+
+    abbrev OwnPlace : Declared → Type 0
+    OwnPlace d = if_type_of known' (place_named is_own whole d.number) ≡ Some d.of
+
+    likes_held : (ps : List FlatPlace) (ds : List Declared) → Likes types ps ds → Each (λ (d : Declared). IsListed types d.of) ds →
+        ((p : FlatPlace) → Member p ps → Member p front) → Each (λ (d : Declared). OwnPlace d × Named d) ds
+    likes_held ps [] h listed in_front = tt
+    likes_held [] (d ∷ ds) h listed in_front = absurd h
+    likes_held (p ∷ ps) (d ∷ ds) h listed in_front =
+        let m = in_front p (inl refl) in
+        let b = block_declared p.kind h.0.block in (
+          (
+            type_found is_own p d m (block_own p.kind h.0.block) b h.0.number h.0.of listed.0,
+            type_found is_declared p d m b b h.0.number h.0.of listed.0,
+          ),
+          likes_held ps ds h.1 listed.1 (λ q k. in_front q (inr k)),
+        )
+
+    pub in_blocks : (p : FlatPlace) → Member p declared → Member p front
+    in_blocks p m =
+        member_second p (param_places types params) (result_places types body.result ++ declared)
+        (member_second p (result_places types body.result) declared m)
+
+    pub held : Each (IsListed types) (total_of lists own_types body.stmts) → Each (λ (d : Declared). OwnPlace d × Named d) (total_of lists own_places body.stmts)
+    held listed =
+        likes_held declared (total_of lists own_places body.stmts) (block_like types globals body.stmts) (block_listed types body.stmts listed) in_blocks
+
+    -- the result
+    result_at_front : (result : Option Declared) (d : Declared) → result ≡ Some d → Member (of_declared types K.Result d) (result_places types result ++ declared)
+    result_at_front None d e = none e
+      where
+        none : {A : Type 0} → None ≡ Some d → A
+        none e = cc
+    result_at_front (Some c) d e = inl (ap (of_declared types K.Result) (one e))
+      where
+        one : Some c ≡ Some d → d ≡ c
+        one e = cc
+
+    pub result_found : (d : Declared) → body.result ≡ Some d → IsListed types d.of → OwnPlace d × Named d
+    result_found d e listed =
+        let m = member_second (of_declared types K.Result d) (param_places types params) (result_places types body.result ++ declared)
+        (result_at_front body.result d e) in (
+          type_found is_own (of_declared types K.Result d) d m refl refl refl refl listed,
+          type_found is_declared (of_declared types K.Result d) d m refl refl refl refl listed,
+        )
+
+    params_found : (ps : List Param) → Each (λ (d : Declared). IsListed types d.of) (param_declared ps) →
+        ((p : FlatPlace) → Member p (param_places types ps) → Member p front) → Each Named (param_declared ps)
+    params_found [] listed in_front = tt
+    params_found (p ∷ ps) listed in_front = (
+      type_found is_declared (of_declared types (K.Param p.mode) p.place) p.place (in_front _ (inl refl)) refl refl refl refl listed.0,
+      params_found ps listed.1 (λ q k. in_front q (inr k)),
+    )
+
+    if_found : (result : Option Declared) → body.result ≡ result → Each (λ (d : Declared). IsListed types d.of) (if_declared result) → Each Named (if_declared result)
+    if_found None e listed = tt
+    if_found (Some d) e listed = ((result_found d e listed.0).1, tt)
+
+    -- parameters and the result are in scope at first
+    pub head_found : Each (λ (d : Declared). IsListed types d.of) (param_declared params) → Each (λ (d : Declared). IsListed types d.of) (if_declared body.result) →
+        Each Named (param_declared params ++ if_declared body.result)
+    head_found listed given = both Named (param_declared params) (if_declared body.result)
+        (params_found params listed (λ p m. member_first p (param_places types params) (result_places types body.result ++ declared) m))
+        (if_found body.result refl given)
+
+-- places in scope, by what holds of each
+pub look_each : (f : ℕ → Option Ty) (ps : List Placed) (n : ℕ) (ty : Ty) → Each (λ (p : Placed). f p.number ≡ Some p.of) ps → look ps n ≡ Some ty → f n ≡ Some ty
+look_each f [] n ty h e = none e
+  where
+    none : {A : Type 0} → None ≡ Some ty → A
+    none e = cc
+look_each f (p ∷ ps) n ty h e = at (nat_eq p.number n) refl e (look_each f ps n ty h.1)
+  where
+    at : (b : Bool) → nat_eq p.number n ≡ b → (if b then Some p.of else look ps n) ≡ Some ty → (look ps n ≡ Some ty → f n ≡ Some ty) → f n ≡ Some ty
+    at true same e rest = ap f (sym (eqb-true p.number n same)) ∙ h.0 ∙ e
+    at false same e rest = rest e
+
+pub each_placed : (f : ℕ → Option Ty) (ds : List Declared) → Each (λ (d : Declared). f d.number ≡ Some d.of) ds → Each (λ (p : Placed). f p.number ≡ Some p.of) (map placed ds)
+each_placed f [] h = tt
+each_placed f (d ∷ ds) h = (h.0, each_placed f ds h.1)

@@ -1,0 +1,273 @@
+-- The lines of expressions fit.
+use Rattle.std.proofs.Common.{◌≡◌, ℕ, zero, suc, ◌+◌, Bool, true, false, List, [], ◌∷◌, ◌++◌, Option, Some, None, refl, sym, ap, ap₂, ◌∙◌, subst, arith}
+use Rattle.std.specs.Prelude.{◌&&◌, ◌||◌, not, if◌then◌else◌, take}
+use Rattle.std.proofs.lemmas.Bool.{and_parts, and_from}
+use Rattle.nim_types.specs.Types.{Ty, Facts}
+use Rattle.nim_types.specs.Types as type
+use Rattle.nim_program.specs.declared.operation.Operation.TheVariants as O
+use Rattle.nim_program.specs.declared.operation.Short.{Short}
+use Rattle.nim_program.specs.declared.operation.Short.TheVariants.{And, Or}
+use Rattle.nim_program.specs.declared.operation.Use.{Use}
+use Rattle.nim_program.specs.declared.operation.Use.TheVariants.{Owned, Looked}
+use Rattle.nim_program.specs.declared.program.Mode.{Mode}
+use Rattle.nim_program.specs.Ints.{fits as is_int_value}
+use Rattle.nim_program.specs.Program.{Label, Ordinals, Exactly, ByConditions, ByLabels, Expr, Apply, Read, Early, Choose}
+use Rattle.nim_program.specs.Program.{Path, Variable, Fresh, Field, Element, Deref, Args, NoArg, ByValue, ByPath, Proc, type_of, type_at, types_in}
+use Rattle.nim_program.specs.Kinds.{TypeKind, kind_of, kind_if, is_bool, is_ordinal, is_selected, is_of, same_value, is_there}
+use Rattle.nim_program.specs.Fitting.{early_fits, label_fits, labels_fit, has_label, are_labels, are_enough, conditions_fit, values_fit, labels_choose, chooser_fits}
+use Rattle.nim_program.specs.Scopes.{Placed, Here}
+use Rattle.nim_program.specs.Typed.{is_typed, are_typed, act_fits, are_placed, is_selector, behind_first, choice_is_placed}
+use Rattle.nim_program.specs.Uses.{use_of}
+use Rattle.nim_meaning.specs.Here.{is_hooked}
+use Rattle.nim_meaning.specs.Shapes.{is_covered, is_last_value}
+use Rattle.flat_code.specs.declared.line.Line.{Line}
+use Rattle.flat_code.specs.declared.line.Line.TheVariants as L
+use Rattle.flat_code.specs.declared.place.FlatPlace.{FlatPlace}
+use Rattle.flat_code.specs.Scene.{Known}
+use Rattle.flat_code.specs.Fits.{Signature, passes_as, needs_no_type}
+use Rattle.flattening.specs.declared.numbers.Purpose.TheVariants.{End, Next, Arm}
+use Rattle.flattening.specs.Formed.{IfListed}
+use Rattle.flattening.specs.Numbering.{if_number, width, width_at, label}
+use Rattle.flattening.specs.ExprLines.{find_lines, label_tests, value_tests, arm_label, none_fits, handed_on, early_lines}
+use Rattle.flattening.specs.ExprLines.{lines, aim_lines, ready_lines, choice_lines, select_lines, arm_lines}
+use Rattle.flattening.proofs.Acting.{type_is}
+use Rattle.flattening.proofs.Direct.{are_direct}
+use Rattle.flattening.proofs.Fit.{Among, Fit, fitting, fit_none, fit_line, ◌>>◌, fit_if}
+use Rattle.flattening.proofs.FitParts.{never, of_same, value_same, itself, both_are}
+use Rattle.flattening.proofs.FitParts as parts
+use Rattle.flattening.proofs.FitPaths as paths
+use Rattle.flattening.proofs.FitActs as acts
+use Rattle.flattening.proofs.Listed.{the_bool}
+
+module _ (types : List Ty) (facts : Facts) (procs : List Proc) (globals : List Placed) (sigs : List Signature) (start whole : List FlatPlace)
+    (modes : (proc position : ℕ) → Mode)
+    (grounds : parts.Grounds types facts procs globals sigs start whole)
+    (filled : ℕ) (places : List Placed) (dest : Option ℕ) (sees : parts.Sees types facts procs globals sigs start whole filled places) where
+  abbrev known : Known
+  known = parts.known types facts procs globals sigs start whole
+
+  abbrev around : Among
+  around = parts.around types facts procs globals sigs start whole
+
+  abbrev here : Here
+  here = parts.seen types facts procs globals sigs start whole filled places dest
+
+  abbrev value : ℕ → Option Ty
+  value = parts.value types facts procs globals sigs start whole
+
+  abbrev Stood : Expr → ℕ → Type 0
+  Stood = parts.Stood types facts procs globals sigs start whole filled places dest
+
+  abbrev PathStood : Bool → Path → ℕ → Type 0
+  PathStood = parts.PathStood types facts procs globals sigs start whole filled places dest
+
+  abbrev AllStood : Args → ℕ → Type 0
+  AllStood = parts.AllStood types facts procs globals sigs start whole filled places dest
+
+  value_is : (e : Expr) (t : ℕ) → Stood e t → value t ≡ type_of e
+  value_is = parts.value_is types facts procs globals sigs start whole filled places dest
+
+  find_fits : (read : Bool) (path : Path) (t : ℕ) → PathStood read path t → Fit around (find_lines path t)
+  find_fits = paths.find_fits types facts procs globals sigs start whole filled places dest sees
+
+  -- ---- lines of choices
+
+  pub bool_at : (t : ℕ) (ty : Option Ty) → value t ≡ ty → is_bool (kind_if facts ty) ≡ true → is_bool (kind_if facts (value t)) ≡ true
+  bool_at t ty e h = ap (λ o. is_bool (kind_if facts o)) e ∙ h
+
+  -- what gives no value starts at nothing
+  none_right : (t : ℕ) (ty : Option Ty) (how : Use) → IfListed types ty → value t ≡ ty → fitting around (none_fits types modes t ty how) ≡ true
+  none_right t ty how listed is = both_are _ _ ty (type_is types ty listed) is
+
+  handed_right : (t from : ℕ) (ty passed : Option Ty) (how : Use) → IfListed types ty → value t ≡ ty → value from ≡ passed → same_value passed ty ≡ true →
+      fitting around (handed_on types modes t from how ty) ≡ true
+  handed_right t from None passed how listed is from_is same =
+      and_from _ _ (ap₂ same_value from_is is ∙ same) (ap (needs_no_type facts) is)
+  handed_right t from (Some ty) passed how listed is from_is same =
+      and_from _ _ (ap₂ same_value from_is is ∙ same)
+      (ap₂ (λ o u. same_value o (Some u)) is listed ∙ itself (Some ty))
+
+  pub tests_fit : (k : TypeKind) (labels : List Label) (s arm : ℕ) → kind_if facts (value s) ≡ k → labels_fit k labels ≡ true →
+      Fit around (label_tests labels s arm)
+  tests_fit k [] s arm e h = fit_none
+  tests_fit k (Ordinals low high ∷ labels) s arm e h =
+      let q = and_parts (label_fits k (Ordinals low high)) (labels_fit k labels) h in
+      fit_line (L.Fits s low high arm) (ap (λ j. is_ordinal j && (is_int_value low && is_int_value high)) e ∙ q.0) >> tests_fit k labels s arm e q.1
+  tests_fit k (Exactly text ∷ labels) s arm e h = tests_fit k labels s arm e (and_parts (label_fits k (Exactly text)) (labels_fit k labels) h).1
+
+  all_tests_fit : (k : TypeKind) (labels : List (List Label)) (values : Args) (s t : ℕ) → kind_if facts (value s) ≡ k → are_labels k labels ≡ true →
+      Fit around (value_tests labels values s t)
+  all_tests_fit k labels NoArg s t e h = fit_none
+  all_tests_fit k labels (ByPath path rest) s t e h = fit_none
+  all_tests_fit k [] (ByValue v rest) s t e h = fit_none
+  all_tests_fit k (these ∷ labels) (ByValue v rest) s t e h =
+      let q = and_parts (has_label these && labels_fit k these) (are_labels k labels) h in
+      tests_fit k these s (label Arm t) e (and_parts (has_label these) (labels_fit k these) q.0).1 >> all_tests_fit k labels rest s (t + width v) e q.1
+
+  pub arm_fits : (b : Bool) (other arm : ℕ) → Fit around (arm_label b other arm)
+  arm_fits true other arm = fit_line (L.Label other) refl >> fit_line (L.Label arm) refl
+  arm_fits false other arm = fit_line (L.Label arm) refl
+
+  early_right : (short : Short) (t s : ℕ) (ty : Ty) → value t ≡ Some ty → value s ≡ Some ty → is_bool (kind_of facts ty) ≡ true →
+      Fit around (early_lines types modes short t s)
+  early_right And t s ty e f h = fit_line (L.Truth t false) (bool_at t (Some ty) e h) >> fit_line (L.Unless s (label End t)) (bool_at s (Some ty) f h)
+  early_right Or t s ty e f h =
+      fit_line (L.Truth t true) (bool_at t (Some ty) e h)
+      >> (fit_line (L.Unless s (label Next t)) (bool_at s (Some ty) f h) >> (fit_line (L.Jump (label End t)) refl >> fit_line (L.Label (label Next t)) refl))
+
+  -- the value of a bool is handed on without its type
+  bool_passes : (t from : ℕ) (ty : Ty) (how : Use) → value t ≡ Some ty → value from ≡ Some ty → is_bool (kind_of facts ty) ≡ true →
+      fitting around (L.Pass t from how None) ≡ true
+  bool_passes t from ty how e f h =
+      and_from _ _ (ap₂ same_value f e ∙ itself (Some ty)) (ap (needs_no_type facts) (e ∙ ap Some (the_bool facts ty h)))
+
+  -- the last value of a choice
+  last_value : (enough : Bool) (value : Option Ty) (ty : Option Ty) (rest : Args) → values_fit facts ty enough [] (value ∷ types_in rest) ≡ true → same_value value ty ≡ true
+  last_value enough value ty NoArg h = h
+  last_value enough value ty (ByValue e rest) h = never h
+  last_value enough value ty (ByPath path rest) h = never h
+
+  -- ---- expressions
+
+  abbrev first_stood : (e : Expr) (rest : Args) (t : ℕ) → AllStood (ByValue e rest) t → Stood e t
+  first_stood = parts.first_stood types facts procs globals sigs start whole filled places dest
+
+  abbrev rest_stood : (e : Expr) (rest : Args) (t : ℕ) → AllStood (ByValue e rest) t → AllStood rest (t + width e)
+  rest_stood = parts.rest_stood types facts procs globals sigs start whole filled places dest
+
+  mutual
+    pub expr_fits : (e : Expr) (how : Use) (t : ℕ) → Stood e t → Fit around (lines types modes e how t)
+    expr_fits (Apply node ty act operands) how t e =
+        let all = parts.operands_stood types facts procs globals sigs start whole filled places dest node ty act operands t e in
+        let is = value_is (Apply node ty act operands) t e in
+        let listed = parts.value_listed types facts procs globals sigs start whole (Apply node ty act operands) e.direct e.listed in
+        ready_fits operands (use_of modes act) 0 (suc t) all
+        >> (paths.settle_fits types facts procs globals sigs start whole filled places dest sees operands (suc t) all
+        >> fit_line _ (acts.act_right types facts procs globals sigs start whole modes grounds filled places dest sees t act how ty operands
+        (are_direct facts operands) e.direct (and_parts (act_fits here ty act operands) (are_typed here operands) e.typed).0 listed
+        (parts.all_listed types facts procs globals sigs start whole operands all.direct all.listed) is all))
+    expr_fits (Read path) how t e =
+        let p = parts.read_stood types facts procs globals sigs start whole filled places dest path t e in
+        let l = parts.leads types facts procs globals sigs start whole filled places dest true path t p in
+        let is = value_is (Read path) t e in
+        let listed = parts.value_listed types facts procs globals sigs start whole (Read path) e.direct e.listed in
+        let some = parts.path_typed types facts procs globals sigs start whole filled places dest true path t p in
+        aim_fits true path t p
+        >> (find_fits true path t p
+        >> fit_line (L.Get t t how _ (if_number types (type_at path)))
+        (and_from _ _ (parts.both_some _ _ (type_at path) some (type_is types (type_at path) listed) is) (parts.both_some _ _ (type_at path) some l.type is)))
+    expr_fits (Early node ty short left right) how t e =
+        let l = parts.left_stood types facts procs globals sigs start whole filled places dest node ty short left right t e in
+        let r = parts.right_stood types facts procs globals sigs start whole filled places dest node ty short left right t e in
+        let q = and_parts (early_fits facts ty (type_of left) (type_of right)) _ e.typed in
+        let b = and_parts (is_bool (kind_of facts ty)) _ q.0 in
+        let c = and_parts (is_of (type_of left) (Some ty)) (is_of (type_of right) (Some ty)) b.1 in
+        let is = value_is (Early node ty short left right) t e in
+        let left_is = value_is left (suc t) l ∙ of_same _ _ c.0 in
+        let right_is = value_is right (suc t + width left) r ∙ of_same _ _ c.1 in
+        expr_fits left Owned (suc t) l
+        >> (early_right short t (suc t) ty is left_is b.0
+        >> (expr_fits right Owned (suc t + width left) r
+        >> (fit_line (L.Pass t (suc t + width left) how None) (bool_passes t (suc t + width left) ty how is right_is b.0) >> fit_line (L.Label (label End t)) refl)))
+    expr_fits (Choose node ty ByConditions parts') how t e =
+        let all = parts.conditions_stood types facts procs globals sigs start whole filled places dest node ty parts' t e in
+        let q = and_parts (chooser_fits facts ty ByConditions (types_in parts')) (choice_is_placed ByConditions parts') (and_parts _ (are_typed here parts') e.typed).0 in
+        let listed = parts.value_listed types facts procs globals sigs start whole (Choose node ty ByConditions parts') e.direct e.listed in
+        choice_fits parts' ty how t (suc t) listed (value_is (Choose node ty ByConditions parts') t e) q.0 q.1 all >> fit_line (L.Label (label End t)) refl
+    expr_fits (Choose node ty (ByLabels labels) NoArg) how t e =
+        never (and_parts false (choice_is_placed (ByLabels labels) NoArg) (and_parts _ true e.typed).0).0
+    expr_fits (Choose node ty (ByLabels labels) (ByValue selector rest)) how t e =
+        let all = parts.selected_stood types facts procs globals sigs start whole filled places dest node ty labels selector rest t e in
+        let q = and_parts (chooser_fits facts ty (ByLabels labels) (type_of selector ∷ types_in rest)) (choice_is_placed (ByLabels labels) (ByValue selector rest))
+        (and_parts _ (are_typed here (ByValue selector rest)) e.typed).0 in
+        let k = kind_if facts (type_of selector) in
+        let h = and_parts (is_selected k && are_labels k labels) (values_fit facts ty (are_enough k ty labels) labels (types_in rest)) q.0 in
+        let listed = parts.value_listed types facts procs globals sigs start whole (Choose node ty (ByLabels labels) (ByValue selector rest)) e.direct e.listed in
+        let s = first_stood selector rest (suc t) all in
+        let is = value_is selector (suc t) s in
+        expr_fits selector Looked (suc t) s
+        >> (all_tests_fit k labels rest (suc t) (suc t + width selector) (ap (kind_if facts) is) (and_parts (is_selected k) (are_labels k labels) h.0).1
+        >> (fit_line (L.Jump (label Next t)) refl
+        >> (arms_fit (are_enough k ty labels) (is_covered (type_of selector)) labels rest ty how t (suc t + width selector) listed
+        (value_is (Choose node ty (ByLabels labels) (ByValue selector rest)) t e) h.1
+        (and_parts (is_selector (ByValue selector rest)) (are_placed 0 rest) q.1).1 (rest_stood selector rest (suc t) all)
+        >> fit_line (L.Label (label End t)) refl)))
+    expr_fits (Choose node ty (ByLabels labels) (ByPath path rest)) how t e =
+        let all = parts.selected_path types facts procs globals sigs start whole filled places dest node ty labels path rest t e in
+        let q = and_parts (chooser_fits facts ty (ByLabels labels) (type_at path ∷ types_in rest)) (choice_is_placed (ByLabels labels) (ByPath path rest))
+        (and_parts _ (are_typed here (ByPath path rest)) e.typed).0 in
+        let k = kind_if facts (type_at path) in
+        let h = and_parts (is_selected k && are_labels k labels) (values_fit facts ty (are_enough k ty labels) labels (types_in rest)) q.0 in
+        let listed = parts.value_listed types facts procs globals sigs start whole (Choose node ty (ByLabels labels) (ByPath path rest)) e.direct e.listed in
+        let s = first_stood (Read path) rest (suc t) all in
+        let p = parts.read_stood types facts procs globals sigs start whole filled places dest path (suc t) s in
+        let l = parts.leads types facts procs globals sigs start whole filled places dest true path (suc t) p in
+        let is = value_is (Read path) (suc t) s in
+        let some = parts.path_typed types facts procs globals sigs start whole filled places dest true path (suc t) p in
+        aim_fits true path (suc t) p
+        >> (find_fits true path (suc t) p
+        >> (fit_line (L.Look (suc t) (suc t)) (parts.both_some _ _ (type_at path) some l.type is)
+        >> (all_tests_fit k labels rest (suc t) (suc t + width_at path) (ap (kind_if facts) is) (and_parts (is_selected k) (are_labels k labels) h.0).1
+        >> (fit_line (L.Jump (label Next t)) refl
+        >> (arms_fit (are_enough k ty labels) (is_covered (type_at path)) labels rest ty how t (suc t + width_at path) listed
+        (value_is (Choose node ty (ByLabels labels) (ByPath path rest)) t e) h.1 (and_parts true (are_placed 0 rest) q.1).1 (rest_stood (Read path) rest (suc t) all)
+        >> fit_line (L.Label (label End t)) refl)))))
+
+    pub aim_fits : (read : Bool) (path : Path) (t : ℕ) → PathStood read path t → Fit around (aim_lines types modes path t)
+    aim_fits read (Variable node ty place global) t p = fit_none
+    aim_fits read (Fresh v) t p = expr_fits v Looked t (parts.fresh_stood types facts procs globals sigs start whole filled places dest read v t p)
+    aim_fits read (Field node ty base field) t p =
+        aim_fits false base (suc t) (parts.base_stood types facts procs globals sigs start whole filled places dest read node ty base field t p)
+    aim_fits read (Element node ty base index constant) t p =
+        let b = parts.row_stood types facts procs globals sigs start whole filled places dest read node ty base index constant t p in
+        aim_fits false base (suc t) b.0 >> expr_fits index Owned (suc t + width_at base) b.1
+    aim_fits read (Deref ty base) t p = never p.direct
+
+    pub ready_fits : (args : Args) (uses : ℕ → Use) (i t : ℕ) → AllStood args t → Fit around (ready_lines types modes args uses i t)
+    ready_fits NoArg uses i t all = fit_none
+    ready_fits (ByValue e rest) uses i t all =
+        expr_fits e (uses i) t (first_stood e rest t all) >> ready_fits rest uses (suc i) (t + width e) (rest_stood e rest t all)
+    ready_fits (ByPath path rest) uses i t all =
+        aim_fits false path t (parts.first_path types facts procs globals sigs start whole filled places dest path rest t all)
+        >> ready_fits rest uses (suc i) (t + width_at path) (parts.behind_path types facts procs globals sigs start whole filled places dest path rest t all)
+
+    choice_fits : (args : Args) (ty : Option Ty) (how : Use) (t u : ℕ) → IfListed types ty → value t ≡ ty → conditions_fit facts ty (types_in args) ≡ true →
+        are_placed 0 args ≡ true → AllStood args u → Fit around (choice_lines types modes args ty how t u)
+    choice_fits NoArg ty how t u listed is h placed all = never h
+    choice_fits (ByPath path rest) ty how t u listed is h placed all = never placed
+    choice_fits (ByValue last NoArg) ty how t u listed is h placed all =
+        let s = first_stood last NoArg u all in
+        expr_fits last Owned u s >> fit_line _ (handed_right t u ty (type_of last) how listed is (value_is last u s) h)
+    choice_fits (ByValue condition (ByPath path rest)) ty how t u listed is h placed all = never placed
+    choice_fits (ByValue condition (ByValue v rest)) ty how t u listed is h placed all =
+        let q = and_parts (is_bool (kind_if facts (type_of condition)) && same_value (type_of v) ty) (conditions_fit facts ty (types_in rest)) h in
+        let b = and_parts (is_bool (kind_if facts (type_of condition))) (same_value (type_of v) ty) q.0 in
+        let s = first_stood condition (ByValue v rest) u all in
+        let behind = rest_stood condition (ByValue v rest) u all in
+        let r = first_stood v rest (u + width condition) behind in
+        expr_fits condition Owned u s
+        >> (fit_line (L.Unless u (label Arm u)) (bool_at u (type_of condition) (value_is condition u s) b.0)
+        >> (expr_fits v Owned (u + width condition) r
+        >> (fit_line _ (handed_right t (u + width condition) ty (type_of v) how listed is (value_is v (u + width condition) r) b.1)
+        >> (fit_line (L.Jump (label End t)) refl
+        >> (fit_line (L.Label (label Arm u)) refl
+        >> choice_fits rest ty how t (u + width condition + width v) listed is q.1 placed (rest_stood v rest (u + width condition) behind))))))
+
+    arms_fit : (enough covered : Bool) (labels : List (List Label)) (args : Args) (ty : Option Ty) (how : Use) (t u : ℕ) → IfListed types ty → value t ≡ ty →
+        values_fit facts ty enough labels (types_in args) ≡ true → are_placed 0 args ≡ true → AllStood args u →
+        Fit around (arm_lines types modes covered labels args ty how t u)
+    arms_fit enough covered labels NoArg ty how t u listed is h placed all = fit_line (L.Label (label Next t)) refl >> fit_line _ (none_right t ty how listed is)
+    arms_fit enough covered labels (ByPath path rest) ty how t u listed is h placed all = never placed
+    arms_fit enough covered [] (ByValue v rest) ty how t u listed is h placed all =
+        let s = first_stood v rest u all in
+        fit_line (L.Label (label Next t)) refl
+        >> (expr_fits v Owned u s >> fit_line _ (handed_right t u ty (type_of v) how listed is (value_is v u s) (last_value enough (type_of v) ty rest h)))
+    arms_fit enough covered (these ∷ labels) (ByValue v rest) ty how t u listed is h placed all =
+        let q = and_parts (same_value (type_of v) ty) (values_fit facts ty enough labels (types_in rest)) h in
+        let s = first_stood v rest u all in
+        arm_fits (covered && is_last_value rest) (label Next t) (label Arm u)
+        >> (expr_fits v Owned u s
+        >> (fit_line _ (handed_right t u ty (type_of v) how listed is (value_is v u s) q.0)
+        >> fit_if (covered && is_last_value rest) fit_none
+        (fit_line (L.Jump (label End t)) refl
+        >> arms_fit enough covered labels rest ty how t (u + width v) listed is q.1 placed (rest_stood v rest u all))))

@@ -1,0 +1,385 @@
+-- What is known of typed parts where they stand: their types are those of the table, and their temporaries have them.
+use Rattle.std.proofs.Common.{◌≡◌, ℕ, suc, ◌+◌, ◌≤◌, Bool, true, false, List, [], ◌∷◌, ◌++◌, Option, Some, None, refl, sym, ap, ap₂, ◌∙◌, subst, arith, append_assoc}
+use Rattle.std.specs.Prelude.{◌&&◌, ◌||◌, not, ℤ, map, slice_get, take}
+use Rattle.std.proofs.lemmas.Bool.{both_ways, and_parts, and_from, not-true}
+use Rattle.nim_types.specs.Types.{Ty, Facts, same}
+use Rattle.nim_types.proofs.ForCallers.{same_sound, same_refl}
+use Rattle.nim_program.specs.declared.expr.Node.{Node}
+use Rattle.nim_program.specs.declared.operation.Short.{Short}
+use Rattle.nim_program.specs.Program.{Literal, Act, Doing, Building, Giving, Calling, Label, ByConditions, ByLabels, Expr, Apply, Read, Early, Choose, Path, Variable, Fresh, Field, Element, Deref}
+use Rattle.nim_program.specs.Program.{Args, NoArg, ByValue, ByPath, Param, Body, Proc, type_of, type_at, types_in, node_of}
+use Rattle.nim_program.specs.Folds.{lists, total, total_at, totals}
+use Rattle.nim_program.specs.Kinds.{is_of, same_value, is_there, is_constant}
+use Rattle.nim_program.specs.Scopes.{Placed, Here, look, type_in, is_written}
+use Rattle.nim_program.specs.Typed.{own_types, type_if, act_types, is_typed, is_typed_path, are_typed, is_whole, is_fresh, act_fits}
+use Rattle.nim_meaning.specs.Here.{is_hooked}
+use Rattle.nim_meaning.specs.Values.{literal_value}
+use Rattle.flat_code.specs.declared.place.FlatPlace.{FlatPlace}
+use Rattle.flat_code.specs.Fits.{Taken, Signature, is_var, any_place}
+use Rattle.flat_code.specs.Scene.{Known}
+use Rattle.flat_code.specs.Shapes.{shape_of, has_shape}
+use Rattle.flattening.specs.Formed.{IsListed, IfListed, AreListed}
+use Rattle.flattening.specs.Numbering.{width, width_at, widths}
+use Rattle.flattening.specs.Places.{place, temporary, expr_places, path_places, operand_places, read_place, selector_place}
+use Rattle.flattening.proofs.Direct.{is_text, of_act, is_direct, is_direct_path, are_direct}
+use Rattle.flattening.proofs.Fit.{Among}
+use Rattle.flattening.proofs.Numbered.{Owns, owns_first, owns_second, owns_later}
+use Rattle.flattening.proofs.Owned as owned
+use Rattle.flattening.proofs.Owned.{kind_by, locations_from, locations_later}
+use Rattle.flattening.proofs.Parts.{Each, apart}
+use Rattle.flattening.proofs.PlaceNumbers.{expr_numbers, operand_numbers}
+use Rattle.flattening.proofs.Widths.{same_width, some_width}
+
+pub never : {A : Type 0} → false ≡ true → A
+never e = absurd (both_ways false refl e)
+
+-- ---- equal types
+
+pub of_same : (a b : Option Ty) → is_of a b ≡ true → a ≡ b
+of_same (Some s) (Some t) h = ap Some (same_sound s t h)
+of_same (Some s) None h = never h
+of_same None (Some t) h = never h
+of_same None None h = never h
+
+pub value_same : (a b : Option Ty) → same_value a b ≡ true → a ≡ b
+value_same None None h = refl
+value_same None (Some t) h = never h
+value_same (Some s) b h = of_same (Some s) b h
+
+pub itself : (ty : Option Ty) → same_value ty ty ≡ true
+itself None = refl
+itself (Some ty) = same_refl ty
+
+-- both are this one
+pub both_are : (a b ty : Option Ty) → a ≡ ty → b ≡ ty → same_value a b ≡ true
+both_are a b ty e f = ap₂ same_value e f ∙ itself ty
+
+some_is : (ty : Option Ty) → is_there ty ≡ true → is_of ty ty ≡ true
+some_is None h = never h
+some_is (Some ty) h = same_refl ty
+
+pub both_some : (a b ty : Option Ty) → is_there ty ≡ true → a ≡ ty → b ≡ ty → is_of a b ≡ true
+both_some a b ty h e f = ap₂ is_of e f ∙ some_is ty h
+
+-- a path that is read has as many numbers as one in place
+pub path_width : (path : Path) → widths (ByPath path NoArg) ≡ width_at path
+path_width path = let w = same_width path in omega (arith, w)
+
+-- what parameters take
+abbrev pub takes_of : List Param → List Taken
+takes_of [] = []
+takes_of (p ∷ params) = record { by_location = is_var p.mode; of = p.place.of } ∷ takes_of params
+
+-- ---- what is known around: types, procedures, globals, and the flat places of the start code and of the body
+
+module _ (types : List Ty) (facts : Facts) (procs : List Proc) (globals : List Placed) (sigs : List Signature) (start whole : List FlatPlace) where
+  abbrev pub known : Known
+  known = record { types = types; facts = facts }
+
+  abbrev pub around : Among
+  around = record { known = known; procs = sigs; globals = start; places = whole }
+
+  abbrev pub value : ℕ → Option Ty
+  value = owned.value known whole
+
+  abbrev pub led : ℕ → Option Ty
+  led = owned.led known whole
+
+  abbrev pub may_write : ℕ → Bool
+  may_write = owned.may_write known whole
+
+  abbrev pub named : ℕ → (global : Bool) → Option Ty
+  named = any_place known sigs start whole
+
+  abbrev pub Owned : Expr → (t : ℕ) → Type 0
+  Owned = owned.Owned known whole
+
+  abbrev pub PathOwned : Path → (t : ℕ) → Type 0
+  PathOwned = owned.PathOwned known whole
+
+  abbrev pub AllOwned : Args → (t : ℕ) → Type 0
+  AllOwned = owned.AllOwned known whole
+
+  -- a call takes and gives what its procedure says, and constants are values of their types
+  pub record Grounds : Type 0 where
+    pub calls : (n : ℕ) (p : Proc) (body : Body) → slice_get procs n ≡ Some p → p.body ≡ Some body →
+        slice_get sigs n ≡ Some (record { takes = takes_of p.params; gives = p.gives })
+    pub constants : (ty : Ty) (literal : Literal) → IsListed types ty → is_text literal || not (is_hooked facts ty) ≡ true →
+        is_constant facts ty literal ≡ true → has_shape (literal_value literal) (shape_of facts ty) ≡ true
+
+  -- places in scope are places of the code
+  pub record Sees (filled : ℕ) (places : List Placed) : Type 0 where
+    pub local : (n : ℕ) (ty : Ty) → look places n ≡ Some ty → named n false ≡ Some ty
+    pub global : (n : ℕ) (ty : Ty) → look (take filled globals) n ≡ Some ty → named n true ≡ Some ty
+
+  abbrev pub seen : (filled : ℕ) (places : List Placed) (dest : Option ℕ) → Here
+  seen filled places dest = record { facts = facts; procs = procs; globals = globals; filled = filled; places = places; dest = dest }
+
+  -- types that stand there are of the table
+  abbrev pub Listed : List Ty → Type 0
+  Listed tys = Each (IsListed types) tys
+
+  type_listed : (ty : Option Ty) (rest : List Ty) → Listed (type_if ty ++ rest) → IfListed types ty
+  type_listed None rest h = tt
+  type_listed (Some ty) rest h = h.0
+
+  mutual
+    pub value_listed : (e : Expr) → is_direct facts e ≡ true → Listed (total lists own_types e) → IfListed types (type_of e)
+    value_listed (Apply node ty act operands) d h = type_listed ty (act_types act) (apart (IsListed types) (type_if ty ++ act_types act) _ h).0
+    value_listed (Read path) d h = path_listed true path d h
+    value_listed (Early node ty short a b) d h = h.0
+    value_listed (Choose node ty chooser parts) d h = type_listed ty _ h
+
+    pub path_listed : (read : Bool) (path : Path) → is_direct_path facts path ≡ true → Listed (total_at lists own_types read path) → IfListed types (type_at path)
+    path_listed read (Variable node ty place global) d h = h.0
+    path_listed read (Fresh value) d h = value_listed value d h
+    path_listed read (Field node ty base field) d h = h.0
+    path_listed read (Element node ty base index constant) d h = h.0
+    path_listed read (Deref ty base) d h = never d
+
+  pub all_listed : (args : Args) → are_direct facts args ≡ true → Listed (totals lists own_types args) → AreListed types (types_in args)
+  all_listed NoArg d h = tt
+  all_listed (ByValue e rest) d h =
+      let q = and_parts (is_direct facts e) (are_direct facts rest) d in
+      let l = apart (IsListed types) (total lists own_types e) (totals lists own_types rest) h in
+      (value_listed e q.0 l.0, all_listed rest q.1 l.1)
+  all_listed (ByPath path rest) d h =
+      let q = and_parts (is_direct_path facts path) (are_direct facts rest) d in
+      let l = apart (IsListed types) (total_at lists own_types false path) (totals lists own_types rest) h in
+      (path_listed false path q.0 l.0, all_listed rest q.1 l.1)
+
+  module _ (filled : ℕ) (places : List Placed) (dest : Option ℕ) where
+    abbrev here : Here
+    here = seen filled places dest
+
+    -- what is known of a part at a number
+    pub record Stood (e : Expr) (t : ℕ) : Type 0 where
+      pub typed : is_typed here e ≡ true
+      pub direct : is_direct facts e ≡ true
+      pub listed : Listed (total lists own_types e)
+      pub owns : Owned e t
+
+    pub record PathStood (read : Bool) (path : Path) (t : ℕ) : Type 0 where
+      pub typed : is_typed_path here path ≡ true
+      pub direct : is_direct_path facts path ≡ true
+      pub listed : Listed (total_at lists own_types read path)
+      pub owns : PathOwned path t
+
+    pub record AllStood (args : Args) (t : ℕ) : Type 0 where
+      pub typed : are_typed here args ≡ true
+      pub direct : are_direct facts args ≡ true
+      pub listed : Listed (totals lists own_types args)
+      pub owns : AllOwned args t
+
+    -- ---- parts of parts
+
+    pub first_stood : (e : Expr) (rest : Args) (t : ℕ) → AllStood (ByValue e rest) t → Stood e t
+    first_stood e rest t all = record {
+      typed = (and_parts (is_typed here e) (are_typed here rest) all.typed).0;
+      direct = (and_parts (is_direct facts e) (are_direct facts rest) all.direct).0;
+      listed = (apart (IsListed types) (total lists own_types e) (totals lists own_types rest) all.listed).0;
+      owns = owned.first_owned known whole e rest t all.owns;
+    }
+
+    pub rest_stood : (e : Expr) (rest : Args) (t : ℕ) → AllStood (ByValue e rest) t → AllStood rest (t + width e)
+    rest_stood e rest t all = record {
+      typed = (and_parts (is_typed here e) (are_typed here rest) all.typed).1;
+      direct = (and_parts (is_direct facts e) (are_direct facts rest) all.direct).1;
+      listed = (apart (IsListed types) (total lists own_types e) (totals lists own_types rest) all.listed).1;
+      owns = owned.behind_owned known whole e rest t all.owns;
+    }
+
+    pub first_path : (path : Path) (rest : Args) (t : ℕ) → AllStood (ByPath path rest) t → PathStood false path t
+    first_path path rest t all = record {
+      typed = (and_parts (is_whole facts path) (is_typed_path here path) (and_parts _ (are_typed here rest) all.typed).0).1;
+      direct = (and_parts (is_direct_path facts path) (are_direct facts rest) all.direct).0;
+      listed = (apart (IsListed types) (total_at lists own_types false path) (totals lists own_types rest) all.listed).0;
+      owns = owned.first_path_owned known whole path rest t all.owns;
+    }
+
+    pub behind_path : (path : Path) (rest : Args) (t : ℕ) → AllStood (ByPath path rest) t → AllStood rest (t + width_at path)
+    behind_path path rest t all = record {
+      typed = (and_parts (is_whole facts path && is_typed_path here path) (are_typed here rest) all.typed).1;
+      direct = (and_parts (is_direct_path facts path) (are_direct facts rest) all.direct).1;
+      listed = (apart (IsListed types) (total_at lists own_types false path) (totals lists own_types rest) all.listed).1;
+      owns = owned.behind_path_owned known whole path rest t all.owns;
+    }
+
+    pub read_stood : (path : Path) (t : ℕ) → Stood (Read path) t → PathStood true path t
+    read_stood path t e = record {
+      typed = (and_parts (is_whole facts path) (is_typed_path here path) e.typed).1;
+      direct = e.direct;
+      listed = e.listed;
+      owns = owned.read_owned known whole path t e.owns;
+    }
+
+    pub fresh_stood : (read : Bool) (e : Expr) (t : ℕ) → PathStood read (Fresh e) t → Stood e t
+    fresh_stood read e t p =
+        let h = and_parts (is_fresh e && is_there (type_of e)) (is_typed here e) p.typed in
+        record {
+          typed = h.1;
+          direct = p.direct;
+          listed = p.listed;
+          owns = owned.fresh_owned known whole e t (and_parts (is_fresh e) (is_there (type_of e)) h.0).0 p.owns;
+        }
+
+    pub base_stood : (read : Bool) (node : Node) (ty : Ty) (base : Path) (field t : ℕ) → PathStood read (Field node ty base field) t →
+        PathStood false base (suc t)
+    base_stood read node ty base field t p = record {
+      typed = (and_parts _ (is_typed_path here base) p.typed).1;
+      direct = p.direct;
+      listed = p.listed.1;
+      owns = owned.base_owned known whole node ty base field t p.owns;
+    }
+
+    pub row_stood : (read : Bool) (node : Node) (ty : Ty) (base : Path) (index : Expr) (constant : Option ℤ) (t : ℕ) →
+        PathStood read (Element node ty base index constant) t → PathStood false base (suc t) × Stood index (suc t + width_at base)
+    row_stood read node ty base index constant t p =
+        let h = and_parts (is_typed_path here base) (is_typed here index) (and_parts _ _ p.typed).1 in
+        let d = and_parts (is_direct_path facts base) (is_direct facts index) p.direct in
+        let l = apart (IsListed types) (total_at lists own_types false base) (total lists own_types index) p.listed.1 in
+        let o = owned.row_owned known whole node ty base index constant t p.owns in (
+          record { typed = h.0; direct = d.0; listed = l.0; owns = o.0 },
+          record { typed = h.1; direct = d.1; listed = l.1; owns = o.1 },
+        )
+
+    -- operands of what is done with them
+    direct_operands : (ty : Option Ty) (act : Act) (operands : Args) → act_fits here ty act operands ≡ true → of_act facts ty act (are_direct facts operands) ≡ true →
+        are_direct facts operands ≡ true
+    direct_operands ty (Doing operation) operands h d = d
+    direct_operands ty (Building fields) operands h d = d
+    direct_operands ty (Giving literal) NoArg h d = refl
+    direct_operands ty (Giving literal) (ByValue e rest) h d = never h
+    direct_operands ty (Giving literal) (ByPath path rest) h d = never h
+    direct_operands ty (Calling proc []) operands h d = d
+    direct_operands ty (Calling proc (first ∷ more)) operands h d = never d
+
+    pub operands_stood : (node : Node) (ty : Option Ty) (act : Act) (operands : Args) (t : ℕ) → Stood (Apply node ty act operands) t → AllStood operands (suc t)
+    operands_stood node ty act operands t e =
+        let h = and_parts (act_fits here ty act operands) (are_typed here operands) e.typed in
+        record {
+          typed = h.1;
+          direct = direct_operands ty act operands h.0 e.direct;
+          listed = (apart (IsListed types) (type_if ty ++ act_types act) (totals lists own_types operands) e.listed).1;
+          owns = owned.behind_node known whole node ty t (suc t + widths operands) (operand_places types operands (suc t)) (omega arith) (omega arith) e.owns;
+        }
+
+    pub left_stood : (node : Node) (ty : Ty) (short : Short) (left right : Expr) (t : ℕ) → Stood (Early node ty short left right) t → Stood left (suc t)
+    left_stood node ty short left right t e = record {
+      typed = (and_parts (is_typed here left) (is_typed here right) (and_parts _ _ e.typed).1).0;
+      direct = (and_parts (is_direct facts left) (is_direct facts right) e.direct).0;
+      listed = (apart (IsListed types) (total lists own_types left) (total lists own_types right) e.listed.1).0;
+      owns = owns_later (locations_from left (suc t)) (locations_later left (suc t))
+          (owns_first (suc t + width left) (suc t + width left + width right) (omega arith) (expr_numbers types right (suc t + width left))
+          (owned.behind_node known whole node (Some ty) t (suc t + width left + width right) _ (omega arith) (omega arith) e.owns));
+    }
+
+    pub right_stood : (node : Node) (ty : Ty) (short : Short) (left right : Expr) (t : ℕ) → Stood (Early node ty short left right) t →
+        Stood right (suc t + width left)
+    right_stood node ty short left right t e = record {
+      typed = (and_parts (is_typed here left) (is_typed here right) (and_parts _ _ e.typed).1).1;
+      direct = (and_parts (is_direct facts left) (is_direct facts right) e.direct).1;
+      listed = (apart (IsListed types) (total lists own_types left) (total lists own_types right) e.listed.1).1;
+      owns = owns_later (locations_from right (suc t + width left)) (locations_later right (suc t + width left))
+          (owns_second (suc t) (suc t + width left) (suc t + width left + width right) (omega arith) (omega arith) (omega arith) (expr_numbers types left (suc t))
+          (owned.behind_node known whole node (Some ty) t (suc t + width left + width right) _ (omega arith) (omega arith) e.owns));
+    }
+
+    -- the parts of a choice
+    pub chosen_listed : (ty : Option Ty) (parts : Args) → Listed (type_if ty ++ totals lists own_types parts) → Listed (totals lists own_types parts)
+    chosen_listed ty parts h = (apart (IsListed types) (type_if ty) (totals lists own_types parts) h).1
+
+    pub conditions_stood : (node : Node) (ty : Option Ty) (parts : Args) (t : ℕ) → Stood (Choose node ty ByConditions parts) t → AllStood parts (suc t)
+    conditions_stood node ty parts t e = record {
+      typed = (and_parts _ (are_typed here parts) e.typed).1;
+      direct = e.direct;
+      listed = chosen_listed ty parts e.listed;
+      owns = owned.behind_node known whole node ty t (suc t + widths parts) (operand_places types parts (suc t)) (omega arith) (omega arith) e.owns;
+    }
+
+    pub selected_stood : (node : Node) (ty : Option Ty) (labels : List (List Label)) (selector : Expr) (rest : Args) (t : ℕ) →
+        Stood (Choose node ty (ByLabels labels) (ByValue selector rest)) t → AllStood (ByValue selector rest) (suc t)
+    selected_stood node ty labels selector rest t e = record {
+      typed = (and_parts _ (are_typed here (ByValue selector rest)) e.typed).1;
+      direct = e.direct;
+      listed = chosen_listed ty (ByValue selector rest) e.listed;
+      owns = owned.behind_node known whole node ty t (suc t + widths (ByValue selector rest)) (operand_places types (ByValue selector rest) (suc t))
+          (omega arith) (omega arith) e.owns;
+    }
+
+    -- types stand in a path however it is used
+    same_types : (path : Path) → total_at lists own_types false path ≡ total_at lists own_types true path
+    same_types (Variable node ty place global) = refl
+    same_types (Fresh value) = refl
+    same_types (Field node ty base field) = refl
+    same_types (Element node ty base index constant) = refl
+    same_types (Deref ty base) = same_types base
+
+    -- a selector at a path is as one that is read
+    pub path_selected : (path : Path) (rest : Args) (u : ℕ) → are_typed here (ByPath path rest) ≡ true → are_direct facts (ByPath path rest) ≡ true →
+        Listed (totals lists own_types (ByPath path rest)) →
+        Owns whole (read_place types path u ++ (path_places types path u ++ operand_places types rest (u + width_at path))) u u
+        (u + widths (ByValue (Read path) rest)) → AllStood (ByValue (Read path) rest) u
+    path_selected path rest u typed direct listed owns = record {
+      typed = typed;
+      direct = direct;
+      listed = subst (λ tys. Listed (tys ++ totals lists own_types rest)) (same_types path) listed;
+      owns = owned.chosen_owned known whole path rest u owns;
+    }
+
+    pub selected_path : (node : Node) (ty : Option Ty) (labels : List (List Label)) (path : Path) (rest : Args) (t : ℕ) →
+        Stood (Choose node ty (ByLabels labels) (ByPath path rest)) t → AllStood (ByValue (Read path) rest) (suc t)
+    selected_path node ty labels path rest t e =
+        let w = same_width path in
+        path_selected path rest (suc t) (and_parts _ (are_typed here (ByPath path rest)) e.typed).1 e.direct (chosen_listed ty (ByPath path rest) e.listed)
+        (owned.behind_node known whole node ty t (suc t + widths (ByValue (Read path) rest)) _ (omega arith) (omega (arith, w)) e.owns)
+
+    -- ---- the types of temporaries
+
+    pub value_is : (e : Expr) (t : ℕ) → Stood e t → value t ≡ type_of e
+    value_is (Apply node ty act operands) t e =
+        owned.value_found known whole node ty t (operand_places types operands (suc t)) (omega arith) (value_listed (Apply node ty act operands) e.direct e.listed)
+        ((operand_numbers types operands (suc t)).values t (λ le. absurd (omega (arith, le)))) e.owns
+    value_is (Read (Variable node ty place global)) t e = owned.value_there known whole node ty t _ (omega arith) e.listed.0 e.owns
+    value_is (Read (Fresh value)) t e = value_is value t (fresh_stood true value t (read_stood (Fresh value) t e))
+    value_is (Read (Field node ty base field)) t e = owned.value_there known whole node ty t _ (omega arith) e.listed.0 e.owns
+    value_is (Read (Element node ty base index constant)) t e = owned.value_there known whole node ty t _ (omega arith) e.listed.0 e.owns
+    value_is (Read (Deref ty base)) t e = never e.direct
+    value_is (Early node ty short left right) t e = owned.value_there known whole node ty t _ (omega arith) e.listed.0 e.owns
+    value_is (Choose node ty chooser parts) t e =
+        owned.value_found known whole node ty t (selector_place types chooser parts (suc t) ++ operand_places types parts (suc t)) (omega arith)
+        (value_listed (Choose node ty chooser parts) e.direct e.listed)
+        (owned.behind_selector known whole chooser parts t) e.owns
+
+    pub record Leads (path : Path) (t : ℕ) : Type 0 where
+      pub type : led t ≡ type_at path
+      pub writes : may_write t ≡ is_written path
+
+    fresh_leads : {v hi : ℕ} (value : Expr) (ty : Option Ty) (t : ℕ) (rest : List FlatPlace) → t ≤ suc t → is_there ty ≡ true → IfListed types ty → t + 1 ≤ hi →
+        Owns whole (temporary types (node_of value) ty (kind_by false) t ++ rest) v t hi → (led t ≡ ty) × (may_write t ≡ false)
+    fresh_leads value None t rest le h listed less owns = never h
+    fresh_leads value (Some ty) t rest le h listed less owns = owned.led_found known whole false (node_of value) ty t rest (omega (arith, less)) listed owns
+
+    pub leads : (read : Bool) (path : Path) (t : ℕ) → PathStood read path t → Leads path t
+    leads read (Variable node ty place global) t p =
+        let l = owned.led_found known whole true node ty t [] (omega arith) p.listed.0 p.owns in record { type = l.0; writes = l.1 }
+    leads read (Fresh value) t p =
+        let h = and_parts (is_fresh value && is_there (type_of value)) (is_typed here value) p.typed in
+        let w = some_width value in
+        let l = fresh_leads value (type_of value) t (expr_places types value t) (omega arith) (and_parts (is_fresh value) (is_there (type_of value)) h.0).1
+        (value_listed value p.direct p.listed) (omega (arith, w)) p.owns in
+        record { type = l.0; writes = l.1 }
+    leads read (Field node ty base field) t p =
+        let l = owned.led_found known whole (is_written base) node ty t (path_places types base (suc t)) (omega arith) p.listed.0 p.owns in
+        record { type = l.0; writes = l.1 }
+    leads read (Element node ty base index constant) t p =
+        let l = owned.led_found known whole (is_written base) node ty t _ (omega arith) p.listed.0 p.owns in record { type = l.0; writes = l.1 }
+    leads read (Deref ty base) t p = never p.direct
+
+    pub path_typed : (read : Bool) (path : Path) (t : ℕ) → PathStood read path t → is_there (type_at path) ≡ true
+    path_typed read (Variable node ty place global) t p = refl
+    path_typed read (Fresh value) t p =
+        (and_parts (is_fresh value) (is_there (type_of value)) (and_parts (is_fresh value && is_there (type_of value)) (is_typed here value) p.typed).0).1
+    path_typed read (Field node ty base field) t p = refl
+    path_typed read (Element node ty base index constant) t p = refl
+    path_typed read (Deref ty base) t p = refl

@@ -1,0 +1,179 @@
+-- The lines that look paths up fit, and operands are as their types say.
+use Rattle.std.proofs.Common.{◌≡◌, ℕ, zero, suc, ◌+◌, Bool, true, false, List, [], ◌∷◌, Option, Some, None, refl, sym, ap, ap₂, ◌∙◌, subst}
+use Rattle.std.specs.Prelude.{◌&&◌, ◌||◌, not, map, slice_get, take}
+use Rattle.std.proofs.lemmas.Bool.{and_parts, and_from}
+use Rattle.nim_types.specs.Types.{Ty, Facts}
+use Rattle.nim_types.proofs.ForCallers.{same_refl}
+use Rattle.nim_program.specs.declared.operation.Operation.{Operation}
+use Rattle.nim_program.specs.declared.operation.Operation.TheVariants as O
+use Rattle.nim_program.specs.Program.{Expr, Path, Variable, Fresh, Field, Element, Deref, Args, NoArg, ByValue, ByPath, Proc, type_of, type_at, types_in}
+use Rattle.nim_program.specs.Kinds.{kind_if, is_int, field_at, element_of, is_of, same_value, is_there}
+use Rattle.nim_program.specs.Scopes.{Placed, Here, look, type_in, is_written}
+use Rattle.nim_program.specs.Typed.{is_typed, is_typed_path, is_fresh, is_place, are_placed, may_take, may_take_all}
+use Rattle.flat_code.specs.declared.line.From.{From}
+use Rattle.flat_code.specs.declared.line.From.TheVariants as F
+use Rattle.flat_code.specs.declared.line.Line.TheVariants as L
+use Rattle.flat_code.specs.declared.place.FlatPlace.{FlatPlace}
+use Rattle.flat_code.specs.Fits as fit
+use Rattle.flat_code.specs.Fits.{Signature, same_bool, writes, taken, are_of, may_write_all}
+use Rattle.flattening.specs.Numbering.{width, width_at}
+use Rattle.flattening.specs.ExprLines.{froms, find_lines, settle_lines}
+use Rattle.flattening.proofs.Fit.{Among, Fit, fitting, fit_none, fit_line, ◌>>◌}
+use Rattle.flattening.proofs.FitParts.{never, of_same, value_same, itself, both_are, both_some}
+use Rattle.flattening.proofs.FitParts as parts
+use Rattle.flattening.proofs.Owned as owned
+
+module _ (types : List Ty) (facts : Facts) (procs : List Proc) (globals : List Placed) (sigs : List Signature) (start whole : List FlatPlace)
+    (filled : ℕ) (places : List Placed) (dest : Option ℕ) (sees : parts.Sees types facts procs globals sigs start whole filled places) where
+  abbrev around : Among
+  around = parts.around types facts procs globals sigs start whole
+
+  abbrev here : Here
+  here = parts.seen types facts procs globals sigs start whole filled places dest
+
+  abbrev value : ℕ → Option Ty
+  value = parts.value types facts procs globals sigs start whole
+
+  abbrev led : ℕ → Option Ty
+  led = parts.led types facts procs globals sigs start whole
+
+  abbrev may_write : ℕ → Bool
+  may_write = parts.may_write types facts procs globals sigs start whole
+
+  abbrev Stood : Expr → ℕ → Type 0
+  Stood = parts.Stood types facts procs globals sigs start whole filled places dest
+
+  abbrev PathStood : Bool → Path → ℕ → Type 0
+  PathStood = parts.PathStood types facts procs globals sigs start whole filled places dest
+
+  abbrev AllStood : Args → ℕ → Type 0
+  AllStood = parts.AllStood types facts procs globals sigs start whole filled places dest
+
+  value_is : (e : Expr) (t : ℕ) → Stood e t → value t ≡ type_of e
+  value_is = parts.value_is types facts procs globals sigs start whole filled places dest
+
+  leads : (read : Bool) (path : Path) (t : ℕ) → PathStood read path t → parts.Leads types facts procs globals sigs start whole filled places dest path t
+  leads = parts.leads types facts procs globals sigs start whole filled places dest
+
+  -- a named place has the type that it has in scope
+  named_is : (n : ℕ) (global : Bool) (ty : Ty) → type_in here global n ≡ Some ty → parts.named types facts procs globals sigs start whole n global ≡ Some ty
+  named_is n true ty e = sees.global n ty e
+  named_is n false ty e = sees.local n ty e
+
+  same_itself : (b : Bool) → same_bool b b ≡ true
+  same_itself true = refl
+  same_itself false = refl
+
+  both_same : (a b c : Bool) → a ≡ c → b ≡ c → same_bool a b ≡ true
+  both_same a b c e f = ap₂ same_bool e f ∙ same_itself c
+
+  pub find_fits : (read : Bool) (path : Path) (t : ℕ) → PathStood read path t → Fit around (find_lines path t)
+  find_fits read (Variable node ty place global) t p =
+      let l = leads read (Variable node ty place global) t p in
+      fit_line (L.Root t place global)
+      (and_from _ _ (both_some _ _ (Some ty) refl (named_is place global ty (of_same _ _ p.typed)) l.type) l.writes)
+  find_fits read (Fresh value) t p =
+      let l = leads read (Fresh value) t p in
+      let e = parts.fresh_stood types facts procs globals sigs start whole filled places dest read value t p in
+      let h = (and_parts (is_fresh value) (is_there (type_of value)) (and_parts (is_fresh value && is_there (type_of value)) (is_typed here value) p.typed).0).1 in
+      fit_line (L.Fresh t t) (and_from _ _ (both_some _ _ (type_of value) h (value_is value t e) l.type) (ap not l.writes))
+  find_fits read (Field node ty base field) t p =
+      let l = leads read (Field node ty base field) t p in
+      let b = parts.base_stood types facts procs globals sigs start whole filled places dest read node ty base field t p in
+      let k = leads false base (suc t) b in
+      find_fits false base (suc t) b
+      >> fit_line (L.Part t (suc t) field)
+      (and_from _ _
+      (ap₂ (λ o q. is_of (field_at (kind_if facts o) field) q) k.type l.type
+      ∙ (and_parts (is_of (field_at (kind_if facts (type_at base)) field) (Some ty)) (is_typed_path here base) p.typed).0)
+      (both_same _ _ (is_written base) l.writes k.writes))
+  find_fits read (Element node ty base index constant) t p =
+      let l = leads read (Element node ty base index constant) t p in
+      let b = parts.row_stood types facts procs globals sigs start whole filled places dest read node ty base index constant t p in
+      let k = leads false base (suc t) b.0 in
+      let h = and_parts (is_of (element_of (kind_if facts (type_at base))) (Some ty)) (is_int (kind_if facts (type_of index))) (and_parts _ _ p.typed).0 in
+      find_fits false base (suc t) b.0
+      >> fit_line (L.Item t (suc t) (suc t + width_at base))
+      (and_from _ _ (ap₂ (λ o q. is_of (element_of (kind_if facts o)) q) k.type l.type ∙ h.0)
+      (and_from _ _ (ap (λ o. is_int (kind_if facts o)) (value_is index (suc t + width_at base) b.1) ∙ h.1)
+      (both_same _ _ (is_written base) l.writes k.writes)))
+  find_fits read (Deref ty base) t p = never p.direct
+
+  pub settle_fits : (args : Args) (t : ℕ) → AllStood args t → Fit around (settle_lines args t)
+  settle_fits NoArg t all = fit_none
+  settle_fits (ByValue e rest) t all =
+      settle_fits rest (t + width e) (parts.rest_stood types facts procs globals sigs start whole filled places dest e rest t all)
+  settle_fits (ByPath path rest) t all =
+      find_fits false path t (parts.first_path types facts procs globals sigs start whole filled places dest path rest t all)
+      >> settle_fits rest (t + width_at path) (parts.behind_path types facts procs globals sigs start whole filled places dest path rest t all)
+
+  -- ---- operands
+
+  abbrev pub taken_from : From → Option Ty
+  taken_from = taken (parts.known types facts procs globals sigs start whole) sigs start whole
+
+  pub taken_are : (args : Args) (t : ℕ) → AllStood args t → map taken_from (froms args t) ≡ types_in args
+  taken_are NoArg t all = refl
+  taken_are (ByValue e rest) t all =
+      ap₂ (λ ty tys. ty ∷ tys) (value_is e t (parts.first_stood types facts procs globals sigs start whole filled places dest e rest t all))
+      (taken_are rest (t + width e) (parts.rest_stood types facts procs globals sigs start whole filled places dest e rest t all))
+  taken_are (ByPath path rest) t all =
+      ap₂ (λ ty tys. ty ∷ tys) (leads false path t (parts.first_path types facts procs globals sigs start whole filled places dest path rest t all)).type
+      (taken_are rest (t + width_at path) (parts.behind_path types facts procs globals sigs start whole filled places dest path rest t all))
+
+  abbrev all_of : List (Option Ty) → List From → Bool
+  all_of = are_of (parts.known types facts procs globals sigs start whole) sigs start whole
+
+  pub are_of_these : (from : List From) (tys : List (Option Ty)) → map taken_from from ≡ tys → all_of tys from ≡ true
+  are_of_these from tys e = subst (λ ts. all_of ts from ≡ true) e (own from)
+    where
+      own : (from : List From) → all_of (map taken_from from) from ≡ true
+      own [] = refl
+      own (x ∷ from) = and_from _ _ (itself (taken_from x)) (own from)
+
+  pub placed_same : (n : ℕ) (args : Args) (t : ℕ) → are_placed n args ≡ true → fit.are_placed n (froms args t) ≡ true
+  placed_same zero NoArg t h = refl
+  placed_same zero (ByValue e rest) t h = placed_same zero rest (t + width e) h
+  placed_same zero (ByPath path rest) t h = never h
+  placed_same (suc n) NoArg t h = never h
+  placed_same (suc n) (ByValue e rest) t h = never h
+  placed_same (suc n) (ByPath path rest) t h = placed_same n rest (t + width_at path) h
+
+  -- the place of a hook is one that may be written
+  place_written : (d : Option ℕ) (path : Path) → is_place d path ≡ true → is_written path ≡ true
+  place_written None path h = never h
+  place_written (Some n) (Variable node ty place true) h = never h
+  place_written (Some n) (Variable node ty place false) h = refl
+  place_written (Some n) (Fresh value) h = never h
+  place_written (Some n) (Field node ty base field) h = never h
+  place_written (Some n) (Element node ty base index constant) h = never h
+  place_written (Some n) (Deref ty base) h = never h
+
+  take_written : (operation : Operation) (path : Path) → writes operation ≡ true → may_take here operation path ≡ true → is_written path ≡ true
+  take_written (O.Measure measure) path w h = never w
+  take_written O.Destroy path w h = place_written dest path h
+  take_written O.Blank path w h = place_written dest path h
+  take_written operation path w h = h
+
+  abbrev all_written : List From → Bool
+  all_written = may_write_all (parts.known types facts procs globals sigs start whole) sigs start whole
+
+  written_all : (operation : Operation) (args : Args) (t : ℕ) → writes operation ≡ true → AllStood args t → may_take_all here operation args ≡ true →
+      all_written (froms args t) ≡ true
+  written_all operation NoArg t w all h = refl
+  written_all operation (ByValue e rest) t w all h =
+      written_all operation rest (t + width e) w (parts.rest_stood types facts procs globals sigs start whole filled places dest e rest t all) h
+  written_all operation (ByPath path rest) t w all h =
+      let q = and_parts (may_take here operation path) (may_take_all here operation rest) h in
+      and_from _ _
+      ((leads false path t (parts.first_path types facts procs globals sigs start whole filled places dest path rest t all)).writes
+      ∙ take_written operation path w q.0)
+      (written_all operation rest (t + width_at path) w (parts.behind_path types facts procs globals sigs start whole filled places dest path rest t all) q.1)
+
+  pub may_be_written : (operation : Operation) (args : Args) (t : ℕ) → AllStood args t → may_take_all here operation args ≡ true →
+      not (writes operation) || all_written (froms args t) ≡ true
+  may_be_written operation args t all h = by (writes operation) refl
+    where
+      by : (b : Bool) → writes operation ≡ b → not b || all_written (froms args t) ≡ true
+      by true e = written_all operation args t e all h
+      by false e = refl

@@ -1,0 +1,395 @@
+-- The flat code of a typed program fits.
+use Rattle.std.proofs.Common.{◌≡◌, ℕ, zero, suc, ◌+◌, ◌≤◌, ◌⊎◌, inl, inr, Bool, true, false, List, [], ◌∷◌, ◌++◌, Option, Some, None, refl, sym, ap, ap₂, ◌∙◌, subst, arith}
+use Rattle.std.specs.Prelude.{nat_eq, nat_le, ◌&&◌, ◌||◌, not, if◌then◌else◌, map, take, drop, length, slice_get, option_map}
+use Rattle.std.proofs.lemmas.Bool.{and_parts, and_from, eqb-true, eq-eqb, not-true}
+use Rattle.nim_types.specs.Types as type
+use Rattle.nim_types.specs.Types.{Ty, Facts, same}
+use Rattle.nim_types.specs.Forms as form
+use Rattle.nim_types.specs.Forms.{Form, HasForm, of_int, hooked}
+use Rattle.nim_types.specs.Table.{type_at as type_by_number}
+use Rattle.nim_types.proofs.ForCallers.{same_sound, same_refl, the_form}
+use Rattle.nim_plan.specs.declared.plan.Plan.{Plan}
+use Rattle.nim_program.specs.declared.expr.Node.{Node}
+use Rattle.nim_program.specs.declared.operation.Use.TheVariants.{Given}
+use Rattle.nim_program.specs.declared.program.HookOf.{HookOf}
+use Rattle.nim_program.specs.declared.program.Mode.{Mode}
+use Rattle.nim_program.specs.Program.{Literal, Number, Characters, NoObject, PartsOf, ElementsOf, Expr, Args, NoArg, ByValue, ByPath, Declared, Param, Body, Proc, Program, type_of}
+use Rattle.nim_program.specs.Program.{Stmt, Stmts, Empty, Then, Declare, Defer}
+use Rattle.nim_program.specs.Folds.{AtDeclare, lists, total, totals, total_in, total_of, own_places, if_declared}
+use Rattle.nim_program.specs.Kinds.{is_among_types, is_constant, is_of, is_there, same_value, are_among_types, are_declared}
+use Rattle.nim_program.specs.Numbering.{is_numbered, is_numbered_if, are_numbered, is_numbered_program}
+use Rattle.nim_program.specs.Scopes.{Placed, placed, Here, look}
+use Rattle.nim_program.specs.Sizes.{is_global as is_global_number}
+use Rattle.nim_program.specs.Typed.{own_types, place_types, param_declared, body_types, type_of_place, are_held, dest_of, before, is_typed_body, is_typed_if, hook_fits, is_typed_proc}
+use Rattle.nim_program.specs.Typed.{are_typed_procs, is_typed_start, is_typed_program, IsTyped, procedure, module_code, is_typed_stmt, is_typed_block, is_typed_code, is_empty, are_typed, starts, is_next}
+use Rattle.nim_meaning.specs.LeftOut.{out_if, ◌or_then◌, left_out_in_args, left_out_in_stmt, left_out_in_block, left_out_in_head, left_out_in_body, left_out_in_proc, left_out_in_procs}
+use Rattle.nim_meaning.specs.LeftOut.{first_left_out, first_of, IsPlain}
+use Rattle.nim_meaning.specs.Here.{is_hooked}
+use Rattle.nim_meaning.specs.Values.{literal_value}
+use Rattle.flat_code.specs.declared.code.CodeProc.{CodeProc}
+use Rattle.flat_code.specs.declared.line.Line.{Line}
+use Rattle.flat_code.specs.declared.line.Line.TheVariants as L
+use Rattle.flat_code.specs.declared.place.FlatPlace.{FlatPlace}
+use Rattle.flat_code.specs.declared.place.PlaceKind.TheVariants as K
+use Rattle.flat_code.specs.Codes.{flat_plain}
+use Rattle.flat_code.specs.Fits.{Signature, signature_of, is_global, is_own, is_declared, place_named, if_type_of, has_lines_for, start_places, in_order, signatures, proc_fits, each_fits, code_fits}
+use Rattle.flat_code.specs.Fits.{are_none, params_at, results_at, all_fit}
+use Rattle.flat_code.specs.Running.{before_last}
+use Rattle.flat_code.specs.Scene.{Known}
+use Rattle.flat_code.specs.Shapes.{shape_of, has_shape}
+use Rattle.flat_code.proofs.ForCallers.{AreSorted, free_of, constant_shape, text_shape}
+use Rattle.flattening.specs.Flattened.{known_of, modes_of}
+use Rattle.flattening.specs.Formed.{IsListed}
+use Rattle.flattening.specs.Given.{flat_body, flat_proc, flat_procs}
+use Rattle.flattening.specs.Numbering.{type_number, widths, width_in, width_of}
+use Rattle.flattening.specs.Places.{kind_of_declared, of_declared, own_declared, block_places, body_places}
+use Rattle.flattening.specs.StmtLines.{number_of, outermost, returned, lines_of, body_lines}
+use Rattle.flattening.proofs.Bodies.{puts_no_loop}
+use Rattle.flattening.proofs.DeclaredGlobals.{BodyListed, body_listed, Found, globals_in}
+use Rattle.flattening.proofs.Direct.{is_text}
+use Rattle.flattening.proofs.Fit.{Fit, fit_none, fit_line, ◌>>◌}
+use Rattle.flattening.proofs.FitBlocks as blocks
+use Rattle.flattening.proofs.FitBodies as bodies
+use Rattle.flattening.proofs.FitBodies.{look_each, each_placed}
+use Rattle.flattening.proofs.FitParts.{never, of_same, value_same, takes_of}
+use Rattle.flattening.proofs.FitParts as parts
+use Rattle.flattening.proofs.FitStmts as stmts
+use Rattle.flattening.proofs.Listed.{all_listed}
+use Rattle.flattening.proofs.Numbered.{Owns, owns_first, owns_second}
+use Rattle.flattening.proofs.PlaceNumbers.{stmt_numbers, block_numbers}
+use Rattle.flattening.proofs.Parts.{Each, apart}
+use Rattle.flattening.proofs.Plain.{neither, none_earlier}
+use Rattle.flattening.proofs.Puts as puts
+use Rattle.flattening.proofs.PutsStmts.{puts_stmts}
+
+none_mapped : (o : Option Node) → option_map (λ (node : Node). node.at) o ≡ None → o ≡ None
+none_mapped None e = refl
+none_mapped (Some node) e = cc
+
+one : {A : Type 0} {x y : A} → Some x ≡ Some y → x ≡ y
+one e = cc
+
+nothing : {A : Type 0} {B : Type 0} {x : A} → None ≡ Some x → B
+nothing e = cc
+
+-- ---- lists
+
+before_last_end : {A : Type 0} (xs : List A) (x : A) → before_last (xs ++ x ∷ []) ≡ xs
+before_last_end [] x = refl
+before_last_end (y ∷ []) x = refl
+before_last_end (y ∷ z ∷ xs) x = ap (λ ys. y ∷ ys) (before_last_end (z ∷ xs) x)
+
+pub start_end : (xs : List (CodeProc Line)) (x : CodeProc Line) → start_places (xs ++ x ∷ []) ≡ x.places
+start_end [] x = refl
+start_end (y ∷ []) x = refl
+start_end (y ∷ z ∷ xs) x = start_end (z ∷ xs) x
+
+map_twice : {A B C : Type 0} (g : B → C) (f : A → B) (xs : List A) → map g (map f xs) ≡ map (λ x. g (f x)) xs
+map_twice g f [] = refl
+map_twice g f (x ∷ xs) = ap (λ ys. g (f x) ∷ ys) (map_twice g f xs)
+
+pub map_same : (lines : List Line) → map flat_plain lines ≡ lines
+map_same [] = refl
+map_same (l ∷ lines) = ap (λ ls. l ∷ ls) (map_same lines)
+
+get_map : {A B : Type 0} (f : A → B) (xs : List A) (n : ℕ) (x : A) → slice_get xs n ≡ Some x → slice_get (map f xs) n ≡ Some (f x)
+get_map f [] n x e = nothing e
+get_map f (y ∷ xs) zero x e = ap (λ z. Some (f z)) (one e)
+get_map f (y ∷ xs) (suc n) x e = get_map f xs n x e
+
+some_for : (places : List FlatPlace) (lines : List Line) → puts.is_empty lines ≡ false → has_lines_for places lines ≡ true
+some_for [] lines h = refl
+some_for (p ∷ places) [] h = never (sym h)
+some_for (p ∷ places) (l ∷ lines) h = refl
+
+-- a type that has its own number is one of the table, or that of what has none
+listed_among : (types : List Ty) (ty : Ty) → IsListed types ty → (is_among_types types ty ≡ true) ⊎ (ty ≡ type.int)
+listed_among [] ty e = inr (sym e)
+listed_among (t ∷ ts) ty e = at (same t ty) refl e (listed_among ts ty)
+  where
+    or_true : (b : Bool) {c : Bool} → c ≡ true → b || c ≡ true
+    or_true true h = refl
+    or_true false h = h
+
+    at : (b : Bool) → same t ty ≡ b → type_by_number (t ∷ ts) (if b then zero else suc (type_number ts ty)) ≡ ty →
+        (IsListed ts ty → (is_among_types ts ty ≡ true) ⊎ (ty ≡ type.int)) → (is_among_types (t ∷ ts) ty ≡ true) ⊎ (ty ≡ type.int)
+    at true h e rest = inl (ap (λ b. b || is_among_types ts ty) (subst (λ u. same ty u ≡ true) (sym (same_sound t ty h)) (same_refl ty)))
+    at false h e rest = more (rest e)
+      where
+        more : (is_among_types ts ty ≡ true) ⊎ (ty ≡ type.int) → (is_among_types (t ∷ ts) ty ≡ true) ⊎ (ty ≡ type.int)
+        more (inl k) = inl (or_true (same ty t) k)
+        more (inr k) = inr k
+
+-- ---- a program
+
+module _ (program : Program) (plan : Plan) where
+  abbrev types : List Ty
+  types = program.types
+
+  abbrev facts : Facts
+  facts = program.facts
+
+  abbrev globals : List Placed
+  globals = map placed program.globals
+
+  abbrev known : Known
+  known = known_of program
+
+  abbrev modes : (proc position : ℕ) → Mode
+  modes = modes_of program plan
+
+  abbrev proc_of : Proc → CodeProc Line
+  proc_of p = flat_proc program plan p.hook p.params p.body
+
+  abbrev sig_of : Proc → Signature
+  sig_of p = signature_of known (proc_of p).places
+
+  abbrev sigs : List Signature
+  sigs = map sig_of program.procs
+
+  abbrev start : List FlatPlace
+  start = body_places types program.globals [] program.start
+
+  -- ---- bodies
+
+  abbrev whole_of : List Param → Body → List FlatPlace
+  whole_of params body = body_places types program.globals params body
+
+  held_all : (whole : List FlatPlace) (ds : List Declared) →
+      Each (λ (d : Declared). (if_type_of known (place_named is_own whole d.number) ≡ Some d.of) × (if_type_of known (place_named is_declared whole d.number) ≡ Some d.of)) ds →
+      Each (blocks.Held types facts program.procs globals sigs start whole) ds
+  held_all whole [] h = tt
+  held_all whole (d ∷ ds) h = (record { own = h.0.0; named = h.0.1 }, held_all whole ds h.1)
+
+  module _ (grounds : (whole : List FlatPlace) → parts.Grounds types facts program.procs globals sigs start whole) (found : Each (Found program) globals) where
+    module _ (params : List Param) (body : Body) (numbered : is_numbered params body ≡ true) (listed : BodyListed program params body) where
+      abbrev whole : List FlatPlace
+      whole = whole_of params body
+
+      abbrev head : List Placed
+      head = map placed (param_declared params ++ if_declared body.result)
+
+      sees : (filled : ℕ) → parts.Sees types facts program.procs globals sigs start whole filled head
+      sees filled = record {
+        local = λ n ty e. look_each (λ m. if_type_of known (place_named is_declared whole m)) head n ty
+            (each_placed (λ m. if_type_of known (place_named is_declared whole m)) (param_declared params ++ if_declared body.result)
+            (bodies.head_found types facts program.globals params body numbered listed.taken listed.given)) e;
+        global = λ n ty e. look_each (λ m. if_type_of known (place_named is_global start m)) globals n ty found (blocks.look_taken filled globals n ty e);
+      }
+
+      held : Each (blocks.Held types facts program.procs globals sigs start whole) (total_of lists own_places body.stmts)
+      held = held_all whole (total_of lists own_places body.stmts) (bodies.held types facts program.globals params body numbered listed.stmts)
+
+      exits_fit : stmts.ExitsFit types facts program.procs globals sigs start whole modes body.result (grounds whole) (outermost body.result)
+      exits_fit = record {
+        breaks = fit_none;
+        continues = fit_none;
+        returns = fit_line (L.Return (number_of body.result)) (bodies.returns types facts params body.result _ (bodies.others types facts program.globals params body));
+      }
+
+      -- a body whose lines fit
+      pub body_right : (hook : Option HookOf) → Fit (parts.around types facts program.procs globals sigs start whole)
+          (lines_of types modes body.result body.stmts (outermost body.result) 0) → proc_fits flat_plain known sigs start (flat_body program plan hook params body) ≡ true
+      body_right hook fit =
+          and_from _ _
+          (some_for whole (body_lines types modes body) ((puts_stmts types modes body.result body.stmts (outermost body.result) 0 (puts_no_loop body.result)).some
+          (returned body.result []) refl))
+          (and_from _ _ (bodies.ordered types facts program.globals params body numbered)
+          (ap (all_fit known sigs start whole) (map_same (body_lines types modes body))
+          ∙ fit.all (returned body.result []) (exits_fit.returns.all [] refl)))
+
+  -- ---- procedures by number
+
+  module _ (typed : are_typed_procs program program.procs ≡ true) (numbered : are_numbered program.procs ≡ true)
+      (plain : left_out_in_procs facts program.procs ≡ None) where
+    at_proc : (procs : List Proc) (n : ℕ) (proc : Proc) → slice_get procs n ≡ Some proc → are_typed_procs program procs ≡ true → is_typed_proc program proc ≡ true
+    at_proc [] n proc is h = nothing is
+    at_proc (q ∷ procs) zero proc is h = subst (λ q. is_typed_proc program q ≡ true) (one is) (and_parts (is_typed_proc program q) _ h).0
+    at_proc (q ∷ procs) (suc n) proc is h = at_proc procs n proc is (and_parts (is_typed_proc program q) _ h).1
+
+    typed_body : (p : Proc) (body : Body) → p.body ≡ Some body → is_typed_proc program p ≡ true → is_typed_body program (dest_of p.hook p.params) p.params p.gives body ≡ true
+    typed_body p body e h =
+        subst (λ b. is_typed_if program (dest_of p.hook p.params) p.params p.gives b ≡ true) e (and_parts (hook_fits program p.hook p.params p.gives) _ h).1
+
+    -- what it takes and gives
+    signed : (p : Proc) (body : Body) → p.body ≡ Some body → is_typed_proc program p ≡ true →
+        sig_of p ≡ record { takes = takes_of p.params; gives = p.gives }
+    signed p body e h =
+        let t = typed_body p body e h in
+        let q = and_parts (are_among_types types (body_types p.params body) && _) _ t in
+        let r = and_parts (are_among_types types (body_types p.params body)) _ q.0 in
+        let s = (and_parts (are_held facts (param_declared p.params ++ if_declared body.result)) (same_value (type_of_place body.result) p.gives)
+        (and_parts _ (nat_eq (before program body.first) (before program (body.first + body.places))) r.1).0).1 in
+        let l = body_listed program p.params body r.0 in
+        ap (λ b. signature_of known (flat_proc program plan p.hook p.params b).places) e
+        ∙ ap₂ (λ takes gives. record { takes = takes; gives = gives })
+        (bodies.takes types facts p.params body.result _ (bodies.others types facts program.globals p.params body) l.taken)
+        (bodies.gives types facts p.params body.result _ (bodies.others types facts program.globals p.params body) l.given
+        ∙ value_same (type_of_place body.result) p.gives s)
+
+  -- the result of a body gets what it gives
+  result_right : (whole : List FlatPlace) (result : Option Declared) (gives : Option Ty) → same_value (type_of_place result) gives ≡ true →
+      ((d : Declared) → result ≡ Some d → if_type_of known (place_named is_own whole d.number) ≡ Some d.of) →
+      (grounds : parts.Grounds types facts program.procs globals sigs start whole) →
+      stmts.ResultFits types facts program.procs globals sigs start whole modes result grounds result gives
+  result_right places None gives h own grounds = sym (value_same None gives h)
+  result_right places (Some d) gives h own grounds = (own d refl, sym (value_same (Some d.of) gives h))
+
+  result_listed : (result : Option Declared) (d : Declared) → result ≡ Some d → Each (λ (d : Declared). IsListed types d.of) (if_declared result) → IsListed types d.of
+  result_listed None d e h = nothing e
+  result_listed (Some c) d e h = subst (λ (c : Declared). IsListed types c.of) (one e) h.0
+
+  module _ (grounds : (whole : List FlatPlace) → parts.Grounds types facts program.procs globals sigs start whole) (found : Each (Found program) globals) where
+    -- a procedure
+    body_fits : (hook : Option HookOf) (dest : Option ℕ) (params : List Param) (gives : Option Ty) (body : Body) →
+        is_typed_body program dest params gives body ≡ true → is_numbered params body ≡ true → left_out_in_body facts params body ≡ None →
+        proc_fits flat_plain known sigs start (flat_body program plan hook params body) ≡ true
+    body_fits hook dest params gives body h numbered p =
+        let q = and_parts (are_among_types types (body_types params body) && _) _ h in
+        let r = and_parts (are_among_types types (body_types params body)) _ q.0 in
+        let s = (and_parts (are_held facts (param_declared params ++ if_declared body.result)) (same_value (type_of_place body.result) gives)
+        (and_parts _ (nat_eq (before program body.first) (before program (body.first + body.places))) r.1).0).1 in
+        let b = (and_parts (not (is_empty body.stmts)) _ q.1).1 in
+        let l = body_listed program params body r.0 in
+        let whole = whole_of params body in
+        body_right grounds found params body numbered l hook
+        (stmts.block_fits types facts program.procs globals sigs start whole modes body.result (grounds whole) (before program body.first)
+        (map placed (param_declared params ++ if_declared body.result)) dest (procedure gives) body.stmts (outermost body.result) 0
+        (sees grounds found params body numbered l (before program body.first))
+        (result_right whole body.result gives s
+        (λ d e. (bodies.result_found types facts program.globals params body numbered d e (result_listed body.result d e l.given)).0) (grounds whole))
+        (exits_fit grounds found params body numbered l)
+        (record {
+          typed = b;
+          plain = (neither (left_out_in_head facts (first_of body.stmts) (param_declared params ++ if_declared body.result)) (left_out_in_block facts body.stmts) p).1;
+          listed = l.stmts;
+          held = held grounds found params body numbered l;
+          owns = bodies.owned types facts program.globals params body (0 + width_of body.stmts);
+        }))
+
+    procs_fit : (procs : List Proc) → are_typed_procs program procs ≡ true → are_numbered procs ≡ true → left_out_in_procs facts procs ≡ None →
+        (more : List (CodeProc Line)) → each_fits flat_plain known sigs start more ≡ true → each_fits flat_plain known sigs start (map proc_of procs ++ more) ≡ true
+    procs_fit [] h k p more rest = rest
+    procs_fit (q ∷ procs) h k p more rest =
+        let t = and_parts (is_typed_proc program q) (are_typed_procs program procs) h in
+        let n = and_parts (is_numbered_if q.params q.body) (are_numbered procs) k in
+        let o = none_earlier (left_out_in_proc facts q.params q.body) (left_out_in_procs facts procs) p in
+        and_from _ _ (of_body q.body (and_parts (hook_fits program q.hook q.params q.gives) _ t.0).1 n.0 o.0) (procs_fit procs t.1 n.1 o.1 more rest)
+      where
+        of_body : (body : Option Body) → is_typed_if program (dest_of q.hook q.params) q.params q.gives body ≡ true → is_numbered_if q.params body ≡ true →
+            left_out_in_proc facts q.params body ≡ None → proc_fits flat_plain known sigs start (flat_proc program plan q.hook q.params body) ≡ true
+        of_body None h k p = refl
+        of_body (Some body) h k p = body_fits q.hook (dest_of q.hook q.params) q.params q.gives body h k p
+
+    -- ---- the code of modules
+
+    module _ (numbered : is_numbered [] program.start ≡ true) (listed : BodyListed program [] program.start) where
+      abbrev result : Option Declared
+      result = program.start.result
+
+      abbrev first_places : List Placed
+      first_places = map placed (if_declared result)
+
+      code_lines : (filled : ℕ) (b : Stmts) (t : ℕ) → stmts.ResultFits types facts program.procs globals sigs start start modes result (grounds start) result None →
+          is_typed_code (parts.seen types facts program.procs globals sigs start start filled first_places None) b ≡ true → left_out_in_block facts b ≡ None →
+          Each (IsListed types) (total_of lists own_types b) → Each (blocks.Held types facts program.procs globals sigs start start) (total_of lists own_places b) →
+          Owns start (block_places types b t) t t (t + width_of b) →
+          Fit (parts.around types facts program.procs globals sigs start start) (lines_of types modes result b (outermost result) t)
+      code_lines filled Empty t gives h p l d owns = fit_none
+      code_lines filled (Then first rest) t gives h p l d owns =
+          let seen = parts.seen types facts program.procs globals sigs start start filled first_places None in
+          let q = and_parts (is_typed_stmt seen module_code first) (is_typed_code seen rest) h in
+          let r = neither (left_out_in_stmt facts first) (left_out_in_block facts rest) p in
+          let m = apart (IsListed types) (total_in lists own_types first) (total_of lists own_types rest) l in
+          let e = apart (blocks.Held types facts program.procs globals sigs start start) (total_in lists own_places first) (total_of lists own_places rest) d in
+          stmts.stmt_fits types facts program.procs globals sigs start start modes result (grounds start) filled first_places None module_code first
+          (outermost result) t (sees grounds found [] program.start numbered listed filled) gives (exits_fit grounds found [] program.start numbered listed)
+          (record {
+            typed = q.0;
+            plain = r.0;
+            listed = m.0;
+            held = e.0;
+            owns = owns_first (t + width_in first) (t + width_in first + width_of rest) (omega arith) (block_numbers types rest (t + width_in first)) owns;
+          })
+          >> code_lines filled rest (t + width_in first) gives q.1 r.1 m.1 e.1
+          (owns_second t (t + width_in first) (t + width_in first + width_of rest) (omega arith) (omega arith) (omega arith) (stmt_numbers types first t) owns)
+      code_lines filled (Declare node place cursor value rest) t gives h p l d owns =
+          let seen = parts.seen types facts program.procs globals sigs start start filled first_places None in
+          let q = and_parts (is_next (slice_get globals filled) (placed place) && (starts facts place.of value && are_typed seen value)) _ h in
+          let r = and_parts (is_next (slice_get globals filled) (placed place)) (starts facts place.of value && are_typed seen value) q.0 in
+          let k = stmts.declared_known types facts program.procs globals sigs start start modes result (grounds start) filled first_places None
+          node place cursor value rest t (sees grounds found [] program.start numbered listed filled) r.1 p l d owns in
+          stmts.declared_fits types facts program.procs globals sigs start start modes result (grounds start) filled first_places None
+          (sees grounds found [] program.start numbered listed filled) node place cursor value rest (outermost result) t k
+          (λ u o. code_lines (suc filled) rest u gives q.1 k.rest_plain k.rest_listed k.rest_held o)
+      code_lines filled (Defer node last rest) t gives h p l d owns = never h
+
+  -- ---- constants
+
+  -- a type with a number has a form
+  listed_form : IsTyped program → (ty : Ty) → IsListed types ty → (f : Form) × HasForm facts ty f
+  listed_form typed ty e = by (listed_among types ty e)
+    where
+      by : (is_among_types types ty ≡ true) ⊎ (ty ≡ type.int) → (f : Form) × HasForm facts ty f
+      by (inl h) = typed.forms ty h
+      by (inr e) = (form.plain, subst (λ (t : Ty). HasForm facts t form.plain) (sym e) of_int)
+
+  free_constant : IsTyped program → AreSorted facts → (ty : Ty) (literal : Literal) → IsListed types ty → is_hooked facts ty ≡ false →
+      is_constant facts ty literal ≡ true → has_shape (literal_value literal) (shape_of facts ty) ≡ true
+  free_constant typed sorted ty literal e unhooked h =
+      let f = listed_form typed ty e in
+      constant_shape facts sorted f.1 (free_of facts sorted f.1 (sym (ap hooked (the_form f.1)) ∙ unhooked)) literal h
+
+  constants : IsTyped program → AreSorted facts → (ty : Ty) (literal : Literal) → IsListed types ty → is_text literal || not (is_hooked facts ty) ≡ true →
+      is_constant facts ty literal ≡ true → has_shape (literal_value literal) (shape_of facts ty) ≡ true
+  constants typed sorted ty (Characters bytes) e d h = text_shape facts sorted (listed_form typed ty e).1 bytes h
+  constants typed sorted ty (Number z) e d h = free_constant typed sorted ty (Number z) e (not-true (is_hooked facts ty) d) h
+  constants typed sorted ty NoObject e d h = free_constant typed sorted ty NoObject e (not-true (is_hooked facts ty) d) h
+  constants typed sorted ty (PartsOf all) e d h = free_constant typed sorted ty (PartsOf all) e (not-true (is_hooked facts ty) d) h
+  constants typed sorted ty (ElementsOf all) e d h = free_constant typed sorted ty (ElementsOf all) e (not-true (is_hooked facts ty) d) h
+
+  -- ---- the whole
+
+  start_right : (result : Option Declared) → not (is_there (type_of_place result)) ≡ true → result ≡ None
+  start_right None h = refl
+  start_right (Some d) h = never h
+
+  start_none : (result : Option Declared) → result ≡ None → (params_at start ++ results_at start ≡ map (λ (d : Declared). d.number) (if_declared result)) →
+      are_none (params_at start ++ results_at start) ≡ true
+  start_none None e h = ap are_none h
+  start_none (Some d) e h = nothing (sym e)
+
+  pub program_fits : IsTyped program → is_numbered_program program ≡ true → IsPlain program →
+      AreSorted facts → code_fits flat_plain known (flat_procs program plan) ≡ true
+  program_fits typed numbered plain sorted =
+      let t = and_parts (are_typed_procs program program.procs) (is_typed_start program program.start)
+      (and_parts (are_declared facts types) _ typed.typed).1 in
+      let k = and_parts (are_numbered program.procs) (is_numbered [] program.start) numbered in
+      let p = none_earlier (left_out_in_procs facts program.procs) (left_out_in_body facts [] program.start) (none_mapped _ plain) in
+      let s = and_parts (are_among_types types (body_types [] program.start) && not (is_there (type_of_place program.start.result))) _ t.1 in
+      let a = and_parts (are_among_types types (body_types [] program.start)) (not (is_there (type_of_place program.start.result))) s.0 in
+      let l = body_listed program [] program.start a.0 in
+      let none = start_right program.start.result a.1 in
+      let grounds : (whole : List FlatPlace) → parts.Grounds types facts program.procs globals sigs start whole = λ whole. record {
+        calls = λ n q body is has.
+            get_map sig_of program.procs n q is ∙ ap Some (signed t.0 k.0 p.0 q body has (at_proc t.0 k.0 p.0 program.procs n q is t.0));
+        constants = constants typed sorted;
+      } in
+      let found = globals_in program typed numbered in
+      let first = flat_body program plan None [] program.start in
+      let begins = body_right grounds found [] program.start k.1 l None
+      (code_lines grounds found k.1 l 0 program.start.stmts 0
+      (result_right start program.start.result None (ap (λ o. same_value (type_of_place o) None) none)
+      (λ d e. (bodies.result_found types facts program.globals [] program.start k.1 d e (result_listed program.start.result d e l.given)).0) (grounds start))
+      s.1 (neither (left_out_in_head facts (first_of program.start.stmts) (if_declared program.start.result)) (left_out_in_block facts program.start.stmts) p.1).1
+      l.stmts (held grounds found [] program.start k.1 l) (bodies.owned types facts program.globals [] program.start (0 + width_of program.start.stmts))) in
+      let procs = procs_fit grounds found program.procs t.0 k.0 p.0 (first ∷ []) (and_from _ _ begins refl) in
+      let places : start_places (flat_procs program plan) ≡ start = start_end (map proc_of program.procs) first in
+      let signed_all : signatures flat_plain known (before_last (flat_procs program plan)) ≡ sigs =
+      ap (signatures flat_plain known) (before_last_end (map proc_of program.procs) first)
+      ∙ map_twice (λ (q : CodeProc Line). signature_of known q.places) proc_of program.procs in
+      and_from _ _
+      (ap (λ ps. are_none (params_at ps ++ results_at ps)) places
+      ∙ start_none program.start.result none
+      (bodies.head_numbers types [] program.start.result _ (bodies.others types facts program.globals [] program.start)))
+      (ap₂ (λ signed ps. each_fits flat_plain known signed ps (flat_procs program plan)) signed_all places ∙ procs)

@@ -1,0 +1,313 @@
+-- Statements that may be left: where control goes on, and how statements are put together.
+use Rattle.std.proofs.Common.{◌≡◌, ℕ, zero, suc, ◌+◌, ◌*◌, ◌<◌, ◌≤◌, inl, inr, Bool, true, false, List, ◌∷◌, Some, refl, sym, ◌∙◌, subst, arith}
+use Rattle.arc_base.specs.Event.{Event}
+use Rattle.arc_base.specs.BigStep.{Meter, Res, Got, Over, Going, Errs as IsWrong, then_do, spend, Turn, Again, Leave}
+use Rattle.nim_program.specs.Program.{Declared}
+use Rattle.nim_meaning.specs.Values.{Slot}
+use Rattle.nim_meaning.specs.State.{World, State, slot_at}
+use Rattle.nim_meaning.specs.Deeds.{Opens, changed}
+use Rattle.nim_meaning.specs.Here.{Here}
+use Rattle.nim_meaning.specs.Acts.{Broke, Continued, Returned, Raised, Way, Flow, On, Out}
+use Rattle.nim_meaning.specs.Acts.{Does, onward, worked, exit_of, as_before, ◌>>◌, loop, turn_of, next}
+use Rattle.nim_meaning.specs.Meaning.{ends}
+use Rattle.flat_code.specs.declared.line.Line.{Line}
+use Rattle.flat_code.specs.declared.line.Line.TheVariants as L
+use Rattle.flat_code.specs.Scene.{Temps}
+use Rattle.flat_code.specs.Lines.{level_at, is_there}
+use Rattle.flattening.specs.declared.numbers.Purpose.TheVariants.{End, Next}
+use Rattle.flattening.specs.Numbering.{label}
+use Rattle.flattening.specs.StmtLines.{Exits, in_loop, number_of}
+use Rattle.flattening.specs.Formed.{Scope, With}
+use Rattle.flattening.proofs.Runs.{M, Runs, Walks, walks_none, walks_spared, pays, lands, behind, follows_on, Turned, follows_turns}
+use Rattle.flattening.proofs.Worlds.{Since, since_then, since_slot, is_opened}
+use Rattle.flattening.proofs.Temps.{Kept, kept_then, kept_wide}
+use Rattle.flattening.proofs.Puts.{Puts, found}
+use Rattle.flattening.proofs.PutsStmts.{PutsExits, puts_in_loop}
+use Rattle.flattening.proofs.Spots.{Spot, there, At, weaker, do_assoc}
+use Rattle.flattening.proofs.Standing.{grounded, Stands, stands_since}
+
+-- ---- what is around a statement
+
+-- the labels to which its ways out lead, and the lines from these on
+pub record Around (c : Spot) (exits : Exits) (inside : Bool) : Type 0 where
+  pub break_at : ℕ
+  pub continue_at : ℕ
+  pub break_to : List Line
+  pub continue_to : List Line
+  pub breaks : inside ≡ true → (k : List Line) → exits.breaks k ≡ L.Jump break_at ∷ k
+  pub continues : inside ≡ true → (k : List Line) → exits.continues k ≡ L.Jump continue_at ∷ k
+  pub returns : (k : List Line) → exits.returns k ≡ L.Return (number_of c.result) ∷ k
+  pub puts : PutsExits exits
+
+-- They are found among the lines that are left, and are none of those of the numbers from t on.
+pub record Reaches {c : Spot} {exits : Exits} {inside : Bool} (around : Around c exits inside) (t : ℕ) (k : List Line) : Type 0 where
+  pub breaks : inside ≡ true → found around.break_at k ≡ Some around.break_to
+  pub continues : inside ≡ true → found around.continue_at k ≡ Some around.continue_to
+  pub break_before : inside ≡ true → around.break_at < 4 * t
+  pub continue_before : inside ≡ true → around.continue_at < 4 * t
+
+-- with more lines of one's own in front
+pub reaches : {c : Spot} {exits : Exits} {inside : Bool} {around : Around c exits inside} {t t' lo hi : ℕ} {F : List Line → List Line} {k : List Line} →
+    t ≤ t' →
+    4 * t ≤ lo → Puts lo hi F → Reaches around t k → Reaches around t' (F k)
+reaches {c} {exits} {inside} {around} {t} {t'} {lo} {hi} {F} {k} le low puts r = record {
+  breaks = λ is. puts.skips around.break_at k (λ from. absurd (omega (arith, from, low, r.break_before is))) ∙ r.breaks is;
+  continues = λ is. puts.skips around.continue_at k (λ from. absurd (omega (arith, from, low, r.continue_before is))) ∙ r.continues is;
+  break_before = λ is. omega (arith, r.break_before is, le);
+  continue_before = λ is. omega (arith, r.continue_before is, le);
+}
+
+pub reaches_later : {c : Spot} {exits : Exits} {inside : Bool} {around : Around c exits inside} {t t' : ℕ} {k : List Line} → t ≤ t' → Reaches around t k →
+    Reaches around t' k
+reaches_later le r = record {
+  breaks = r.breaks;
+  continues = r.continues;
+  break_before = λ is. omega (arith, r.break_before is, le);
+  continue_before = λ is. omega (arith, r.continue_before is, le);
+}
+
+-- A label of a number from t on is found among all lines where it is found among these.
+pub record Leads (c : Spot) (t : ℕ) (k : List Line) : Type 0 where
+  pub all : (name : ℕ) → 4 * t ≤ name → found name c.whole ≡ found name k
+
+pub leads_on : {c : Spot} {t t' lo hi : ℕ} {F : List Line → List Line} {k : List Line} → t ≤ t' → hi ≤ 4 * t' → Puts lo hi F → Leads c t (F k) → Leads c t' k
+leads_on {c} {t} {t'} {lo} {hi} {F} {k} le high puts l =
+    record { all = λ name from. l.all name (omega (arith, from, le)) ∙ puts.skips name k (λ _. omega (arith, from, high)) }
+
+-- ---- what a statement comes to
+
+-- where control leaves, the machine stands before the lines that the way leads to
+abbrev pub Gone : (c : Spot) → {exits : Exits} → {inside : Bool} → Around c exits inside → (lo hi : ℕ) → Temps → World → Way → State → M → Type 0
+Gone c around lo hi temps world (Broke by) b m = At c around.break_to lo hi temps world (λ now. Unit {0}) b.world m
+Gone c around lo hi temps world (Continued by) b m = At c around.continue_to lo hi temps world (λ now. Unit {0}) b.world m
+Gone c around lo hi temps world (Returned by) b m =
+    (k : List Line) × At c (L.Return (number_of c.result) ∷ k) lo hi temps world (λ now. Unit {0}) b.world m
+Gone c around lo hi temps world (Raised exception by) b m = ⊥
+
+abbrev pub Left : (c : Spot) → {exits : Exits} → {inside : Bool} → Around c exits inside → (k : List Line) → (lo hi : ℕ) → Temps → World → Flow (Unit {0}) →
+    State →
+    M → Type 0
+Left c around k lo hi temps world (On done) b m = At c k lo hi temps world (λ now. Unit {0}) b.world m
+Left c around k lo hi temps world (Out way) b m = Gone c around lo hi temps world way b m
+
+-- ---- seen from further out, and from before
+
+at_out : (c : Spot) (k : List Line) (lo hi lo' hi' : ℕ) (temps now : Temps) (world mid new : World) (m : M) → lo ≤ lo' → hi' ≤ hi → Kept lo hi temps now →
+    Since c.level world mid → At c k lo' hi' now mid (λ now. Unit {0}) new m → At c k lo hi temps world (λ now. Unit {0}) new m
+at_out c k lo hi lo' hi' temps now world mid new m low high kept since g = record {
+  now = g.now;
+  is = g.is;
+  has = tt;
+  kept = kept_then kept (kept_wide low high g.kept);
+  since = since_then since g.since;
+}
+
+module _ (c : Spot) {exits : Exits} {inside : Bool} (around : Around c exits inside) where
+  gone_out : (lo hi lo' hi' : ℕ) (temps now : Temps) (world mid : World) (way : Way) (b : State) (m : M) → lo ≤ lo' → hi' ≤ hi → Kept lo hi temps now →
+      Since c.level world mid → Gone c around lo' hi' now mid way b m → Gone c around lo hi temps world way b m
+  gone_out lo hi lo' hi' temps now world mid (Broke by) b m low high kept since g =
+      at_out c _ lo hi lo' hi' temps now world mid b.world m low high kept since g
+  gone_out lo hi lo' hi' temps now world mid (Continued by) b m low high kept since g =
+      at_out c _ lo hi lo' hi' temps now world mid b.world m low high kept since g
+  gone_out lo hi lo' hi' temps now world mid (Returned by) b m low high kept since g =
+      (g.0, at_out c _ lo hi lo' hi' temps now world mid b.world m low high kept since g.1)
+  gone_out lo hi lo' hi' temps now world mid (Raised exception by) b m low high kept since g = absurd g
+
+  left_out : (k : List Line) (lo hi lo' hi' : ℕ) (temps now : Temps) (world mid : World) (flow : Flow (Unit {0})) (b : State) (m : M) → lo ≤ lo' → hi' ≤ hi →
+      Kept lo hi temps now → Since c.level world mid → Left c around k lo' hi' now mid flow b m → Left c around k lo hi temps world flow b m
+  left_out k lo hi lo' hi' temps now world mid (On done) b m low high kept since g =
+      at_out c k lo hi lo' hi' temps now world mid b.world m low high kept since g
+  left_out k lo hi lo' hi' temps now world mid (Out way) b m low high kept since g = gone_out lo hi lo' hi' temps now world mid way b m low high kept since g
+
+  -- work of the meaning changes nothing of it
+  gone_worked : (lo hi : ℕ) (temps : Temps) (world : World) (way : Way) (b : State) (m : M) (n : ℕ) → Gone c around lo hi temps world way b m →
+      Gone c around lo hi temps world way (worked n b) m
+  gone_worked lo hi temps world (Broke by) b m n g = g
+  gone_worked lo hi temps world (Continued by) b m n g = g
+  gone_worked lo hi temps world (Returned by) b m n g = g
+  gone_worked lo hi temps world (Raised exception by) b m n g = g
+
+module _ (c : Spot) {exits : Exits} {inside : Bool} (around : Around c exits inside) where
+  pub further_left : {k : List Line} {lo hi lo' hi' : ℕ} {temps now : Temps} {world mid : World} {p q : ℕ} {m : M} {a : Meter Event}
+      {r : Res State (Flow (Unit {0}))} → lo ≤ lo' → hi' ≤ hi → Kept lo hi temps now → Since c.level world mid →
+      Runs c.fixed (Left c around k lo' hi' now mid) p q m a r → Runs c.fixed (Left c around k lo hi temps world) p q m a r
+  further_left {k} {lo} {hi} {lo'} {hi'} {temps} {now} {world} {mid} low high kept since f =
+      weaker c f (λ flow b m g. left_out c around k lo hi lo' hi' temps now world mid flow b m low high kept since g)
+
+  -- ---- one statement after another
+
+  pub sequel : {k k1 : List Line} {lo hi lo' hi' : ℕ} {temps now : Temps} {world mid : World} {have p q Q : ℕ} {m : M} {a : Meter Event}
+      {r : Res State (Flow (Unit {0}))} (go : Unit {0} → Does (Unit {0})) (p' : ℕ) → p ≤ have → p + p' ≤ have + q → Q ≤ p' → lo ≤ lo' → hi' ≤ hi →
+      Kept lo hi temps now → Since c.level world mid → Runs c.fixed (Left c around k1 lo' hi' now mid) p q m a r →
+      ((b : State) (last : Temps) → Kept lo' hi' now last → Since c.level mid b.world →
+      Runs c.fixed (Left c around k lo hi temps world) p' Q (there c k1 last b.world) b.meter (go tt b)) →
+      Runs c.fixed (Left c around k lo hi temps world) have Q m a (then_do r (onward go))
+  sequel {k} {k1} {lo} {hi} {lo'} {hi'} {temps} {now} {world} {mid} {have} {p} {q} {Q} {m} {a} {r} go p' less le enough low high kept since f more =
+      follows_on p' (onward go) less le f (λ flow b m1 falls g. on flow b m1 g)
+    where
+      on : (flow : Flow (Unit {0})) (b : State) (m1 : M) → Left c around k1 lo' hi' now mid flow b m1 →
+          Runs c.fixed (Left c around k lo hi temps world) p' Q m1 b.meter (onward go flow b)
+      on (On done) b m1 g =
+          subst (λ m. Runs c.fixed (Left c around k lo hi temps world) p' Q m b.meter (go tt b)) (sym g.is) (more b g.now g.kept g.since)
+      on (Out way) b m1 g = lands (Out way) b enough (gone_out c around lo hi lo' hi' temps now world mid way b m1 low high kept since g)
+
+  -- the same ways out, with the machine brought on where it isn't left
+  pub rejoin : {k k1 : List Line} {lo hi lo' hi' : ℕ} {temps now : Temps} {world mid : World} {have p q Q : ℕ} {m : M} {a : Meter Event}
+      {r : Res State (Flow (Unit {0}))} (p' : ℕ) → p ≤ have → p + p' ≤ have + q → Q ≤ p' → lo ≤ lo' → hi' ≤ hi → Kept lo hi temps now →
+      Since c.level world mid →
+      Runs c.fixed (Left c around k1 lo' hi' now mid) p q m a r →
+      ((b : State) (last : Temps) → Kept lo hi temps last → Since c.level world b.world →
+      Runs c.fixed (Left c around k lo hi temps world) p' Q (there c k1 last b.world) b.meter (Got (On tt) b)) →
+      Runs c.fixed (Left c around k lo hi temps world) have Q m a r
+  rejoin {k} {k1} {lo} {hi} {lo'} {hi'} {temps} {now} {world} {mid} {have} {p} {q} {Q} {m} {a} {r} p' less le enough low high kept since f more =
+      subst (λ r. Runs c.fixed (Left c around k lo hi temps world) have Q m a r) (as_it_was r)
+      (sequel (λ u s. Got (On tt) s) p' less le enough low high kept since f
+      (λ b last kept2 since2. more b last (kept_then kept (kept_wide low high kept2)) (since_then since since2)))
+    where
+      as_it_was : (r : Res State (Flow (Unit {0}))) → then_do r (onward (λ u s. Got (On tt) s)) ≡ r
+      as_it_was (Got (On done) s) = refl
+      as_it_was (Got (Out way) s) = refl
+      as_it_was (Over status live s) = refl
+      as_it_was (Going s) = refl
+      as_it_was (IsWrong s) = refl
+
+  -- behind its last line
+  pub stays : {k : List Line} {lo hi : ℕ} {temps : Temps} {world : World} {p q : ℕ} (b : State) (now : Temps) → q ≤ p → Kept lo hi temps now →
+      Since c.level world b.world → Runs c.fixed (Left c around k lo hi temps world) p q (there c k now b.world) b.meter (Got (On tt) b)
+  stays b now le kept since = lands (On tt) b le (record { now = now; is = refl; has = tt; kept = kept; since = since })
+
+  -- the end of a scope has no line
+  pub scope_closes : {k : List Line} {lo hi : ℕ} {temps : Temps} {world : World} {p q : ℕ} {m : M} {a : Meter Event} {r : Res State (Flow (Unit {0}))}
+      (here : Here) (place : Declared) (last : ℕ) → Runs c.fixed (Left c around k lo hi temps world) p q m a r →
+      Runs c.fixed (Left c around k lo hi temps world) p q m a (then_do r (λ flow. ends here place (exit_of last flow) >> as_before flow))
+  scope_closes {k} {lo} {hi} {temps} {world} {p} {q} {m} {a} {r} here place last f =
+      follows_on q (λ flow. ends here place (exit_of last flow) >> as_before flow) (omega arith) (omega arith) f (λ flow b m1 falls g. on flow b m1 g)
+    where
+      on : (flow : Flow (Unit {0})) (b : State) (m1 : M) → Left c around k lo hi temps world flow b m1 →
+          Runs c.fixed (Left c around k lo hi temps world) q q m1 b.meter ((ends here place (exit_of last flow) >> as_before flow) b)
+      on (On done) b m1 g = pays q 1 (omega arith) (lands (On done) (worked 1 b) (omega arith) g)
+      on (Out way) b m1 g = pays q 1 (omega arith) (lands (Out way) (worked 1 b) (omega arith) (gone_worked c around lo hi temps world way b m1 1 g))
+
+-- ---- places that are declared
+
+pub stands_with : {c : Spot} {room : ℕ → Type 0} {Open : Scope} {world : World} (top : Bool) (names : (proc place : ℕ) → Type 0) (n : ℕ) (slot : Slot) →
+    (top ≡ true → c.level ≡ 0) → room n → Stands c room Open world →
+    Stands c room (With (grounded c top room names) Open n) (changed (Opens c.level n slot) world)
+stands_with {c} {room} {Open} {world} top names n slot first is h =
+    let new = changed (Opens c.level n slot) world in
+    let since = since_slot c.level world c.level n slot in
+    let later = stands_since h since in
+    let opened = is_opened world c.level n slot (h.room_is n is) (omega (arith, h.framed)) in
+    record { framed = later.framed; open_is = on later opened; room_is = later.room_is }
+  where
+    on : Stands c room Open (changed (Opens c.level n slot) world) → is_there (slot_at (changed (Opens c.level n slot) world) c.level n) ≡ true →
+        (global : Bool) (place : ℕ) →
+        With (grounded c top room names) Open n global place → is_there (slot_at (changed (Opens c.level n slot) world) (level_at global c.level) place)
+        ≡ true
+    on later opened global place (inl was) = later.open_is global place was
+    on later opened false place (inr (e, own)) =
+        subst (λ p. is_there (slot_at (changed (Opens c.level n slot) world) c.level p) ≡ true) (sym e) opened
+    on later opened true place (inr (e, own)) =
+        subst (λ p. is_there (slot_at (changed (Opens c.level n slot) world) 0 p) ≡ true) (sym e)
+        (subst (λ l. is_there (slot_at (changed (Opens c.level n slot) world) l n) ≡ true) (first own) opened)
+
+-- ---- loops
+
+-- some lines lead behind a loop, where its end stands
+pub record ExitsAt (c : Spot) (ending : List Line) (lo hi : ℕ) (temps : Temps) (world new : World) (meter : Meter Event) (m : M) : Type 0 where
+  pub now : Temps
+  pub walks : Walks c.fixed 2 0 m meter (there c ending now new) meter
+  pub kept : Kept lo hi temps now
+  pub since : Since c.level world new
+
+-- behind the last turn
+abbrev pub Looped : (c : Spot) → {exits : Exits} → {inside : Bool} → Around c exits inside → (ending : List Line) → (lo hi : ℕ) → Temps → World →
+    Flow (Unit {0}) → State → M → Type 0
+Looped c around ending lo hi temps world (On done) b m = ExitsAt c ending lo hi temps world b.world b.meter m
+Looped c around ending lo hi temps world (Out (Broke by)) b m = ⊥
+Looped c around ending lo hi temps world (Out (Continued by)) b m = ⊥
+Looped c around ending lo hi temps world (Out (Returned by)) b m = Gone c around lo hi temps world (Returned by) b m
+Looped c around ending lo hi temps world (Out (Raised exception by)) b m = ⊥
+
+-- what is around the body of a loop
+abbrev pub inner : {c : Spot} → {exits : Exits} → {inside : Bool} → Around c exits inside → (t : ℕ) → (ending next : List Line) → Around c
+    (in_loop exits t) true
+inner {exits = exits} around t ending next = record {
+  break_at = label End t;
+  continue_at = label Next t;
+  break_to = ending;
+  continue_to = next;
+  breaks = λ is k. refl;
+  continues = λ is k. refl;
+  returns = around.returns;
+  puts = puts_in_loop exits t around.puts;
+}
+
+pub spend_then : {A B : Type 0} (u : ℕ) (s : State) (r : ℕ → Res State A) (f : A → State → Res State B) → then_do (spend u s r) f ≡ spend u s
+    (λ n. then_do (r n) f)
+spend_then zero s r f = refl
+spend_then (suc n) s r f = refl
+
+module _ (c : Spot) {exits : Exits} {inside : Bool} (around : Around c exits inside) (t : ℕ) (ending next_lines : List Line) (lo hi : ℕ) (temps : Temps)
+    (world : World) {X : Type 0} (Inv : X → State → M → Type 0) where
+  pub runs_loop : (q : ℕ) (turn : X → Does (Turn X (Unit {0}))) →
+      ((x : X) (b : State) (m : M) → Inv x b m →
+      Runs c.fixed (Turned Inv (Looped c around ending lo hi temps world) b.meter.units) q q m b.meter (then_do (turn x b) turn_of)) →
+      (x : X) (b : State) (m : M) → Inv x b m → Runs c.fixed (Looped c around ending lo hi temps world) q q m b.meter (loop turn x b)
+  runs_loop q turn h x b m i =
+      follows_turns Inv (Looped c around ending lo hi temps world) q (λ x s. then_do (turn x s) turn_of) h (suc b.meter.units) x b m (omega arith) i
+
+  -- behind the body of a turn: at the next one, or behind the loop
+  pub body_ends : {lo' hi' : ℕ} {now : Temps} {mid : World} {p q Q : ℕ} {m : M} {a : Meter Event} {r : Res State (Flow (Unit {0}))} (x : X) (u : ℕ) → Q ≤ q →
+      a.units < u → lo ≤ lo' → hi' ≤ hi → Kept lo hi temps now → Since c.level world mid →
+      Runs c.fixed (Left c (inner around t ending next_lines) next_lines lo' hi' now mid) p q m a r →
+      ((b : State) (last : Temps) → b.meter.units < u → Kept lo' hi' now last → Since c.level mid b.world →
+      Runs c.fixed (Turned Inv (Looped c around ending lo hi temps world) u) q Q (there c next_lines last b.world) b.meter (Got (Again x) b)) →
+      Runs c.fixed (Turned Inv (Looped c around ending lo hi temps world) u) p Q m a (then_do (then_do r (next x)) turn_of)
+  body_ends {lo'} {hi'} {now} {mid} {p} {q} {Q} {m} {a} {r} x u enough less low high kept since f more =
+      subst (λ r. Runs c.fixed (Turned Inv (Looped c around ending lo hi temps world) u) p Q m a r) (sym (do_assoc r (next x) turn_of))
+      (follows_on q (λ flow s. then_do (next x flow s) turn_of) (omega arith) (omega arith) f
+      (λ flow b m1 falls g. on flow b m1 (omega (arith, falls, less)) g))
+    where
+      on : (flow : Flow (Unit {0})) (b : State) (m1 : M) → b.meter.units < u → Left c
+          (inner around t ending next_lines) next_lines lo' hi' now mid flow b m1 →
+          Runs c.fixed (Turned Inv (Looped c around ending lo hi temps world) u) q Q m1 b.meter (then_do (next x flow b) turn_of)
+      on (On done) b m1 few g =
+          subst (λ m. Runs c.fixed (Turned Inv (Looped c around ending lo hi temps world) u) q Q m b.meter (Got (Again x) b)) (sym g.is)
+          (more b g.now few g.kept g.since)
+      on (Out (Continued by)) b m1 few g =
+          subst (λ m. Runs c.fixed (Turned Inv (Looped c around ending lo hi temps world) u) q Q m b.meter (Got (Again x) b)) (sym g.is)
+          (more b g.now few g.kept g.since)
+      on (Out (Broke by)) b m1 few g =
+          let w : Walks c.fixed 2 0 m1 b.meter (there c ending g.now b.world) b.meter =
+          subst (λ m. Walks c.fixed 2 0 m b.meter (there c ending g.now b.world) b.meter) (sym g.is)
+          (walks_spared (omega arith) (walks_none 0 (there c ending g.now b.world) b.meter)) in
+          lands (Leave (On tt)) b enough
+          (record { now = g.now; walks = w; kept = kept_then kept (kept_wide low high g.kept); since = since_then since g.since })
+      on (Out (Returned by)) b m1 few g =
+          lands (Leave (Out (Returned by))) b enough (gone_out c around lo hi lo' hi' temps now world mid (Returned by) b m1 low high kept since g)
+      on (Out (Raised exception by)) b m1 few g = absurd g
+
+  -- behind the loop
+  pub loop_ends : {k : List Line} {p q Q : ℕ} {m : M} {a : Meter Event} {r : Res State (Flow (Unit {0}))} → Q + 3 ≤ q →
+      Runs c.fixed (Looped c around ending lo hi temps world) p q m a r →
+      ((b : State) (last : Temps) → Kept lo hi temps last → Since c.level world b.world →
+      Runs c.fixed (Left c around k lo hi temps world) (suc Q) Q (there c ending last b.world) b.meter (Got (On tt) b)) →
+      Runs c.fixed (Left c around k lo hi temps world) p Q m a r
+  loop_ends {k} {p} {q} {Q} {m} {a} {r} le f more =
+      subst (λ r. Runs c.fixed (Left c around k lo hi temps world) p Q m a r) (as_it_was r)
+      (follows_on q (λ flow s. Got flow s) (omega arith) (omega arith) f (λ flow b m1 falls g. on flow b m1 g))
+    where
+      as_it_was : (r : Res State (Flow (Unit {0}))) → then_do r (λ flow s. Got flow s) ≡ r
+      as_it_was (Got flow s) = refl
+      as_it_was (Over status live s) = refl
+      as_it_was (Going s) = refl
+      as_it_was (IsWrong s) = refl
+
+      on : (flow : Flow (Unit {0})) (b : State) (m1 : M) → Looped c around ending lo hi temps world flow b m1 →
+          Runs c.fixed (Left c around k lo hi temps world) q Q m1 b.meter (Got flow b)
+      on (On done) b m1 g = behind (omega (arith, le)) g.walks (more b g.now g.kept g.since)
+      on (Out (Broke by)) b m1 g = absurd g
+      on (Out (Continued by)) b m1 g = absurd g
+      on (Out (Returned by)) b m1 g = lands (Out (Returned by)) b (omega (arith, le)) g
+      on (Out (Raised exception by)) b m1 g = absurd g

@@ -1,0 +1,166 @@
+-- The temporaries of a part have its numbers.
+use Rattle.std.proofs.Common.{◌≡◌, ℕ, suc, ◌+◌, ◌<◌, ◌≤◌, Bool, true, false, List, [], ◌∷◌, ◌++◌, Option, Some, None, refl, arith}
+use Rattle.std.specs.Prelude.{if◌then◌else◌}
+use Rattle.nim_types.specs.Types.{Ty}
+use Rattle.nim_program.specs.declared.expr.Node.{Node}
+use Rattle.nim_program.specs.Program.{Chooser, ByConditions, ByLabels, Expr, Apply, Read, Early, Choose}
+use Rattle.nim_program.specs.Program.{Path, Variable, Fresh, Field, Element, Deref, Args, NoArg, ByValue, ByPath, type_at, node_at}
+use Rattle.nim_program.specs.Program.{Declared, Kind, While, Count, Each as OfEach, Stmt, Do, Idle, Give, Leave, Select, Loop, Raise, Try}
+use Rattle.nim_program.specs.Program.{Stmts, Empty, Then, Declare, Defer, Blocks, Otherwise, Block}
+use Rattle.nim_program.specs.Scopes.{is_written}
+use Rattle.nim_meaning.specs.Shapes.{has_node}
+use Rattle.flat_code.specs.declared.place.PlaceKind.{PlaceKind}
+use Rattle.flat_code.specs.declared.place.PlaceKind.TheVariants as K
+use Rattle.flat_code.specs.Fits.{is_declared}
+use Rattle.flattening.specs.Numbering.{width, width_at, widths, arm_count, width_in, width_of, width_of_blocks}
+use Rattle.flattening.specs.Places.{kind_of_path, head_from, temporary, read_place, location, selector_place, expr_places, path_places, operand_places}
+use Rattle.flattening.specs.Places.{loop_places, value_places, behind_value, stmt_places, block_places, branch_places, arm_places}
+use Rattle.flattening.proofs.Numbered.{Numbered, numbered_none, numbered_one, ◌>>◌, numbered_wide}
+use Rattle.flattening.proofs.Widths.{same_width, some_width_at}
+
+module _ (types : List Ty) where
+  pub temporary_number : {lo hi : ℕ} (node : Node) (ty : Option Ty) (kind : PlaceKind) (t : ℕ) → is_declared kind ≡ false → lo ≤ t → t < hi →
+      Numbered lo hi (temporary types node ty kind t)
+  temporary_number node None kind t e low high = numbered_none
+  temporary_number node (Some ty) kind t e low high = numbered_one _ e low high
+
+  pub read_number : {lo hi : ℕ} (path : Path) (t : ℕ) → lo ≤ t → t < hi → Numbered lo hi (read_place types path t)
+  read_number (Variable node ty place global) t low high = numbered_one _ refl low high
+  read_number (Fresh value) t low high = numbered_none
+  read_number (Field node ty base field) t low high = numbered_one _ refl low high
+  read_number (Element node ty base index constant) t low high = numbered_one _ refl low high
+  read_number (Deref ty base) t low high = numbered_none
+
+  pub selector_number : {lo hi : ℕ} (chooser : Chooser) (parts : Args) (t : ℕ) → lo ≤ t → t + widths parts ≤ hi →
+      Numbered lo hi (selector_place types chooser parts t)
+  selector_number ByConditions parts t low high = numbered_none
+  selector_number (ByLabels labels) NoArg t low high = numbered_none
+  selector_number (ByLabels labels) (ByValue value rest) t low high = numbered_none
+  selector_number (ByLabels labels) (ByPath path rest) t low high =
+      let w = some_width_at path in let e = same_width path in read_number path t low (omega (arith, w, e, high))
+
+  -- no location of a path is a declared place
+  by_written : (b : Bool) → is_declared (if b then K.Location else K.Within) ≡ false
+  by_written true = refl
+  by_written false = refl
+
+  pub location_number : {lo hi : ℕ} (path : Path) (t : ℕ) → lo ≤ t → t < hi → Numbered lo hi (location types path t)
+  location_number path t low high = temporary_number (node_at path) (type_at path) (kind_of_path path) t (by_written (is_written path)) low high
+
+  mutual
+    pub expr_numbers : (e : Expr) (t : ℕ) → Numbered t (t + width e) (expr_places types e t)
+    expr_numbers (Apply node ty act operands) t =
+        temporary_number node ty K.Temp t refl (omega arith) (omega arith)
+        >> numbered_wide (omega arith) (omega arith) (operand_numbers operands (suc t))
+    expr_numbers (Read path) t =
+        let w = some_width_at path in read_number path t (omega arith) (omega (arith, w)) >> path_numbers path t
+    expr_numbers (Early node ty short left right) t =
+        temporary_number node (Some ty) K.Temp t refl (omega arith) (omega arith)
+        >> (numbered_wide (omega arith) (omega arith) (expr_numbers left (suc t))
+        >> numbered_wide (omega arith) (omega arith) (expr_numbers right (suc t + width left)))
+    expr_numbers (Choose node ty chooser parts) t =
+        temporary_number node ty K.Temp t refl (omega arith) (omega arith)
+        >> (selector_number chooser parts (suc t) (omega arith) (omega arith)
+        >> numbered_wide (omega arith) (omega arith) (operand_numbers parts (suc t)))
+
+    pub path_numbers : (path : Path) (t : ℕ) → Numbered t (t + width_at path) (path_places types path t)
+    path_numbers (Variable node ty place global) t = location_number (Variable node ty place global) t (omega arith) (omega arith)
+    path_numbers (Fresh value) t =
+        let w = some_width_at (Fresh value) in location_number (Fresh value) t (omega arith) (omega (arith, w)) >> expr_numbers value t
+    path_numbers (Field node ty base field) t =
+        let w = same_width base in
+        location_number (Field node ty base field) t (omega arith) (omega arith) >> numbered_wide (omega arith) (omega (arith, w)) (path_numbers base (suc t))
+    path_numbers (Element node ty base index constant) t =
+        let w = same_width base in
+        location_number (Element node ty base index constant) t (omega arith) (omega arith)
+        >> (numbered_wide (omega arith) (omega (arith, w)) (path_numbers base (suc t))
+        >> numbered_wide (omega arith) (omega (arith, w)) (expr_numbers index (suc t + width_at base)))
+    path_numbers (Deref ty base) t = path_numbers base t
+
+    pub operand_numbers : (args : Args) (t : ℕ) → Numbered t (t + widths args) (operand_places types args t)
+    operand_numbers NoArg t = numbered_none
+    operand_numbers (ByValue value rest) t =
+        numbered_wide (omega arith) (omega arith) (expr_numbers value t)
+        >> numbered_wide (omega arith) (omega arith) (operand_numbers rest (t + width value))
+    operand_numbers (ByPath path rest) t =
+        let w = same_width path in
+        numbered_wide (omega arith) (omega (arith, w)) (path_numbers path t)
+        >> numbered_wide (omega arith) (omega (arith, w)) (operand_numbers rest (t + width_at path))
+
+  -- ---- statements
+
+  pub loop_numbers : {lo hi : ℕ} (node : Node) (kind : Kind) (t : ℕ) → lo ≤ t → head_from kind t ≤ hi → Numbered lo hi (loop_places types node kind t)
+  loop_numbers node While t low high = numbered_none
+  loop_numbers node (Count variable inclusive) t low high = numbered_none
+  loop_numbers node (OfEach variable) t low high =
+      numbered_one _ refl low (omega (arith, high))
+      >> (numbered_one _ refl (omega (arith, low)) (omega (arith, high)) >> numbered_one _ refl (omega (arith, low)) (omega (arith, high)))
+
+  pub head_after : (kind : Kind) (t : ℕ) → suc t ≤ head_from kind t
+  head_after While t = omega arith
+  head_after (Count variable inclusive) t = omega arith
+  head_after (OfEach variable) t = omega arith
+
+  pub value_numbers : (value : Args) (t : ℕ) → Numbered t (t + widths value) (value_places types value t)
+  value_numbers NoArg t = numbered_none
+  value_numbers (ByValue value rest) t = numbered_wide (omega arith) (omega arith) (expr_numbers value t)
+  value_numbers (ByPath path rest) t = numbered_none
+
+  pub behind_is : (value : Args) (t : ℕ) → behind_value types value t ≡ suc t + widths value
+  behind_is NoArg t = omega arith
+  behind_is (ByValue value rest) t = refl
+  behind_is (ByPath path rest) t = refl
+
+  pub head_width : (node : Node) (kind : Kind) (head : Args) (body : Stmts) (t : ℕ) →
+      head_from kind t + widths head + width_of body ≡ t + width_in (Loop node kind head body)
+  head_width node While head body t = omega arith
+  head_width node (Count variable inclusive) head body t = omega arith
+  head_width node (OfEach variable) head body t = omega arith
+
+  mutual
+    pub stmt_numbers : (s : Stmt) (t : ℕ) → Numbered t (t + width_in s) (stmt_places types s t)
+    stmt_numbers (Do value) t = expr_numbers value t
+    stmt_numbers (Idle node parts) t = numbered_none
+    stmt_numbers (Give node back value) t = numbered_wide (omega arith) (omega arith) (expr_numbers value (suc t))
+    stmt_numbers (Leave node leaving parts) t = numbered_none
+    stmt_numbers (Select node ByConditions tests blocks) t = numbered_wide (omega arith) (omega arith) (branch_numbers tests blocks (suc t))
+    stmt_numbers (Select node (ByLabels labels) tests blocks) t =
+        selector_number (ByLabels labels) tests (suc t + arm_count (ByLabels labels)) (omega arith) (omega arith)
+        >> (numbered_wide (omega arith) (omega arith) (operand_numbers tests (suc t + arm_count (ByLabels labels)))
+        >> numbered_wide (omega arith) (omega arith) (arm_numbers blocks (suc t + arm_count (ByLabels labels) + widths tests)))
+    stmt_numbers (Loop node kind head body) t =
+        let h = head_after kind t in
+        let e = head_width node kind head body t in
+        loop_numbers node kind t (omega arith) (omega (arith, e))
+        >> (numbered_wide (omega (arith, h)) (omega (arith, e)) (operand_numbers head (head_from kind t))
+        >> numbered_wide (omega (arith, h)) (omega (arith, e)) (block_numbers body (head_from kind t + widths head)))
+    stmt_numbers (Raise node exception message) t = numbered_none
+    stmt_numbers (Try node body handlers last) t = numbered_none
+
+    pub block_numbers : (block : Stmts) (t : ℕ) → Numbered t (t + width_of block) (block_places types block t)
+    block_numbers Empty t = numbered_none
+    block_numbers (Then first rest) t =
+        numbered_wide (omega arith) (omega arith) (stmt_numbers first t)
+        >> numbered_wide (omega arith) (omega arith) (block_numbers rest (t + width_in first))
+    block_numbers (Declare node place cursor value rest) t =
+        let e = behind_is value t in
+        numbered_wide (omega arith) (omega arith) (value_numbers value (suc t))
+        >> numbered_wide (omega (arith, e)) (omega (arith, e)) (block_numbers rest (behind_value types value t))
+    block_numbers (Defer node last rest) t = numbered_none
+
+    pub branch_numbers : (tests : Args) (blocks : Blocks) (t : ℕ) → Numbered t (t + (widths tests + width_of_blocks blocks)) (branch_places types tests blocks t)
+    branch_numbers NoArg (Otherwise block) t = numbered_wide (omega arith) (omega arith) (block_numbers block t)
+    branch_numbers NoArg (Block first rest) t = numbered_wide (omega arith) (omega arith) (block_numbers first t)
+    branch_numbers (ByPath path tests) (Otherwise block) t = numbered_none
+    branch_numbers (ByPath path tests) (Block first rest) t = numbered_none
+    branch_numbers (ByValue condition tests) (Otherwise block) t = numbered_none
+    branch_numbers (ByValue condition tests) (Block first rest) t =
+        numbered_wide (omega arith) (omega arith) (expr_numbers condition t)
+        >> (numbered_wide (omega arith) (omega arith) (block_numbers first (t + width condition))
+        >> numbered_wide (omega arith) (omega arith) (branch_numbers tests rest (t + width condition + width_of first)))
+
+    pub arm_numbers : (blocks : Blocks) (t : ℕ) → Numbered t (t + width_of_blocks blocks) (arm_places types blocks t)
+    arm_numbers (Otherwise block) t = block_numbers block t
+    arm_numbers (Block first rest) t =
+        numbered_wide (omega arith) (omega arith) (block_numbers first t)
+        >> numbered_wide (omega arith) (omega arith) (arm_numbers rest (t + width_of first))

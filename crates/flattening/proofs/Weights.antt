@@ -1,0 +1,133 @@
+-- What flat code weighs.
+use Rattle.std.proofs.Common.{◌≡◌, ℕ, zero, suc, ◌+◌, ◌*◌, ◌≤◌, Bool, true, false, List, [], ◌∷◌, ◌++◌, length, Option, Some, None, refl, sym, ap, ◌∙◌, subst, arith}
+use Rattle.std.specs.Prelude.{map}
+use Rattle.nim_types.specs.Types.{Ty}
+use Rattle.nim_plan.specs.declared.plan.Plan.{Plan}
+use Rattle.nim_program.specs.declared.operation.Operation.{Operation}
+use Rattle.nim_program.specs.declared.operation.Operation.TheVariants as O
+use Rattle.nim_program.specs.declared.operation.Use.{Use}
+use Rattle.nim_program.specs.declared.program.HookOf.{HookOf}
+use Rattle.nim_program.specs.declared.program.Mode.{Mode}
+use Rattle.nim_program.specs.Program.{Literal, Act, Doing, Building, Giving, Calling, Args, NoArg, ByValue, ByPath, Declared, Param, Body, Proc, Program, types_in}
+use Rattle.flat_code.specs.declared.code.CodeProc.{CodeProc}
+use Rattle.flat_code.specs.declared.line.Line.{Line}
+use Rattle.flat_code.specs.declared.line.Line.TheVariants as L
+use Rattle.flat_code.specs.Codes.{flat_plain}
+use Rattle.flat_code.specs.Pieces.{pieces_of}
+use Rattle.flat_code.specs.Sizes.{weight_of, weight, pieces_weight, summed, proc_weight, code_weight}
+use Rattle.flattening.specs.Counted.{act_counted, body_counted, if_counted, procs_counted, counted, program_weight}
+use Rattle.flattening.specs.ExprLines.{froms, act_line}
+use Rattle.flattening.specs.Flattened.{modes_of}
+use Rattle.flattening.specs.Given.{flat_body, flat_proc, flat_procs}
+use Rattle.flattening.specs.Numbering.{width, width_at}
+use Rattle.flattening.specs.StmtLines.{outermost, returned, number_of, lines_of, body_lines}
+use Rattle.flattening.proofs.FitPrograms.{map_same}
+use Rattle.flattening.proofs.Measures.{reserved, Bounds, ExitsSpare, block_spare}
+use Rattle.flattening.proofs.Spares.{Spare, spare_none, spare_line, spare_most}
+
+abbrev literal_weight : Literal → ℕ
+literal_weight literal = pieces_weight (pieces_of literal)
+
+operation_most : (operation : Operation) (n : ℕ) → weight_of operation n ≤ 26 + 12 * n
+operation_most O.Default n = omega arith
+operation_most (O.Unary operator) n = omega arith
+operation_most (O.Binary operator) n = omega arith
+operation_most (O.Compare comparison) n = omega arith
+operation_most O.Convert n = omega arith
+operation_most O.Make n = omega arith
+operation_most (O.Measure measure) n = omega arith
+operation_most O.Echo n = omega arith
+operation_most O.Quit n = omega arith
+operation_most O.Assign n = omega arith
+operation_most (O.Update operator) n = omega arith
+operation_most O.Move n = omega arith
+operation_most O.Swap n = omega arith
+operation_most operation n = omega arith
+
+-- as many operands as there are reserves
+reserves : (args : Args) (t : ℕ) → reserved 12 args ≡ 12 * length (froms args t)
+reserves NoArg t = refl
+reserves (ByValue value rest) t = let h = reserves rest (t + width value) in omega (arith, h)
+reserves (ByPath path rest) t = let h = reserves rest (t + width_at path) in omega (arith, h)
+
+module _ (types : List Ty) (modes : (proc position : ℕ) → Mode) where
+  act_most : (t : ℕ) (act : Act) (how : Use) (ty : Option Ty) (operands : Args) →
+      weight (act_line types modes t act how ty (types_in operands) (froms operands (suc t))) + 12 ≤ act_counted 38 literal_weight act + reserved 12 operands
+  act_most t (Doing operation) how ty operands =
+      let h = operation_most operation (length (froms operands (suc t))) in let r = reserves operands (suc t) in omega (arith, h, r)
+  act_most t (Building fields) how None operands = let r = reserves operands (suc t) in omega (arith, r)
+  act_most t (Building fields) how (Some ty) operands = let r = reserves operands (suc t) in omega (arith, r)
+  act_most t (Giving literal) how None operands = omega arith
+  act_most t (Giving literal) how (Some ty) operands = omega arith
+  act_most t (Calling proc of) how ty operands = let r = reserves operands (suc t) in omega (arith, r)
+
+  weight_bounds : Bounds types modes weight 38 literal_weight 12 7 3
+  weight_bounds = record {
+    act = act_most;
+    root = λ t place global. omega arith;
+    fresh = λ t. omega arith;
+    field = λ t field. omega arith;
+    item = λ t index. omega arith;
+    object = λ t. omega arith;
+    got = λ t site how ty. omega arith;
+    looked = λ t. omega arith;
+    both = λ t s from l how. omega arith;
+    either = λ t s from l next how. omega arith;
+    handed = λ t from how ty. omega arith;
+    condition = λ t u from l arm how ty. omega arith;
+    chosen = λ t l next how ty. omega arith;
+    test = λ s arm low high. omega arith;
+    branch = λ other arm l. omega arith;
+    given = λ place from. omega arith;
+    leaving = λ l. omega arith;
+    returning = λ place. omega arith;
+    block = λ u arm l. omega arith;
+    selected = λ t next l. omega arith;
+    while = λ t u turn next l. omega arith;
+    count = λ counter last place turn next l inclusive. omega arith;
+    elements = λ t counter last at place turn next arm l. omega arith;
+    blank = λ place ty. omega arith;
+    filled = λ place from. omega arith;
+  }
+
+module _ (program : Program) (plan : Plan) where
+  exits_spare : (result : Option Declared) → ExitsSpare program.types (modes_of program plan) weight 38 literal_weight 12 7 3
+      (weight_bounds program.types (modes_of program plan)) result (outermost result)
+  exits_spare result = record {
+    breaks = spare_most 0 3 (omega arith) spare_none;
+    continues = spare_most 0 3 (omega arith) spare_none;
+    returns = spare_line (L.Return (number_of result));
+  }
+
+  some_most : (lines : List Line) → proc_weight lines ≤ 18 + summed weight lines
+  some_most [] = omega arith
+  some_most (l ∷ lines) = omega arith
+
+  body_most : (hook : Option HookOf) (params : List Param) (body : Body) →
+      proc_weight (map flat_plain (flat_body program plan hook params body).lines) ≤ body_counted 38 literal_weight body
+  body_most hook params body =
+      let lines = body_lines program.types (modes_of program plan) body in
+      let s = (block_spare program.types (modes_of program plan) weight 38 literal_weight 12 7 3 (weight_bounds program.types (modes_of program plan))
+      body.result body.stmts (outermost body.result) 0 (exits_spare body.result)).all (returned body.result []) in
+      let a = some_most lines in
+      let e = ap proc_weight (map_same lines) in
+      omega (arith, s, a, e)
+
+  procs_most : (procs : List Proc) (more : List (CodeProc Line)) →
+      code_weight flat_plain (map (λ (p : Proc). flat_proc program plan p.hook p.params p.body) procs ++ more)
+      ≤ procs_counted 38 literal_weight procs + code_weight flat_plain more
+  procs_most [] more = omega arith
+  procs_most (p ∷ procs) more =
+      let h = of_body p.body in
+      let i = procs_most procs more in
+      omega (arith, h, i)
+    where
+      of_body : (body : Option Body) → proc_weight (map flat_plain (flat_proc program plan p.hook p.params body).lines) ≤ if_counted 38 literal_weight body
+      of_body None = omega arith
+      of_body (Some body) = body_most p.hook p.params body
+
+  pub weighs : code_weight flat_plain (flat_procs program plan) ≤ program_weight program
+  weighs =
+      let h = procs_most program.procs (flat_body program plan None [] program.start ∷ []) in
+      let i = body_most None [] program.start in
+      omega (arith, h, i)

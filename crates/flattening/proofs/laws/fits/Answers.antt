@@ -1,0 +1,12 @@
+use Rattle.std.proofs.Common.{subst, sym}
+use Rattle.flat_code.proofs.ForCallers.{AreSorted, sorted_table}
+use Rattle.flattening.proofs.FitPrograms.{program_fits}
+use Rattle.flattening.proofs.GivenCode.{code_given}
+use Rattle.flattening.proofs.laws.fits.Goals as goal
+
+pub returns-clause-given : goal.returns-clause-given
+returns-clause-given c = λ program typed plan. code_given program plan typed
+
+pub returns-clause-fits : goal.returns-clause-fits
+returns-clause-fits c = λ table program said typed numbered plain plan.
+    program_fits program plan typed numbered plain (subst AreSorted (sym said) (sorted_table table))

@@ -1,0 +1,9 @@
+pub mod Numbering
+pub mod ExprLines
+pub mod StmtLines
+pub mod Flattened
+pub mod Places
+pub mod Given
+pub mod Counted
+pub mod Formed
+pub mod Examples

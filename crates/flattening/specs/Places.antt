@@ -1,0 +1,161 @@
+-- The places of flat code, in order of text: what a body declares, and the temporaries of its parts by their numbers: one for the value of each node that
+-- gives one, and one for where each path leads that is looked up.
+use Rattle.std.specs.Prelude.{ℕ, suc, ◌+◌, Bool, true, false, if◌then◌else◌, List, [], ◌∷◌, ◌++◌, Option, Some, None}
+use Rattle.arc_base.specs.declared.place.Place.{Place}
+use Rattle.nim_types.specs.Types.{Ty, int}
+use Rattle.nim_program.specs.declared.expr.Node.{Node}
+use Rattle.nim_program.specs.Program.{Chooser, ByConditions, ByLabels, Expr, Apply, Read, Early, Choose}
+use Rattle.nim_program.specs.Program.{Path, Variable, Fresh, Field, Element, Deref, Args, NoArg, ByValue, ByPath, type_at, node_at}
+use Rattle.nim_program.specs.Program.{Declared, Kind, While, Count, Each, Stmt, Do, Idle, Give, Leave, Select, Loop, Raise, Try}
+use Rattle.nim_program.specs.Program.{Stmts, Empty, Then, Declare, Defer, Blocks, Otherwise, Block, Param, Body}
+use Rattle.nim_program.specs.Folds.{Seen, AtDeclare, AtLoop, AtHandler, lists, total_of, own_places}
+use Rattle.nim_program.specs.Scopes.{is_written}
+use Rattle.nim_program.specs.Sizes.{is_global}
+use Rattle.nim_meaning.specs.Shapes.{has_node}
+use Rattle.flat_code.specs.declared.place.PlaceKind.{PlaceKind}
+use Rattle.flat_code.specs.declared.place.PlaceKind.TheVariants as K
+use Rattle.flat_code.specs.declared.place.FlatPlace.{FlatPlace}
+use Rattle.flattening.specs.Numbering.{type_number, width, width_at, widths, arm_count, width_in, width_of}
+
+-- ---- declared places
+
+-- in a body of a program with these globals
+abbrev pub kind_of_declared : List Declared → Seen → Declared → PlaceKind
+kind_of_declared globals (AtDeclare node place cursor) d = if is_global globals d.number then K.Global else if cursor then K.Cursor else K.Local
+kind_of_declared globals (AtHandler name) d = K.Caught
+kind_of_declared globals seen d = K.ForVar
+
+-- where a path leads: to a place, or into a value that no place holds
+abbrev pub kind_of_path : Path → PlaceKind
+kind_of_path path = if is_written path then K.Location else K.Within
+
+-- where the operands of a loop's head begin
+abbrev pub head_from : Kind → (t : ℕ) → ℕ
+head_from While t = suc t
+head_from (Count variable inclusive) t = suc t
+head_from (Each variable) t = suc t + 2
+
+module _ (types : List Ty) where
+  -- A type with hooks has places alone that are read where their values stand, so far: nothing is to be done there.
+  abbrev pub place : (number : ℕ) → (at : Place) → PlaceKind → Ty → FlatPlace
+  place number at kind ty =
+      record { number = number; at = at; kind = kind; ty = type_number types ty; hooked = false; resource = false; copies = true }
+
+  abbrev pub of_declared : PlaceKind → Declared → FlatPlace
+  of_declared kind d = place d.number d.at kind d.of
+
+  abbrev pub all_declared : (Declared → PlaceKind) → List Declared → List FlatPlace
+  all_declared kind [] = []
+  all_declared kind (d ∷ ds) = of_declared (kind d) d ∷ all_declared kind ds
+
+  abbrev pub own_declared : List Declared → Seen → List FlatPlace
+  own_declared globals seen = all_declared (kind_of_declared globals seen) (own_places seen)
+
+  abbrev pub param_places : List Param → List FlatPlace
+  param_places [] = []
+  param_places (param ∷ params) = of_declared (K.Param param.mode) param.place ∷ param_places params
+
+  abbrev pub result_places : Option Declared → List FlatPlace
+  result_places None = []
+  result_places (Some d) = of_declared K.Result d ∷ []
+
+  -- ---- temporaries of expressions, whose numbers begin with t
+
+  abbrev pub temporary : Node → Option Ty → PlaceKind → (t : ℕ) → List FlatPlace
+  temporary node None kind t = []
+  temporary node (Some ty) kind t = place t node.at kind ty ∷ []
+
+  -- the value at a path; a fresh one has a temporary already
+  abbrev pub read_place : Path → (t : ℕ) → List FlatPlace
+  read_place path t = if has_node path then temporary (node_at path) (type_at path) K.Temp t else []
+
+  abbrev pub location : Path → (t : ℕ) → List FlatPlace
+  location path t = temporary (node_at path) (type_at path) (kind_of_path path) t
+
+  -- a selector at a path is read in place
+  abbrev pub selector_place : Chooser → Args → (t : ℕ) → List FlatPlace
+  selector_place (ByLabels labels) (ByPath path rest) t = read_place path t
+  selector_place chooser parts t = []
+
+  abbrev mutual
+    pub expr_places : Expr → (t : ℕ) → List FlatPlace
+    expr_places (Apply node ty act operands) t = temporary node ty K.Temp t ++ operand_places operands (suc t)
+    expr_places (Read path) t = read_place path t ++ path_places path t
+    expr_places (Early node ty short left right) t =
+        temporary node (Some ty) K.Temp t ++ (expr_places left (suc t) ++ expr_places right (suc t + width left))
+    expr_places (Choose node ty chooser parts) t =
+        temporary node ty K.Temp t ++ (selector_place chooser parts (suc t) ++ operand_places parts (suc t))
+
+    pub path_places : Path → (t : ℕ) → List FlatPlace
+    path_places (Variable node ty place global) t = location (Variable node ty place global) t
+    path_places (Fresh value) t = location (Fresh value) t ++ expr_places value t
+    path_places (Field node ty base field) t = location (Field node ty base field) t ++ path_places base (suc t)
+    path_places (Element node ty base index constant) t =
+        location (Element node ty base index constant) t ++ (path_places base (suc t) ++ expr_places index (suc t + width_at base))
+    -- the object of a ref has no temporary yet
+    path_places (Deref ty base) t = path_places base t
+
+    pub operand_places : Args → (t : ℕ) → List FlatPlace
+    operand_places NoArg t = []
+    operand_places (ByValue value rest) t = expr_places value t ++ operand_places rest (t + width value)
+    operand_places (ByPath path rest) t = path_places path t ++ operand_places rest (t + width_at path)
+
+  -- ---- temporaries of statements, whose numbers begin with t
+
+  -- the element of a turn, its number, and how many there are
+  abbrev pub loop_places : Node → Kind → (t : ℕ) → List FlatPlace
+  loop_places node (Each variable) t =
+      place t node.at K.Temp variable.of ∷ place (suc t) node.at K.Counter int ∷ place (suc (suc t)) node.at K.Counter int ∷ []
+  loop_places node kind t = []
+
+  -- the one value of a declaration
+  abbrev pub value_places : Args → (t : ℕ) → List FlatPlace
+  value_places (ByValue value rest) t = expr_places value t
+  value_places value t = []
+
+  -- what comes behind a declaration by a path has no lines
+  abbrev pub behind_value : Args → (t : ℕ) → ℕ
+  behind_value NoArg t = suc t
+  behind_value value t = suc t + widths value
+
+  abbrev mutual
+    pub stmt_places : Stmt → (t : ℕ) → List FlatPlace
+    stmt_places (Do value) t = expr_places value t
+    stmt_places (Idle node parts) t = []
+    stmt_places (Give node back value) t = expr_places value (suc t)
+    stmt_places (Leave node leaving parts) t = []
+    stmt_places (Select node ByConditions tests blocks) t = branch_places tests blocks (suc t)
+    stmt_places (Select node (ByLabels labels) tests blocks) t =
+        selector_place (ByLabels labels) tests (suc t + arm_count (ByLabels labels))
+        ++ (operand_places tests (suc t + arm_count (ByLabels labels))
+        ++ arm_places blocks (suc t + arm_count (ByLabels labels) + widths tests))
+    stmt_places (Loop node kind head body) t =
+        loop_places node kind t ++ (operand_places head (head_from kind t) ++ block_places body (head_from kind t + widths head))
+    -- exceptions have no lines yet
+    stmt_places (Raise node exception message) t = []
+    stmt_places (Try node body handlers last) t = []
+
+    pub block_places : Stmts → (t : ℕ) → List FlatPlace
+    block_places Empty t = []
+    block_places (Then first rest) t = stmt_places first t ++ block_places rest (t + width_in first)
+    block_places (Declare node place cursor value rest) t = value_places value (suc t) ++ block_places rest (behind_value value t)
+    block_places (Defer node last rest) t = []
+
+    pub branch_places : Args → Blocks → (t : ℕ) → List FlatPlace
+    branch_places NoArg (Otherwise block) t = block_places block t
+    branch_places NoArg (Block first rest) t = block_places first t
+    branch_places (ByPath path tests) blocks t = []
+    branch_places (ByValue condition tests) (Otherwise block) t = []
+    branch_places (ByValue condition tests) (Block first rest) t =
+        expr_places condition t ++ (block_places first (t + width condition) ++ branch_places tests rest (t + width condition + width_of first))
+
+    pub arm_places : Blocks → (t : ℕ) → List FlatPlace
+    arm_places (Otherwise block) t = block_places block t
+    arm_places (Block first rest) t = block_places first t ++ arm_places rest (t + width_of first)
+
+  -- ---- bodies
+
+  abbrev pub body_places : List Declared → List Param → Body → List FlatPlace
+  body_places globals params body =
+      param_places params
+      ++ (result_places body.result ++ (total_of lists (own_declared globals) body.stmts ++ block_places body.stmts 0))
