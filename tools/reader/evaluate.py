@@ -17,6 +17,7 @@ INT_BITS = 32
 SMALLEST_INT = -2 ** (INT_BITS - 1)
 LARGEST_INT = 2 ** (INT_BITS - 1) - 1
 LARGEST_CHAR = 255
+CONSTANT_OPERATIONS = frozenset(['ord', 'chr', 'len', 'high'])
 
 _COMPARISONS = {'==': operator.eq, '!=': operator.ne, '<': operator.lt, '<=': operator.le, '>': operator.gt,
                 '>=': operator.ge}
@@ -67,23 +68,38 @@ def bytes_of(value: Union[int, bytes]) -> bytes:
     return value if isinstance(value, bytes) else bytes([value])
 
 
-def is_fixed(expression: tree.Expression) -> bool:
-    """Whether the text alone decides what the ordinal is: a literal, a member or a constant, or operators, `ord`, `chr` and
-    conversions on such, none of them to an enum."""
+def is_constant(expression: tree.Expression) -> bool:
+    """Of an expression that has been typed."""
     inner = without_parentheses(expression)
     if isinstance(inner, tree.Name):
-        return isinstance(inner.declaration, Constant) and isinstance(inner.declaration.value, int)
+        return isinstance(inner.declaration, Constant)
+    if isinstance(inner, (tree.ArrayLiteral, tree.SequenceLiteral)):
+        return all(is_constant(element) for element in inner.elements)
+    if isinstance(inner, tree.TupleLiteral):
+        return all(is_constant(part) for part in inner.parts)
+    if isinstance(inner, tree.Construction):
+        return all(is_constant(value) for _, value in inner.fields)
     if isinstance(inner, tree.Unary):
-        return inner.operator != '$' and is_fixed(inner.operand)
+        return not isinstance(inner.shown, Procedure) and is_constant(inner.operand)
     if isinstance(inner, tree.Binary):
-        return inner.operator != '&' and is_fixed(inner.left) and is_fixed(inner.right)
+        return is_constant(inner.left) and is_constant(inner.right)
     if isinstance(inner, (tree.Call, tree.Dot)):
-        meaning = inner.meaning
-        if isinstance(meaning, Conversion):
-            return not meaning.to_enum and is_fixed(meaning.argument)
-        if isinstance(meaning, BuiltInCall):
-            return meaning.name in ('low int', 'high int') or meaning.name in ('ord', 'chr') and is_fixed(meaning.arguments[0])
-    return isinstance(inner, (tree.IntLiteral, tree.CharLiteral))
+        return _is_constant_call(inner.meaning)
+    return isinstance(inner, (tree.IntLiteral, tree.CharLiteral, tree.TextLiteral))
+
+
+def _is_constant_call(meaning: Optional[Meaning]) -> bool:
+    if isinstance(meaning, EmptyConstruction):
+        return True
+    if isinstance(meaning, Conversion):
+        return is_constant(meaning.argument)
+    if isinstance(meaning, DollarCall):
+        return not isinstance(meaning.shown, Procedure) and is_constant(meaning.argument)
+    if isinstance(meaning, BuiltInCall):
+        if meaning.name in CONSTANT_OPERATIONS:
+            return is_constant(meaning.arguments[0])
+        return meaning.name in ('low int', 'high int')
+    return False
 
 
 class Evaluator:
@@ -112,13 +128,6 @@ class Evaluator:
         if isinstance(expression, (tree.Call, tree.Dot)) and expression.meaning is not None:
             return self.call(expression, expression.meaning)
         return self.other(expression)
-
-    def fixed_value(self, expression: tree.Expression) -> Optional[int]:
-        """None also where it would trap."""
-        try:
-            return self.evaluate(expression) if is_fixed(expression) else None
-        except Trap:
-            return None
 
     def other(self, expression: tree.Expression) -> Any:
         raise AssertionError('not constant: %r' % expression)

@@ -4,7 +4,7 @@ from __future__ import annotations
 from typing import Any, Callable, Dict, List, NamedTuple, NoReturn, Optional, Sequence, Set, Tuple, Union
 
 import tree
-from evaluate import ConstantEvaluator, Trap
+from evaluate import ConstantEvaluator, Trap, is_constant
 from meanings import (BUILT_IN_DOLLAR, NEW_SEQ, READ_LINE, SET_LEN, BuiltInCall, Constant, Conversion, Declaration,
                       DollarCall, EmptyConstruction, Operation, Overloads, PendingType, Procedure, ProcedureCall,
                       StandardInput, TypeName, Variable)
@@ -14,7 +14,6 @@ from type_table import BOOL, CHAR, INT, LARGEST_LENGTH, LARGEST_SIZE, ORDINALS_A
 
 OPERATIONS = frozenset(['inc', 'dec', 'len', 'high', 'low', 'ord', 'chr', 'add', 'pop', 'default', 'move', 'swap',
                         'echo', 'quit', READ_LINE, NEW_SEQ, SET_LEN])
-CONSTANT_OPERATIONS = frozenset(['ord', 'chr', 'len', 'high'])
 COMPARISONS = frozenset(['==', '!=', '<', '<=', '>', '>='])
 ARITHMETIC = frozenset(['+', '-', '*', 'div', 'mod', 'shl', 'shr'])
 VALUES_OF_ORDINALS = {'int': 2 ** 32, 'bool': 2, 'char': 256}
@@ -694,45 +693,12 @@ class ExpressionChecker:
 
     def constant(self, expression: tree.Expression) -> Any:
         """The value of a constant expression, typed before; else E8."""
-        if not self.is_constant(expression):
+        if not is_constant(expression):
             refuse('E8', expression)
         try:
             return ConstantEvaluator(self.types).evaluate(expression)
         except Trap:
             refuse('E8', expression)
-
-    def is_constant(self, expression: tree.Expression) -> bool:
-        if isinstance(expression, tree.Parentheses):
-            return self.is_constant(expression.inner)
-        if isinstance(expression, tree.Name):
-            return isinstance(expression.declaration, Constant)
-        if isinstance(expression, (tree.ArrayLiteral, tree.SequenceLiteral)):
-            return all(self.is_constant(element) for element in expression.elements)
-        if isinstance(expression, tree.TupleLiteral):
-            return all(self.is_constant(part) for part in expression.parts)
-        if isinstance(expression, tree.Construction):
-            return all(self.is_constant(value) for _, value in expression.fields)
-        if isinstance(expression, tree.Unary):
-            return not isinstance(expression.shown, Procedure) and self.is_constant(expression.operand)
-        if isinstance(expression, tree.Binary):
-            return self.is_constant(expression.left) and self.is_constant(expression.right)
-        if isinstance(expression, (tree.Call, tree.Dot)):
-            return self.is_constant_call(expression)
-        return isinstance(expression, (tree.IntLiteral, tree.CharLiteral, tree.TextLiteral))
-
-    def is_constant_call(self, call: AnyCall) -> bool:
-        meaning = call.meaning
-        if isinstance(meaning, EmptyConstruction):
-            return True
-        if isinstance(meaning, Conversion):
-            return self.is_constant(meaning.argument)
-        if isinstance(meaning, DollarCall):
-            return not isinstance(meaning.shown, Procedure) and self.is_constant(meaning.argument)
-        if isinstance(meaning, BuiltInCall):
-            if meaning.name in CONSTANT_OPERATIONS:
-                return self.is_constant(meaning.arguments[0])
-            return meaning.name in ('low int', 'high int')
-        return False
 
     # `case`, as statement and as expression
 

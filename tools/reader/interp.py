@@ -11,7 +11,7 @@ from typing import Any, Callable, Dict, Iterator, List, NamedTuple, Optional, Tu
 
 import tree
 from check import Program
-from evaluate import Evaluator, Trap, bytes_of, copy_of, in_range
+from evaluate import ConstantEvaluator, Evaluator, Trap, bytes_of, copy_of, in_range, is_constant
 from meanings import (NEW_SEQ, READ_LINE, SET_LEN, BuiltInCall, Constant, Meaning, Operation, Procedure, ProcedureCall,
                       Variable)
 from tree import is_step, without_parentheses
@@ -158,10 +158,17 @@ class Interpreter(Evaluator):
         if not is_step(left) or not is_step(right) or _part_number(left) != _part_number(right):
             return False
         if _part_number(left) is None:
-            index = self.fixed_value(left.arguments[0])
-            if index is None or index != self.fixed_value(right.arguments[0]):
+            index = self.constant(left.arguments[0])
+            if index is None or index != self.constant(right.arguments[0]):
                 return False
         return self.is_same_path(left.left, right.left)
+
+    def constant(self, expression: tree.Expression) -> Optional[int]:
+        """The index that the text alone decides; none where it would trap."""
+        try:
+            return ConstantEvaluator(self.types).evaluate(expression) if is_constant(expression) else None
+        except Trap:
+            return None
 
     def read(self, expression: tree.Expression) -> Any:
         """The value of a path, not copied."""

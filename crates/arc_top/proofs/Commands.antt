@@ -10,11 +10,11 @@ use Rattle.arc_base.specs.declared.place.Stop.{Stop}
 use Rattle.arc_base.specs.declared.place.Stop.TheVariants as stop
 use Rattle.arc_base.specs.Refusal.{Answers}
 use Rattle.elf32.specs.Elf.{File}
-use Rattle.nim_core.specs.Program.{Program}
-use Rattle.nim_core.specs.Meaning.{meaning}
-use Rattle.core_runner.specs.declared.mean.MeanEnd.{MeanEnd}
-use Rattle.core_runner.specs.declared.mean.MeanEnd.TheVariants as mean_end
-use Rattle.core_runner.specs.Mean.{Means}
+use Rattle.nim_program.specs.Program.{Program}
+use Rattle.nim_meaning.specs.Meaning.{meaning}
+use Rattle.flat_runner.specs.declared.mean.MeanEnd.{MeanEnd}
+use Rattle.flat_runner.specs.declared.mean.MeanEnd.TheVariants as mean_end
+use Rattle.flat_runner.specs.Mean.{Means}
 use Rattle.rv32_isa.specs.Image.{Image}
 use Rattle.rv32_isa.specs.State.{State, first_state}
 use Rattle.rv32_runner.specs.declared.runner.RunEnd.{RunEnd}
@@ -24,9 +24,12 @@ use Rattle.rv32_runner.specs.Runs.{Ran}
 use Rattle.source_compiler.specs.declared.compiler.NotCompiled.{NotCompiled}
 use Rattle.source_compiler.specs.declared.compiler.NotCompiled.TheVariants as why
 use Rattle.core_compiler.specs.Compile.{live_objects}
+use Rattle.core_compiler.specs.Mean.{IsEnd}
 use Rattle.source_compiler.specs.Source.{alone, Reads}
-use Rattle.core_compiler.specs.Limits.{flat_limits}
-use Rattle.source_compiler.specs.Compile.{Compiled, IsNoProgram, by_limits, source_most, empty_plan, OnRefused}
+use Rattle.program_limits.specs.Limits.{tree_limits}
+use Rattle.core_compiler.specs.Limits.{build_limits}
+use Rattle.source_compiler.specs.Limits.{Limits}
+use Rattle.source_compiler.specs.Compile.{Compiled, IsNoProgram, DecidedBy, by_limits, source_most, empty_plan, OnRefused}
 use Rattle.arc_top.specs.declared.answer.Answer.{Answer}
 use Rattle.arc_top.specs.declared.answer.Answer.TheVariants.{Done, Ended, Usage, NoFile, TooLong, Refused, BadElf, MachineFault, StepsSpent, ReadFault}
 use Rattle.arc_top.specs.declared.answer.Answer.TheVariants.{WriteFault, StoreFault, Memory}
@@ -34,7 +37,7 @@ use Rattle.arc_top.specs.Answer.{OnQuiet, IsStopped}
 use Rattle.arc_top.specs.Loads.{FilesState, Gives, Wants}
 use Rattle.arc_top.specs.Runs.{HasRun, Does, answer_of}
 use Rattle.arc_top.specs.Stages.{StopsReading, IsRefusal, RunsOrWants, IsMeant}
-use Rattle.arc_top.specs.Top.{Taking, IsFileOf, HandsOver, Builds, world, RunsProgram, Runs, told, meant, MeansProgram, RunsMeaning}
+use Rattle.arc_top.specs.Top.{IsTurnedDown, IsFileOf, HandsOver, Builds, world, RunsProgram, Runs, told, meant, MeansProgram, RunsMeaning}
 use Rattle.arc_top.proofs.Meaning.{Shows, Sees, exited, spent, no_fault, read_failed, out_failed, err_failed}
 
 -- ---- stores
@@ -72,24 +75,35 @@ wants_behind name bytes most old new gives = record { kept = gives.asked.kept; c
 
 -- ---- sources that aren't taken
 
--- what was said of a refusal says that this command doesn't take the source
-pub turned_away : (limits : Taking) (main source : List ℕ) (P : Code → Place → Type 0)
-    → ((code : Code) (at : Place) → P code at → (bytes : ℕ) × IsNoProgram (limits bytes) main source code at)
-    → (e : NotCompiled) (answer : Answer) (old new : FilesState)
-    → Gives old new main source_most source → IsRefusal e answer → OnRefused e P → StopsReading limits main answer old new
-turned_away limits main source P so why.TooLong answer old new gives is said = absurd is
-turned_away limits main source P so (why.Refused code at) answer old new gives is said =
-    subst (λ a. StopsReading limits main a old new) (sym is) (inr (source, gives, so code at said))
-turned_away limits main source P so why.Memory answer old new gives is said = inl (is, wants_behind main source source_most old new gives)
+-- what was said of a refusal says that this command refuses the source
+pub turned_away : (refuses : (source : List ℕ) → Code → Place → Type 0) (main source : List ℕ) (P : Code → Place → Type 0)
+    → ((code : Code) (at : Place) → P code at → refuses source code at) → (e : NotCompiled) (answer : Answer) (old new : FilesState)
+    → Gives old new main source_most source → IsRefusal e answer → OnRefused e P → StopsReading refuses main answer old new
+turned_away refuses main source P so why.TooLong answer old new gives is said = absurd is
+turned_away refuses main source P so (why.Refused code at) answer old new gives is said =
+    subst (λ a. StopsReading refuses main a old new) (sym is) (inr (source, gives, so code at said))
+turned_away refuses main source P so why.Memory answer old new gives is said = inl (is, wants_behind main source source_most old new gives)
+
+-- a source that wasn't compiled, by so many bytes of its code
+pub compiling_stops : {T : Type 0} (main source : List ℕ) (bytes : ℕ) (e : NotCompiled) (answer : Answer) (old new : FilesState)
+    → Gives old new main source_most source → IsRefusal e answer → DecidedBy bytes source {T = T} (Err e)
+    → StopsReading (IsTurnedDown build_limits main) main answer old new
+compiling_stops main source bytes why.TooLong answer old new gives is by = absurd is
+compiling_stops main source bytes (why.Refused code at) answer old new gives is by =
+    subst (λ a. StopsReading (IsTurnedDown build_limits main) main a old new) (sym is)
+    (inr (source, gives, record { bytes = bytes; code = by.code main; refused = by.refused main }))
+compiling_stops main source bytes why.Memory answer old new gives is by = inl (is, wants_behind main source source_most old new gives)
 
 -- a typed program that this command doesn't take
-pub limits_stop : {T : Type 0} (of : T → Unit {0}) (limits : Taking) (bytes : ℕ) (main source : List ℕ) (program : Program) (old new : FilesState)
-    → Gives old new main source_most source → Reads (alone main source) program → (s : Stop) (answer : Answer)
-    → Answers of (limits bytes program) (Err s) → IsStopped s answer → StopsReading limits main answer old new
-limits_stop of limits bytes main source program old new gives reads (stop.Refused code at) answer said is =
-    subst (λ a. StopsReading limits main a old new) (sym is)
-    (inr (source, gives, (bytes, record { within = gives.within; refused = by_limits program reads said })))
-limits_stop of limits bytes main source program old new gives reads stop.Memory answer said is = inl (is, wants_behind main source source_most old new gives)
+pub limits_stop : {T : Type 0} (of : T → Unit {0}) (refuses : (source : List ℕ) → Code → Place → Type 0) (limits : Limits) (main source : List ℕ)
+    (program : Program) (old new : FilesState) → Gives old new main source_most source → Reads (alone main source) program → (s : Stop) (answer : Answer)
+    → ((code : Code) (at : Place) → s ≡ stop.Refused code at → IsNoProgram limits main source code at → refuses source code at)
+    → Answers of (limits program) (Err s) → IsStopped s answer → StopsReading refuses main answer old new
+limits_stop of refuses limits main source program old new gives reads (stop.Refused code at) answer so said is =
+    subst (λ a. StopsReading refuses main a old new) (sym is)
+    (inr (source, gives, so code at refl (record { within = gives.within; refused = by_limits program reads said })))
+limits_stop of refuses limits main source program old new gives reads stop.Memory answer so said is =
+    inl (is, wants_behind main source source_most old new gives)
 
 -- ---- runs
 
@@ -132,13 +146,13 @@ module _ (sees : Sees) (shows : Shows) (main source : List ℕ) (heap steps : �
 -- ---- meanings
 
 module _ (main source : List ℕ) (heap steps : ℕ) (program : Program) (old new : FilesState) (before after : Streams)
-    (gives : Gives old new main source_most source) (reads : Reads (alone main source) program) (taken : flat_limits program ≡ Ok tt)
+    (gives : Gives old new main source_most source) (reads : Reads (alone main source) program) (taken : tree_limits program ≡ Ok tt)
     (same : after.input ≡ before.input) where
   abbrev Ends : MeanEnd → Type 0
   Ends e = (input : List ℕ) → Means (meaning program empty_plan heap input steps) e (told before.out after.out) (told before.err after.err)
 
-  means_so : (e : MeanEnd) → Ends e → MeansProgram main heap steps (meant steps e) (world old before) (world new after)
-  means_so e means = record {
+  means_so : (e : MeanEnd) → IsEnd e → Ends e → MeansProgram main heap steps (meant steps e) (world old before) (world new after)
+  means_so e is means = record {
     source = source;
     gives = gives;
     program = program;
@@ -146,24 +160,26 @@ module _ (main source : List ℕ) (heap steps : ℕ) (program : Program) (old ne
     taken = taken;
     end = e;
     means = means;
+    ends = is;
     answers = refl;
     input = same;
   }
 
-  meaning_ended : (e : MeanEnd) → Ends e → RunsMeaning main heap steps (meant steps e) (world old before) (world new after)
-  meaning_ended (mean_end.Ended status) means = means_so (mean_end.Ended status) means
-  meaning_ended mean_end.Going means = means_so mean_end.Going means
-  meaning_ended mean_end.Wrong means = absurd (means [])
-  meaning_ended mean_end.ReadFault means = absurd (means [])
-  meaning_ended (mean_end.WriteFault stream) means = means_so (mean_end.WriteFault stream) means
-  meaning_ended mean_end.Memory means = inr (means_so mean_end.Memory means)
+  meaning_ended : (e : MeanEnd) → IsEnd e → Ends e → RunsMeaning main heap steps (meant steps e) (world old before) (world new after)
+  meaning_ended (mean_end.Ended status) is means = means_so (mean_end.Ended status) is means
+  meaning_ended mean_end.Going is means = means_so mean_end.Going is means
+  meaning_ended mean_end.Wrong is means = absurd is
+  meaning_ended mean_end.Faulted is means = absurd is
+  meaning_ended mean_end.ReadFault is means = absurd (means [])
+  meaning_ended (mean_end.WriteFault stream) is means = means_so (mean_end.WriteFault stream) is means
+  meaning_ended mean_end.Memory is means = inr (means_so mean_end.Memory is means)
 
 pub mean_told : (main source : List ℕ) (heap steps : ℕ) (program : Program) (old new : FilesState) (before after : Streams)
-    → Gives old new main source_most source → Reads (alone main source) program → flat_limits program ≡ Ok tt
+    → Gives old new main source_most source → Reads (alone main source) program → tree_limits program ≡ Ok tt
     → (answer : Answer) → IsMeant program heap steps answer before after → RunsMeaning main heap steps answer (world old before) (world new after)
 mean_told main source heap steps program old new before after gives reads taken answer is =
     subst (λ a. RunsMeaning main heap steps a (world old before) (world new after)) (sym is.answers)
-    (meaning_ended main source heap steps program old new before after gives reads taken is.input is.end is.means)
+    (meaning_ended main source heap steps program old new before after gives reads taken is.input is.end is.ends is.means)
 
 -- ---- lines
 

@@ -4,7 +4,7 @@ use Rattle.std.specs.Prelude.{nat_le}
 use Rattle.std.proofs.lemmas.Bool.{leb-true, leb-false, cases_Bool}
 use Rattle.arc_base.specs.Event.{Event}
 use Rattle.arc_base.specs.Behaviour.{Behaviour, Phase, Running, Ended as HasEnded, Live, IsOver, Steady}
-use Rattle.nim_core.specs.Meaning.{meaning}
+use Rattle.nim_meaning.specs.Meaning.{meaning}
 use Rattle.rv32_isa.specs.Image.{Image}
 use Rattle.rv32_isa.specs.State.{first_state}
 use Rattle.rv32_isa.specs.Machine.{Lives, machine}

@@ -75,10 +75,10 @@ pub program_due : EitherLaw → (command : Command) (source : List ℕ) (code : 
 program_due either command source code _ c (lacks e) is = absurd (no_entry source e)
 program_due either command source code _ c (long bytes e far) is =
     absurd (omega (arith, is.within, subst (λ n. n < length bytes) (most_is command c) far, ap length (one_entry source bytes e)))
-program_due either command source code _ c (refused other why at d e refusal) is =
+program_due either command source code _ c (refused other why at d e code_is refusal) is =
     absurd (either (limits_of command code) (file_of command) source why at is
     (subst (λ text. IsNoProgram (limits_of command code) (file_of command) text why at) (sym (one_entry source other e)) refusal))
-program_due either command source code _ c (accepted other answer d e p done) is = carried command answer done
+program_due either command source code _ c (accepted other answer d e code_is p done) is = carried command answer done
 program_due either command source code _ c (bad bytes fault d e within has) is = absurd (never_both command c d)
 program_due either command source code _ c (executed bytes file answer d e within elf done) is = absurd (never_both command c d)
 program_due either command source code _ c wanting is = tt
@@ -91,8 +91,8 @@ pub file_due : ApartLaw → (name bytes : List ℕ) (file : File) (steps code : 
     → IsComplete (exec name steps) answer
 file_due apart name bytes file steps code _ within elf (lacks e) = absurd (no_entry bytes e)
 file_due apart name bytes file steps code _ within elf (long other e far) = absurd (omega (arith, within, far, ap length (one_entry bytes other e)))
-file_due apart name bytes file steps code _ within elf (refused other why at d e refusal) = absurd d
-file_due apart name bytes file steps code _ within elf (accepted other answer d e p done) = absurd d
+file_due apart name bytes file steps code _ within elf (refused other why at d e code_is refusal) = absurd d
+file_due apart name bytes file steps code _ within elf (accepted other answer d e code_is p done) = absurd d
 file_due apart name bytes file steps code _ within elf (bad other fault d e short has) =
     absurd (apart bytes file fault elf (subst (λ b. HasFault b fault) (sym (one_entry bytes other e)) has))
 file_due apart name bytes file steps code _ within elf (executed other f answer d e short elf2 done) = carried (exec name steps) answer done

@@ -17,7 +17,7 @@ use Rattle.core_compiler.specs.Compile.{time_for}
 use Rattle.source_compiler.specs.Compile.{IsProgram, IsNoProgram, source_most}
 use Rattle.arc_top.specs.declared.answer.Answer.{Answer}
 use Rattle.arc_top.specs.declared.answer.Answer.TheVariants.{Done, Ended, NoFile, TooLong, Refused, BadElf, MachineFault, StepsSpent, Memory}
-use Rattle.arc_top.specs.Top.{World, Carries, limits_of, file_most}
+use Rattle.arc_top.specs.Top.{World, Carries, limits_of, MakesCode, file_most}
 
 -- ---- what the outside tells
 
@@ -84,14 +84,14 @@ IsCarriedOut (exec name steps) (StepsSpent n) = ⊤
 IsCarriedOut (exec name steps) (MachineFault kind pc word) = ⊤
 IsCarriedOut _ _ = ⊥
 
--- The answers that are due, where the code that the command makes has so many bytes. No two of the first six fit one entry, since a
+-- The answers that are due, where the code that the command makes has so many bytes (`MakesCode`). No two of the first six fit one entry, since a
 -- source is a program or is refused, and bytes are a file or have a fault.
 pub data IsDue (command : Command) (entry : Option (List ℕ)) (code : ℕ) : Answer → Type 0 where
   lacks : entry ≡ None → IsDue command entry code (NoFile (file_of command))
   long : (bytes : List ℕ) → entry ≡ Some bytes → most_of command < length bytes → IsDue command entry code (TooLong (file_of command))
-  refused : (source : List ℕ) (why : Code) (at : Place) → ReadsSource command → entry ≡ Some source →
+  refused : (source : List ℕ) (why : Code) (at : Place) → ReadsSource command → entry ≡ Some source → MakesCode command source code →
       IsNoProgram (limits_of command code) (file_of command) source why at → IsDue command entry code (Refused why at)
-  accepted : (source : List ℕ) (answer : Answer) → ReadsSource command → entry ≡ Some source →
+  accepted : (source : List ℕ) (answer : Answer) → ReadsSource command → entry ≡ Some source → MakesCode command source code →
       IsProgram (limits_of command code) (file_of command) source → IsCarriedOut command answer → IsDue command entry code answer
   bad : (bytes : List ℕ) (fault : ElfFault) → Executes command → entry ≡ Some bytes → length bytes ≤ file_most → HasFault bytes fault →
       IsDue command entry code (BadElf fault)

@@ -1,19 +1,22 @@
 -- What stops a stage of a command. No public contract speaks of it.
 use Rattle.std.specs.Prelude.{◌≡◌, ◌⊎◌, ℕ, List}
+use Rattle.arc_base.specs.declared.place.Place.{Place}
+use Rattle.arc_base.specs.declared.place.Code.{Code}
 use Rattle.source_compiler.specs.declared.compiler.NotCompiled.{NotCompiled}
 use Rattle.source_compiler.specs.declared.compiler.NotCompiled.TheVariants as why
 use Rattle.source_compiler.specs.Compile.{empty_plan}
-use Rattle.nim_core.specs.Program.{Program}
-use Rattle.nim_core.specs.Meaning.{meaning}
-use Rattle.core_runner.specs.declared.mean.MeanEnd.{MeanEnd}
-use Rattle.core_runner.specs.Mean.{Means}
+use Rattle.nim_program.specs.Program.{Program}
+use Rattle.nim_meaning.specs.Meaning.{meaning}
+use Rattle.flat_runner.specs.declared.mean.MeanEnd.{MeanEnd}
+use Rattle.flat_runner.specs.Mean.{Means}
+use Rattle.core_compiler.specs.Mean.{IsEnd}
 use Rattle.rv32_isa.specs.Image.{Image}
 use Rattle.rv32_runner.specs.Streams.{Streams}
 use Rattle.arc_top.specs.declared.answer.Answer.{Answer}
 use Rattle.arc_top.specs.declared.answer.Answer.TheVariants.{NoFile, TooLong, Refused, ReadFault, Memory}
 use Rattle.arc_top.specs.Loads.{FilesState, Lacks, IsLong, LoadFails, Wants}
 use Rattle.arc_top.specs.Runs.{HasRun}
-use Rattle.arc_top.specs.Top.{Taking, Stops, told, meant}
+use Rattle.arc_top.specs.Top.{Stops, told, meant}
 
 -- a file can't be loaded
 abbrev pub StopsLoad : (name : List ℕ) (most : ℕ) → Answer → (old new : FilesState) → Type 0
@@ -23,9 +26,9 @@ StopsLoad name most ReadFault old new = LoadFails old new
 StopsLoad name most Memory old new = Wants old new name
 StopsLoad name most _ old new = ⊥
 
--- a main module can't be loaded, or isn't taken
-abbrev pub StopsReading : Taking → (main : List ℕ) → Answer → (old new : FilesState) → Type 0
-StopsReading limits main answer old new = ((answer ≡ Memory) × Wants old new main) ⊎ Stops limits main answer old new
+-- a main module can't be loaded, or is refused so
+abbrev pub StopsReading : (refuses : (source : List ℕ) → Code → Place → Type 0) → (main : List ℕ) → Answer → (old new : FilesState) → Type 0
+StopsReading refuses main answer old new = ((answer ≡ Memory) × Wants old new main) ⊎ Stops refuses main answer old new
 
 -- the answer for a source that was not compiled
 abbrev pub IsRefusal : NotCompiled → Answer → Type 0
@@ -37,6 +40,7 @@ IsRefusal why.Memory answer = answer ≡ Memory
 pub record IsMeant (program : Program) (heap steps : ℕ) (answer : Answer) (old new : Streams) : Type 0 where
   pub end : MeanEnd
   pub means : (input : List ℕ) → Means (meaning program empty_plan heap input steps) end (told old.out new.out) (told old.err new.err)
+  pub ends : IsEnd end
   pub answers : answer ≡ meant steps end
   pub input : new.input ≡ old.input
 

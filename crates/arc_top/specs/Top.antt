@@ -8,21 +8,25 @@ use Rattle.std.specs.Prelude.{◌≡◌, ℕ, List, [], ◌∷◌, ◌++◌, len
 use Rattle.arc_base.specs.FileCalls.{load, store}
 use Rattle.arc_base.specs.Outside.{Rose, KeepsOthers, Stores, Writes}
 use Rattle.arc_base.specs.declared.outside.Loaded.TheVariants as loaded
+use Rattle.arc_base.specs.declared.place.Place.{Place}
+use Rattle.arc_base.specs.declared.place.Code.{Code}
 use Rattle.elf32.specs.declared.file.ElfFault.{ElfFault}
 use Rattle.elf32.specs.Elf.{File, Elf}
 use Rattle.elf32.specs.Faults.{HasFault}
-use Rattle.nim_core.specs.Program.{Program}
-use Rattle.nim_core.specs.Meaning.{meaning}
+use Rattle.nim_program.specs.Program.{Program}
+use Rattle.nim_meaning.specs.Meaning.{meaning}
 use Rattle.rv32_runner.specs.Streams.{Streams, Tally}
-use Rattle.core_runner.specs.declared.mean.MeanEnd.{MeanEnd}
-use Rattle.core_runner.specs.declared.mean.MeanEnd.TheVariants as end
-use Rattle.core_runner.specs.Mean.{Means, Told}
+use Rattle.flat_runner.specs.declared.mean.MeanEnd.{MeanEnd}
+use Rattle.flat_runner.specs.declared.mean.MeanEnd.TheVariants as end
+use Rattle.flat_runner.specs.Mean.{Means, Told}
 use Rattle.command_words.specs.Command.{Command, check, build, run, mean, exec}
 use Rattle.source_compiler.specs.Source.{Module, alone, Reads}
-use Rattle.core_compiler.specs.Limits.{flat_limits, build_limits, check_limits}
+use Rattle.program_limits.specs.Limits.{tree_limits}
+use Rattle.core_compiler.specs.Limits.{build_limits, check_limits}
 use Rattle.core_compiler.specs.Compile.{HasImageWhereBuilt}
+use Rattle.core_compiler.specs.Mean.{IsEnd}
 use Rattle.source_compiler.specs.Limits.{Limits, no_limits}
-use Rattle.source_compiler.specs.Compile.{Compiled, IsProgram, IsNoProgram, source_most, empty_plan}
+use Rattle.source_compiler.specs.Compile.{Compiled, HaveCodeWhereWithin, IsProgram, IsNoProgram, source_most, empty_plan}
 use Rattle.arc_top.specs.declared.answer.Answer.{Answer}
 use Rattle.arc_top.specs.declared.answer.Answer.TheVariants.{Done, Ended, NoFile, TooLong, Refused, BadElf, MachineFault, StepsSpent, ReadFault, WriteFault}
 use Rattle.arc_top.specs.declared.answer.Answer.TheVariants.{StoreFault, Memory}
@@ -53,27 +57,35 @@ Taking = (code : ℕ) → Limits
 abbrev pub always : Limits → Taking
 always limits code = limits
 
--- the main module can't be loaded, or is no program that the command takes
-abbrev pub Stops : Taking → (main : List ℕ) → Answer → (old new : FilesState) → Type 0
-Stops limits main (NoFile name) old new = (name ≡ main) × Lacks old new main
-Stops limits main (TooLong name) old new = (name ≡ main) × IsLong old new main source_most
-Stops limits main (Refused code at) old new =
-    (source : List ℕ) × Gives old new main source_most source × ((bytes : ℕ) × IsNoProgram (limits bytes) main source code at)
-Stops limits main ReadFault old new = LoadFails old new
-Stops limits main _ old new = ⊥
+-- The main module is no program that a command takes, by so many bytes of code. Where it is a program that isn't refused before it has code,
+-- code of so many bytes does what it means.
+pub record IsTurnedDown (limits : Taking) (main source : List ℕ) (why : Code) (at : Place) : Type 0 where
+  pub bytes : ℕ
+  pub code : HaveCodeWhereWithin (alone main source) bytes
+  pub refused : IsNoProgram (limits bytes) main source why at
+
+-- the main module can't be loaded, or the command refuses it so
+abbrev pub Stops : (refuses : (source : List ℕ) → Code → Place → Type 0) → (main : List ℕ) → Answer → (old new : FilesState) → Type 0
+Stops refuses main (NoFile name) old new = (name ≡ main) × Lacks old new main
+Stops refuses main (TooLong name) old new = (name ≡ main) × IsLong old new main source_most
+Stops refuses main (Refused why at) old new = (source : List ℕ) × Gives old new main source_most source × refuses source why at
+Stops refuses main ReadFault old new = LoadFails old new
+Stops refuses main _ old new = ⊥
 
 -- ---- `check MAIN`
 
--- the main module is a program that can be compiled, or has a form that isn't built yet
+-- The main module is a program that can be compiled, by so many bytes of code, or has a form that isn't built yet. Where it has none and
+-- isn't refused before it has code, code of so many bytes does what it means, and so does an image with such code.
 pub record IsChecked (main source : List ℕ) : Type 0 where
-  pub code : ℕ
-  pub program : IsProgram (check_limits code) main source
-  pub image : HasImageWhereBuilt program.program code
+  pub bytes : ℕ
+  pub code : HaveCodeWhereWithin (alone main source) bytes
+  pub program : IsProgram (check_limits bytes) main source
+  pub image : HasImageWhereBuilt program.program empty_plan bytes
 
 abbrev pub Checks : (main : List ℕ) → Answer → (old new : FilesState) → Type 0
 Checks main Done old new = (source : List ℕ) × Gives old new main source_most source × IsChecked main source
 Checks main Memory old new = Wants old new main
-Checks main answer old new = Stops check_limits main answer old new
+Checks main answer old new = Stops (IsTurnedDown check_limits main) main answer old new
 
 -- ---- `build MAIN OUT`
 
@@ -98,7 +110,7 @@ Builds main out heap Done old new = (over : HandsOver main out heap old new) × 
 Builds main out heap StoreFault old new = HandsOver main out heap old new × Rose old.store_faults new.store_faults
 -- (before the store, or in it)
 Builds main out heap Memory old new = Wants old new main ⊎ (HandsOver main out heap old new × (new.store_faults ≡ old.store_faults))
-Builds main out heap answer old new = Stops build_limits main answer old new
+Builds main out heap answer old new = Stops (IsTurnedDown build_limits main) main answer old new
 
 -- ---- what the outside tells
 
@@ -131,7 +143,7 @@ Runs main heap steps (StepsSpent n) old new = RunsProgram main heap steps (Steps
 Runs main heap steps (WriteFault stream) old new = RunsProgram main heap steps (WriteFault stream) old new
 Runs main heap steps ReadFault old new = OfFiles LoadFails old new ⊎ RunsProgram main heap steps ReadFault old new
 Runs main heap steps Memory old new = OfFiles (λ before after. Wants before after main) old new
-Runs main heap steps answer old new = OfFiles (Stops build_limits main answer) old new
+Runs main heap steps answer old new = OfFiles (Stops (IsTurnedDown build_limits main) main answer) old new
 
 -- ---- `mean MAIN`
 
@@ -144,6 +156,7 @@ abbrev pub meant : (steps : ℕ) → MeanEnd → Answer
 meant steps (end.Ended status) = Ended status
 meant steps end.Going = StepsSpent steps
 meant steps end.Wrong = Memory
+meant steps end.Faulted = Memory
 meant steps end.ReadFault = ReadFault
 meant steps (end.WriteFault stream) = WriteFault stream
 meant steps end.Memory = Memory
@@ -155,14 +168,15 @@ pub record MeansProgram (main : List ℕ) (heap steps : ℕ) (answer : Answer) (
   pub gives : Gives old.files new.files main source_most source
   pub program : Program
   pub reads : Reads (alone main source) program
-  pub taken : flat_limits program ≡ Ok tt
+  pub taken : tree_limits program ≡ Ok tt
   pub end : MeanEnd
   pub means : (input : List ℕ) → Means (meaning program empty_plan heap input steps) end
       (told old.streams.out new.streams.out) (told old.streams.err new.streams.err)
+  pub ends : IsEnd end
   pub answers : answer ≡ meant steps end
   pub input : new.streams.input ≡ old.streams.input
 
--- (no input is read yet, and no meaning is wrong)
+-- (no input is read yet, and no meaning is wrong or at a fault)
 abbrev pub RunsMeaning : (main : List ℕ) (heap steps : ℕ) → Answer → (old new : World) → Type 0
 RunsMeaning main heap steps (Ended status) old new = MeansProgram main heap steps (Ended status) old new
 RunsMeaning main heap steps (StepsSpent n) old new = MeansProgram main heap steps (StepsSpent n) old new
@@ -170,7 +184,7 @@ RunsMeaning main heap steps (WriteFault stream) old new = MeansProgram main heap
 -- (before the run, or in it)
 RunsMeaning main heap steps Memory old new =
     OfFiles (λ before after. Wants before after main) old new ⊎ MeansProgram main heap steps Memory old new
-RunsMeaning main heap steps answer old new = OfFiles (Stops (always flat_limits) main answer) old new
+RunsMeaning main heap steps answer old new = OfFiles (Stops (IsNoProgram tree_limits main) main answer) old new
 
 -- ---- `exec ELF`
 
@@ -213,8 +227,16 @@ abbrev pub limits_of : Command → Taking
 limits_of (check main) = check_limits
 limits_of (build main out heap) = build_limits
 limits_of (run main heap steps) = build_limits
-limits_of (mean main heap steps) = always flat_limits
+limits_of (mean main heap steps) = always tree_limits
 limits_of (exec name steps) = always no_limits
+
+-- so many bytes are those of the code that the command makes of a main module; `mean` and `exec` make none
+abbrev pub MakesCode : Command → (source : List ℕ) → (bytes : ℕ) → Type 0
+MakesCode (check main) source bytes = HaveCodeWhereWithin (alone main source) bytes
+MakesCode (build main out heap) source bytes = HaveCodeWhereWithin (alone main source) bytes
+MakesCode (run main heap steps) source bytes = HaveCodeWhereWithin (alone main source) bytes
+MakesCode (mean main heap steps) source bytes = ⊤
+MakesCode (exec name steps) source bytes = ⊤
 
 -- what an answer to a command says of the outside before the command, and after it but for the line of the answer
 abbrev pub Answered : Command → Answer → (old new : World) → Type 0

@@ -2,7 +2,7 @@
 ghost use Rattle.std.specs.Prelude.{◌≡◌, ◌≤◌, ◌++◌, [], List, ℕ, Option, Some, length};
 ghost use Rattle.command_words.specs.Command.{Command, exec, file_of};
 ghost use Rattle.elf32.specs.Elf.{Elf, File};
-ghost use Rattle.nim_core.specs.Meaning.{meaning};
+ghost use Rattle.nim_meaning.specs.Meaning.{meaning};
 ghost use Rattle.rv32_isa.specs.Image.{Image};
 ghost use Rattle.rv32_isa.specs.Machine.{start, standing};
 ghost use Rattle.rv32_runner.specs.Streams.{Streams, MayGive};

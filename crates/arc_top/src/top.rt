@@ -1,33 +1,37 @@
 // The top call.
-ghost use Rattle.std.specs.Prelude.{◌≡◌, ◌≤◌, [], List, ℕ, Ok, IfOk, IfErr, map, string_bytes};
+ghost use Rattle.std.specs.Prelude.{◌≡◌, ◌≤◌, true, [], List, ℕ, Ok, IfOk, IfErr, map, string_bytes};
 ghost use Rattle.arc_base.specs.Outside.{Writes};
 ghost use Rattle.elf32.specs.Elf.{file_of};
 ghost use Rattle.rv32_isa.specs.Image.{image_of};
 ghost use Rattle.rv32_runner.specs.Streams.{feed, tally, streams};
 ghost use Rattle.command_words.specs.Command.{Command as TheCommand, command_of, IsCommand, IsNoCommand, IsInRange};
+ghost use Rattle.nim_program.specs.Numbering.{is_numbered_program};
+ghost use Rattle.nim_program.specs.Typed.{IsTyped};
 ghost use Rattle.check_decls.specs.Modules.{program_in};
-ghost use Rattle.source_compiler.specs.Source.{alone, Reads};
-ghost use Rattle.core_compiler.specs.Limits.{flat_limits, build_limits, check_limits};
-ghost use Rattle.source_compiler.specs.Compile.{Compiled, source_most, OnTooLong};
+ghost use Rattle.source_compiler.specs.Source.{alone, read_program, Reads};
+ghost use Rattle.program_limits.specs.Limits.{tree_limits};
+ghost use Rattle.core_compiler.specs.Limits.{build_limits, check_limits};
+ghost use Rattle.core_compiler.specs.Mean.{IsEnd};
+ghost use Rattle.source_compiler.specs.Compile.{Compiled, IsNoProgram, source_most, OnTooLong};
 ghost use Rattle.arc_top.specs.Answer.{OnQuiet, OnUsage, OnCommand};
 ghost use Rattle.arc_top.specs.Loads.{Gives, files_state};
 ghost use Rattle.arc_top.specs.Report.{report_of};
 ghost use Rattle.arc_top.specs.Stages.{StopsLoad, StopsReading, IsRefusal, RunsOrWants, IsMeant};
 ghost use Rattle.arc_top.specs.Top.{IsFileOf, IsChecked, Checks, Builds, Runs, RunsMeaning, Executes, Answered, Carries, modules_of, WithoutStreams};
-ghost use Rattle.arc_top.specs.Top.{always, world, meant};
+ghost use Rattle.arc_top.specs.Top.{IsTurnedDown, world, meant};
 
 use crate::answer::{Answer, FileName};
 use crate::report::put_report;
 use arc_base::{Bytes, FileFault, Files, Loaded, Sink, Source};
 use command_words::{Command, one_command, read_words};
-use core_compiler::{check_core, within};
-use core_runner::mean::{MeanEnd, mean};
+use core_compiler::{check_core, mean_core, within_core};
 use elf32::{ElfFile, ElfStop, read, write};
-use nim_core::Program;
+use flat_runner::mean::MeanEnd;
 use nim_plan::Plan;
+use nim_program::Program;
 use rv32_isa::{Image, machines};
 use rv32_runner::{RunEnd, load, runs};
-use source_compiler::{NotCompiled, SOURCE_MOST, compile, typed};
+use source_compiler::{NotCompiled, SOURCE_MOST, compile, one_answer, typed};
 use std::alloc::Global;
 
 /// The longest file that is executed, in bytes.
@@ -72,14 +76,17 @@ fn read_main<F: Files>(alloc: Global, main: &str, files: &mut F) -> Result<Progr
         × Gives
         (files_state (F.held files.old) (F.load_faults files.old) (F.store_faults files.old) (F.calls files.old))
         (files_state (F.held files.new) (F.load_faults files.new) (F.store_faults files.new) (F.calls files.new)) main.now source_most source
-        × Reads (alone main.now source) (program_in program)) }
-    ensures stops_check { IfErr result (λ answer. StopsReading check_limits main.now answer
+        × Reads (alone main.now source) (read_program program)) }
+    ensures is_typed { IfOk result (λ program. IsTyped (program_in program)) }
+    ensures is_numbered { IfOk result (λ program. is_numbered_program (program_in program) ≡ true) }
+    ensures stops_check { IfErr result (λ answer. StopsReading (IsTurnedDown check_limits main.now) main.now answer
         (files_state (F.held files.old) (F.load_faults files.old) (F.store_faults files.old) (F.calls files.old))
         (files_state (F.held files.new) (F.load_faults files.new) (F.store_faults files.new) (F.calls files.new))) }
-    ensures stops_mean { IfErr result (λ answer. StopsReading (always flat_limits) main.now answer
+    ensures stops_mean { IfErr result (λ answer. StopsReading (IsNoProgram tree_limits main.now) main.now answer
         (files_state (F.held files.old) (F.load_faults files.old) (F.store_faults files.old) (F.calls files.old))
         (files_state (F.held files.new) (F.load_faults files.new) (F.store_faults files.new) (F.calls files.new))) }
 {
+    one_answer();
     let source = load_file(alloc, main, SOURCE_MOST as u32, files)?;
     match typed(alloc, source.as_slice()) {
         Ok(program) => Ok(program),
@@ -94,12 +101,14 @@ fn check_main<F: Files>(alloc: Global, main: &str, files: &mut F) -> Result<(), 
         (files_state (F.held files.old) (F.load_faults files.old) (F.store_faults files.old) (F.calls files.old))
         (files_state (F.held files.new) (F.load_faults files.new) (F.store_faults files.new) (F.calls files.new)) main.now source_most source
         × IsChecked main.now source) }
-    ensures stops { IfErr result (λ answer. StopsReading check_limits main.now answer
+    ensures stops { IfErr result (λ answer. StopsReading (IsTurnedDown check_limits main.now) main.now answer
         (files_state (F.held files.old) (F.load_faults files.old) (F.store_faults files.old) (F.calls files.old))
         (files_state (F.held files.new) (F.load_faults files.new) (F.store_faults files.new) (F.calls files.new))) }
 {
+    one_answer();
     let program = read_main(alloc, main, files)?;
-    check_core(alloc, &program)?;
+    let plan = Plan::new(alloc);
+    check_core(alloc, &program, &plan)?;
     Ok(())
 }
 
@@ -109,14 +118,17 @@ fn read_within<F: Files>(alloc: Global, main: &str, files: &mut F) -> Result<Pro
         × Gives
         (files_state (F.held files.old) (F.load_faults files.old) (F.store_faults files.old) (F.calls files.old))
         (files_state (F.held files.new) (F.load_faults files.new) (F.store_faults files.new) (F.calls files.new)) main.now source_most source
-        × Reads (alone main.now source) (program_in program)
-        × (flat_limits (program_in program) ≡ Ok tt)) }
-    ensures stops { IfErr result (λ answer. StopsReading (always flat_limits) main.now answer
+        × Reads (alone main.now source) (read_program program)
+        × (tree_limits (read_program program) ≡ Ok tt)) }
+    ensures is_typed { IfOk result (λ program. IsTyped (program_in program)) }
+    ensures is_numbered { IfOk result (λ program. is_numbered_program (program_in program) ≡ true) }
+    ensures within { IfOk result (λ program. tree_limits (program_in program) ≡ Ok tt) }
+    ensures stops { IfErr result (λ answer. StopsReading (IsNoProgram tree_limits main.now) main.now answer
         (files_state (F.held files.old) (F.load_faults files.old) (F.store_faults files.old) (F.calls files.old))
         (files_state (F.held files.new) (F.load_faults files.new) (F.store_faults files.new) (F.calls files.new))) }
 {
     let program = read_main(alloc, main, files)?;
-    within(alloc, &program)?;
+    within_core(alloc, &program)?;
     Ok(program)
 }
 
@@ -134,7 +146,7 @@ fn compile_main<F: Files>(
         (files_state (F.held files.old) (F.load_faults files.old) (F.store_faults files.old) (F.calls files.old))
         (files_state (F.held files.new) (F.load_faults files.new) (F.store_faults files.new) (F.calls files.new)) main.now source_most source
         × Compiled (alone main.now source) heap (file_of file)) }
-    ensures stops { IfErr result (λ answer. StopsReading build_limits main.now answer
+    ensures stops { IfErr result (λ answer. StopsReading (IsTurnedDown build_limits main.now) main.now answer
         (files_state (F.held files.old) (F.load_faults files.old) (F.store_faults files.old) (F.calls files.old))
         (files_state (F.held files.new) (F.load_faults files.new) (F.store_faults files.new) (F.calls files.new))) }
 {
@@ -159,7 +171,7 @@ fn file_bytes<F: Files>(
         (files_state (F.held files.old) (F.load_faults files.old) (F.store_faults files.old) (F.calls files.old))
         (files_state (F.held files.new) (F.load_faults files.new) (F.store_faults files.new) (F.calls files.new)) main.now source_most source
         × IsFileOf (alone main.now source) heap bytes) }
-    ensures stops { IfErr result (λ answer. StopsReading build_limits main.now answer
+    ensures stops { IfErr result (λ answer. StopsReading (IsTurnedDown build_limits main.now) main.now answer
         (files_state (F.held files.old) (F.load_faults files.old) (F.store_faults files.old) (F.calls files.old))
         (files_state (F.held files.new) (F.load_faults files.new) (F.store_faults files.new) (F.calls files.new))) }
 {
@@ -195,8 +207,9 @@ fn run_image<I: Source, O: Sink, E: Sink>(
     }
 }
 
-// The answer where running a meaning of so many units came to this. No meaning is wrong.
+// The answer where running a meaning of so many units came to this. No meaning is wrong or at a fault.
 fn meant(end: MeanEnd, steps: u32) -> Answer
+    requires { IsEnd end }
     ensures { result ≡ meant steps end }
 {
     match end {
@@ -204,7 +217,8 @@ fn meant(end: MeanEnd, steps: u32) -> Answer
         MeanEnd::Going => Answer::StepsSpent(steps),
         MeanEnd::ReadFault => Answer::ReadFault,
         MeanEnd::WriteFault(stream) => Answer::WriteFault(stream),
-        MeanEnd::Wrong | MeanEnd::Memory => Answer::Memory,
+        MeanEnd::Memory => Answer::Memory,
+        MeanEnd::Wrong | MeanEnd::Faulted => unreachable!(),
     }
 }
 
@@ -218,7 +232,10 @@ fn run_program<I: Source, O: Sink, E: Sink>(
     out: &mut O,
     err: &mut E,
 ) -> Answer
-    ensures ran { IsMeant (program_in program.now) heap steps result
+    requires typed { IsTyped (program_in program.now) }
+    requires numbered { is_numbered_program (program_in program.now) ≡ true }
+    requires within { tree_limits (program_in program.now) ≡ Ok tt }
+    ensures ran { IsMeant (read_program program.now) heap steps result
         (streams (feed (I.left input.old) (I.ended input.old) (I.faults input.old) (I.gave input.old))
         (tally (O.written out.old) (O.faults out.old)) (tally (E.written err.old) (E.faults err.old)))
         (streams (feed (I.left input.new) (I.ended input.new) (I.faults input.new) (I.gave input.new))
@@ -226,7 +243,7 @@ fn run_program<I: Source, O: Sink, E: Sink>(
 {
     let plan = Plan::new(alloc);
     let units = steps as u64;
-    let end = mean(alloc, program, &plan, heap, units, input, out, err);
+    let end = mean_core(alloc, program, &plan, heap, units, input, out, err);
     meant(end, steps)
 }
 

@@ -8,8 +8,8 @@ use Rattle.nim_types.specs.Types as type
 use Rattle.nim_types.specs.Types.{Ty, Facts}
 use Rattle.nim_types.specs.Forms.{plain, block, of_int, of_bool, of_char, of_text}
 use Rattle.nim_types.specs.Table.{type_at, types_in, facts_in, meant, Adds}
-use Rattle.nim_core.specs.Program.{Number, Proc, Declared}
-use Rattle.nim_core.specs.View.{proc_of, declared_of}
+use Rattle.nim_program.specs.Program.{Number, Proc, Declared}
+use Rattle.nim_program.specs.View.{proc_of, declared_of}
 use Rattle.expr_rules.specs.Answers.{Answer}
 use Rattle.expr_rules.specs.Env.{Env, Entry, named, constant, input, outermost}
 use Rattle.expr_parts.specs.declared.scope.What.{What}

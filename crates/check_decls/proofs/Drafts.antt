@@ -3,7 +3,7 @@ use Rattle.std.proofs.Common.{◌≡◌, ℕ, List, [], ◌∷◌, ◌++◌, len
 use Rattle.std.proofs.lemmas.Option.{none-some, same_Some}
 use Rattle.std.proofs.Common.{zero, suc, add-one, Some, length-append, Vec, Global, ◌+◌, drop}
 use Rattle.std.proofs.lemmas.List.{map-append}
-use Rattle.std.specs.Prelude.{slice_get, Result, Ok, Err, Bool, true, false, map, Option, None, IfErr, OnOk}
+use Rattle.std.specs.Prelude.{slice_get, Result, Ok, Err, Bool, true, false, map, None, IfErr, OnOk}
 use Rattle.std.proofs.lemmas.Bool.{true≢false}
 use Rattle.arc_base.specs.declared.place.Place.{Place}
 use Rattle.arc_base.specs.declared.place.Stop.{Stop}
@@ -16,16 +16,16 @@ use Rattle.nim_tree.specs.Statements.{Statement, Statements, empty, then}
 use Rattle.decl_rules.specs.Places.{is_procedure}
 use Rattle.decl_stmts.specs.ViewStated.{IsPlain}
 use Rattle.nim_types.specs.Types.{Ty}
-use Rattle.nim_core.specs.declared.program.Proc.{Proc as RustProc}
-use Rattle.nim_core.specs.declared.stmt.Stmt.{Stmt as RustStmt}
-use Rattle.nim_core.specs.Program.{Proc, Stmts}
-use Rattle.nim_core.specs.View.{stmts_of, proc_of}
+use Rattle.nim_program.specs.declared.program.Proc.{Proc as RustProc}
+use Rattle.nim_program.specs.declared.stmt.Stmt.{Stmt as RustStmt}
+use Rattle.nim_program.specs.Program.{Proc, Stmts}
+use Rattle.nim_program.specs.View.{stmts_of, proc_of}
 use Rattle.expr_rules.specs.Answers.{Answer}
 use Rattle.expr_parts.proofs.ForCallers.{answers_as, forgets}
 use Rattle.decl_rules.specs.Stated.{stated, all_stated, ends_with}
 use Rattle.decl_rules.specs.LeftOut.{nothing_left_out}
 use Rattle.decl_rules.specs.Elaborated.{module_stated, modules_stated, none_left_out}
-use Rattle.decl_rules.specs.State.{in_module, State, Step, Stated, stated_as, and_more, noting, code, is_completed, Item}
+use Rattle.decl_rules.specs.State.{in_module, ResultPlace, State, Step, Stated, stated_as, and_more, noting, code, is_completed, Item}
 use Rattle.check_uses.specs.declared.text.Item.TheVariants as item
 use Rattle.check_uses.specs.View.{items_of, item_of}
 use Rattle.decl_parts.specs.declared.state.State.{State as RustState}
@@ -255,7 +255,7 @@ noted_before (Err e) f = refl
 pub then_noted : (st : State) (first : Statement) (rest : Statements)
     → all_stated in_module None st (then first rest) ≡ then_next (noted_rule st first) (λ z. all_stated in_module None z rest)
 then_noted st first rest =
-    ap (λ (e : Option Ty). and_then (stated in_module e st first) (λ one. and_then (all_stated in_module None (noting true one) rest)
+    ap (λ (e : ResultPlace). and_then (stated in_module e st first) (λ one. and_then (all_stated in_module None (noting true one) rest)
     (λ more. Ok (and_more one more)))) (ends_nothing rest)
     ∙ noted_before (stated in_module None st first) (λ z. all_stated in_module None z rest)
 

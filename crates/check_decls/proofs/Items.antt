@@ -5,9 +5,9 @@ use Rattle.std.specs.Prelude.{Bool, true, false, ◌||◌, ◌&&◌, nat_eq, map
 use Rattle.std.proofs.lemmas.Bool.{both_ways, eqb-true, eq-eqb, ne_eqb, true≢false}
 use Rattle.std.proofs.lemmas.List.{take-append-le, drop-append-le, take_all, drop_all}
 use Rattle.nim_types.specs.Types.{Ty}
-use Rattle.nim_core.specs.declared.program.Proc.{Proc as RustProc}
-use Rattle.nim_core.specs.declared.stmt.Stmt.{Stmt as RustStmt}
-use Rattle.nim_core.specs.View.{stmts_of}
+use Rattle.nim_program.specs.declared.program.Proc.{Proc as RustProc}
+use Rattle.nim_program.specs.declared.stmt.Stmt.{Stmt as RustStmt}
+use Rattle.nim_program.specs.View.{stmts_of}
 use Rattle.decl_rules.specs.State.{Item, announces, completes, code, is_completed}
 use Rattle.check_uses.specs.declared.text.Item.{Item as RustItem}
 use Rattle.check_uses.specs.declared.text.Item.TheVariants as item

@@ -11,14 +11,14 @@ use Rattle.nim_tree.specs.declared.stmt.ProcHead.{ProcHead}
 use Rattle.nim_tree.specs.Statements.{head_of}
 use Rattle.nim_types.specs.Types.{Ty}
 use Rattle.nim_types.specs.Table.{type_at}
-use Rattle.nim_core.specs.declared.program.Mode.{Mode}
-use Rattle.nim_core.specs.declared.program.Param.{Param as RustParam}
-use Rattle.nim_core.specs.declared.program.Body.{Body as RustBody}
-use Rattle.nim_core.specs.declared.program.Proc.{Proc as RustProc}
-use Rattle.nim_core.specs.declared.stmt.Stmt.{Stmt as RustStmt}
-use Rattle.nim_core.specs.Program.{Param, Body, Proc}
-use Rattle.nim_core.specs.View as view
-use Rattle.nim_core.specs.View.{param_of, stmts_of, if_type}
+use Rattle.nim_program.specs.declared.program.Mode.{Mode}
+use Rattle.nim_program.specs.declared.program.Param.{Param as RustParam}
+use Rattle.nim_program.specs.declared.program.Body.{Body as RustBody}
+use Rattle.nim_program.specs.declared.program.Proc.{Proc as RustProc}
+use Rattle.nim_program.specs.declared.stmt.Stmt.{Stmt as RustStmt}
+use Rattle.nim_program.specs.Program.{Param, Body, Proc}
+use Rattle.nim_program.specs.View as view
+use Rattle.nim_program.specs.View.{param_of, stmts_of, if_type}
 use Rattle.decl_rules.specs.State.{Item, announces, completes, is_completed}
 use Rattle.decl_rules.specs.Heads.{Headed}
 use Rattle.decl_rules.specs.Bodies.{behind_head, params_from, proc_of}
@@ -49,14 +49,16 @@ params_are ts n (p ∷ ps) h =
 
 -- as the code has it
 abbrev pub proc_for : Place → ProcHead → RustSignature → Option RustBody → RustProc
-proc_for at h s body = record { name = h.name.text; at = at; params = s.params; gives = s.gives; body = body }
+proc_for at h s body =
+    record { name = h.name.text; at = at; type_params = 0; params = s.params; gives = s.gives; body = body; hook = None }
 
 -- of a head, what is known beside its signature
 abbrev pub head_with : List Ty → RustSignature → (is_new : Bool) → ℕ → (borrowed : Bool) → Headed
 head_with ts s is_new n borrowed = record { signature = signature_of ts s; number = n; is_new = is_new; borrowed = borrowed }
 
 abbrev with_parameters_of : List ℕ → Place → Option Ty → Option Body → List Param → Proc
-with_parameters_of name at gives body params = record { name = name; at = at; params = params; gives = gives; body = body }
+with_parameters_of name at gives body params =
+    record { name = name; at = at; type_params = 0; params = params; gives = gives; body = body; hook = None }
 
 proc_is : (ts : List Ty) (at : Place) (h : ProcHead) (s : RustSignature) (is_new : Bool) (n : ℕ) (borrowed : Bool) (body : Option RustBody) (place : ℕ)
     → AreNumbered place s.params

@@ -8,14 +8,14 @@ use Rattle.arc_base.specs.declared.place.Place.{Place}
 use Rattle.arc_base.specs.Refusal.{Refusal, and_then}
 use Rattle.nim_tree.specs.Statements.{Statements, empty, then, Head, proclaims}
 use Rattle.nim_types.specs.Types.{Ty}
-use Rattle.nim_core.specs.Program.{Body}
+use Rattle.nim_program.specs.Program.{Body}
 use Rattle.expr_rules.specs.Answers.{Answer}
 use Rattle.expr_rules.specs.Env.{Parameter}
 use Rattle.decl_rules.specs.State.{State, Stated, stated_as, in_module, in_body, if_typed, left, own_entries, is_completed}
 use Rattle.decl_rules.specs.Stated.{stated, all_stated, has_statements}
 use Rattle.decl_rules.specs.Heads.{Signature, Headed, Earlier, nothing_earlier, one_earlier, no_procedure, completes_if, is_awaited, is_completion}
 use Rattle.decl_rules.specs.Heads.{completion_rule, headed, head_by, head_fits, signature_rule, parameters_of, earlier, procedure_name, has_pragma, is_borrow}
-use Rattle.decl_rules.specs.Bodies.{behind_head, before_body, behind_body, body_of}
+use Rattle.decl_rules.specs.Bodies.{behind_head, before_body, behind_body, body_of, result_of}
 use Rattle.check_decls.specs.ViewBodies.{bodied, body_rule, noting_body, proclaim_rule, NumberFits}
 
 -- ---- the rule of a procedure
@@ -35,12 +35,12 @@ ended (Ok s) of before go = refl
 ended (Err e) of before go = refl
 
 behind_is : (st : State) (at : Place) (h : Head) (k : Headed) (body : Statements)
-    → and_then (all_stated (in_body k.signature.gives) k.signature.gives (before_body st h k) body)
+    → and_then (all_stated (in_body (result_of st h k)) (result_of st h k) (before_body st h k) body)
     (λ s. Ok (stated_as [] (behind_body (has_statements body) st at h k s)))
     ≡ and_then (body_rule st h k body) (λ x. Ok (stated_as [] (noting_body st at h k x.state x.body)))
 behind_is st at h k empty = refl
 behind_is st at h k (then first rest) =
-    sym (ended (all_stated (in_body k.signature.gives) k.signature.gives (before_body st h k) (then first rest)) (body_of st h k) st
+    sym (ended (all_stated (in_body (result_of st h k)) (result_of st h k) (before_body st h k) (then first rest)) (body_of st h k) st
     (λ after body. Ok (stated_as [] (noting_body st at h k after body))))
 
 pub proclaimed : (st : State) (at : Place) (h : Head) (body : Statements)
@@ -48,9 +48,10 @@ pub proclaimed : (st : State) (at : Place) (h : Head) (body : Statements)
     ≡ and_then (signature_rule st h) (λ s. and_then (head_by st at h (has_statements body) s) (λ k. proclaim_rule st at h k body))
 proclaimed st at h body =
     let has = has_statements body in
-    let go = λ (k : Headed).
-    and_then (all_stated (in_body k.signature.gives) k.signature.gives (before_body (behind_head st at h k) h k) body)
-    (λ s. Ok (stated_as [] (behind_body has (behind_head st at h k) at h k s))) in
+    let with_body = λ (behind : State) (k : Headed).
+    and_then (all_stated (in_body (result_of behind h k)) (result_of behind h k) (before_body behind h k) body)
+    (λ s. Ok (stated_as [] (behind_body has behind at h k s))) in
+    let go = λ (k : Headed). with_body (behind_head st at h k) k in
     let next = λ (k : Headed). proclaim_rule st at h k body in
     then_then (signature_rule st h) (λ s. head_by st at h has s) go
     ∙ then_so (signature_rule st h) (λ s. and_then (head_by st at h has s) go) (λ s. and_then (head_by st at h has s) next)

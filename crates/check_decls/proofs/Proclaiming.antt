@@ -8,7 +8,7 @@ use Rattle.arc_base.specs.Refusal.{and_then, Answers}
 use Rattle.nim_tree.specs.declared.stmt.ProcHead.{ProcHead}
 use Rattle.nim_tree.specs.Statements.{Statements, head_of, proclaims}
 use Rattle.nim_types.specs.Types.{Ty, Facts}
-use Rattle.nim_core.specs.declared.program.Body.{Body as RustBody}
+use Rattle.nim_program.specs.declared.program.Body.{Body as RustBody}
 use Rattle.expr_rules.specs.Answers.{Answer}
 use Rattle.expr_parts.specs.View.{Grown, env_of}
 use Rattle.expr_parts.proofs.ForCallers.{answers_as, forgets, stops}

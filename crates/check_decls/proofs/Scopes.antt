@@ -14,12 +14,13 @@ use Rattle.nim_tree.specs.declared.types.TypeTree.{TypeTree}
 use Rattle.nim_tree.specs.Types.{Written, written_of}
 use Rattle.nim_tree.specs.Statements.{Statements, Head, head_of, statement_of, statements_of, empty, then}
 use Rattle.nim_types.specs.Types.{Ty}
+use Rattle.nim_types.specs.declared.types.TypeDef.{TypeDef}
 use Rattle.nim_types.specs.Table.{IsBelow, type_at}
-use Rattle.nim_core.specs.declared.program.PlaceDecl.{PlaceDecl}
-use Rattle.nim_core.specs.declared.program.Body.{Body as RustBody}
-use Rattle.nim_core.specs.declared.stmt.Stmt.{Stmt as RustStmt}
-use Rattle.nim_core.specs.Program as P
-use Rattle.nim_core.specs.View.{declared_of, stmts_of, if_type}
+use Rattle.nim_program.specs.declared.stmt.PlaceDecl.{PlaceDecl}
+use Rattle.nim_program.specs.declared.program.Body.{Body as RustBody}
+use Rattle.nim_program.specs.declared.stmt.Stmt.{Stmt as RustStmt}
+use Rattle.nim_program.specs.Program as P
+use Rattle.nim_program.specs.View.{declared_of, stmts_of, if_type}
 use Rattle.expr_rules.specs.Answers.{Answer}
 use Rattle.expr_rules.specs.Env as Env
 use Rattle.expr_rules.specs.Env.{Entry, Parameter}
@@ -29,13 +30,14 @@ use Rattle.expr_parts.specs.declared.scope.Decl.{Decl}
 use Rattle.expr_parts.specs.declared.scope.Scope.{Scope}
 use Rattle.expr_parts.specs.View.{DeclsWithin, ParametersWithin, WhatWithin, entry_of, parameter_of}
 use Rattle.expr_parts.proofs.ForCallers.{answers_as, stops}
-use Rattle.decl_rules.specs.State.{State, with_entries, entered, left, Stated, and_more, block_of, in_body}
+use Rattle.decl_rules.specs.State.{ResultPlace, State, with_entries, entered, left, Stated, and_more, block_of, in_body}
 use Rattle.decl_rules.specs.Stated.{stated, all_stated, ends_with, has_statements}
 use Rattle.decl_rules.specs.Heads.{Headed, Signature, parameters_of, procedure_name, with_parameters}
 use Rattle.decl_rules.specs.Written.{type_place}
 use Rattle.decl_rules.specs.Bodies.{behind_head, body_of, result_at, result_of, with_result, without_body}
+use Rattle.decl_parts.specs.declared.state.ResultPlace.{ResultPlace as RustResultPlace}
 use Rattle.decl_parts.specs.declared.state.State.{State as RustState}
-use Rattle.decl_parts.specs.View.{Beside, Ready, Stands, Stating, AllStatedSo, state_of, all_stated_as, steps_of, place_of}
+use Rattle.decl_parts.specs.View.{Beside, Ready, Stands, Stating, AllStatedSo, state_of, all_stated_as, steps_of, place_of, if_result, ResultWithin}
 use Rattle.decl_parts.proofs.ForCallers.{decls_both, further_as, further_to, further_same, stands_still, blocked_steps}
 use Rattle.decl_heads.specs.declared.signature.Signature.{Signature as RustSignature}
 use Rattle.decl_heads.specs.declared.heads.Headed.{Headed as RustHeaded}
@@ -43,7 +45,7 @@ use Rattle.decl_heads.specs.ViewHeads.{given_of, signature_of, headed_of, Declar
 use Rattle.check_decls.specs.View.{decl_of}
 use Rattle.check_decls.specs.ViewBodies.{Bodied, bodied, bodied_as, some_body_rule, body_rule}
 use Rattle.check_decls.specs.ViewBodies.{beside_in, HeadDeclared, BodyBegun, with_result_in, result_decl, place_type}
-use Rattle.check_decls.specs.ViewBodies.{last_type, place_behind, is_there}
+use Rattle.check_decls.specs.ViewBodies.{place_given, last_result, place_behind, is_there}
 use Rattle.check_decls.proofs.Items.{length_last}
 
 -- ---- one more declaration
@@ -168,6 +170,7 @@ body_begun old mid new h g place count ready types d at e c is within =
         more.1 ∙ ap (λ l. l ++ more.0) x.begins.1 ∙ append_assoc old.scope.decls x.begins.0 more.0,
       );
       ready = ready_result mid place count x.ready within c;
+      within = subst (λ (ds : List TypeDef). IsBelow (length ds) (place_type place)) (sym (result_types mid place)) within;
       result = answer;
       known = λ ts b k same.
           let st = state_of ts b old in
@@ -219,16 +222,50 @@ left_stands old mid count more e h o r = record {
   outside = refl;
 }
 
-abbrev ended : ℕ → ℕ → Option P.Declared → P.Stmts → State → Bodied
-ended first places result stmts st = bodied (Some (record { first = first; places = places; result = result; stmts = stmts })) st
+-- ---- the place of a result
+
+abbrev named : P.Declared → P.Declared
+named d = record d { name = codes "result" }
+
+given_named : (ts : List Ty) (place : Option PlaceDecl) → if_result ts (place_given place) ≡ option_map named (option_map (declared_of ts) place)
+given_named ts None = refl
+given_named ts (Some p) = refl
+
+result_is_named : (n : ℕ) (w : Option Written) (ty : Option Ty) → option_map named (result_at n w ty) ≡ result_at n w ty
+result_is_named n None ty = refl
+result_is_named n (Some w) None = refl
+result_is_named n (Some w) (Some ty) = refl
+
+given_is : (ts : List Ty) (place : Option PlaceDecl) (n : ℕ) (w : Option Written) (ty : Option Ty)
+    → option_map (declared_of ts) place ≡ result_at n w ty → if_result ts (place_given place) ≡ result_at n w ty
+given_is ts place n w ty e = given_named ts place ∙ ap (option_map named) e ∙ result_is_named n w ty
+
+pub given_within : (n : ℕ) (place : Option PlaceDecl) → IsBelow n (place_type place) → ResultWithin n (place_given place)
+given_within n None h = tt
+given_within n (Some p) h = h
+
+-- of a body that has begun
+begun_gives : (ts : List Ty) (b : Beside) (old start : RustState) (h : ProcHead) (g : RustSignature) (k : Headed) (place : Option PlaceDecl)
+    (gives : Option RustResultPlace) → gives ≡ place_given place → k.signature ≡ signature_of ts g → BodyBegun old start h g place
+    → if_result ts gives ≡ result_of (state_of ts b old) (head_of h) k
+begun_gives ts b old start h g k place gives e same begun =
+    ap (if_result ts) e
+    ∙ given_is ts place (old.place + length k.signature.params) (head_of h).gives k.signature.gives (begun.result ts b k same)
+
+-- ---- a body that is typed
+
+abbrev ended : ℕ → ℕ → ℕ → Option P.Declared → P.Stmts → State → Bodied
+ended first places before result stmts st =
+    bodied (Some (record { first = first; places = places; before = before; result = result; stmts = stmts })) st
 
 pub body_goes : (old start mid : RustState) (h : ProcHead) (g : RustSignature) (k : RustHeaded) (body : Statements) (place : Option PlaceDecl) (count : ℕ)
-    (stmts : Vec RustStmt Global) (whole : RustBody) → Ready old → count ≡ length old.scope.decls → BodyBegun old start h g place
-    → AllStatedSo start mid (λ ts st. all_stated (in_body (if_type ts g.gives)) (if_type ts g.gives) st body) (Ok stmts)
-    → whole.first ≡ old.place → whole.places ≡ mid.place - old.place → whole.result ≡ place → whole.stmts ≡ stmts
+    (gives : Option RustResultPlace) (stmts : Vec RustStmt Global) (whole : RustBody) → Ready old → count ≡ length old.scope.decls
+    → gives ≡ place_given place → BodyBegun old start h g place
+    → AllStatedSo start mid (λ ts st. all_stated (in_body (if_result ts gives)) (if_result ts gives) st body) (Ok stmts)
+    → whole.first ≡ old.place → whole.places ≡ mid.place - old.place → whole.before ≡ old.node → whole.result ≡ place → whole.stmts ≡ stmts
     → Stating old (behind_scope old mid count) (λ ts b x. bodied_as ts b (behind_scope old mid count) x)
     (λ ts b. some_body_rule (state_of ts b old) (head_of h) (headed_of ts g k) body) (Ok (Some whole))
-body_goes old start mid h g k body place count stmts whole o e begun j first places result all =
+body_goes old start mid h g k body place count gives stmts whole o e same begun j first places before result all =
     let more = begun.begins.0 ++ j.stands.begins.0 in
     let decls : mid.scope.decls ≡ old.scope.decls ++ more =
     j.stands.begins.1 ∙ ap (λ l. l ++ j.stands.begins.0) begun.begins.1 ∙ append_assoc old.scope.decls begun.begins.0 j.stands.begins.0 in
@@ -239,62 +276,70 @@ body_goes old start mid h g k body place count stmts whole o e begun j first pla
           let st = state_of ts b old in
           let head = headed_of ts g k in
           let go = λ (x : Answer Stated). and_then x (λ s. Ok (bodied (Some (body_of st (head_of h) head s)) (left st s.state))) in
-          ap (λ (z : State). go (all_stated (in_body (if_type ts g.gives)) (if_type ts g.gives) z body)) (sym (begun.known ts b head refl))
+          let by = λ (r : ResultPlace) (z : State). go (all_stated (in_body r) r z body) in
+          ap₂ by (sym (begun_gives ts b old start h g head place gives same refl begun)) (sym (begun.known ts b head refl))
           ∙ ap go (j.answers ts b u)
-          ∙ ap₂ (λ (r : Option P.Declared) (z : State). Ok (ended old.place (mid.place - old.place) r (block_of (steps_of ts stmts.items)) z))
+          ∙ ap₂ (λ (r : Option P.Declared) (z : State). Ok (ended old.place (mid.place - old.place) old.node r (block_of (steps_of ts stmts.items)) z))
           (sym (begun.result ts b head refl)) (sym (leaving ts b old mid count more e decls))
           ∙ ap (λ (l : P.Stmts). Ok
-          (ended old.place (mid.place - old.place) (option_map (declared_of ts) place) l (state_of ts b (behind_scope old mid count))))
+          (ended old.place (mid.place - old.place) old.node (option_map (declared_of ts) place) l (state_of ts b (behind_scope old mid count))))
           (blocked_steps (stmts_of ts stmts.items))
-          ∙ ap₂ (λ n m. Ok (ended n m (option_map (declared_of ts) place) (stmts_of ts stmts.items) (state_of ts b (behind_scope old mid count))))
+          ∙ ap₂ (λ n m. Ok (ended n m old.node (option_map (declared_of ts) place) (stmts_of ts stmts.items) (state_of ts b (behind_scope old mid count))))
           (sym first) (sym places)
+          ∙ ap (λ n. Ok
+          (ended whole.first whole.places n (option_map (declared_of ts) place) (stmts_of ts stmts.items) (state_of ts b (behind_scope old mid count))))
+          (sym before)
           ∙ ap₂ (λ (r : Option PlaceDecl) (v : Vec RustStmt Global).
-          Ok (ended whole.first whole.places (option_map (declared_of ts) r) (stmts_of ts v.items) (state_of ts b (behind_scope old mid count))))
+          Ok
+          (ended whole.first whole.places whole.before (option_map (declared_of ts) r) (stmts_of ts v.items) (state_of ts b (behind_scope old mid count))))
           (sym result) (sym all);
     }
 
 -- ---- what the last statement gives
 
-ends_is : (ts : List Ty) (gives : Option ℕ) (rest : List Tree) (n : ℕ) → n ≡ length rest
-    → ends_with (if_type ts gives) (statements_of rest) ≡ if_type ts (last_type gives n)
+ends_is : (ts : List Ty) (gives : Option RustResultPlace) (rest : List Tree) (n : ℕ) → n ≡ length rest
+    → ends_with (if_result ts gives) (statements_of rest) ≡ if_result ts (last_result gives n)
 ends_is ts gives [] zero e = refl
 ends_is ts gives [] (suc n) e = absurd (omega (arith, e))
 ends_is ts gives (t ∷ rest) zero e = absurd (omega (arith, e))
 ends_is ts gives (t ∷ rest) (suc n) e = refl
 
 -- a statement of a body, before the others
-pub body_next : (ts : List Ty) (gives : Option ℕ) (st : State) (trees : List Tree) (item : Tree) (more : List Tree) (n : ℕ) (z : Option ℕ)
-    → trees ≡ item ∷ more → n ≡ length more → z ≡ last_type gives n
-    → all_stated (in_body (if_type ts gives)) (if_type ts gives) st (statements_of trees)
-    ≡ and_then (stated (in_body (if_type ts gives)) (if_type ts z) st (statement_of item)) (λ one.
-    and_then (all_stated (in_body (if_type ts gives)) (if_type ts gives) one.state (statements_of more)) (λ rest. Ok (and_more one rest)))
+pub body_next : (ts : List Ty) (gives : Option RustResultPlace) (st : State) (trees : List Tree) (item : Tree) (more : List Tree) (n : ℕ)
+    (z : Option RustResultPlace)
+    → trees ≡ item ∷ more → n ≡ length more → z ≡ last_result gives n
+    → all_stated (in_body (if_result ts gives)) (if_result ts gives) st (statements_of trees)
+    ≡ and_then (stated (in_body (if_result ts gives)) (if_result ts z) st (statement_of item)) (λ one.
+    and_then (all_stated (in_body (if_result ts gives)) (if_result ts gives) one.state (statements_of more)) (λ rest. Ok (and_more one rest)))
 body_next ts gives st trees item more n z e count is =
-    ap (λ l. all_stated (in_body (if_type ts gives)) (if_type ts gives) st (statements_of l)) e
-    ∙ ap (λ (w : Option Ty). and_then (stated (in_body (if_type ts gives)) w st (statement_of item))
-    (λ one. and_then (all_stated (in_body (if_type ts gives)) (if_type ts gives) one.state (statements_of more)) (λ rest. Ok (and_more one rest))))
-    (ends_is ts gives more n count ∙ ap (if_type ts) (sym is))
+    ap (λ l. all_stated (in_body (if_result ts gives)) (if_result ts gives) st (statements_of l)) e
+    ∙ ap (λ (w : ResultPlace). and_then (stated (in_body (if_result ts gives)) w st (statement_of item))
+    (λ one. and_then (all_stated (in_body (if_result ts gives)) (if_result ts gives) one.state (statements_of more)) (λ rest. Ok (and_more one rest))))
+    (ends_is ts gives more n count ∙ ap (if_result ts) (sym is))
 
-pub last_below : (n : ℕ) (gives : Option ℕ) (left : ℕ) → IsBelow n gives → IsBelow n (last_type gives left)
+pub last_below : (n : ℕ) (gives : Option RustResultPlace) (left : ℕ) → ResultWithin n gives → ResultWithin n (last_result gives left)
 last_below n gives zero h = h
 last_below n gives (suc left) h = tt
 
-pub body_stops : (old start mid : RustState) (h : ProcHead) (g : RustSignature) (k : RustHeaded) (body : Statements) (place : Option PlaceDecl) (s : Stop)
-    → BodyBegun old start h g place → AllStatedSo start mid (λ ts st. all_stated (in_body (if_type ts g.gives)) (if_type ts g.gives) st body) (Err s)
+pub body_stops : (old start mid : RustState) (h : ProcHead) (g : RustSignature) (k : RustHeaded) (body : Statements) (place : Option PlaceDecl)
+    (gives : Option RustResultPlace) (s : Stop) → gives ≡ place_given place → BodyBegun old start h g place
+    → AllStatedSo start mid (λ ts st. all_stated (in_body (if_result ts gives)) (if_result ts gives) st body) (Err s)
     → Stating old mid (λ ts b (x : Option RustBody). bodied_as ts b mid x)
     (λ ts b. some_body_rule (state_of ts b old) (head_of h) (headed_of ts g k) body) (Err s)
-body_stops old start mid h g k body place s begun j = record {
+body_stops old start mid h g k body place gives s same begun j = record {
   further = further_as begun.types j.further;
   stands = tt;
   answers = λ ts b u.
       let st = state_of ts b old in
       let head = headed_of ts g k in
-      let gives = if_type ts g.gives in
+      let r = if_result ts gives in
       let go = λ (x : Stated). Ok (bodied (Some (body_of st (head_of h) head x)) (left st x.state)) in
       answers_as (λ (x : Option RustBody). bodied_as ts b mid x) (some_body_rule st (head_of h) head body)
-      (and_then (all_stated (in_body gives) gives (state_of ts b start) body) go) (Err s)
-      (ap (λ (z : State). and_then (all_stated (in_body gives) gives z body) go) (sym (begun.known ts b head refl)))
+      (and_then (all_stated (in_body r) r (state_of ts b start) body) go) (Err s)
+      (ap₂ (λ (x : ResultPlace) (z : State). and_then (all_stated (in_body x) x z body) go)
+      (sym (begun_gives ts b old start h g head place gives same refl begun)) (sym (begun.known ts b head refl)))
       (stops (λ (x : Option RustBody). bodied_as ts b mid x) (λ (all : Vec RustStmt Global). all_stated_as ts b mid all.items)
-      (all_stated (in_body gives) gives (state_of ts b start) body) go s (j.answers ts b u));
+      (all_stated (in_body r) r (state_of ts b start) body) go s (j.answers ts b u));
 }
 
 -- ---- without a body

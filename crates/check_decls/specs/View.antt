@@ -6,10 +6,10 @@ use Rattle.arc_base.specs.Refusal.{and_then, Answers}
 use Rattle.nim_types.specs.declared.types.TypeDef.{TypeDef}
 use Rattle.nim_types.specs.declared.types.TypeDef.TheVariants as D
 use Rattle.nim_types.specs.Types.{Ty}
-use Rattle.nim_core.specs.declared.expr.Literal.TheVariants as literal
-use Rattle.nim_core.specs.declared.stmt.Stmt.{Stmt as RustStmt}
-use Rattle.nim_core.specs.Program.{Program}
-use Rattle.nim_core.specs.View.{proc_of}
+use Rattle.nim_program.specs.declared.expr.Literal.TheVariants as literal
+use Rattle.nim_program.specs.declared.stmt.Stmt.{Stmt as RustStmt}
+use Rattle.nim_program.specs.Program.{Program}
+use Rattle.nim_program.specs.View.{proc_of}
 use Rattle.expr_rules.specs.Answers.{Answer}
 use Rattle.expr_parts.specs.declared.scope.Kinds.{Kinds}
 use Rattle.expr_parts.specs.declared.scope.What.{What}
@@ -133,5 +133,5 @@ pub record Begins (old new : Draft) (number : ℕ) : Type 0 where
   pub known : (ts : List Ty) → Over new.state ts → known_in ts new ≡ module_begins (known_in ts old) number
 
 -- the program, behind all modules
-abbrev pub program_rule : Stated → Answer Program
-program_rule s = and_then (text_rule s.state.procs s.state.text) (λ _. Ok (program_of s))
+abbrev pub program_rule : (types : List Ty) → Stated → Answer Program
+program_rule types s = and_then (text_rule s.state.procs s.state.text) (λ _. Ok (program_of types s))

@@ -7,12 +7,13 @@ use Rattle.arc_base.specs.Refusal.{and_then}
 use Rattle.nim_tree.specs.declared.stmt.ProcHead.{ProcHead}
 use Rattle.nim_tree.specs.Statements.{Statement, Statements, empty, then, Head, head_of}
 use Rattle.nim_types.specs.Types.{Ty}
-use Rattle.nim_core.specs.declared.program.PlaceDecl.{PlaceDecl}
-use Rattle.nim_core.specs.declared.program.Body.{Body as RustBody}
-use Rattle.nim_core.specs.declared.program.Proc.{Proc as RustProc}
-use Rattle.nim_core.specs.Program.{Body}
-use Rattle.nim_core.specs.View as view
-use Rattle.nim_core.specs.View.{declared_of}
+use Rattle.nim_types.specs.Table.{IsBelow}
+use Rattle.nim_program.specs.declared.stmt.PlaceDecl.{PlaceDecl}
+use Rattle.nim_program.specs.declared.program.Body.{Body as RustBody}
+use Rattle.nim_program.specs.declared.program.Proc.{Proc as RustProc}
+use Rattle.nim_program.specs.Program.{Body}
+use Rattle.nim_program.specs.View as view
+use Rattle.nim_program.specs.View.{declared_of}
 use Rattle.expr_rules.specs.Answers.{Answer}
 use Rattle.expr_parts.specs.declared.scope.What.TheVariants as what
 use Rattle.expr_parts.specs.declared.scope.Decl.{Decl}
@@ -20,6 +21,7 @@ use Rattle.decl_rules.specs.State.{State, in_module, in_body, left, noting, comp
 use Rattle.decl_rules.specs.Stated.{stated, all_stated}
 use Rattle.decl_rules.specs.Heads.{Headed, procedure_name}
 use Rattle.decl_rules.specs.Bodies.{behind_head, before_body, body_of, proc_of, without_body, result_of}
+use Rattle.decl_parts.specs.declared.state.ResultPlace.{ResultPlace as RustResultPlace}
 use Rattle.decl_parts.specs.declared.state.State.{State as RustState}
 use Rattle.decl_parts.specs.View.{Beside, Ready, Stands, state_of}
 use Rattle.check_uses.specs.declared.text.Item.{Item as RustItem}
@@ -46,7 +48,7 @@ bodied body st = record { body = body; state = st }
 -- behind the head
 abbrev pub some_body_rule : State → Head → Headed → Statements → Answer Bodied
 some_body_rule st h k body =
-    and_then (all_stated (in_body k.signature.gives) k.signature.gives (before_body st h k) body) (λ s.
+    and_then (all_stated (in_body (result_of st h k)) (result_of st h k) (before_body st h k) body) (λ s.
     Ok (bodied (Some (body_of st h k s)) (left st s.state)))
 
 abbrev pub body_rule : State → Head → Headed → Statements → Answer Bodied
@@ -115,13 +117,19 @@ pub record BodyBegun (old new : RustState) (h : ProcHead) (s : RustSignature) (p
   pub ready : Ready new
   pub known : (ts : List Ty) (b : Beside) (k : Headed) → k.signature ≡ signature_of ts s
       → state_of ts b new ≡ before_body (state_of ts b old) (head_of h) k
+  pub within : IsBelow (length new.types) (place_type place)
   pub result : (ts : List Ty) (b : Beside) (k : Headed) → k.signature ≡ signature_of ts s
       → option_map (declared_of ts) place ≡ result_of (state_of ts b old) (head_of h) k
 
--- the type that a statement has to give, behind which so many come
-abbrev pub last_type : Option ℕ → ℕ → Option ℕ
-last_type gives zero = gives
-last_type gives (suc n) = None
+-- as statements know it
+abbrev pub place_given : Option PlaceDecl → Option RustResultPlace
+place_given None = None
+place_given (Some p) = Some (record { number = p.number; at = p.at; ty = p.ty })
+
+-- the result that a statement has to give, behind which so many come
+abbrev pub last_result : Option RustResultPlace → ℕ → Option RustResultPlace
+last_result gives zero = gives
+last_result gives (suc n) = None
 
 -- ---- what is noted of a procedure
 

@@ -3,33 +3,46 @@ ghost use Rattle.std.specs.Prelude.{◌≡◌, length, true, false, Ok, None};
 ghost use Rattle.std.specs.Prelude.{IfOk, OnOk, IfErr};
 ghost use Rattle.arc_base.specs.declared.place.Stop.TheVariants as Stop;
 ghost use Rattle.nim_tree.specs.Statements.{head_of, statements_of};
-ghost use Rattle.nim_types.specs.Table.{IsBelow};
-ghost use Rattle.nim_core.specs.View.{if_type};
 ghost use Rattle.decl_rules.specs.State.{in_body};
 ghost use Rattle.decl_rules.specs.Stated.{all_stated, has_statements};
 ghost use Rattle.decl_rules.specs.Bodies.{without_body};
-ghost use Rattle.decl_parts.specs.View.{Ready, Stating, AllStatedSo, state_of};
+ghost use Rattle.decl_parts.specs.View.{Ready, Stating, AllStatedSo, ResultWithin, state_of};
+ghost use Rattle.decl_parts.specs.View.{if_result};
 ghost use Rattle.decl_heads.specs.declared.heads.Headed.{Headed};
 ghost use Rattle.decl_heads.specs.ViewHeads.{SignatureWithin, headed_of};
 ghost use Rattle.check_decls.specs.ViewBodies.{body_rule, some_body_rule, bodied};
-ghost use Rattle.check_decls.specs.ViewBodies.{bodied_as, last_type, place_behind, is_there};
+ghost use Rattle.check_decls.specs.ViewBodies.{bodied_as, place_given, last_result, place_behind};
+ghost use Rattle.check_decls.specs.ViewBodies.{is_there};
 
 use crate::draft::number_of;
 use crate::heads::begin_body;
 use arc_base::Stop;
 use decl_heads::heads::Headed;
 use decl_heads::signature::Signature;
-use decl_parts::state::{Around, Inside, State, leave};
+use decl_parts::state::{Around, Inside, ResultPlace, State, leave};
 use decl_parts::stmts::append;
 use decl_stmts::blocks::statement;
-use nim_core::{Body, Stmt};
+use nim_program::{Body, PlaceDecl, Stmt};
 use nim_tree::{ProcHead, Stmt as Tree};
-use nim_types::TypeId;
 use std::alloc::Global;
 
-// The type that a statement of a body has to give, behind which so many come.
-fn last_type(gives: Option<TypeId>, left: usize) -> Option<TypeId>
-    ensures { result ≡ last_type gives left }
+// The place of the result, as statements know it.
+fn place_given(place: &Option<PlaceDecl>) -> Option<ResultPlace>
+    ensures { result ≡ place_given place.now }
+{
+    match place {
+        Some(place) => Some(ResultPlace {
+            number: place.number,
+            at: place.at,
+            ty: place.ty,
+        }),
+        None => None,
+    }
+}
+
+// The result that a statement of a body has to give, behind which so many come.
+fn last_result(gives: Option<ResultPlace>, left: usize) -> Option<ResultPlace>
+    ensures { result ≡ last_result gives left }
 {
     if left == 0 { gives } else { None }
 }
@@ -38,13 +51,13 @@ fn last_type(gives: Option<TypeId>, left: usize) -> Option<TypeId>
 fn body_statements(
     alloc: Global,
     state: &mut State,
-    gives: Option<TypeId>,
+    gives: Option<ResultPlace>,
     trees: &[Tree],
 ) -> Result<Vec<Stmt>, Stop>
     requires ready { Ready state.old }
-    requires gives { IsBelow (length state.old.types) gives }
-    ensures { AllStatedSo state.old state.new (λ ts st. all_stated (in_body (if_type ts gives))
-        (if_type ts gives) st (statements_of trees.now)) result }
+    requires gives { ResultWithin (length state.old.types) gives }
+    ensures { AllStatedSo state.old state.new (λ ts st. all_stated
+        (in_body (if_result ts gives)) (if_result ts gives) st (statements_of trees.now)) result }
 {
     let around = Around {
         inside: Inside::Procedure(gives),
@@ -55,7 +68,7 @@ fn body_statements(
     let mut left = trees.len();
     for tree in trees {
         left -= 1;
-        match statement(alloc, state, around, last_type(gives, left), tree) {
+        match statement(alloc, state, around, last_result(gives, left), tree) {
             Ok(more) => append(&mut all, more)?,
             Err(stop) => return Err(stop),
         }
@@ -90,16 +103,19 @@ fn some_body(
     ensures there { IfOk result (λ body. is_there body ≡ true) }
 {
     let first = state.place;
+    let before = state.node;
     let count = state.scope.count();
     let outside = state.outside;
     let result = begin_body(alloc, state, head, signature)?;
-    match body_statements(alloc, state, signature.gives, trees) {
+    let gives = place_given(&result);
+    match body_statements(alloc, state, gives, trees) {
         Ok(stmts) => {
             let places = state.place.saturating_sub(first);
             leave(state, count, outside);
             Ok(Some(Body {
                 first,
                 places,
+                before,
                 result,
                 stmts,
             }))

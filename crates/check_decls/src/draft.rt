@@ -13,7 +13,7 @@ use check_uses::Item;
 use decl_parts::state::State;
 use decl_parts::stmts::append;
 use expr_parts::scope::{Decl, Kinds, Scope, What};
-use nim_core::{Literal, Proc, Stmt};
+use nim_program::{Literal, Proc, Stmt};
 use nim_types::{TypeDef, TypeTable};
 use std::alloc::Global;
 

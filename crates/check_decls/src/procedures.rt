@@ -19,7 +19,7 @@ use crate::heads::declare_head;
 use arc_base::{Bytes, Place, Stop};
 use decl_heads::heads::{Headed, head_by};
 use decl_heads::signature::{Signature, head_signature};
-use nim_core::{Body, Proc};
+use nim_program::{Body, Proc};
 use nim_tree::{ProcHead, Stmt as Tree};
 use std::alloc::Global;
 
@@ -33,9 +33,11 @@ fn proc_of(
     ensures proc { IfOk result (λ proc. proc ≡ record {
       name = head.now.name.text;
       at = at;
+      type_params = 0;
       params = signature.params;
       gives = signature.gives;
       body = body;
+      hook = None;
     }) }
     ensures memory { IfErr result (λ stop. stop ≡ Stop.Memory) }
 {
@@ -43,9 +45,11 @@ fn proc_of(
     Ok(Proc {
         name,
         at,
+        type_params: 0,
         params: signature.params,
         gives: signature.gives,
         body,
+        hook: None,
     })
 }
 
@@ -77,9 +81,11 @@ fn note_body(
         (record {
           name = head.now.name.text;
           at = at;
+          type_params = 0;
           params = signature.params;
           gives = signature.gives;
           body = body;
+          hook = None;
         }) headed.now.borrowed) }
     ensures state { draft.new.state ≡ draft.old.state }
     ensures start { draft.new.start ≡ draft.old.start }

@@ -1,26 +1,27 @@
 // The program that modules are.
-ghost use Rattle.std.specs.Prelude.{◌≡◌, List, IfOk};
+ghost use Rattle.std.specs.Prelude.{◌≡◌, ◌≤◌, List, IfOk};
 ghost use Rattle.arc_base.specs.Refusal.{Answers, and_then};
 ghost use Rattle.nim_types.specs.Types.{Ty};
 ghost use Rattle.nim_types.specs.Table.{facts_in};
-ghost use Rattle.nim_core.specs.View.{program_under};
+ghost use Rattle.nim_program.specs.declared.nodes.TheConstants.{MOST_NODES};
+ghost use Rattle.nim_program.specs.View.{program_under};
 ghost use Rattle.decl_rules.specs.Elaborated.{elaborated, program_of, modules_stated};
 ghost use Rattle.decl_rules.specs.Elaborated.{nothing_known};
-ghost use Rattle.check_decls.specs.Modules.{in_order, program_in};
+ghost use Rattle.check_decls.specs.Modules.{in_order, program_in, types_or, IsWhole};
 ghost use Rattle.check_decls.specs.View.{so_far, program_rule};
 
 use crate::draft::Draft;
 use crate::modules::{all_modules, check_all_forms};
 use arc_base::Stop;
 use check_uses::check_text;
-use nim_core::{Body, Program};
+use nim_program::{Body, MOST_NODES, Program};
 use nim_tree::Module;
 use std::alloc::Global;
 
 fn program_of(draft: Draft) -> Program
     ensures types { result.types ≡ draft.state.types }
     ensures program { (ts : List Ty) → program_under ts (facts_in draft.state.types) result
-        ≡ program_of (so_far ts draft) }
+        ≡ program_of ts (so_far ts draft) }
 {
     let state = draft.state;
     Program {
@@ -30,18 +31,23 @@ fn program_of(draft: Draft) -> Program
         start: Body {
             first: 0,
             places: state.place,
+            before: 0,
             result: None,
             stmts: draft.start,
         },
     }
 }
 
-// The program, where what has to be known of the whole text holds.
+// The program, where what has to be known of the whole text holds and its nodes have numbers.
 fn checked(alloc: Global, draft: Draft) -> Result<Program, Stop>
     ensures types { IfOk result (λ p. p.types ≡ draft.state.types) }
     ensures program { (ts : List Ty) → Answers (program_under ts (facts_in draft.state.types))
-        (program_rule (so_far ts draft)) result }
+        (program_rule ts (so_far ts draft)) result }
+    ensures nodes { IfOk result (λ _. draft.state.node ≤ MOST_NODES) }
 {
+    if draft.state.node > MOST_NODES {
+        return Err(Stop::Memory);
+    }
     match check_text(alloc, &draft.procs, draft.text.as_slice(), &draft.start) {
         Ok(()) => Ok(program_of(draft)),
         Err(stop) => Err(stop),
@@ -49,8 +55,10 @@ fn checked(alloc: Global, draft: Draft) -> Result<Program, Stop>
 }
 
 fn typed(alloc: Global, modules: &[Module], order: &[u32]) -> Result<Program, Stop>
-    ensures { Answers program_in (and_then (modules_stated nothing_known
-        (in_order modules.now order.now)) program_rule) result }
+    ensures program { (ts : List Ty) → Answers program_in (and_then (modules_stated
+        nothing_known (in_order modules.now order.now)) (program_rule (types_or ts result)))
+        result }
+    ensures whole { IfOk result (λ p. IsWhole (in_order modules.now order.now) p) }
 {
     let mut draft = Draft::new(alloc)?;
     match all_modules(alloc, &mut draft, modules, order) {
@@ -74,7 +82,9 @@ fn typed(alloc: Global, modules: &[Module], order: &[u32]) -> Result<Program, St
 /// and types say (E6 to E11, E13); then, in order of text, of what has to be known of the whole
 /// text (E15, E26).
 pub fn elaborate(alloc: Global, modules: &[Module], order: &[u32]) -> Result<Program, Stop>
-    ensures { Answers program_in (elaborated (in_order modules.now order.now)) result }
+    ensures program { (ts : List Ty) → Answers program_in (elaborated (types_or ts result)
+        (in_order modules.now order.now)) result }
+    ensures whole { IfOk result (λ p. IsWhole (in_order modules.now order.now) p) }
 {
     match check_all_forms(modules, order) {
         Ok(()) => typed(alloc, modules, order),

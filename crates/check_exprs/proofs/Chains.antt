@@ -10,7 +10,7 @@ use Rattle.nim_tree.specs.declared.expr.BinaryOp.{BinaryOp}
 use Rattle.nim_tree.specs.Terms as term
 use Rattle.nim_tree.specs.Terms.{Term, Parts, no_parts, part, Choices}
 use Rattle.nim_types.specs.Types.{Ty}
-use Rattle.nim_core.specs.Program.{NoChoice, NoPick}
+use Rattle.nim_program.specs.Program.{NoArg}
 use Rattle.expr_rules.specs.Env.{Env}
 use Rattle.expr_rules.specs.Answers.{Answer, Typed, value_of, Want, wanted, within, nothing, Operand}
 use Rattle.expr_rules.specs.Choices.{Chosen, Picked, branch_want, undecided}
@@ -166,7 +166,7 @@ abbrev pub if_go : Env → ℕ → Place → Term → Chosen → Answer Typed
 if_go env n at a c = and_then (typed env (branch_want c.values) c.next a) (if_end n at c)
 
 pub if_chain : (env : Env) (want : Want) (n : ℕ) (at : Place) (cs : Choices) (a : Term) (none : Chosen)
-    → none ≡ record { choices = NoChoice; values = undecided (within want); next = suc n }
+    → none ≡ record { parts = NoArg; values = undecided (within want); next = suc n }
     → typed env want n (term.if_term at cs a) ≡ and_then (conditions_said env none cs) (if_go env n at a)
 if_chain env want n at cs a none h =
     ap (λ z. and_then z (if_go env n at a)) (conditions_first env (undecided (within want)) (suc n) cs ∙ ap (λ c. conditions_said env c cs) (sym h))
@@ -180,11 +180,13 @@ else_then env n at b v p = and_then (typed env (branch_want p.values) p.next b) 
 -- behind the selector
 abbrev pub case_go : Env → Want → ℕ → Place → Choices → Value → Answer Typed
 case_go env want n at cs v =
-    and_then (picks_said env v.given.of (record { picks = NoPick; labels = []; values = undecided (within want); next = v.next }) cs) (case_then env n at v)
+    and_then (picks_said env v.given.of (record { rows = []; labels = []; parts = NoArg; values = undecided (within want); next = v.next }) cs)
+    (case_then env n at v)
 
 abbrev pub else_go : Env → Want → ℕ → Place → Choices → Term → Value → Answer Typed
 else_go env want n at cs b v =
-    and_then (picks_said env v.given.of (record { picks = NoPick; labels = []; values = undecided (within want); next = v.next }) cs) (else_then env n at b v)
+    and_then (picks_said env v.given.of (record { rows = []; labels = []; parts = NoArg; values = undecided (within want); next = v.next }) cs)
+    (else_then env n at b v)
 
 pub case_chain : (env : Env) (want : Want) (n : ℕ) (at : Place) (a : Term) (cs : Choices) (k : ℕ) → k ≡ suc n
     → typed env want n (term.case_term at a cs) ≡ and_then (value_said env selector k a) (case_go env want n at cs)

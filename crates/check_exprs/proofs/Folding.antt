@@ -7,15 +7,15 @@ use Rattle.nim_tree.specs.Terms as term
 use Rattle.nim_tree.specs.Terms.{Term, Parts, no_parts, part, Choices, no_choices, choice}
 use Rattle.nim_types.specs.Types as type
 use Rattle.nim_types.specs.Types.{Ty, Facts}
-use Rattle.nim_core.specs.Program as P
-use Rattle.nim_core.specs.Program.{Expr, Label, NoChoice, AChoice, NoPick, APick, type_of}
+use Rattle.nim_program.specs.Nodes.{followed_by, one_value, two_values}
+use Rattle.nim_program.specs.Program.{Expr, Label, Args, NoArg, ByValue, ByPath, type_of}
 use Rattle.expr_rules.specs.Env.{Env}
 use Rattle.expr_rules.specs.Answers.{Answer, Typed, Valued, Operand}
 use Rattle.expr_rules.specs.Choices.{Chosen, Picked, Branching, branch_want, branching_behind, branch_value, new_label, range_of}
 use Rattle.expr_rules.specs.Demands.{Asks, Demand, asks_behind, demand_behind, exactly}
 use Rattle.expr_rules.specs.Typed.{Value, Part, typed, values, value_by, operands, conditions, picks, labels, label_from, read_type}
 use Rattle.expr_rules.specs.Typed.{read_types}
-use Rattle.expr_steps.specs.ViewChoices.{Tests, next_condition, next_pick, next_test, test_place, choices_onto, picks_onto}
+use Rattle.expr_steps.specs.ViewChoices.{Tests, next_condition, next_pick, next_test, test_place, rows_in}
 use Rattle.check_exprs.specs.ViewTyped.{value_said, values_onto, values_said, operand_said, operands_onto, operands_said, types_said}
 use Rattle.check_exprs.specs.ViewTyped.{condition_said, conditions_onto, conditions_said, pick_said, picks_behind, picks_said}
 use Rattle.check_exprs.specs.ViewTyped.{labels_said, one_label_said, label_said}
@@ -123,19 +123,20 @@ types_last env before = ap Ok (append-nil before)
 
 -- ---- branches of an `if`
 
-choices_behind : (xs : P.Choices) (a b : Expr) (ys : P.Choices) → choices_onto xs (AChoice a b ys)
-    ≡ choices_onto (choices_onto xs (AChoice a b NoChoice)) ys
-choices_behind NoChoice a b ys = refl
-choices_behind (AChoice c d xs) a b ys = ap (AChoice c d) (choices_behind xs a b ys)
+parts_behind : (xs ys zs : Args) → followed_by xs (followed_by ys zs) ≡ followed_by (followed_by xs ys) zs
+parts_behind NoArg ys zs = refl
+parts_behind (ByValue e xs) ys zs = ap (ByValue e) (parts_behind xs ys zs)
+parts_behind (ByPath p xs) ys zs = ap (ByPath p) (parts_behind xs ys zs)
 
-choices_whole : (xs : P.Choices) → choices_onto xs NoChoice ≡ xs
-choices_whole NoChoice = refl
-choices_whole (AChoice c d xs) = ap (AChoice c d) (choices_whole xs)
+parts_whole : (xs : Args) → followed_by xs NoArg ≡ xs
+parts_whole NoArg = refl
+parts_whole (ByValue e xs) = ap (ByValue e) (parts_whole xs)
+parts_whole (ByPath p xs) = ap (ByPath p) (parts_whole xs)
 
 pub conditions_first : (env : Env) (values : Branching) (n : ℕ) (cs : Choices)
-    → conditions env values n cs ≡ conditions_said env (record { choices = NoChoice; values = values; next = n }) cs
+    → conditions env values n cs ≡ conditions_said env (record { parts = NoArg; values = values; next = n }) cs
 conditions_first env values n cs =
-    sym (keeps (conditions_onto (record { choices = NoChoice; values = values; next = n })) (λ d. refl) (conditions env values n cs))
+    sym (keeps (conditions_onto (record { parts = NoArg; values = values; next = n })) (λ d. refl) (conditions env values n cs))
 
 pub conditions_next : (env : Env) (c : Chosen) (at : Place) (tests : Parts) (a : Term) (rest : Choices)
     → conditions_said env c (choice at tests a rest) ≡ and_then (condition_said env c at tests a) (λ d. conditions_said env d rest)
@@ -145,38 +146,29 @@ conditions_next env c at (part t no_parts) a rest =
     lifts {B = Chosen} {C = Chosen} {D = Chosen} (λ (v : Value). and_then (typed env (branch_want c.values) v.next a)
     (λ x. and_then (branch_value c.values x.expr) (λ e.
     and_then (conditions env (branching_behind c.values (type_of e)) x.next rest) (λ more.
-    Ok (record { choices = AChoice v.given.expr e more.choices; values = more.values; next = more.next })))))
+    Ok (record { parts = ByValue v.given.expr (ByValue e more.parts); values = more.values; next = more.next })))))
     (λ d. Ok (conditions_onto c d)) (λ (v : Value). and_then (typed env (branch_want c.values) v.next a) (λ x. next_condition c v x))
     (λ d. conditions_said env d rest)
     (λ v. lifts {B = Chosen} {C = Chosen} {D = Chosen} (λ (x : Typed). and_then (branch_value c.values x.expr) (λ e.
     and_then (conditions env (branching_behind c.values (type_of e)) x.next rest) (λ more.
-    Ok (record { choices = AChoice v.given.expr e more.choices; values = more.values; next = more.next }))))
+    Ok (record { parts = ByValue v.given.expr (ByValue e more.parts); values = more.values; next = more.next }))))
     (λ d. Ok (conditions_onto c d)) (λ x. next_condition c v x) (λ d. conditions_said env d rest)
     (λ x. one_last {A = Chosen} {C = Chosen} {D = Chosen} (λ (e : Expr). conditions env (branching_behind c.values (type_of e)) x.next rest)
-    (λ e more. record { choices = AChoice v.given.expr e more.choices; values = more.values; next = more.next }) (conditions_onto c)
-    (λ e. record { choices = choices_onto c.choices (AChoice v.given.expr e NoChoice); values = branching_behind c.values (type_of e); next = x.next })
+    (λ e more. record { parts = ByValue v.given.expr (ByValue e more.parts); values = more.values; next = more.next }) (conditions_onto c)
+    (λ e. record { parts = followed_by c.parts (two_values v.given.expr e); values = branching_behind c.values (type_of e); next = x.next })
     conditions_onto (λ d. conditions env d.values d.next rest) (λ e. refl)
-    (λ e more. λ i. record { choices = choices_behind c.choices v.given.expr e more.choices i; values = more.values; next = more.next })
+    (λ e more. λ i. record { parts = parts_behind c.parts (two_values v.given.expr e) more.parts i; values = more.values; next = more.next })
     (branch_value c.values x.expr)) (typed env (branch_want c.values) v.next a)) (value_said env (exactly type.bool) c.next t)
 
 pub conditions_last : (env : Env) (c : Chosen) → conditions_said env c no_choices ≡ Ok c
-conditions_last env c = λ i. Ok (record { choices = choices_whole c.choices i; values = c.values; next = c.next })
+conditions_last env c = λ i. Ok (record { parts = parts_whole c.parts i; values = c.values; next = c.next })
 
 -- ---- branches of a `case`
 
-picks_further : (xs : P.Picks) (ls : List Label) (b : Expr) (ys : P.Picks) → picks_onto xs (APick ls b ys)
-    ≡ picks_onto (picks_onto xs (APick ls b NoPick)) ys
-picks_further NoPick ls b ys = refl
-picks_further (APick c d xs) ls b ys = ap (APick c d) (picks_further xs ls b ys)
-
-picks_whole : (xs : P.Picks) → picks_onto xs NoPick ≡ xs
-picks_whole NoPick = refl
-picks_whole (APick c d xs) = ap (APick c d) (picks_whole xs)
-
 pub picks_first : (env : Env) (ty : Ty) (values : Branching) (n : ℕ) (cs : Choices)
-    → picks env ty [] values n cs ≡ picks_said env ty (record { picks = NoPick; labels = []; values = values; next = n }) cs
+    → picks env ty [] values n cs ≡ picks_said env ty (record { rows = []; labels = []; parts = NoArg; values = values; next = n }) cs
 picks_first env ty values n cs =
-    sym (keeps (picks_behind (record { picks = NoPick; labels = []; values = values; next = n })) (λ q. refl) (picks env ty [] values n cs))
+    sym (keeps (picks_behind (record { rows = []; labels = []; parts = NoArg; values = values; next = n })) (λ q. refl) (picks env ty [] values n cs))
 
 pub picks_next : (env : Env) (ty : Ty) (p : Picked) (at : Place) (tests : Parts) (a : Term) (rest : Choices)
     → picks_said env ty p (choice at tests a rest) ≡ and_then (pick_said env ty p tests a) (λ q. picks_said env ty q rest)
@@ -184,26 +176,38 @@ picks_next env ty p at tests a rest =
     lifts {B = Picked} {C = Picked} {D = Picked} (λ (ls : List Label). and_then (typed env (branch_want p.values) p.next a)
     (λ x. and_then (branch_value p.values x.expr) (λ e.
     and_then (picks env ty (p.labels ++ ls) (branching_behind p.values (type_of e)) x.next rest) (λ more.
-    Ok (record { picks = APick ls e more.picks; labels = more.labels; values = more.values; next = more.next })))))
+    Ok (record { rows = ls ∷ more.rows; labels = more.labels; parts = ByValue e more.parts; values = more.values; next = more.next })))))
     (λ q. Ok (picks_behind p q))
-    (λ ls. and_then (typed env (branch_want p.values) p.next a) (λ x. next_pick p.picks p.values (record { own = ls; all = p.labels ++ ls }) x))
+    (λ ls. and_then (typed env (branch_want p.values) p.next a) (λ x. next_pick (rows_in p) p.values (record { own = ls; all = p.labels ++ ls }) x))
     (λ q. picks_said env ty q rest)
     (λ ls. lifts {B = Picked} {C = Picked} {D = Picked} (λ (x : Typed). and_then (branch_value p.values x.expr) (λ e.
     and_then (picks env ty (p.labels ++ ls) (branching_behind p.values (type_of e)) x.next rest) (λ more.
-    Ok (record { picks = APick ls e more.picks; labels = more.labels; values = more.values; next = more.next }))))
-    (λ q. Ok (picks_behind p q)) (λ x. next_pick p.picks p.values (record { own = ls; all = p.labels ++ ls }) x) (λ q. picks_said env ty q rest)
+    Ok (record { rows = ls ∷ more.rows; labels = more.labels; parts = ByValue e more.parts; values = more.values; next = more.next }))))
+    (λ q. Ok (picks_behind p q)) (λ x. next_pick (rows_in p) p.values (record { own = ls; all = p.labels ++ ls }) x) (λ q. picks_said env ty q rest)
     (λ x. one_last {A = Picked} {C = Picked} {D = Picked} (λ (e : Expr). picks env ty (p.labels ++ ls) (branching_behind p.values (type_of e)) x.next rest)
-    (λ e more. record { picks = APick ls e more.picks; labels = more.labels; values = more.values; next = more.next }) (picks_behind p)
-    (λ e. record { picks = picks_onto p.picks (APick ls e NoPick); labels = p.labels ++ ls; values = branching_behind p.values (type_of e); next = x.next })
+    (λ e more. record { rows = ls ∷ more.rows; labels = more.labels; parts = ByValue e more.parts; values = more.values; next = more.next }) (picks_behind p)
+    (λ e. record {
+      rows = p.rows ++ ls ∷ [];
+      labels = p.labels ++ ls;
+      parts = followed_by p.parts (one_value e);
+      values = branching_behind p.values (type_of e);
+      next = x.next;
+    })
     picks_behind (λ q. picks env ty q.labels q.values q.next rest) (λ e. refl)
-    (λ e more. λ i. record { picks = picks_further p.picks ls e more.picks i; labels = more.labels; values = more.values; next = more.next })
+    (λ e more. λ i. record {
+      rows = behind_one p.rows ls more.rows i;
+      labels = more.labels;
+      parts = parts_behind p.parts (one_value e) more.parts i;
+      values = more.values;
+      next = more.next;
+    })
     (branch_value p.values x.expr)) (typed env (branch_want p.values) p.next a)) (labels env ty p.labels tests)
     ∙ ap (λ z. and_then z (λ q. picks_said env ty q rest))
     (sym (opened {B = Tests} (λ ls. record { own = [] ++ ls; all = p.labels ++ ls })
-    (λ (t : Tests). and_then (typed env (branch_want p.values) p.next a) (λ x. next_pick p.picks p.values t x)) (labels env ty p.labels tests)))
+    (λ (t : Tests). and_then (typed env (branch_want p.values) p.next a) (λ x. next_pick (rows_in p) p.values t x)) (labels env ty p.labels tests)))
 
 pub picks_last : (env : Env) (ty : Ty) (p : Picked) → picks_said env ty p no_choices ≡ Ok p
-picks_last env ty p = λ i. Ok (record { picks = picks_whole p.picks i; labels = p.labels; values = p.values; next = p.next })
+picks_last env ty p = λ i. Ok (record { rows = append-nil p.rows i; labels = p.labels; parts = parts_whole p.parts i; values = p.values; next = p.next })
 
 -- ---- labels
 

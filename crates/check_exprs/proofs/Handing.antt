@@ -5,8 +5,8 @@ use Rattle.arc_base.specs.declared.place.Stop.{Stop}
 use Rattle.arc_base.specs.declared.place.Stop.TheVariants as stop
 use Rattle.arc_base.specs.Refusal.{and_then, Answers}
 use Rattle.nim_types.specs.Table.{IsBelow}
-use Rattle.nim_core.specs.Program.{Label}
-use Rattle.nim_core.specs.View.{label_of}
+use Rattle.nim_program.specs.Program.{Label}
+use Rattle.nim_program.specs.View.{label_of}
 use Rattle.expr_rules.specs.Answers.{Answer}
 use Rattle.expr_parts.specs.declared.value.Typed.{Typed as RustTyped}
 use Rattle.expr_parts.specs.View.{number_of}

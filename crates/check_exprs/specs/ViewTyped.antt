@@ -11,9 +11,10 @@ use Rattle.nim_types.specs.declared.types.TypeDef.{TypeDef}
 use Rattle.nim_types.specs.Types as type
 use Rattle.nim_types.specs.Types.{Ty}
 use Rattle.nim_types.specs.Table.{type_at, AllBelow}
-use Rattle.nim_core.specs.declared.expr.Label.{Label as RustLabel}
-use Rattle.nim_core.specs.Program.{Label}
-use Rattle.nim_core.specs.View.{label_of}
+use Rattle.nim_program.specs.declared.expr.Label.{Label as RustLabel}
+use Rattle.nim_program.specs.Nodes.{followed_by}
+use Rattle.nim_program.specs.Program.{Label}
+use Rattle.nim_program.specs.View.{label_of}
 use Rattle.std.proofs.Common.{Vec, Box, Global}
 use Rattle.expr_parts.specs.declared.scope.Scope.{Scope}
 use Rattle.expr_parts.specs.declared.value.Want.{Want as RustWant}
@@ -39,8 +40,7 @@ use Rattle.expr_parts.specs.View.{env_of, want_of, typed_of, operand_of}
 use Rattle.expr_steps.specs.ViewDemands.{demand_of}
 use Rattle.expr_steps.specs.ViewTyping.{Judges, TypedWithin, given_of, GivenWithin, part_of, PartWithin, asks_of, values_of, AllWithin, operands_of}
 use Rattle.expr_steps.specs.ViewTyping.{AllOperandsWithin}
-use Rattle.expr_steps.specs.ViewChoices.{Tests, conditions_of, ConditionsWithin, picked_of, PickedWithin, tests_of, next_condition, next_pick, choices_onto}
-use Rattle.expr_steps.specs.ViewChoices.{picks_onto}
+use Rattle.expr_steps.specs.ViewChoices.{Tests, conditions_of, ConditionsWithin, picked_of, PickedWithin, tests_of, next_condition, next_pick, rows_in}
 
 abbrev pub TypedSo : (old new : List TypeDef) → Scope → RustWant → ℕ → Term → Result RustTyped Stop → Type 0
 TypedSo old new s want n t r = Judges old new typed_of (λ ts facts. typed (env_of ts facts s) (want_of ts want) n t) TypedWithin r
@@ -104,7 +104,7 @@ case_by at a cs (Some b) = term.case_else at a cs (term_of b.value)
 
 -- the branches of an `if` behind others
 abbrev pub conditions_onto : Chosen → Chosen → Chosen
-conditions_onto c d = record { choices = choices_onto c.choices d.choices; values = d.values; next = d.next }
+conditions_onto c d = record { parts = followed_by c.parts d.parts; values = d.values; next = d.next }
 
 abbrev pub conditions_said : Env → Chosen → Choices → Answer Chosen
 conditions_said env c rest = and_then (conditions env c.values c.next rest) (λ d. Ok (conditions_onto c d))
@@ -132,7 +132,13 @@ ConditionSo old new s before one r =
 
 -- the branches of a `case` behind others
 abbrev pub picks_behind : Picked → Picked → Picked
-picks_behind p q = record { picks = picks_onto p.picks q.picks; labels = q.labels; values = q.values; next = q.next }
+picks_behind p q = record {
+  rows = p.rows ++ q.rows;
+  labels = q.labels;
+  parts = followed_by p.parts q.parts;
+  values = q.values;
+  next = q.next;
+}
 
 abbrev pub picks_said : Env → Ty → Picked → Choices → Answer Picked
 picks_said env ty p rest = and_then (picks env ty p.labels p.values p.next rest) (λ q. Ok (picks_behind p q))
@@ -159,7 +165,7 @@ LabelsSo old new s ty before tests r =
 abbrev pub pick_said : Env → Ty → Picked → Parts → Term → Answer Picked
 pick_said env ty p tests a =
     and_then (labels_said env ty (no_tests p.labels) tests) (λ ls.
-    and_then (typed env (branch_want p.values) p.next a) (λ x. next_pick p.picks p.values ls x))
+    and_then (typed env (branch_want p.values) p.next a) (λ x. next_pick (rows_in p) p.values ls x))
 
 abbrev pub PickSo : (old new : List TypeDef) → Scope → ℕ → (before : RustPicked) → TreeChoice → Result RustPicked Stop → Type 0
 PickSo old new s ty before one r =

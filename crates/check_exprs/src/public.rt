@@ -5,7 +5,7 @@ ghost use Rattle.nim_tree.specs.Terms as term;
 ghost use Rattle.nim_tree.specs.Terms.{term_of, parts_of};
 ghost use Rattle.nim_types.specs.Types.{Ty, Facts};
 ghost use Rattle.nim_types.specs.Table.{type_at, IsBelow};
-ghost use Rattle.nim_core.specs.View.{label_of};
+ghost use Rattle.nim_program.specs.View.{label_of};
 ghost use Rattle.expr_rules.specs.Typed.{typed, labels, read_type};
 ghost use Rattle.expr_parts.specs.View.{Under, Grown, env_of, typed_of, want_of, number_of};
 ghost use Rattle.expr_parts.specs.ViewReady.{IsReady, WantWithin};

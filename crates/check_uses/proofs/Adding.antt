@@ -1,31 +1,29 @@
 -- What occurs in trees, by their parts.
 use Rattle.std.proofs.Common.{◌≡◌, ℕ, zero, suc, ◌+◌, ◌<◌, List, [], ◌∷◌, ◌++◌, length, drop, get_or, refl, sym, ap, ◌∙◌}
 use Rattle.std.proofs.Common.{append_assoc, add-one, Vec, Global, Option, Some, None}
-use Rattle.std.proofs.lemmas.List.{append-nil, map-append}
+use Rattle.std.proofs.lemmas.List.{append-nil}
 use Rattle.std.proofs.lemmas.Option.{none-some, same_Some, slice_get_read}
 use Rattle.std.specs.Prelude.{option_map, slice_get}
-use Rattle.nim_core.specs.declared.expr.Node.{Node}
-use Rattle.nim_core.specs.declared.expr.Operator.{Operator}
-use Rattle.nim_core.specs.declared.expr.Expr.{Expr as RustExpr}
-use Rattle.nim_core.specs.declared.expr.Expr.TheVariants as E
-use Rattle.nim_core.specs.declared.expr.Path.{Path as RustPath}
-use Rattle.nim_core.specs.declared.expr.Pick.{Pick as RustPick}
-use Rattle.nim_core.specs.declared.expr.Arg.{Arg as RustArg}
-use Rattle.nim_core.specs.declared.expr.Arg.TheVariants as A
-use Rattle.nim_core.specs.declared.program.PlaceDecl.{PlaceDecl}
-use Rattle.nim_core.specs.declared.stmt.Stmt.{Stmt as RustStmt}
-use Rattle.nim_core.specs.declared.stmt.Stmt.TheVariants as S
-use Rattle.nim_core.specs.Program.{Expr, Stmts, Empty, Args, node_at_path}
-use Rattle.nim_core.specs.View.{expr_of, path_of, picks_of, arg_before, stmt_before, stmts_of, discarded, returned, declares, declared_of}
-use Rattle.decl_rules.specs.Occurrences.{Occurrence, in_expr, in_path, in_picks, in_args, in_stmt, in_block, hands_if, global_root}
-use Rattle.check_uses.specs.declared.uses.Occurrence.{Occurrence as RustOccurrence}
-use Rattle.check_uses.specs.Uses.{occurrence_of, seen, in_other, in_partial, in_arg, in_first}
-use Rattle.nim_core.proofs.ForCallers.{picked, picked_else}
+use Rattle.nim_program.specs.declared.expr.Node.{Node}
+use Rattle.nim_program.specs.declared.expr.Expr.{Expr as RustExpr}
+use Rattle.nim_program.specs.declared.expr.Choice.{Choice as RustChoice}
+use Rattle.nim_program.specs.declared.expr.Pick.{Pick as RustPick}
+use Rattle.nim_program.specs.declared.expr.Operand.{Operand as RustOperand}
+use Rattle.nim_program.specs.declared.expr.Operand.TheVariants as operand
+use Rattle.nim_program.specs.declared.expr.Expr.TheVariants as E
+use Rattle.nim_program.specs.declared.stmt.Branch.{Branch as RustBranch}
+use Rattle.nim_program.specs.declared.stmt.CaseBranch.{CaseBranch as RustCaseBranch}
+use Rattle.nim_program.specs.declared.stmt.Stmt.{Stmt as RustStmt}
+use Rattle.nim_program.specs.declared.stmt.Stmt.TheVariants as S
+use Rattle.nim_program.specs.Program.{Expr, Args, NoArg, ByValue, Stmts, Empty, Blocks, Otherwise, Block}
+use Rattle.nim_program.specs.View.{expr_of, path_of, operand_before, choices_of, picks_of, if_value, stmt_before, stmts_of}
+use Rattle.nim_program.specs.View.{branch_conditions, branch_blocks, case_blocks}
+use Rattle.decl_rules.specs.Occurrences.{Occurrence, hands_by, in_expr, in_path, in_args, in_each, in_block, in_blocks}
+use Rattle.decl_rules.specs.Turns.{in_turn, joined}
+use Rattle.check_uses.specs.Uses.{in_other, in_operand, in_first, in_branches, in_arms}
+use Rattle.nim_program.proofs.ForCallers.{chosen, selected}
 
 -- ---- one part after another
-
-pub one_more : (uses : List RustOccurrence) (o : RustOccurrence) → seen (uses ++ o ∷ []) ≡ seen uses ++ occurrence_of o ∷ []
-one_more uses o = map-append occurrence_of uses (o ∷ [])
 
 pub two : (a x y b c : List Occurrence) → b ≡ a ++ x → c ≡ b ++ y → c ≡ a ++ (x ++ y)
 two a x y b c e f = f ∙ ap (λ z. z ++ y) e ∙ append_assoc a x y
@@ -50,90 +48,113 @@ at_index xs i x l e = slice_get_read xs (length xs) i x refl l e
 -- ---- wholes
 
 -- an expression that is known
-pub as_known : (old new : List Occurrence) (whole known : Expr) → whole ≡ known → new ≡ old ++ in_expr known → new ≡ old ++ in_expr whole
-as_known old new whole known e h = h ∙ ap (λ x. old ++ in_expr x) (sym e)
+pub as_known : (old new more : List Occurrence) (whole known : Expr) → whole ≡ known → in_expr known ≡ more → new ≡ old ++ more →
+    new ≡ old ++ in_expr whole
+as_known old new more whole known e f h = h ∙ ap (λ x. old ++ x) (sym f ∙ ap in_expr (sym e))
 
 -- a statement that is known
 pub as_first : (old new more : List Occurrence) (whole known : Stmts) → whole ≡ known → in_first known ≡ more → new ≡ old ++ more →
     new ≡ old ++ in_first whole
 as_first old new more whole known e f h = h ∙ ap (λ x. old ++ x) (sym f ∙ ap in_first (sym e))
 
--- ---- expressions
+-- ---- operands
 
-pub quit_adds : (node : Node) (status : _) → in_partial (expr_of [] (E.Quit node status)) ≡ in_other (option_map (λ e. expr_of [] e.value) status)
-quit_adds node None = refl
-quit_adds node (Some status) = refl
+pub operand_adds : (p : Option ℕ) (a : RustOperand) (rest : Args) → in_args p (operand_before [] a rest) ≡ in_operand p a ++ in_args p rest
+operand_adds p (operand.Value value) rest = refl
+operand_adds p (operand.At path) rest = sym (append_assoc (in_path (path_of [] path)) (hands_by p (path_of [] path)) (in_args p rest))
 
-pub step_adds : (node : Node) (operator : Operator) (path : RustPath) (value : _) → in_partial (expr_of [] (E.Step node operator path value)) ≡
-    in_path (path_of [] path) ++ in_other (option_map (λ e. expr_of [] e.value) value)
-step_adds node operator path None = sym (append-nil (in_path (path_of [] path)))
-step_adds node operator path (Some value) = refl
+-- the value where there is one
+pub value_adds : (value : Option RustExpr) → in_args None (if_value [] value) ≡ in_other (option_map (expr_of []) value)
+value_adds None = refl
+value_adds (Some value) = append-nil (in_expr (expr_of [] value))
+
+pub choices_add : (xs : List RustChoice) (last : Args) →
+    in_args None (choices_of [] xs last) ≡ in_args None (choices_of [] xs NoArg) ++ in_args None last
+choices_add [] last = refl
+choices_add (x ∷ xs) last =
+    let a = in_expr (expr_of [] x.condition) in
+    let b = in_expr (expr_of [] x.value) in
+    let rest = in_args None (choices_of [] xs NoArg) in
+    ap (λ z. a ++ (b ++ z)) (choices_add xs last) ∙ ap (λ z. a ++ z) (sym (append_assoc b rest (in_args None last))) ∙
+    sym (append_assoc a (b ++ rest) (in_args None last))
+
+pub picks_add : (xs : List RustPick) (last : Args) →
+    in_args None (picks_of [] xs last) ≡ in_args None (picks_of [] xs NoArg) ++ in_args None last
+picks_add [] last = refl
+picks_add (x ∷ xs) last =
+    let a = in_expr (expr_of [] x.value) in
+    ap (λ z. a ++ z) (picks_add xs last) ∙ sym (append_assoc a (in_args None (picks_of [] xs NoArg)) (in_args None last))
+
+-- ---- expressions that choose
+
+pub if_adds : (node : Node) (ty : Option ℕ) (branches : Vec RustChoice Global) (other : _) →
+    in_expr (expr_of [] (E.If node ty branches other)) ≡ in_args None (choices_of [] branches.items NoArg) ++ in_expr (expr_of [] other.value)
+if_adds node ty branches other =
+    ap in_expr (chosen [] node ty branches other) ∙ choices_add branches.items (ByValue (expr_of [] other.value) NoArg) ∙
+    ap (λ x. in_args None (choices_of [] branches.items NoArg) ++ x) (append-nil (in_expr (expr_of [] other.value)))
 
 pub case_adds : (node : Node) (ty : Option ℕ) (selector : _) (picks : Vec RustPick Global) (other : _) →
-    in_partial (expr_of [] (E.Case node ty selector picks other)) ≡
-    in_expr (expr_of [] selector.value) ++ (in_picks (picks_of [] picks.items) ++ in_other (option_map (λ e. expr_of [] e.value) other))
+    in_expr (expr_of [] (E.Case node ty selector picks other)) ≡ in_operand None selector.value ++
+    (in_args None (picks_of [] picks.items NoArg) ++ in_other (option_map (λ e. expr_of [] e.value) other))
 case_adds node ty selector picks None =
-    ap in_partial (picked [] node ty selector picks) ∙
-    ap (λ x. in_expr (expr_of [] selector.value) ++ x) (sym (append-nil (in_picks (picks_of [] picks.items))))
-case_adds node ty selector picks (Some other) = ap in_partial (picked_else [] node ty selector picks other)
+    ap in_expr (selected [] node ty selector picks None) ∙ operand_adds None selector.value (picks_of [] picks.items NoArg) ∙
+    ap (λ x. in_operand None selector.value ++ x) (sym (append-nil (in_args None (picks_of [] picks.items NoArg))))
+case_adds node ty selector picks (Some other) =
+    let last = ByValue (expr_of [] other.value) NoArg in
+    let first = in_operand None selector.value in
+    let more = in_args None (picks_of [] picks.items NoArg) in
+    ap in_expr (selected [] node ty selector picks (Some other)) ∙ operand_adds None selector.value (picks_of [] picks.items last) ∙
+    ap (λ x. first ++ x) (picks_add picks.items last) ∙ ap (λ x. first ++ (more ++ x)) (append-nil (in_expr (expr_of [] other.value)))
 
--- those with a part that may be missing
-pub case_partial : (node : Node) (ty : Option ℕ) (selector : _) (picks : Vec RustPick Global) (other : _) →
-    in_partial (expr_of [] (E.Case node ty selector picks other)) ≡ in_expr (expr_of [] (E.Case node ty selector picks other))
-case_partial node ty selector picks None = refl
-case_partial node ty selector picks (Some other) = refl
+-- ---- branches
 
-pub quit_partial : (node : Node) (status : _) → in_partial (expr_of [] (E.Quit node status)) ≡ in_expr (expr_of [] (E.Quit node status))
-quit_partial node None = refl
-quit_partial node (Some status) = refl
+pub branches_add : (xs : List RustBranch) (last : Stmts) →
+    joined (in_turn (in_each (branch_conditions [] xs)) (in_blocks (branch_blocks [] xs last))) ≡ in_branches xs ++ in_block last
+branches_add [] last = append-nil (in_block last)
+branches_add (x ∷ xs) last =
+    let a = in_expr (expr_of [] x.condition) in
+    let b = in_block (stmts_of [] x.body.items) in
+    ap (λ z. a ++ (b ++ z)) (branches_add xs last) ∙ ap (λ z. a ++ z) (sym (append_assoc b (in_branches xs) (in_block last))) ∙
+    sym (append_assoc a (b ++ in_branches xs) (in_block last))
 
-pub step_partial : (node : Node) (operator : Operator) (path : RustPath) (value : _) →
-    in_partial (expr_of [] (E.Step node operator path value)) ≡ in_expr (expr_of [] (E.Step node operator path value))
-step_partial node operator path None = refl
-step_partial node operator path (Some value) = refl
+blocks_add : (xs : List RustCaseBranch) (last : Stmts) → joined (in_blocks (case_blocks [] xs last)) ≡ in_arms xs ++ in_block last
+blocks_add [] last = append-nil (in_block last)
+blocks_add (x ∷ xs) last =
+    let a = in_block (stmts_of [] x.body.items) in
+    ap (λ z. a ++ z) (blocks_add xs last) ∙ sym (append_assoc a (in_arms xs) (in_block last))
 
--- an argument before others
-pub arg_adds : (p : ℕ) (arg : RustArg) (rest : Args) → in_args p (arg_before [] arg rest) ≡ in_arg p arg ++ in_args p rest
-arg_adds p (A.Value value) rest = refl
-arg_adds p (A.Var path) rest =
-    let x = in_path (path_of [] path) in
-    let y = hands_if p (node_at_path (path_of [] path)).at (global_root (path_of [] path)) in
-    sym (append_assoc x y (in_args p rest))
+-- one test before all blocks
+one_test : (test : List Occurrence) (blocks : Blocks) → joined (in_turn (test ∷ []) (in_blocks blocks)) ≡ test ++ joined (in_blocks blocks)
+one_test test (Otherwise block) = refl
+one_test test (Block first rest) = refl
+
+test_adds : (selector : RustOperand) (blocks : Blocks) →
+    joined (in_turn (in_each (operand_before [] selector NoArg)) (in_blocks blocks)) ≡ in_operand None selector ++ joined (in_blocks blocks)
+test_adds (operand.Value value) blocks = one_test (in_expr (expr_of [] value)) blocks
+test_adds (operand.At path) blocks =
+    one_test (in_path (path_of [] path)) blocks ∙ ap (λ z. z ++ joined (in_blocks blocks)) (sym (append-nil (in_path (path_of [] path))))
+
+pub arms_add : (selector : RustOperand) (xs : List RustCaseBranch) (last : Stmts) →
+    joined (in_turn (in_each (operand_before [] selector NoArg)) (in_blocks (case_blocks [] xs last))) ≡
+    in_operand None selector ++ (in_arms xs ++ in_block last)
+arms_add selector xs last =
+    test_adds selector (case_blocks [] xs last) ∙ ap (λ z. in_operand None selector ++ z) (blocks_add xs last)
 
 -- ---- statements
 
-pub discard_adds : (node : Node) (value : Option RustExpr) → in_stmt (discarded [] node value) ≡ in_other (option_map (expr_of []) value)
-discard_adds node None = refl
-discard_adds node (Some value) = refl
-
-pub return_adds : (node : Node) (value : Option RustExpr) → in_stmt (returned [] node value) ≡ in_other (option_map (expr_of []) value)
-return_adds node None = refl
-return_adds node (Some value) = refl
-
-pub declare_adds : (node : Node) (place : PlaceDecl) (value : Option RustExpr) →
-    in_first (declares node (declared_of [] place) (option_map (expr_of []) value) Empty) ≡ in_other (option_map (expr_of []) value)
-declare_adds node place None = refl
-declare_adds node place (Some value) = refl
-
 -- a statement before others
 pub stmt_adds : (stmt : RustStmt) (rest : Stmts) → in_block (stmt_before [] stmt rest) ≡ in_first (stmt_before [] stmt Empty) ++ in_block rest
-stmt_adds (S.Eval node value) rest = refl
-stmt_adds (S.Discard node value) rest = refl
-stmt_adds (S.Give node value) rest = refl
-stmt_adds (S.Return node value) rest = refl
-stmt_adds (S.Break node) rest = refl
-stmt_adds (S.Continue node) rest = refl
-stmt_adds (S.Declare node place None) rest = refl
-stmt_adds (S.Declare node place (Some value)) rest = refl
-stmt_adds (S.Pass node) rest = refl
-stmt_adds (S.Assign node path value) rest = refl
-stmt_adds (S.Update node operator path value) rest = refl
-stmt_adds (S.Append node path value) rest = refl
+stmt_adds (S.Do value) rest = refl
+stmt_adds (S.Idle node parts) rest = refl
+stmt_adds (S.Give node back value) rest = refl
+stmt_adds (S.Leave node leaving parts) rest = refl
+stmt_adds (S.Declare node place cursor value) rest = refl
 stmt_adds (S.If' node p branches q otherwise) rest = refl
 stmt_adds (S.Case' node selector p branches q otherwise) rest = refl
-stmt_adds (S.While' node condition p body) rest = refl
-stmt_adds (S.Count' node variable bounds p body) rest = refl
-stmt_adds (S.Each' node variable path p body) rest = refl
+stmt_adds (S.Loop' node kind head p body) rest = refl
+stmt_adds (S.Raise node exception message) rest = refl
+stmt_adds (S.Try' node p body q handlers r last) rest = refl
+stmt_adds (S.Defer' node p last) rest = refl
 
 -- one more statement of a block
 stmts_next : (xs : List RustStmt) (i : ℕ) (x : RustStmt) → i < length xs → x ≡ get_or xs i x →

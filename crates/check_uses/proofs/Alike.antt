@@ -4,25 +4,24 @@ use Rattle.std.specs.Prelude.{Bool, true, not, ◌||◌, ◌&&◌, nat_eq, if◌
 use Rattle.std.proofs.lemmas.Option.{slice_get-map}
 use Rattle.arc_base.specs.Refusal.{and_then}
 use Rattle.nim_types.specs.Types.{Ty}
-use Rattle.nim_core.specs.declared.expr.Node.{Node}
-use Rattle.nim_core.specs.declared.expr.Operator.{Operator}
-use Rattle.nim_core.specs.declared.expr.Expr.{Expr as RustExpr}
-use Rattle.nim_core.specs.declared.expr.Expr.TheVariants as E
-use Rattle.nim_core.specs.declared.expr.Arg.TheBlock as B
-use Rattle.nim_core.specs.declared.expr.Path.{Path as RustPath}
-use Rattle.nim_core.specs.declared.expr.Path.TheVariants as P
-use Rattle.nim_core.specs.declared.expr.Arg.{Arg as RustArg}
-use Rattle.nim_core.specs.declared.expr.Arg.TheVariants as A
-use Rattle.nim_core.specs.declared.stmt.Stmt.{Stmt as RustStmt}
-use Rattle.nim_core.specs.declared.stmt.Stmt.TheVariants as S
-use Rattle.nim_core.specs.declared.stmt.Stmt.TheBlock as K
-use Rattle.nim_core.specs.declared.program.Body.{Body as RustBody}
-use Rattle.nim_core.specs.declared.program.Proc.{Proc as RustProc}
-use Rattle.nim_core.specs.Program.{Expr, Path, Args, Picks, Stmts, Proc, node_at_path}
-use Rattle.nim_core.specs.View.{expr_of, case_of, quit_of, step_of, path_of, expr_row, init_row, arg_before, arg_row, choice_row, pick_row}
-use Rattle.nim_core.specs.View.{stmt_before, stmt_row, stmts_of, branch_row, arm_row, body_of, proc_of}
-use Rattle.decl_rules.specs.Occurrences.{Occurrence, global, calls, hands, global_root, hands_if, in_expr, in_exprs, in_path, in_inits, in_args}
-use Rattle.decl_rules.specs.Occurrences.{in_choices, in_picks, in_block, in_branches, in_arms}
+use Rattle.nim_program.specs.declared.expr.Expr.{Expr as RustExpr}
+use Rattle.nim_program.specs.declared.expr.Expr.TheVariants as E
+use Rattle.nim_program.specs.declared.expr.Expr.TheBlock as B
+use Rattle.nim_program.specs.declared.expr.Path.{Path as RustPath}
+use Rattle.nim_program.specs.declared.expr.Path.TheVariants as P
+use Rattle.nim_program.specs.declared.expr.Operand.{Operand as RustOperand}
+use Rattle.nim_program.specs.declared.expr.Operand.TheVariants as operand
+use Rattle.nim_program.specs.declared.stmt.Stmt.{Stmt as RustStmt}
+use Rattle.nim_program.specs.declared.stmt.Stmt.TheVariants as S
+use Rattle.nim_program.specs.declared.stmt.Stmt.TheBlock as K
+use Rattle.nim_program.specs.declared.program.Body.{Body as RustBody}
+use Rattle.nim_program.specs.declared.program.Proc.{Proc as RustProc}
+use Rattle.nim_program.specs.Program.{Args, NoArg, Stmts, Proc}
+use Rattle.nim_program.specs.View.{expr_of, else_of, path_of, operand_before, operand_row, operands_of, choice_row, pick_row, if_value}
+use Rattle.nim_program.specs.View.{stmt_before, stmt_row, stmts_of, condition_blocks, branch_row, case_row, handler_row, body_of, proc_of}
+use Rattle.decl_rules.specs.Occurrences.{Occurrence, global, calls, hands, global_root, hands_if, hands_by, in_expr, in_path, in_args, in_each}
+use Rattle.decl_rules.specs.Occurrences.{in_block, in_blocks, in_handlers}
+use Rattle.decl_rules.specs.Turns.{in_turn, joined}
 use Rattle.decl_rules.specs.Whole.{in_body, in_proc, occurring, is_named, names_within, names, unless_named, occurrence_rule, occurrences_rule}
 use Rattle.decl_rules.specs.Whole.{declares_any, comes_in_time, if_in_time, item_rule, text_rule}
 use Rattle.check_uses.specs.declared.text.Item.{Item as RustItem}
@@ -40,132 +39,112 @@ module _ (ts : List Ty) where
   root_alike (P.Variable node ty place is_global) = refl
   root_alike (P.Fresh' p value) = refl
   root_alike (P.Field' node ty p base field) = root_alike base
-  root_alike (P.Element' node ty p base q index) = root_alike base
+  root_alike (P.Element' node ty p base q index constant) = root_alike base
+  root_alike (P.Deref' ty p base) = refl
 
-  hands_alike : (proc : ℕ) (path : RustPath) → hands_if proc (node_at_path (path_of ts path)).at (global_root (path_of ts path)) ≡
-      hands_if proc (node_at_path (path_of [] path)).at (global_root (path_of [] path))
-  hands_alike proc (P.Variable node ty place is_global) = refl
-  hands_alike proc (P.Fresh' p value) = refl
-  hands_alike proc (P.Field' node ty p base field) = ap (hands_if proc node.at) (root_alike base)
-  hands_alike proc (P.Element' node ty p base q index) = ap (hands_if proc node.at) (root_alike base)
+  hands_alike : (callee : Option ℕ) (path : RustPath) → hands_by callee (path_of ts path) ≡ hands_by callee (path_of [] path)
+  hands_alike None path = refl
+  hands_alike (Some proc) (P.Variable node ty place is_global) = refl
+  hands_alike (Some proc) (P.Fresh' p value) = refl
+  hands_alike (Some proc) (P.Field' node ty p base field) = ap (hands_if proc node.at) (root_alike base)
+  hands_alike (Some proc) (P.Element' node ty p base q index constant) = ap (hands_if proc node.at) (root_alike base)
+  hands_alike (Some proc) (P.Deref' ty p base) = refl
 
   mutual
     expr_alike : (e : RustExpr) → in_expr (expr_of ts e) ≡ in_expr (expr_of [] e)
-    expr_alike (E.Ordinal node ty value) = refl
-    expr_alike (E.Text node ty bytes) = refl
+    expr_alike (E.Apply' node ty operation p operands) = row_alike None operands
+    expr_alike (E.Call' node ty proc types p operands) = ap (λ os. calls proc ∷ os) (row_alike (Some proc) operands)
+    expr_alike (E.Construct' node ty fields p operands) = row_alike None operands
     expr_alike (E.Constant node ty value) = refl
-    expr_alike (E.Default node ty) = refl
     expr_alike (E.Read path) = path_alike path
-    expr_alike (E.Measure node ty measure path) = path_alike path
-    expr_alike (E.Unary' node ty operator p operand) = expr_alike operand
-    expr_alike (E.Binary' node ty operator p left q right) = and_both (expr_alike left) (expr_alike right)
-    expr_alike (E.Compare' node ty comparison p left q right) = and_both (expr_alike left) (expr_alike right)
-    expr_alike (E.Both' node ty p left q right) = and_both (expr_alike left) (expr_alike right)
-    expr_alike (E.Either' node ty p left q right) = and_both (expr_alike left) (expr_alike right)
-    expr_alike (E.Convert' node ty p operand) = expr_alike operand
-    expr_alike (E.Join' node ty p left q right) = and_both (expr_alike left) (expr_alike right)
-    expr_alike (E.Show' node ty p operand) = expr_alike operand
-    expr_alike (E.Make' node ty p parts) = exprs_alike parts
-    expr_alike (E.Sequence' node ty p parts) = exprs_alike parts
-    expr_alike (E.Construct' node ty p parts) = inits_alike parts
-    expr_alike (E.Call' node ty proc p args) = ap (λ os. calls proc ∷ os) (args_alike proc args)
-    expr_alike (E.If' node ty p branches q otherwise) = and_both (choices_alike branches) (expr_alike otherwise)
-    expr_alike (E.Case' node ty p selector q branches otherwise) = case_alike node ty (expr_of ts selector) (expr_of [] selector)
-        (pick_row ts branches) (pick_row [] branches) otherwise (expr_alike selector) (picks_alike branches)
-    expr_alike (E.NewSequence' node ty p length) = expr_alike length
-    expr_alike (E.Pop node ty path) = path_alike path
-    expr_alike (E.Move node ty path) = path_alike path
-    expr_alike (E.ReadLine node ty) = refl
-    expr_alike (E.ReadLineInto node ty path) = path_alike path
-    expr_alike (E.Echo' node p operands) = exprs_alike operands
-    expr_alike (E.Quit' node status) = quit_alike node status
-    expr_alike (E.Step' node operator path value) = step_alike node operator (path_of ts path) (path_of [] path) value (path_alike path)
-    expr_alike (E.Add' node path p value) = and_both (path_alike path) (expr_alike value)
-    expr_alike (E.SetLen' node path p length) = and_both (path_alike path) (expr_alike length)
-    expr_alike (E.Swap node left right) = and_both (path_alike left) (path_alike right)
+    expr_alike (E.Early' node ty short p left q right) = and_both (expr_alike left) (expr_alike right)
+    expr_alike (E.If' node ty p branches q otherwise) = choices_alike branches _ _ (ap (λ os. os ++ []) (expr_alike otherwise))
+    expr_alike (E.Case' node ty p selector q branches otherwise) =
+        operand_alike None selector _ _ (picks_alike branches _ _ (else_alike otherwise))
 
-    case_alike : (node : Node) (ty : Option ℕ) (a b : Expr) (x y : Picks) (other : B.Held-Expr-Case-4) → in_expr a ≡ in_expr b →
-        in_picks x ≡ in_picks y → in_expr (case_of ts node ty a x other) ≡ in_expr (case_of [] node ty b y other)
-    case_alike node ty a b x y B.None' e f = and_both e f
-    case_alike node ty a b x y (B.Some' p other) e f = and_both e (and_both f (expr_alike other))
-
-    quit_alike : (node : Node) (status : B.Held-Expr-Case-4) → in_expr (quit_of ts node status) ≡ in_expr (quit_of [] node status)
-    quit_alike node B.None' = refl
-    quit_alike node (B.Some' p status) = expr_alike status
-
-    step_alike : (node : Node) (operator : Operator) (x y : Path) (value : B.Held-Expr-Case-4) → in_path x ≡ in_path y →
-        in_expr (step_of ts node operator x value) ≡ in_expr (step_of [] node operator y value)
-    step_alike node operator x y B.None' e = e
-    step_alike node operator x y (B.Some' p value) e = and_both e (expr_alike value)
+    else_alike : (other : B.Held-Expr-Case-4) → in_args None (else_of ts other) ≡ in_args None (else_of [] other)
+    else_alike B.None' = refl
+    else_alike (B.Some' p value) = ap (λ os. os ++ []) (expr_alike value)
 
     path_alike : (path : RustPath) → in_path (path_of ts path) ≡ in_path (path_of [] path)
     path_alike (P.Variable node ty place is_global) = refl
     path_alike (P.Fresh' p value) = expr_alike value
     path_alike (P.Field' node ty p base field) = path_alike base
-    path_alike (P.Element' node ty p base q index) = and_both (path_alike base) (expr_alike index)
+    path_alike (P.Element' node ty p base q index constant) = and_both (path_alike base) (expr_alike index)
+    path_alike (P.Deref' ty p base) = path_alike base
 
-    exprs_alike : {m : _} (row : B.Row_of-Expr m) → in_exprs (expr_row ts row) ≡ in_exprs (expr_row [] row)
-    exprs_alike B.end_of-Expr = refl
-    exprs_alike (B.more_of-Expr first row) = and_both (expr_alike first) (exprs_alike row)
+    operand_alike : (callee : Option ℕ) (a : RustOperand) (x y : Args) → in_args callee x ≡ in_args callee y →
+        in_args callee (operand_before ts a x) ≡ in_args callee (operand_before [] a y)
+    operand_alike callee (operand.Value value) x y e = and_both (expr_alike value) e
+    operand_alike callee (operand.At path) x y e = and_both (path_alike path) (and_both (hands_alike callee path) e)
 
-    inits_alike : {m : _} (row : B.Row_of-Init m) → in_inits (init_row ts row) ≡ in_inits (init_row [] row)
-    inits_alike B.end_of-Init = refl
-    inits_alike (B.more_of-Init field value row) = and_both (expr_alike value) (inits_alike row)
+    row_alike : (callee : Option ℕ) {m : _} (row : B.Row_of-Operand m) → in_args callee (operand_row ts row) ≡ in_args callee (operand_row [] row)
+    row_alike callee B.end_of-Operand = refl
+    row_alike callee (B.more_of-Operand first row) = operand_alike callee first (operand_row ts row) (operand_row [] row) (row_alike callee row)
 
-    arg_alike : (proc : ℕ) (arg : RustArg) (x y : Args) → in_args proc x ≡ in_args proc y →
-        in_args proc (arg_before ts arg x) ≡ in_args proc (arg_before [] arg y)
-    arg_alike proc (A.Value value) x y e = and_both (expr_alike value) e
-    arg_alike proc (A.Var path) x y e = and_both (path_alike path) (and_both (hands_alike proc path) e)
+    choices_alike : {m : _} (row : B.Row_of-Choice m) (x y : Args) → in_args None x ≡ in_args None y →
+        in_args None (choice_row ts row x) ≡ in_args None (choice_row [] row y)
+    choices_alike B.end_of-Choice x y e = e
+    choices_alike (B.more_of-Choice condition value row) x y e =
+        and_both (expr_alike condition) (and_both (expr_alike value) (choices_alike row x y e))
 
-    args_alike : (proc : ℕ) {m : _} (row : B.Row_of-Arg m) → in_args proc (arg_row ts row) ≡ in_args proc (arg_row [] row)
-    args_alike proc B.end_of-Arg = refl
-    args_alike proc (B.more_of-Arg first row) = arg_alike proc first (arg_row ts row) (arg_row [] row) (args_alike proc row)
+    picks_alike : {m : _} (row : B.Row_of-Pick m) (x y : Args) → in_args None x ≡ in_args None y →
+        in_args None (pick_row ts row x) ≡ in_args None (pick_row [] row y)
+    picks_alike B.end_of-Pick x y e = e
+    picks_alike (B.more_of-Pick labels value row) x y e = and_both (expr_alike value) (picks_alike row x y e)
 
-    choices_alike : {m : _} (row : B.Row_of-Choice m) → in_choices (choice_row ts row) ≡ in_choices (choice_row [] row)
-    choices_alike B.end_of-Choice = refl
-    choices_alike (B.more_of-Choice condition value row) = and_both (expr_alike condition) (and_both (expr_alike value) (choices_alike row))
+  operands_alike : (all : List RustOperand) → in_args None (operands_of ts all) ≡ in_args None (operands_of [] all)
+  operands_alike [] = refl
+  operands_alike (a ∷ all) = operand_alike None a (operands_of ts all) (operands_of [] all) (operands_alike all)
 
-    picks_alike : {m : _} (row : B.Row_of-Pick m) → in_picks (pick_row ts row) ≡ in_picks (pick_row [] row)
-    picks_alike B.end_of-Pick = refl
-    picks_alike (B.more_of-Pick labels value row) = and_both (expr_alike value) (picks_alike row)
+  value_alike : (value : Option RustExpr) → in_args None (if_value ts value) ≡ in_args None (if_value [] value)
+  value_alike None = refl
+  value_alike (Some value) = ap (λ os. os ++ []) (expr_alike value)
 
   -- ---- statements
 
+  test_alike : (selector : RustOperand) → in_each (operand_before ts selector NoArg) ≡ in_each (operand_before [] selector NoArg)
+  test_alike (operand.Value value) = ap (λ os. os ∷ []) (expr_alike value)
+  test_alike (operand.At path) = ap (λ os. os ∷ []) (path_alike path)
+
   mutual
     stmt_alike : (s : RustStmt) (x y : Stmts) → in_block x ≡ in_block y → in_block (stmt_before ts s x) ≡ in_block (stmt_before [] s y)
-    stmt_alike (S.Eval node value) x y e = and_both (expr_alike value) e
-    stmt_alike (S.Discard node None) x y e = e
-    stmt_alike (S.Discard node (Some value)) x y e = and_both (expr_alike value) e
-    stmt_alike (S.Give node value) x y e = and_both (expr_alike value) e
-    stmt_alike (S.Return node None) x y e = e
-    stmt_alike (S.Return node (Some value)) x y e = and_both (expr_alike value) e
-    stmt_alike (S.Break node) x y e = e
-    stmt_alike (S.Continue node) x y e = e
-    stmt_alike (S.Declare node place None) x y e = e
-    stmt_alike (S.Declare node place (Some value)) x y e = and_both (expr_alike value) e
-    stmt_alike (S.Pass node) x y e = e
-    stmt_alike (S.Assign node path value) x y e = and_both (and_both (path_alike path) (expr_alike value)) e
-    stmt_alike (S.Update node operator path value) x y e = and_both (and_both (path_alike path) (expr_alike value)) e
-    stmt_alike (S.Append node path value) x y e = and_both (and_both (path_alike path) (expr_alike value)) e
-    stmt_alike (S.If' node p branches q otherwise) x y e = and_both (and_both (branches_alike branches) (row_alike otherwise)) e
+    stmt_alike (S.Do value) x y e = and_both (expr_alike value) e
+    stmt_alike (S.Idle node parts) x y e = and_both (operands_alike parts.items) e
+    stmt_alike (S.Give node back value) x y e = and_both (expr_alike value) e
+    stmt_alike (S.Leave node leaving parts) x y e = and_both (operands_alike parts.items) e
+    stmt_alike (S.Declare node place cursor value) x y e = and_both (value_alike value) e
+    stmt_alike (S.If' node p branches q otherwise) x y e =
+        and_both (ap₂ (λ tests blocks. joined (in_turn tests blocks)) (conditions_alike branches) (branches_alike branches _ _ (block_row_alike otherwise))) e
     stmt_alike (S.Case' node selector p branches q otherwise) x y e =
-        and_both (and_both (expr_alike selector) (and_both (arms_alike branches) (row_alike otherwise))) e
-    stmt_alike (S.While' node condition p body) x y e = and_both (and_both (expr_alike condition) (row_alike body)) e
-    stmt_alike (S.Count' node variable bounds p body) x y e =
-        and_both (and_both (expr_alike bounds.first) (and_both (expr_alike bounds.last) (row_alike body))) e
-    stmt_alike (S.Each' node variable path p body) x y e = and_both (and_both (path_alike path) (row_alike body)) e
+        and_both (ap₂ (λ tests blocks. joined (in_turn tests blocks)) (test_alike selector) (arms_alike branches _ _ (block_row_alike otherwise))) e
+    stmt_alike (S.Loop' node kind head p body) x y e = and_both (and_both (operands_alike head.items) (block_row_alike body)) e
+    stmt_alike (S.Raise node exception message) x y e = and_both (value_alike message) e
+    stmt_alike (S.Try' node p body q handlers r last) x y e =
+        and_both (and_both (block_row_alike body) (and_both (handlers_alike handlers) (block_row_alike last))) e
+    stmt_alike (S.Defer' node p last) x y e = and_both (block_row_alike last) e
 
-    row_alike : {m : _} (row : K.Row_of-Stmt m) → in_block (stmt_row ts row) ≡ in_block (stmt_row [] row)
-    row_alike K.end_of-Stmt = refl
-    row_alike (K.more_of-Stmt first row) = stmt_alike first (stmt_row ts row) (stmt_row [] row) (row_alike row)
+    block_row_alike : {m : _} (row : K.Row_of-Stmt m) → in_block (stmt_row ts row) ≡ in_block (stmt_row [] row)
+    block_row_alike K.end_of-Stmt = refl
+    block_row_alike (K.more_of-Stmt first row) = stmt_alike first (stmt_row ts row) (stmt_row [] row) (block_row_alike row)
 
-    branches_alike : {m : _} (row : K.Row_of-Branch m) → in_branches (branch_row ts row) ≡ in_branches (branch_row [] row)
-    branches_alike K.end_of-Branch = refl
-    branches_alike (K.more_of-Branch condition p body row) = and_both (expr_alike condition) (and_both (row_alike body) (branches_alike row))
+    conditions_alike : {m : _} (row : K.Row_of-Branch m) → in_each (condition_blocks ts row) ≡ in_each (condition_blocks [] row)
+    conditions_alike K.end_of-Branch = refl
+    conditions_alike (K.more_of-Branch condition p body row) = ap₂ (λ a all. a ∷ all) (expr_alike condition) (conditions_alike row)
 
-    arms_alike : {m : _} (row : K.Row_of-CaseBranch m) → in_arms (arm_row ts row) ≡ in_arms (arm_row [] row)
-    arms_alike K.end_of-CaseBranch = refl
-    arms_alike (K.more_of-CaseBranch labels p body row) = and_both (row_alike body) (arms_alike row)
+    branches_alike : {m : _} (row : K.Row_of-Branch m) (x y : Stmts) → in_block x ≡ in_block y →
+        in_blocks (branch_row ts row x) ≡ in_blocks (branch_row [] row y)
+    branches_alike K.end_of-Branch x y e = ap (λ a. a ∷ []) e
+    branches_alike (K.more_of-Branch condition p body row) x y e = ap₂ (λ a all. a ∷ all) (block_row_alike body) (branches_alike row x y e)
+
+    arms_alike : {m : _} (row : K.Row_of-CaseBranch m) (x y : Stmts) → in_block x ≡ in_block y →
+        in_blocks (case_row ts row x) ≡ in_blocks (case_row [] row y)
+    arms_alike K.end_of-CaseBranch x y e = ap (λ a. a ∷ []) e
+    arms_alike (K.more_of-CaseBranch labels p body row) x y e = ap₂ (λ a all. a ∷ all) (block_row_alike body) (arms_alike row x y e)
+
+    handlers_alike : {m : _} (row : K.Row_of-Handler m) → in_handlers (handler_row ts row) ≡ in_handlers (handler_row [] row)
+    handlers_alike K.end_of-Handler = refl
+    handlers_alike (K.more_of-Handler types name p body row) = and_both (block_row_alike body) (handlers_alike row)
 
   block_alike : (stmts : List RustStmt) → in_block (stmts_of ts stmts) ≡ in_block (stmts_of [] stmts)
   block_alike [] = refl
@@ -173,23 +152,17 @@ module _ (ts : List Ty) where
 
   declare_alike : (s : RustStmt) (x y : Stmts) → declares_any x ≡ declares_any y →
       declares_any (stmt_before ts s x) ≡ declares_any (stmt_before [] s y)
-  declare_alike (S.Eval node value) x y e = e
-  declare_alike (S.Discard node value) x y e = e
-  declare_alike (S.Give node value) x y e = e
-  declare_alike (S.Return node value) x y e = e
-  declare_alike (S.Break node) x y e = e
-  declare_alike (S.Continue node) x y e = e
-  declare_alike (S.Declare node place None) x y e = refl
-  declare_alike (S.Declare node place (Some value)) x y e = refl
-  declare_alike (S.Pass node) x y e = e
-  declare_alike (S.Assign node path value) x y e = e
-  declare_alike (S.Update node operator path value) x y e = e
-  declare_alike (S.Append node path value) x y e = e
+  declare_alike (S.Do value) x y e = e
+  declare_alike (S.Idle node parts) x y e = e
+  declare_alike (S.Give node back value) x y e = e
+  declare_alike (S.Leave node leaving parts) x y e = e
+  declare_alike (S.Declare node place cursor value) x y e = refl
   declare_alike (S.If' node p branches q otherwise) x y e = e
   declare_alike (S.Case' node selector p branches q otherwise) x y e = e
-  declare_alike (S.While' node condition p body) x y e = e
-  declare_alike (S.Count' node variable bounds p body) x y e = e
-  declare_alike (S.Each' node variable path p body) x y e = e
+  declare_alike (S.Loop' node kind head p body) x y e = e
+  declare_alike (S.Raise node exception message) x y e = e
+  declare_alike (S.Try' node p body q handlers r last) x y e = e
+  declare_alike (S.Defer' node p last) x y e = e
 
   declares_alike : (stmts : List RustStmt) → declares_any (stmts_of ts stmts) ≡ declares_any (stmts_of [] stmts)
   declares_alike [] = refl

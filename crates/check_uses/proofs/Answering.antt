@@ -5,9 +5,9 @@ use Rattle.arc_base.specs.declared.place.Stop.{Stop}
 use Rattle.arc_base.specs.Refusal.{Refusal, and_then, Answers}
 use Rattle.arc_base.proofs.ForCallers.{answers_as, goes, stops}
 use Rattle.nim_types.specs.Types.{Ty}
-use Rattle.nim_core.specs.declared.program.Proc.{Proc as RustProc}
-use Rattle.nim_core.specs.declared.stmt.Stmt.{Stmt as RustStmt}
-use Rattle.nim_core.specs.View.{proc_of}
+use Rattle.nim_program.specs.declared.program.Proc.{Proc as RustProc}
+use Rattle.nim_program.specs.declared.stmt.Stmt.{Stmt as RustStmt}
+use Rattle.nim_program.specs.View.{proc_of}
 use Rattle.decl_rules.specs.Whole.{text_rule}
 use Rattle.check_uses.specs.declared.text.Item.{Item as RustItem}
 use Rattle.check_uses.specs.View.{items_of}

@@ -4,9 +4,9 @@ use Rattle.std.proofs.Common.{append_assoc, add-one, Option, Some, None, map}
 use Rattle.std.proofs.lemmas.List.{map-append}
 use Rattle.std.specs.Prelude.{option_map, slice_get}
 use Rattle.std.proofs.lemmas.Option.{slice_get-map}
-use Rattle.nim_core.specs.declared.program.Proc.{Proc as RustProc}
-use Rattle.nim_core.specs.declared.program.Body.{Body as RustBody}
-use Rattle.nim_core.specs.View.{proc_of, body_of}
+use Rattle.nim_program.specs.declared.program.Proc.{Proc as RustProc}
+use Rattle.nim_program.specs.declared.program.Body.{Body as RustBody}
+use Rattle.nim_program.specs.View.{proc_of, body_of}
 use Rattle.decl_rules.specs.Occurrences.{Occurrence, in_block}
 use Rattle.decl_rules.specs.Whole.{in_body, in_proc, occurring}
 use Rattle.check_uses.specs.declared.uses.Occurrence.{Occurrence as RustOccurrence}

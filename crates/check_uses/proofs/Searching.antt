@@ -5,7 +5,7 @@ use Rattle.std.specs.Prelude.{◌⊎◌, Bool, true, false, nat_eq, slice_get}
 use Rattle.std.proofs.lemmas.Bool.{both_ways, eqb-true, eq-eqb}
 use Rattle.std.proofs.lemmas.Option.{none-some, same_Some, slice_get_within}
 use Rattle.std.proofs.lemmas.List.{append-nil}
-use Rattle.nim_core.specs.Program.{Proc}
+use Rattle.nim_program.specs.Program.{Proc}
 use Rattle.decl_rules.specs.Occurrences.{Occurrence, global, calls, hands}
 use Rattle.decl_rules.specs.Naming.{OccursIn, here, further, Names, by_use, by_call, NamesFound}
 use Rattle.decl_rules.specs.Whole.{occurring, names}

@@ -2,9 +2,9 @@
 use Rattle.std.proofs.Common.{◌≡◌, ℕ, ◌+◌, List, [], ◌∷◌, sym, ap, subst, ◌∙◌}
 use Rattle.std.proofs.Common.{add-one, drop, Some}
 use Rattle.std.specs.Prelude.{true, false, not, ◌||◌, ◌&&◌, nat_eq, slice_get}
-use Rattle.nim_core.specs.declared.program.Proc.{Proc as RustProc}
-use Rattle.nim_core.specs.declared.stmt.Stmt.{Stmt as RustStmt}
-use Rattle.nim_core.specs.Program.{Stmts}
+use Rattle.nim_program.specs.declared.program.Proc.{Proc as RustProc}
+use Rattle.nim_program.specs.declared.stmt.Stmt.{Stmt as RustStmt}
+use Rattle.nim_program.specs.Program.{Stmts}
 use Rattle.decl_rules.specs.State.{Item, completes, code}
 use Rattle.decl_rules.specs.Whole.{declares_any, comes_in_time}
 use Rattle.check_uses.specs.Numbers.{is_among, with_number}

@@ -1,6 +1,6 @@
 -- A search through calls. It serves proofs alone: the promise of `check_text` doesn't speak of it.
 use Rattle.std.specs.Prelude.{◌≡◌, ℕ, ◌<◌, Bool, true, false, nat_eq, List, [], ◌∷◌, Option, Some, None, slice_get}
-use Rattle.nim_core.specs.Program.{Proc}
+use Rattle.nim_program.specs.Program.{Proc}
 use Rattle.decl_rules.specs.Occurrences.{Occurrence, global, calls, hands}
 use Rattle.decl_rules.specs.Naming.{OccursIn, Names}
 use Rattle.decl_rules.specs.Whole.{occurring}

@@ -1,12 +1,13 @@
 -- What occurs in the code's trees. It serves proofs alone: the promise of `check_text` doesn't speak of it.
-use Rattle.std.specs.Prelude.{◌≡◌, ℕ, List, [], ◌++◌, map, Option, Some, None}
-use Rattle.nim_core.specs.declared.expr.Arg.{Arg as RustArg}
-use Rattle.nim_core.specs.declared.expr.Arg.TheVariants as arg
-use Rattle.nim_core.specs.declared.program.Proc.{Proc as RustProc}
-use Rattle.nim_core.specs.Program as P
-use Rattle.nim_core.specs.Program.{Expr, Stmts, Empty, Then, Declare, DeclareAs, node_at_path}
-use Rattle.nim_core.specs.View.{expr_of, path_of, proc_of}
-use Rattle.decl_rules.specs.Occurrences.{Occurrence, global, calls, hands, hands_if, global_root, in_expr, in_path, in_picks, in_stmt}
+use Rattle.std.specs.Prelude.{◌≡◌, ℕ, List, [], ◌∷◌, ◌++◌, map, Option, Some, None}
+use Rattle.nim_program.specs.declared.expr.Operand.{Operand as RustOperand}
+use Rattle.nim_program.specs.declared.expr.Operand.TheVariants as operand
+use Rattle.nim_program.specs.declared.program.Proc.{Proc as RustProc}
+use Rattle.nim_program.specs.declared.stmt.Branch.{Branch as RustBranch}
+use Rattle.nim_program.specs.declared.stmt.CaseBranch.{CaseBranch as RustCaseBranch}
+use Rattle.nim_program.specs.Program.{Expr, Stmts, Empty, Then, Declare, Defer}
+use Rattle.nim_program.specs.View.{expr_of, path_of, stmts_of, proc_of}
+use Rattle.decl_rules.specs.Occurrences.{Occurrence, global, calls, hands, hands_by, in_expr, in_path, in_args, in_stmt, in_block}
 use Rattle.decl_rules.specs.Whole.{in_proc}
 use Rattle.check_uses.specs.declared.uses.Occurrence.{Occurrence as RustOccurrence}
 use Rattle.check_uses.specs.declared.uses.Occurrence.TheVariants as occurs
@@ -25,26 +26,25 @@ abbrev pub in_other : Option Expr → List Occurrence
 in_other None = []
 in_other (Some e) = in_expr e
 
--- in an expression with a part that may be missing
-abbrev pub in_partial : Expr → List Occurrence
-in_partial (P.Case node ty selector picks) = in_expr selector ++ in_picks picks
-in_partial (P.CaseElse node ty selector picks otherwise) = in_expr selector ++ (in_picks picks ++ in_expr otherwise)
-in_partial (P.QuitZero node) = []
-in_partial (P.Quit node status) = in_expr status
-in_partial (P.StepOne node operator path) = in_path path
-in_partial (P.Step node operator path value) = in_path path ++ in_expr value
-in_partial _ = []
+abbrev pub in_operand : (callee : Option ℕ) → RustOperand → List Occurrence
+in_operand p (operand.Value value) = in_expr (expr_of [] value)
+in_operand p (operand.At path) = in_path (path_of [] path) ++ hands_by p (path_of [] path)
 
-abbrev pub in_arg : (proc : ℕ) → RustArg → List Occurrence
-in_arg p (arg.Value value) = in_expr (expr_of [] value)
-in_arg p (arg.Var path) = in_path (path_of [] path) ++ hands_if p (node_at_path (path_of [] path)).at (global_root (path_of [] path))
+-- each condition before its block
+abbrev pub in_branches : List RustBranch → List Occurrence
+in_branches [] = []
+in_branches (first ∷ rest) = in_expr (expr_of [] first.condition) ++ (in_block (stmts_of [] first.body.items) ++ in_branches rest)
+
+abbrev pub in_arms : List RustCaseBranch → List Occurrence
+in_arms [] = []
+in_arms (first ∷ rest) = in_block (stmts_of [] first.body.items) ++ in_arms rest
 
 -- in the first statement of a block
 abbrev pub in_first : Stmts → List Occurrence
 in_first Empty = []
 in_first (Then s rest) = in_stmt s
-in_first (Declare node place rest) = []
-in_first (DeclareAs node place value rest) = in_expr value
+in_first (Declare node place cursor value rest) = in_args None value
+in_first (Defer node last rest) = in_block last
 
 abbrev pub in_procedure : RustProc → List Occurrence
 in_procedure p = in_proc (Some (proc_of [] p))

@@ -1,11 +1,11 @@
 -- What the items of the text stand for, under a list of types by their numbers.
 use Rattle.std.specs.Prelude.{List, map, take, drop, slice_get, Option, Some, None}
 use Rattle.nim_types.specs.Types.{Ty}
-use Rattle.nim_core.specs.declared.program.Body.{Body as RustBody}
-use Rattle.nim_core.specs.declared.program.Proc.{Proc as RustProc}
-use Rattle.nim_core.specs.declared.stmt.Stmt.{Stmt as RustStmt}
-use Rattle.nim_core.specs.Program.{Stmts, Empty}
-use Rattle.nim_core.specs.View.{stmts_of}
+use Rattle.nim_program.specs.declared.program.Body.{Body as RustBody}
+use Rattle.nim_program.specs.declared.program.Proc.{Proc as RustProc}
+use Rattle.nim_program.specs.declared.stmt.Stmt.{Stmt as RustStmt}
+use Rattle.nim_program.specs.Program.{Stmts, Empty}
+use Rattle.nim_program.specs.View.{stmts_of}
 use Rattle.decl_rules.specs.State.{Item, announces, completes, code}
 use Rattle.check_uses.specs.declared.text.Item.{Item as RustItem}
 use Rattle.check_uses.specs.declared.text.Item.TheVariants as item

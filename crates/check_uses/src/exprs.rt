@@ -1,15 +1,14 @@
 // What occurs in expressions, in order of text.
-ghost use Rattle.std.specs.Prelude.{◌≡◌, ◌++◌, ◌∷◌, [], OnOk, option_map};
-ghost use Rattle.decl_rules.specs.Occurrences.{in_expr, in_path, in_exprs, in_inits, in_args};
-ghost use Rattle.decl_rules.specs.Occurrences.{in_choices, in_picks, calls};
-ghost use Rattle.nim_core.specs.View.{expr_of, path_of, exprs_of, inits_of, args_of, choices_of};
-ghost use Rattle.nim_core.specs.View.{picks_of};
-ghost use Rattle.check_uses.specs.Uses.{seen, in_other, in_partial, in_arg};
+ghost use Rattle.std.specs.Prelude.{◌≡◌, ◌++◌, ◌∷◌, [], None, Some, OnOk, option_map};
+ghost use Rattle.decl_rules.specs.Occurrences.{in_expr, in_path, in_args, calls};
+ghost use Rattle.nim_program.specs.Program.{NoArg};
+ghost use Rattle.nim_program.specs.View.{expr_of, path_of, operands_of, choices_of, picks_of};
+ghost use Rattle.check_uses.specs.Uses.{seen, in_operand, in_other};
 
 use crate::paths::{add_handed, add_variable};
 use crate::uses::Occurrence;
 use arc_base::{Items, Memory};
-use nim_core::{Arg, Choice, Expr, Init, Path, Pick};
+use nim_program::{Choice, Expr, Operand, Path, Pick};
 
 /// Adds what occurs in an expression.
 #[cycle(exprs)]
@@ -17,32 +16,15 @@ pub fn add_expr(uses: &mut Items<Occurrence>, expr: &Expr) -> Result<(), Memory>
     ensures { OnOk result (seen uses.new ≡ seen uses.old ++ in_expr (expr_of [] expr.now)) }
 {
     match expr {
-        Expr::Ordinal { .. }
-        | Expr::Text { .. }
-        | Expr::Constant { .. }
-        | Expr::Default { .. }
-        | Expr::ReadLine { .. } => Ok(()),
-        Expr::Read { path }
-        | Expr::Measure { path, .. }
-        | Expr::Pop { path, .. }
-        | Expr::Move { path, .. }
-        | Expr::ReadLineInto { path, .. } => add_path(uses, path),
-        Expr::Unary { operand, .. } | Expr::Convert { operand, .. } | Expr::Show { operand, .. } =>
-            add_expr(uses, &**operand),
-        Expr::NewSequence { length, .. } => add_expr(uses, &**length),
-        Expr::Binary { left, right, .. }
-        | Expr::Compare { left, right, .. }
-        | Expr::Both { left, right, .. }
-        | Expr::Either { left, right, .. }
-        | Expr::Join { left, right, .. } => {
+        Expr::Constant { .. } => Ok(()),
+        Expr::Read { path } => add_path(uses, path),
+        Expr::Apply { operands, .. } => add_operands(uses, None, operands),
+        Expr::Construct { operands, .. } => add_operands(uses, None, operands),
+        Expr::Call { proc, operands, .. } => add_call(uses, *proc, operands),
+        Expr::Early { left, right, .. } => {
             add_expr(uses, &**left)?;
             add_expr(uses, &**right)
         }
-        Expr::Make { parts, .. } => add_exprs(uses, parts),
-        Expr::Sequence { parts, .. } => add_exprs(uses, parts),
-        Expr::Echo { operands, .. } => add_exprs(uses, operands),
-        Expr::Construct { parts, .. } => add_inits(uses, parts),
-        Expr::Call { proc, args, .. } => add_call(uses, *proc, args),
         Expr::If {
             branches,
             otherwise,
@@ -51,73 +33,16 @@ pub fn add_expr(uses: &mut Items<Occurrence>, expr: &Expr) -> Result<(), Memory>
             add_choices(uses, branches)?;
             add_expr(uses, &**otherwise)
         }
-        Expr::Case { .. } => add_partial(uses, expr),
-        Expr::Quit { .. } => add_partial(uses, expr),
-        Expr::Step { .. } => add_partial(uses, expr),
-        Expr::Add { path, value, .. } => {
-            add_path(uses, path)?;
-            add_expr(uses, &**value)
-        }
-        Expr::SetLen { path, length, .. } => {
-            add_path(uses, path)?;
-            add_expr(uses, &**length)
-        }
-        Expr::Swap { left, right, .. } => {
-            add_path(uses, left)?;
-            add_path(uses, right)
-        }
-    }
-}
-
-// An expression with a part that may be missing. For the others there is nothing to do.
-#[cycle(exprs)]
-fn add_partial(uses: &mut Items<Occurrence>, expr: &Expr) -> Result<(), Memory>
-    ensures { OnOk result (seen uses.new ≡ seen uses.old ++ in_partial (expr_of [] expr.now)) }
-{
-    match expr {
         Expr::Case {
             selector,
             branches,
             otherwise,
             ..
         } => {
-            add_expr(uses, &**selector)?;
+            add_operand(uses, None, &**selector)?;
             add_picks(uses, branches)?;
             add_other(uses, otherwise)
         }
-        Expr::Quit { status, .. } => add_other(uses, status),
-        Expr::Step { path, value, .. } => {
-            add_path(uses, path)?;
-            add_other(uses, value)
-        }
-        Expr::Ordinal { .. }
-        | Expr::Text { .. }
-        | Expr::Constant { .. }
-        | Expr::Default { .. }
-        | Expr::Read { .. }
-        | Expr::Measure { .. }
-        | Expr::Unary { .. }
-        | Expr::Binary { .. }
-        | Expr::Compare { .. }
-        | Expr::Both { .. }
-        | Expr::Either { .. }
-        | Expr::Convert { .. }
-        | Expr::Join { .. }
-        | Expr::Show { .. }
-        | Expr::Make { .. }
-        | Expr::Sequence { .. }
-        | Expr::Construct { .. }
-        | Expr::Call { .. }
-        | Expr::If { .. }
-        | Expr::NewSequence { .. }
-        | Expr::Pop { .. }
-        | Expr::Move { .. }
-        | Expr::ReadLine { .. }
-        | Expr::ReadLineInto { .. }
-        | Expr::Echo { .. }
-        | Expr::Add { .. }
-        | Expr::SetLen { .. }
-        | Expr::Swap { .. } => Ok(()),
     }
 }
 
@@ -129,7 +54,7 @@ pub fn add_path(uses: &mut Items<Occurrence>, path: &Path) -> Result<(), Memory>
     match path {
         Path::Variable { place, global, .. } => add_variable(uses, *global, *place),
         Path::Fresh { value } => add_expr(uses, &**value),
-        Path::Field { base, .. } => add_path(uses, &**base),
+        Path::Field { base, .. } | Path::Deref { base, .. } => add_path(uses, &**base),
         Path::Element { base, index, .. } => {
             add_path(uses, &**base)?;
             add_expr(uses, &**index)
@@ -138,12 +63,46 @@ pub fn add_path(uses: &mut Items<Occurrence>, path: &Path) -> Result<(), Memory>
 }
 
 #[cycle(exprs)]
-fn add_call(uses: &mut Items<Occurrence>, proc: u32, args: &Vec<Arg>) -> Result<(), Memory>
-    ensures { OnOk result (seen uses.new
-        ≡ seen uses.old ++ calls proc ∷ in_args proc (args_of [] args.now.items)) }
+fn add_call(uses: &mut Items<Occurrence>, proc: u32, operands: &Vec<Operand>) -> Result<(), Memory>
+    ensures { OnOk result (seen uses.new ≡ seen uses.old
+        ++ calls proc ∷ in_args (Some proc) (operands_of [] operands.now.items)) }
 {
     uses.push(Occurrence::Calls { proc })?;
-    add_args(uses, proc, args)
+    add_operands(uses, Some(proc), operands)
+}
+
+/// Adds what occurs in an operand, of the procedure that is called or of something else.
+#[cycle(exprs)]
+pub fn add_operand(
+    uses: &mut Items<Occurrence>,
+    callee: Option<u32>,
+    operand: &Operand,
+) -> Result<(), Memory>
+    ensures { OnOk result (seen uses.new ≡ seen uses.old ++ in_operand callee operand.now) }
+{
+    match operand {
+        Operand::Value(value) => add_expr(uses, value),
+        Operand::At(path) => {
+            add_path(uses, path)?;
+            add_handed(uses, callee, path)
+        }
+    }
+}
+
+/// Adds what occurs in operands.
+#[cycle(exprs)]
+pub fn add_operands(
+    uses: &mut Items<Occurrence>,
+    callee: Option<u32>,
+    operands: &Vec<Operand>,
+) -> Result<(), Memory>
+    ensures { OnOk result (seen uses.new
+        ≡ seen uses.old ++ in_args callee (operands_of [] operands.now.items)) }
+{
+    for operand in operands {
+        add_operand(uses, callee, operand)?;
+    }
+    Ok(())
 }
 
 #[cycle(exprs)]
@@ -158,55 +117,9 @@ fn add_other(uses: &mut Items<Occurrence>, other: &Option<Box<Expr>>) -> Result<
 }
 
 #[cycle(exprs)]
-fn add_exprs(uses: &mut Items<Occurrence>, exprs: &Vec<Expr>) -> Result<(), Memory>
-    ensures { OnOk result (seen uses.new
-        ≡ seen uses.old ++ in_exprs (exprs_of [] exprs.now.items)) }
-{
-    for expr in exprs {
-        add_expr(uses, expr)?;
-    }
-    Ok(())
-}
-
-#[cycle(exprs)]
-fn add_inits(uses: &mut Items<Occurrence>, inits: &Vec<Init>) -> Result<(), Memory>
-    ensures { OnOk result (seen uses.new
-        ≡ seen uses.old ++ in_inits (inits_of [] inits.now.items)) }
-{
-    for init in inits {
-        add_expr(uses, &init.value)?;
-    }
-    Ok(())
-}
-
-#[cycle(exprs)]
-fn add_arg(uses: &mut Items<Occurrence>, proc: u32, arg: &Arg) -> Result<(), Memory>
-    ensures { OnOk result (seen uses.new ≡ seen uses.old ++ in_arg proc arg.now) }
-{
-    match arg {
-        Arg::Value(value) => add_expr(uses, value),
-        Arg::Var(path) => {
-            add_path(uses, path)?;
-            add_handed(uses, proc, path)
-        }
-    }
-}
-
-#[cycle(exprs)]
-fn add_args(uses: &mut Items<Occurrence>, proc: u32, args: &Vec<Arg>) -> Result<(), Memory>
-    ensures { OnOk result (seen uses.new
-        ≡ seen uses.old ++ in_args proc (args_of [] args.now.items)) }
-{
-    for arg in args {
-        add_arg(uses, proc, arg)?;
-    }
-    Ok(())
-}
-
-#[cycle(exprs)]
 fn add_choices(uses: &mut Items<Occurrence>, choices: &Vec<Choice>) -> Result<(), Memory>
     ensures { OnOk result (seen uses.new
-        ≡ seen uses.old ++ in_choices (choices_of [] choices.now.items)) }
+        ≡ seen uses.old ++ in_args None (choices_of [] choices.now.items NoArg)) }
 {
     for choice in choices {
         add_expr(uses, &choice.condition)?;
@@ -218,7 +131,7 @@ fn add_choices(uses: &mut Items<Occurrence>, choices: &Vec<Choice>) -> Result<()
 #[cycle(exprs)]
 fn add_picks(uses: &mut Items<Occurrence>, picks: &Vec<Pick>) -> Result<(), Memory>
     ensures { OnOk result (seen uses.new
-        ≡ seen uses.old ++ in_picks (picks_of [] picks.now.items)) }
+        ≡ seen uses.old ++ in_args None (picks_of [] picks.now.items NoArg)) }
 {
     for pick in picks {
         add_expr(uses, &pick.value)?;

@@ -5,7 +5,7 @@ ghost use Rattle.check_uses.specs.Uses.{seen, in_procedure, uses_at, AreListed};
 use crate::stmts::add_block;
 use crate::uses::Occurrence;
 use arc_base::{Items, Memory};
-use nim_core::Proc;
+use nim_program::Proc;
 use std::alloc::Global;
 
 /// The procedures, by number, and what occurs in the body of each.

@@ -1,13 +1,12 @@
 // The globals at paths.
 ghost use Rattle.std.specs.Prelude.{◌≡◌, ◌++◌, [], OnOk};
-ghost use Rattle.nim_core.specs.Program.{node_at_path};
-ghost use Rattle.nim_core.specs.View.{path_of};
-ghost use Rattle.decl_rules.specs.Occurrences.{global_if, root_if, global_root, hands_if};
+ghost use Rattle.nim_program.specs.View.{path_of};
+ghost use Rattle.decl_rules.specs.Occurrences.{global_if, root_if, global_root, hands_if, hands_by};
 ghost use Rattle.check_uses.specs.Uses.{seen};
 
 use crate::uses::Occurrence;
 use arc_base::{Items, Memory, Place};
-use nim_core::Path;
+use nim_program::Path;
 
 /// Adds a use of a place, which counts where it is a global.
 pub fn add_variable(uses: &mut Items<Occurrence>, global: bool, place: u32) -> Result<(), Memory>
@@ -25,13 +24,13 @@ fn root_if(global: bool, place: u32) -> Option<u32>
     if global { Some(place) } else { None }
 }
 
-// The global at the root of a path.
+// The global at the root of a path; none through a ref.
 fn global_root(path: &Path) -> Option<u32>
     ensures { result ≡ global_root (path_of [] path.now) }
 {
     match path {
         Path::Variable { place, global, .. } => root_if(*global, *place),
-        Path::Fresh { .. } => None,
+        Path::Fresh { .. } | Path::Deref { .. } => None,
         Path::Field { base, .. } | Path::Element { base, .. } => global_root(&**base),
     }
 }
@@ -50,20 +49,17 @@ fn add_root(
     Ok(())
 }
 
-/// Adds that a procedure is handed what stands at a path, which counts where a global is its root.
-pub fn add_handed(uses: &mut Items<Occurrence>, proc: u32, path: &Path) -> Result<(), Memory>
-    ensures { OnOk result (seen uses.new ≡ seen uses.old
-        ++ hands_if proc (node_at_path (path_of [] path.now)).at (global_root (path_of [] path.now))) }
+/// Adds that what is called is handed what stands at a path, which counts where that is a procedure
+/// and a global is the path's root.
+pub fn add_handed(
+    uses: &mut Items<Occurrence>,
+    callee: Option<u32>,
+    path: &Path,
+) -> Result<(), Memory>
+    ensures { OnOk result (seen uses.new ≡ seen uses.old ++ hands_by callee (path_of [] path.now)) }
 {
-    match path {
-        Path::Fresh { .. } => Ok(()),
-        Path::Variable {
-            node,
-            place,
-            global,
-            ..
-        } => add_root(uses, proc, node.at, root_if(*global, *place)),
-        Path::Field { node, base, .. } => add_root(uses, proc, node.at, global_root(&**base)),
-        Path::Element { node, base, .. } => add_root(uses, proc, node.at, global_root(&**base)),
+    match callee {
+        None => Ok(()),
+        Some(proc) => add_root(uses, proc, path.node().at, global_root(path)),
     }
 }

@@ -1,15 +1,15 @@
 // What occurs in statements, in order of text.
-ghost use Rattle.std.specs.Prelude.{◌≡◌, ◌||◌, ◌++◌, [], take, drop, OnOk, option_map};
-ghost use Rattle.nim_core.specs.Program.{Stmts, Empty};
-ghost use Rattle.nim_core.specs.View.{expr_of, stmt_before, stmts_of, branches_of, arms_of};
-ghost use Rattle.decl_rules.specs.Occurrences.{in_block, in_branches, in_arms};
+ghost use Rattle.std.specs.Prelude.{◌≡◌, ◌||◌, ◌++◌, [], None, take, drop, OnOk, option_map};
+ghost use Rattle.nim_program.specs.Program.{Stmts, Empty};
+ghost use Rattle.nim_program.specs.View.{expr_of, stmt_before, stmts_of, handlers_of};
+ghost use Rattle.decl_rules.specs.Occurrences.{in_block, in_handlers};
 ghost use Rattle.decl_rules.specs.Whole.{declares_any};
-ghost use Rattle.check_uses.specs.Uses.{seen, in_other, in_first};
+ghost use Rattle.check_uses.specs.Uses.{seen, in_other, in_first, in_branches, in_arms};
 
-use crate::exprs::{add_expr, add_path};
+use crate::exprs::{add_expr, add_operand, add_operands};
 use crate::uses::Occurrence;
 use arc_base::{Items, Memory};
-use nim_core::{Branch, CaseBranch, Expr, Stmt};
+use nim_program::{Branch, CaseBranch, Expr, Handler, Stmt};
 
 fn add_value(uses: &mut Items<Occurrence>, value: &Option<Expr>) -> Result<(), Memory>
     ensures { OnOk result (seen uses.new
@@ -28,17 +28,10 @@ pub fn add_stmt(uses: &mut Items<Occurrence>, stmt: &Stmt) -> Result<(), Memory>
         ≡ seen uses.old ++ in_first (stmt_before [] stmt.now Empty)) }
 {
     match stmt {
-        Stmt::Eval { value, .. } | Stmt::Give { value, .. } => add_expr(uses, value),
-        Stmt::Discard { value, .. } => add_value(uses, value),
-        Stmt::Return { value, .. } => add_value(uses, value),
+        Stmt::Do { value } | Stmt::Give { value, .. } => add_expr(uses, value),
+        Stmt::Idle { parts, .. } | Stmt::Leave { parts, .. } => add_operands(uses, None, parts),
         Stmt::Declare { value, .. } => add_value(uses, value),
-        Stmt::Break { .. } | Stmt::Continue { .. } | Stmt::Pass { .. } => Ok(()),
-        Stmt::Assign { path, value, .. }
-        | Stmt::Update { path, value, .. }
-        | Stmt::Append { path, value, .. } => {
-            add_path(uses, path)?;
-            add_expr(uses, value)
-        }
+        Stmt::Raise { message, .. } => add_value(uses, message),
         Stmt::If {
             branches,
             otherwise,
@@ -53,27 +46,25 @@ pub fn add_stmt(uses: &mut Items<Occurrence>, stmt: &Stmt) -> Result<(), Memory>
             otherwise,
             ..
         } => {
-            add_expr(uses, selector)?;
+            add_operand(uses, None, selector)?;
             add_arms(uses, branches)?;
             add_block(uses, otherwise)
         }
-        Stmt::While {
-            condition,
+        Stmt::Loop { head, body, .. } => {
+            add_operands(uses, None, head)?;
+            add_block(uses, body)
+        }
+        Stmt::Try {
             body,
+            handlers,
+            last,
             ..
         } => {
-            add_expr(uses, condition)?;
-            add_block(uses, body)
+            add_block(uses, body)?;
+            add_handlers(uses, handlers)?;
+            add_block(uses, last)
         }
-        Stmt::Count { bounds, body, .. } => {
-            add_expr(uses, &bounds.first)?;
-            add_expr(uses, &bounds.last)?;
-            add_block(uses, body)
-        }
-        Stmt::Each { path, body, .. } => {
-            add_path(uses, path)?;
-            add_block(uses, body)
-        }
+        Stmt::Defer { last, .. } => add_block(uses, last),
     }
 }
 
@@ -91,8 +82,7 @@ pub fn add_block(uses: &mut Items<Occurrence>, block: &Vec<Stmt>) -> Result<(), 
 
 #[cycle(stmts)]
 fn add_branches(uses: &mut Items<Occurrence>, branches: &Vec<Branch>) -> Result<(), Memory>
-    ensures { OnOk result (seen uses.new
-        ≡ seen uses.old ++ in_branches (branches_of [] branches.now.items)) }
+    ensures { OnOk result (seen uses.new ≡ seen uses.old ++ in_branches branches.now.items) }
 {
     for branch in branches {
         add_expr(uses, &branch.condition)?;
@@ -103,11 +93,21 @@ fn add_branches(uses: &mut Items<Occurrence>, branches: &Vec<Branch>) -> Result<
 
 #[cycle(stmts)]
 fn add_arms(uses: &mut Items<Occurrence>, arms: &Vec<CaseBranch>) -> Result<(), Memory>
-    ensures { OnOk result (seen uses.new
-        ≡ seen uses.old ++ in_arms (arms_of [] arms.now.items)) }
+    ensures { OnOk result (seen uses.new ≡ seen uses.old ++ in_arms arms.now.items) }
 {
     for arm in arms {
         add_block(uses, &arm.body)?;
+    }
+    Ok(())
+}
+
+#[cycle(stmts)]
+fn add_handlers(uses: &mut Items<Occurrence>, handlers: &Vec<Handler>) -> Result<(), Memory>
+    ensures { OnOk result (seen uses.new
+        ≡ seen uses.old ++ in_handlers (handlers_of [] handlers.now.items)) }
+{
+    for handler in handlers {
+        add_block(uses, &handler.body)?;
     }
     Ok(())
 }
@@ -151,25 +151,17 @@ fn declares(stmt: &Stmt) -> bool
         ≡ (result || declares_any rest) }
 {
     match stmt {
-        Stmt::Declare { value, .. } => match value {
-            None => true,
-            Some(_) => true,
-        },
-        Stmt::Eval { .. }
-        | Stmt::Discard { .. }
+        Stmt::Declare { .. } => true,
+        Stmt::Do { .. }
+        | Stmt::Idle { .. }
         | Stmt::Give { .. }
-        | Stmt::Return { .. }
-        | Stmt::Break { .. }
-        | Stmt::Continue { .. }
-        | Stmt::Pass { .. }
-        | Stmt::Assign { .. }
-        | Stmt::Update { .. }
-        | Stmt::Append { .. }
+        | Stmt::Leave { .. }
         | Stmt::If { .. }
         | Stmt::Case { .. }
-        | Stmt::While { .. }
-        | Stmt::Count { .. }
-        | Stmt::Each { .. } => false,
+        | Stmt::Loop { .. }
+        | Stmt::Raise { .. }
+        | Stmt::Try { .. }
+        | Stmt::Defer { .. } => false,
     }
 }
 

@@ -2,8 +2,8 @@
 ghost use Rattle.std.specs.Prelude.{◌≡◌, ◌<◌, ◌∷◌, [], List, map, length, slice_get, OnOk};
 ghost use Rattle.arc_base.specs.Refusal.{Answers, and_then};
 ghost use Rattle.nim_types.specs.Types.{Ty};
-ghost use Rattle.nim_core.specs.declared.program.Proc.{Proc as RustProc};
-ghost use Rattle.nim_core.specs.View.{proc_of, stmts_of};
+ghost use Rattle.nim_program.specs.declared.program.Proc.{Proc as RustProc};
+ghost use Rattle.nim_program.specs.View.{proc_of, stmts_of};
 ghost use Rattle.expr_rules.specs.Answers.{Answer};
 ghost use Rattle.decl_rules.specs.State.{Item as RuleItem};
 ghost use Rattle.decl_rules.specs.Occurrences.{in_block};
@@ -17,7 +17,7 @@ use crate::names::check_each;
 use crate::numbers::Numbers;
 use crate::stmts::{add_part, declares_any, part};
 use arc_base::{Code, Items, Memory, Place, Stop};
-use nim_core::{Proc, Stmt};
+use nim_program::{Proc, Stmt};
 use std::alloc::Global;
 
 /// The text in order, as far as what needs the whole of it asks.

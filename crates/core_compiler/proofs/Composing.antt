@@ -1,32 +1,41 @@
 -- What the stages do, one behind the other.
-use Rattle.std.proofs.Common.{◌≡◌, ◌≤◌, ℕ, ◌+◌, ◌*◌, List, [], length, refl, sym, ap, subst, ◌∙◌, arith, true, Result, Ok, Err}
+use Rattle.std.proofs.Common.{◌≡◌, ◌≤◌, ℕ, ◌+◌, ◌*◌, List, [], ◌∷◌, map, length, refl, sym, ap, subst, ◌∙◌, arith, true, Result, Ok, Err, length-append}
 use Rattle.std.specs.Prelude.{IfOk, IfErr}
 use Rattle.arc_base.specs.Event.{Event}
 use Rattle.arc_base.specs.Behaviour.{Behaviour, Agrees, Sound}
 use Rattle.arc_base.specs.Pace.{PacedFrom}
 use Rattle.nim_types.specs.declared.types.TypeDef.{TypeDef}
 use Rattle.nim_plan.specs.declared.plan.Plan.{Plan}
-use Rattle.nim_core.specs.Program.{Program}
-use Rattle.nim_core.specs.Meaning.{meaning}
+use Rattle.nim_program.specs.Program.{Program}
+use Rattle.nim_meaning.specs.Meaning.{meaning}
 use Rattle.rv32_isa.specs.Image.{Image}
 use Rattle.rv32_isa.specs.Machine.{machine}
-use Rattle.mid_code.specs.declared.flat.Flat.{Flat}
-use Rattle.mid_code.specs.declared.owned.Owned.{Owned}
-use Rattle.mid_code.specs.declared.block.Blocks.{Blocks}
-use Rattle.mid_code.specs.declared.word.WordCode.{WordCode}
-use Rattle.mid_code.specs.Codes.{flat_meaning, owned_meaning, block_meaning, AreNone}
-use Rattle.mid_code.specs.Words.{word_meaning, have_no_hooks}
-use Rattle.mid_code.specs.Memory.{data_of}
-use Rattle.owned_code.specs.Owning.{IsOwned}
+use Rattle.word_code.specs.declared.word.WordCode.{WordCode}
+use Rattle.flat_code.specs.declared.code.Code.{Code}
+use Rattle.flat_code.specs.declared.code.CodeProc.{CodeProc}
+use Rattle.flat_code.specs.declared.line.Line.{Line}
+use Rattle.flat_code.specs.declared.owned.OwnedLine.{OwnedLine}
+use Rattle.flat_code.specs.declared.block.BlockLine.{BlockLine}
+use Rattle.flat_code.specs.Codes.{flat_plain, flat_meaning, owned_meaning, block_meaning, hooks_of, AreNone}
+use Rattle.flat_code.specs.Fits.{code_fits}
+use Rattle.flat_code.specs.Scene.{known_in}
+use Rattle.word_code.specs.Words.{word_meaning, have_no_hooks}
+use Rattle.word_code.specs.Memory.{data_of}
+use Rattle.word_code.specs.Joined.{joined}
+use Rattle.word_code.specs.Runtime.{IsRuntime}
+use Rattle.destructor_injection.specs.Injecting.{IsOwned}
 use Rattle.goto_exceptions.specs.Branches.{IsBranched}
-use Rattle.reg_scan.specs.declared.homes.Homes.{Homes}
-use Rattle.rv32_codegen.specs.Layout.{DoesCode, IsFault}
-use Rattle.word_lowering.specs.Lowers.{Lowers}
-use Rattle.core_compiler.specs.Compile.{live_objects, IsLaidOut, DoesProgram}
-use Rattle.rv32_codegen.specs.Lowering.{most_bytes}
+use Rattle.rv32_codegen.specs.Layout.{DoesCode, IsFault, laid_out}
+use Rattle.rv32_codegen.specs.Lowering.{CanRun, most_bytes}
+use Rattle.rv32_codegen.specs.Stack.{stack_need}
+use Rattle.word_lowering.specs.Lowers.{Lowers, LowersWithRuntime, IsFitting, AreSilent}
+use Rattle.core_compiler.specs.Compile.{live_objects, HasCode, DoesProgram}
+use Rattle.core_compiler.specs.Limits.{code_bound}
 use Rattle.rv32_codegen.specs.declared.layout.LayFault.{LayFault}
 use Rattle.rv32_codegen.specs.declared.layout.LayFault.TheVariants.{TooLarge, Memory}
-use Rattle.core_compiler.specs.Stages.{IsTooLarge, IsImageOf, IsFlatOf, AreWordsOf}
+use Rattle.program_limits.specs.Data.{data_counted}
+use Rattle.core_compiler.specs.Stages.{HasLines, IsTooLarge, IsImageOf, IsFlatOf, AreWordsOf}
+use Rattle.core_compiler.proofs.Refusals.{bound_is}
 use Rattle.core_compiler.proofs.InTime.{in_time}
 
 abbrev pub AgreesLaw : Type 0
@@ -42,11 +51,16 @@ of_three (Ok x) P Q R S so p q r = so x p q r
 of_three (Err e) P Q R S so p q r = tt
 
 -- code that isn't laid out for its size
-pub fault_is : {T : Type 0} (words : WordCode) (bytes : ℕ) → bytes ≤ most_bytes words.procs → (r : Result T LayFault) →
+pub fault_is : {T : Type 0} (words : WordCode) (bytes : ℕ) → HasLines words bytes → (r : Result T LayFault) →
     IfErr r (λ fault. IsFault bytes fault) → IfErr r (λ fault. IsTooLarge words fault)
-fault_is words bytes few (Ok x) h = tt
-fault_is words bytes few (Err (TooLarge n)) h = (h.1, omega (arith, h.0, few))
-fault_is words bytes few (Err Memory) h = tt
+fault_is words bytes has (Ok x) h = tt
+fault_is words bytes has (Err (TooLarge n)) h = (h.1, subst (HasLines words) (sym h.0) has)
+fault_is words bytes has (Err Memory) h = tt
+
+-- where nothing is a hook, what has no lines is none
+silent : (procs : List (CodeProc BlockLine)) → AreNone (map (λ (p : CodeProc BlockLine). p.hook) procs) → AreSilent procs
+silent [] none = tt
+silent (p ∷ procs) none = (λ lines. none.0, silent procs none.1)
 
 -- what agrees is never at a fault, and never wrong
 pub sound_low : {low high : Behaviour Event} → Agrees low high → Sound low
@@ -55,96 +69,142 @@ sound_low a = record { no_fault = a.no_fault; right = a.low_right }
 module _ (law : AgreesLaw) (pace : PaceLaw) where
   -- ---- flat code, owned code, block code, word code
 
-  module _ (table : List TypeDef) (flat : Flat) (owned : Owned) (blocks : Blocks) (words : WordCode)
-      (own : IsOwned flat owned) (branched : IsBranched owned blocks) (low : Lowers table blocks words) where
-    owned_flat : (plan : Plan) (heap : ℕ) (input : List ℕ) → Sound (flat_meaning table flat plan heap input) →
-        Agrees (owned_meaning table owned heap input) (flat_meaning table flat plan heap input)
-    owned_flat plan heap input sound = own.agrees table plan heap input sound
+  -- joined with a runtime
+  module _ (table : List TypeDef) (plan : Plan) (flat : Code Line) (owned : Code OwnedLine) (blocks : Code BlockLine) (own runtime : WordCode)
+      (injected : IsOwned flat plan owned) (branched : IsBranched owned blocks) (lowered : LowersWithRuntime table blocks own) (routines : IsRuntime runtime)
+    where
+      abbrev words : WordCode
+      words = joined own runtime
 
-    blocks_owned : (plan : Plan) (heap : ℕ) (input : List ℕ) → Sound (flat_meaning table flat plan heap input) →
-        Agrees (block_meaning table blocks heap input) (owned_meaning table owned heap input)
-    blocks_owned plan heap input sound = branched.agrees table heap input (sound_low (owned_flat plan heap input sound))
+      low : Lowers table blocks words
+      low = lowered.lowers runtime routines
 
-    words_agree : (plan : Plan) (heap stack : ℕ) (input : List ℕ) → heap ≤ 16777216 → Sound (flat_meaning table flat plan heap input) →
-        Agrees (word_meaning live_objects words heap stack input) (flat_meaning table flat plan heap input)
-    words_agree plan heap stack input few sound =
-        let upper = owned_flat plan heap input sound in
-        let middle = blocks_owned plan heap input sound in
-        let lower = low.agrees live_objects heap stack input (λ m. refl) few (sound_low middle) in
-        law _ _ _ (law _ _ _ lower middle) upper
+      abbrev Fits : Type 0
+      Fits = code_fits flat_plain (known_in table) flat.procs ≡ true
 
-    words_paced : (plan : Plan) (heap stack : ℕ) (input : List ℕ) → heap ≤ 16777216 → Sound (flat_meaning table flat plan heap input) →
-        PacedFrom 16 1 (word_meaning live_objects words heap stack input) (flat_meaning table flat plan heap input)
-    words_paced plan heap stack input few sound =
-        let upper = own.paced table plan heap input sound in
-        let middle = branched.paced table heap input (sound_low (owned_flat plan heap input sound)) in
-        let lower = low.paced live_objects heap stack input (λ m. refl) few (sound_low (blocks_owned plan heap input sound)) in
-        pace 16 1 1 0 _ _ _ (omega arith) (pace 16 1 1 0 _ _ _ (omega arith) lower middle) upper
+      none_before : AreNone (hooks_of flat) → AreNone (hooks_of blocks)
+      none_before none = subst AreNone (sym (branched.form.hooks ∙ injected.form.hooks)) none
 
-    pub words_of_flat : AreWordsOf table flat words
-    words_of_flat = record {
-      agrees = words_agree;
-      paced = words_paced;
-      can = record {
-        formed = low.formed;
-        no_circle = low.no_circle;
-        chain = low.chain;
-        small = low.small;
-        whole = low.whole;
-        statics_most = low.data_most;
-      };
-      weight = let few = low.weight in omega (arith, few, own.weight, branched.weight);
-      hooks = λ none. low.hooks (subst AreNone (sym (branched.hooks ∙ own.hooks)) none);
-    }
+      blocks_fit : Fits → IsFitting table blocks
+      blocks_fit fits = branched.form.fits (known_in table) (injected.form.fits (known_in table) fits)
+
+      owned_flat : (heap : ℕ) (input : List ℕ) → Sound (flat_meaning table flat plan heap input) →
+          Agrees (owned_meaning table owned heap input) (flat_meaning table flat plan heap input)
+      owned_flat heap input sound = injected.agrees table heap input sound
+
+      blocks_owned : (heap : ℕ) (input : List ℕ) → Sound (flat_meaning table flat plan heap input) →
+          Agrees (block_meaning table blocks heap input) (owned_meaning table owned heap input)
+      blocks_owned heap input sound = branched.agrees table heap input (sound_low (owned_flat heap input sound))
+
+      words_agree : (heap stack : ℕ) (input : List ℕ) → heap ≤ 16777216 → Fits → AreNone (hooks_of flat) →
+          Sound (flat_meaning table flat plan heap input) → Agrees (word_meaning live_objects words heap stack input) (flat_meaning table flat plan heap input)
+      words_agree heap stack input few fits none sound =
+          let upper = owned_flat heap input sound in
+          let middle = blocks_owned heap input sound in
+          let lower = low.agrees live_objects heap stack input (λ m. refl) few (blocks_fit fits) (silent blocks.procs (none_before none)) (sound_low middle) in
+          law _ _ _ (law _ _ _ lower middle) upper
+
+      words_paced : (heap stack : ℕ) (input : List ℕ) → heap ≤ 16777216 → Fits → AreNone (hooks_of flat) →
+          Sound (flat_meaning table flat plan heap input) →
+          PacedFrom 16 1 (word_meaning live_objects words heap stack input) (flat_meaning table flat plan heap input)
+      words_paced heap stack input few fits none sound =
+          let upper = injected.paced table heap input sound in
+          let middle = branched.paced table heap input (sound_low (owned_flat heap input sound)) in
+          let lower = low.paced live_objects heap stack input (λ m. refl) few (blocks_fit fits) (silent blocks.procs (none_before none))
+          (sound_low (blocks_owned heap input sound)) in
+          pace 16 1 1 0 _ _ _ (omega arith) (pace 16 1 1 0 _ _ _ (omega arith) lower middle) upper
+
+      pub words_of_flat : AreWordsOf table plan flat words
+      words_of_flat = record {
+        agrees = words_agree;
+        paced = words_paced;
+        can = record {
+          formed = low.formed;
+          no_circle = low.no_circle;
+          chain = low.chain;
+          small = low.small;
+          whole = low.whole;
+          statics_most = low.data_most;
+        };
+        weight = let few = low.weight in omega (arith, few, injected.form.weight, branched.form.weight);
+        data_size =
+            let few = lowered.data_size in
+            let more = branched.form.statics table in
+            let most = injected.form.statics table in
+            omega (arith, few, more, most, routines.data_most, length-append own.statics runtime.statics);
+        hooks = λ none. low.hooks (none_before none);
+      }
 
   -- ---- word code and its image
 
-  module _ (words : WordCode) (homes : List Homes) (heap : ℕ) (image : Image) (is : IsLaidOut words homes heap image)
-      (laid : DoesCode live_objects image is.lines (data_of heap image.stack words.statics) heap image.stack) where
+  module _ (words : WordCode) (heap : ℕ) (few : heap ≤ 16777216) (image : Image) (from : HasLines words (length image.code))
+      (made : image ≡ laid_out from.lines words.statics heap (stack_need words.procs from.homes))
+      (laid : DoesCode live_objects image from.lines (data_of heap image.stack words.statics) heap image.stack) where
+    can : CanRun words from.homes heap image.stack
+    can = subst (CanRun words from.homes heap) (sym (ap (λ i. i.stack) made)) (from.code.can heap few)
+
     image_agrees : (input : List ℕ) → Sound (word_meaning live_objects words heap image.stack input) →
         Agrees (machine live_objects image input) (word_meaning live_objects words heap image.stack input)
     image_agrees input sound =
-        let upper = is.does live_objects laid.0 heap image.stack input (λ s t e f. refl) laid.1 is.can sound in
+        let upper = from.code.does live_objects laid.0 heap image.stack input (λ s t e f. refl) laid.1 can sound in
         law _ _ _ (laid.2 input (sound_low upper.agrees)).0 upper.agrees
 
     image_paced : (input : List ℕ) → Sound (word_meaning live_objects words heap image.stack input) →
         PacedFrom 64 2 (machine live_objects image input) (word_meaning live_objects words heap image.stack input)
     image_paced input sound =
-        let upper = is.does live_objects laid.0 heap image.stack input (λ s t e f. refl) laid.1 is.can sound in
+        let upper = from.code.does live_objects laid.0 heap image.stack input (λ s t e f. refl) laid.1 can sound in
         pace 2 32 1 1 _ _ _ (omega arith) (laid.2 input (sound_low upper.agrees)).1 upper.paced
 
-    pub image_of_code : length image.code ≤ most_bytes words.procs → (have_no_hooks words.procs ≡ true → image.hooks ≡ []) →
-        IsImageOf words homes heap image
-    image_of_code few hooks = record { agrees = image_agrees; paced = image_paced; laid = is; code = few; hooks = hooks }
+    pub image_of_code : (have_no_hooks words.procs ≡ true → image.hooks ≡ []) → IsImageOf words heap image
+    image_of_code hooks = record { from = from; made = made; agrees = image_agrees; paced = image_paced; hooks = hooks }
 
   -- ---- the whole
 
-  module _ (program : Program) (table : List TypeDef) (flat : Flat) (words : WordCode) (homes : List Homes) (heap : ℕ) (image : Image)
-      (few : heap ≤ 16777216) (sound : (plan : Plan) (input : List ℕ) → Sound (meaning program plan heap input))
-      (top : IsFlatOf table program flat) (middle : AreWordsOf table flat words) (low : IsImageOf words homes heap image) where
-    between : (plan : Plan) (input : List ℕ) → Agrees (word_meaning live_objects words heap image.stack input) (meaning program plan heap input)
-    between plan input =
-        let upper = top.agrees plan heap input in
-        law _ _ _ (middle.agrees plan heap image.stack input few (sound_low upper)) upper
+  module _ (program : Program) (table : List TypeDef) (plan : Plan) (flat : Code Line) (words : WordCode)
+      (sound : (heap : ℕ) (input : List ℕ) → Sound (meaning program plan heap input)) (top : IsFlatOf table program plan flat)
+      (middle : AreWordsOf table plan flat words) where
+    pub words_do : (heap stack : ℕ) (input : List ℕ) → heap ≤ 16777216 →
+        Agrees (word_meaning live_objects words heap stack input) (meaning program plan heap input)
+    words_do heap stack input few =
+        let upper = top.agrees heap input in
+        law _ _ _ (middle.agrees heap stack input few top.fits top.hooks (sound_low upper)) upper
 
-    does_agree : (plan : Plan) (input : List ℕ) → Agrees (machine live_objects image input) (meaning program plan heap input)
-    does_agree plan input =
-        let mid = between plan input in
-        law _ _ _ (low.agrees input (sound_low mid)) mid
+    pub code_most : (bytes : ℕ) → bytes ≤ most_bytes words.procs → bytes ≤ code_bound program
+    code_most bytes few = let bound = bound_is program flat words.procs top.weight middle.weight in omega (arith, few, bound)
 
-    does_paced : (plan : Plan) (input : List ℕ) → PacedFrom 12288 4 (machine live_objects image input) (meaning program plan heap input)
-    does_paced plan input =
-        let upper = top.agrees plan heap input in
-        let between = middle.agrees plan heap image.stack input few (sound_low upper) in
-        pace 64 192 2 2 _ _ _ (omega arith) (low.paced input (sound_low between))
-        (pace 16 12 1 1 _ _ _ (omega arith) (middle.paced plan heap image.stack input few (sound_low upper)) (top.paced plan heap input))
+    pub data_most : length words.statics ≤ data_counted program + 4092
+    data_most = let few = middle.data_size in omega (arith, few, top.data_size)
 
-    pub does_program : DoesProgram program heap image
-    does_program = record {
-      agrees = does_agree;
-      paced = does_paced;
-      in_time = λ plan input. in_time live_objects image input (meaning program plan heap input) (does_paced plan input);
-      stack = record { words = words; homes = homes; agrees = between; laid = low.laid };
-      heap_is = ap (λ i. i.heap) low.laid.made;
-      hooks = low.hooks (middle.hooks top.hooks);
+    abbrev pub has_code : (bytes : ℕ) → HasLines words bytes → HasCode program plan bytes
+    has_code bytes has = record {
+      words = words;
+      homes = has.homes;
+      lines = has.lines;
+      code = has.code;
+      agrees = λ heap stack input can. words_do heap stack input can.heap_most;
+      size = has.size;
+      bound = code_most bytes has.bound;
+      data_most = data_most;
     }
+
+    module _ (heap : ℕ) (few : heap ≤ 16777216) (image : Image) (low : IsImageOf words heap image) where
+      does_agree : (input : List ℕ) → Agrees (machine live_objects image input) (meaning program plan heap input)
+      does_agree input = let mid = words_do heap image.stack input few in law _ _ _ (low.agrees input (sound_low mid)) mid
+
+      does_paced : (input : List ℕ) → PacedFrom 12288 4 (machine live_objects image input) (meaning program plan heap input)
+      does_paced input =
+          let upper = top.agrees heap input in
+          let between = middle.agrees heap image.stack input few top.fits top.hooks (sound_low upper) in
+          pace 64 192 2 2 _ _ _ (omega arith) (low.paced input (sound_low between))
+          (pace 16 12 1 1 _ _ _ (omega arith) (middle.paced heap image.stack input few top.fits top.hooks (sound_low upper)) (top.paced heap input))
+
+      pub does_program : DoesProgram program plan heap image
+      does_program = record {
+        agrees = does_agree;
+        paced = does_paced;
+        in_time = λ input. in_time live_objects image input (meaning program plan heap input) (does_paced input);
+        code = has_code (length image.code) low.from;
+        made = low.made;
+        heap_is = ap (λ i. i.heap) low.made;
+        hooks = low.hooks (middle.hooks top.hooks);
+      }

@@ -1,6 +1,6 @@
 -- Homes for one procedure after another.
 use Rattle.std.proofs.Common.{◌≡◌, ℕ, ◌+◌, List, [], ◌∷◌, ◌++◌, drop, sym, subst, append_assoc, append-nil}
-use Rattle.mid_code.specs.declared.word.WordProc.{WordProc}
+use Rattle.word_code.specs.declared.word.WordProc.{WordProc}
 use Rattle.reg_scan.specs.Homes.{IsHomes}
 use Rattle.reg_scan.specs.declared.homes.Homes.{Homes}
 use Rattle.rv32_codegen.specs.Lowering.{AllHomes}

@@ -1,11 +1,12 @@
 -- Code of a program with few parts is never too large.
-use Rattle.std.proofs.Common.{◌≡◌, ◌≤◌, ℕ, min, ap, arith, Ok}
+use Rattle.std.proofs.Common.{◌≡◌, ◌≤◌, ℕ, ap, arith, Ok}
 use Rattle.std.proofs.lemmas.Bool.{le-leb}
-use Rattle.nim_core.specs.Program.{Program}
-use Rattle.flat_laws.specs.Counted.{program_parts}
-use Rattle.core_compiler.specs.Limits.{unless_large, code_bound, code_limits}
+use Rattle.nim_plan.specs.declared.plan.Plan.{Plan}
+use Rattle.nim_program.specs.Program.{Program}
+use Rattle.flattening.specs.Counted.{program_parts}
+use Rattle.program_limits.specs.Limits.{unless_large}
+use Rattle.core_compiler.specs.Limits.{code_limits}
+use Rattle.core_compiler.specs.Compile.{HasCode}
 
-pub few_fit : (code : ℕ) (program : Program) → program_parts program ≤ 256 → code_limits code program ≡ Ok tt
-few_fit code program few =
-    let bytes : min code (code_bound program) ≤ 524288 = omega (arith, few) in
-    ap unless_large (le-leb (min code (code_bound program)) 524288 bytes)
+pub few_fit : (program : Program) (plan : Plan) (code : ℕ) → HasCode program plan code → program_parts program ≤ 256 → code_limits code ≡ Ok tt
+few_fit program plan code has few = let bound = has.bound in ap unless_large (le-leb code 524288 (omega (arith, bound, few)))

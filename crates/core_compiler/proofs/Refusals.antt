@@ -1,5 +1,5 @@
 -- Which limits say no, and which say yes.
-use Rattle.std.proofs.Common.{◌≡◌, ◌≤◌, ◌<◌, ℕ, ◌+◌, ◌*◌, min, Bool, false, List, map, Option, Some, None, Result, Ok, Err}
+use Rattle.std.proofs.Common.{◌≡◌, ◌≤◌, ◌<◌, ℕ, ◌+◌, ◌*◌, Bool, false, List, map, Option, Some, None, Result, Ok, Err}
 use Rattle.std.proofs.Common.{refl, sym, ap, ◌∙◌, arith, inl, inr}
 use Rattle.std.specs.Prelude.{nat_le}
 use Rattle.std.proofs.lemmas.Bool.{leb-true, le-leb, cases_Bool}
@@ -8,66 +8,43 @@ use Rattle.arc_base.specs.declared.place.Code.TheVariants.{LeftOut, TooLarge}
 use Rattle.arc_base.specs.declared.place.Stop.{Stop}
 use Rattle.arc_base.specs.declared.place.Stop.TheVariants.{Refused, Memory}
 use Rattle.arc_base.specs.Refusal.{Refusal, and_then, refused, Answers}
-use Rattle.nim_types.specs.Table.{types_in, facts_in}
-use Rattle.nim_core.specs.declared.program.Program.{Program as RustProgram}
-use Rattle.nim_core.specs.Program.{Program}
-use Rattle.nim_core.specs.LeftOut.{first_left_out}
-use Rattle.mid_code.specs.declared.flat.Flat.{Flat}
-use Rattle.mid_code.specs.declared.word.WordProc.{WordProc}
-use Rattle.mid_code.specs.Codes.{flat_placed}
-use Rattle.mid_code.specs.Sizes.{code_weight, word_weight}
-use Rattle.expr_lowering.specs.Frames.{beginning}
-use Rattle.expr_lowering.specs.Flatten.{flattened, flat_of}
-use Rattle.expr_lowering.specs.Programs.{program_in}
-use Rattle.flat_laws.specs.Counted.{program_parts}
-use Rattle.flat_laws.specs.DataCounted.{data_counted}
+use Rattle.nim_plan.specs.declared.plan.Plan.{Plan}
+use Rattle.nim_program.specs.Program.{Program}
+use Rattle.nim_meaning.specs.LeftOut.{first_left_out}
+use Rattle.word_code.specs.declared.word.WordProc.{WordProc}
+use Rattle.word_code.specs.Sizes.{word_weight}
+use Rattle.flat_code.specs.declared.code.Code.{Code}
+use Rattle.flat_code.specs.declared.line.Line.{Line}
+use Rattle.flat_code.specs.Codes.{flat_plain}
+use Rattle.flat_code.specs.Sizes.{code_weight}
+use Rattle.program_limits.specs.Frames.{beginning, frame_limits}
+use Rattle.program_limits.specs.Limits.{unless_left_out, unless_large, data_limits, tree_limits}
+use Rattle.flattening.specs.Counted.{program_parts}
 use Rattle.rv32_codegen.specs.Lowering.{most_bytes}
-use Rattle.core_compiler.specs.Frames.{frame_limits}
-use Rattle.core_compiler.proofs.Framing.{framed}
-use Rattle.core_compiler.specs.Limits.{unless_left_out, unless_large, data_limits, flat_limits, code_bound, code_limits, build_limits}
+use Rattle.core_compiler.specs.Limits.{code_bound, code_limits, build_limits}
 use Rattle.core_compiler.specs.Limits.{where_built, check_limits}
-
--- ---- where what follows refuses nothing
-
-first_stops : {A B : Type 0} (r : Result A Refusal) (x : B) (refusal : Refusal) → and_then r (λ small. Ok x) ≡ Err refusal → r ≡ Err refusal
-first_stops (Ok a) x refusal e = cc
-first_stops (Err other) x refusal e = cc
-
-first_goes : {B : Type 0} (r : Result (Unit {0}) Refusal) (x y : B) → and_then r (λ small. Ok x) ≡ Ok y → r ≡ Ok tt
-first_goes (Ok a) x y e = refl
-first_goes (Err other) x y e = cc
+use Rattle.core_compiler.specs.Compile.{HasCode, HasCodeWhereWithin, UnlessMemory}
 
 module _ (program : Program) where
-  -- ---- before there is code
-
-  pub left_out_is : (at : Place) → first_left_out program ≡ Some at → flat_limits program ≡ refused LeftOut at
-  left_out_is at e = ap (λ o. and_then (unless_left_out o) (λ built. and_then (frame_limits program) (λ small. data_limits program))) e
-
-  built_is : first_left_out program ≡ None → flat_limits program ≡ and_then (frame_limits program) (λ small. data_limits program)
-  built_is e = ap (λ o. and_then (unless_left_out o) (λ built. and_then (frame_limits program) (λ small. data_limits program))) e
-
   -- ---- by the bytes of the code
 
-  pub code_fits : (code : ℕ) → flat_limits program ≡ Ok tt → code ≤ 524288 → build_limits code program ≡ Ok tt
-  code_fits code small most =
-      let bytes : min code (code_bound program) ≤ 524288 = omega (arith, most) in
-      ap (λ r. and_then r (λ small. code_limits code program)) small ∙ ap unless_large (le-leb (min code (code_bound program)) 524288 bytes)
+  pub code_fits : (code : ℕ) → tree_limits program ≡ Ok tt → code ≤ 524288 → build_limits code program ≡ Ok tt
+  code_fits code small few = ap (λ r. and_then r (λ small. code_limits code)) small ∙ ap unless_large (le-leb code 524288 few)
 
-  pub code_large : (code : ℕ) → flat_limits program ≡ Ok tt → 524288 < code → code ≤ code_bound program →
-      build_limits code program ≡ refused TooLarge beginning
-  code_large code small large bound = ap (λ r. and_then r (λ small. code_limits code program)) small ∙ ap unless_large no
+  pub code_large : (code : ℕ) → tree_limits program ≡ Ok tt → 524288 < code → build_limits code program ≡ refused TooLarge beginning
+  code_large code small large = ap (λ r. and_then r (λ small. code_limits code)) small ∙ ap unless_large no
     where
-      no : nat_le (min code (code_bound program)) 524288 ≡ false
-      no = elim (cases_Bool (nat_le (min code (code_bound program)) 524288)) [
-        | inl t ↦ absurd (let most = leb-true (min code (code_bound program)) 524288 t in omega (arith, most, large, bound))
+      no : nat_le code 524288 ≡ false
+      no = elim (cases_Bool (nat_le code 524288)) [
+        | inl t ↦ absurd (let most = leb-true code 524288 t in omega (arith, most, large))
         | inr f ↦ f
       ]
 
-  pub bound_is : (flat : Flat) (procs : List WordProc) → code_weight (map flat_placed flat.procs) ≤ 32 * program_parts program →
-      word_weight procs ≤ code_weight (map flat_placed flat.procs) + 100 → most_bytes procs ≤ code_bound program
+  pub bound_is : (flat : Code Line) (procs : List WordProc) → code_weight flat_plain flat.procs ≤ 38 * program_parts program →
+      word_weight procs ≤ code_weight flat_plain flat.procs + 108 → most_bytes procs ≤ code_bound program
   bound_is flat procs few words =
       let all : most_bytes procs ≤ 20 + 48 * word_weight procs = omega arith in
-      let bound : 1536 * program_parts program + 4820 ≤ code_bound program = omega arith in
+      let bound : 1824 * program_parts program + 5204 ≤ code_bound program = omega arith in
       omega (arith, few, words, all, bound)
 
 -- ---- where all of it is built
@@ -88,27 +65,38 @@ pub refused_too : {T : Type 0} (of : T → Unit {0}) (said limits : Result (Unit
 refused_too of said limits e (Refused k at) is = e ∙ is
 refused_too of said limits e Memory is = tt
 
--- ---- what flat code says of a plain program
+-- ---- where there is code
 
-module _ (program : RustProgram) (plain : first_left_out (program_in program) ≡ None) where
-  abbrev code : Flat
-  code = flat_of (types_in program.types) (program_in program)
+neither : (r : Result (Unit {0}) Refusal) (refusal : Refusal) → r ≡ Err refusal → r ≡ Ok tt → ⊥
+neither r refusal e f = cc
 
-  framed_is : flattened (types_in program.types) (program_in program) ≡ and_then (frame_limits (program_in program)) (λ small. Ok code)
-  framed_is = framed (types_in program.types) (facts_in program.types) program
+-- a program that is refused before has none
+pub refused_before : {U : Type 0} (of : U → Unit {0}) (T : Type 0) (program : Program) (plan : Plan) (bytes : ℕ) (stop : Stop) →
+    Answers of (tree_limits program) (Err stop) → UnlessMemory {T = T} (Err stop) (HasCodeWhereWithin program plan bytes)
+refused_before of T program plan bytes (Refused k at) is = λ small. absurd (neither (tree_limits program) _ is small)
+refused_before of T program plan bytes Memory is = tt
 
-  behind : (r : Result (Unit {0}) Refusal) → frame_limits (program_in program) ≡ r →
-      flat_limits (program_in program) ≡ and_then r (λ small. data_limits (program_in program))
-  behind r e = built_is (program_in program) plain ∙ ap (λ r. and_then r (λ small. data_limits (program_in program))) e
+-- a program that isn't refused before it has code has nothing that is left out
+plain_if : (found : Option Place) (rest : Result (Unit {0}) Refusal) → and_then (unless_left_out found) (λ built. rest) ≡ Ok tt → found ≡ None
+plain_if None rest e = refl
+plain_if (Some at) rest e = absurd (neither (refused LeftOut at) _ refl e)
 
-  -- a procedure is too large
-  pub frame_refused : (stop : Stop) → Answers (λ (flat : Flat). flat) (flattened (types_in program.types) (program_in program)) (Err stop) →
-      Answers (λ (flat : Flat). tt) (flat_limits (program_in program)) (Err stop)
-  frame_refused (Refused k at) is = behind _ (first_stops (frame_limits (program_in program)) code _ (sym framed_is ∙ is))
-  frame_refused Memory is = tt
+pub plain_within : (program : Program) → tree_limits program ≡ Ok tt → first_left_out program ≡ None
+plain_within program small = plain_if (first_left_out program) (and_then (frame_limits program) (λ small. data_limits program)) small
 
-  -- none is, and what is left is whether the data is small
-  pub fits_is : (fits : Bool) (given : Flat) → flattened (types_in program.types) (program_in program) ≡ Ok given →
-      fits ≡ nat_le (data_counted (program_in program)) 1040384 → flat_limits (program_in program) ≡ unless_large fits
-  fits_is fits given is e =
-      behind (Ok tt) (first_goes (frame_limits (program_in program)) code given (sym framed_is ∙ is)) ∙ ap unless_large (sym e)
+out_is : (program : Program) (at : Place) → first_left_out program ≡ Some at → tree_limits program ≡ refused LeftOut at
+out_is program at e = ap (λ o. and_then (unless_left_out o) (λ built. and_then (frame_limits program) (λ small. data_limits program))) e
+
+pub left_out_before : (program : Program) (plan : Plan) (bytes : ℕ) (at : Place) → first_left_out program ≡ Some at → HasCodeWhereWithin program plan bytes
+left_out_before program plan bytes at out = λ small. absurd (neither (tree_limits program) _ (out_is program at out) small)
+
+-- a program that is refused has this code
+pub refused_with : (T : Type 0) (program : Program) (plan : Plan) (bytes : ℕ) (stop : Stop) → HasCode program plan bytes →
+    UnlessMemory {T = T} (Err stop) (HasCodeWhereWithin program plan bytes)
+refused_with T program plan bytes (Refused k at) has = λ small. has
+refused_with T program plan bytes Memory has = tt
+
+-- whatever would have been answered
+pub still_refused : (T U P : Type 0) (stop : Stop) → UnlessMemory {T = T} (Err stop) P → UnlessMemory {T = U} (Err stop) P
+still_refused T U P (Refused k at) has = has
+still_refused T U P Memory has = tt

@@ -1,17 +1,22 @@
 -- The stack of word code whose procedures and chains of calls take little is one that a machine may have.
-use Rattle.std.proofs.Common.{◌≡◌, ◌≤◌, suc, ◌+◌, ◌*◌, ◌%◌, ◌==◌, List, [], ◌∷◌, sym, ap, subst, ◌∙◌, arith, inl, inr}
+use Rattle.std.proofs.Common.{◌≡◌, ◌≤◌, ℕ, true, suc, ◌+◌, ◌*◌, ◌%◌, ◌==◌, List, [], ◌∷◌, sym, ap, subst, ◌∙◌, arith, inl, inr}
 use Rattle.std.proofs.lemmas.Bool.{cases_Bool, cond-true, cond-false}
-use Rattle.mid_code.specs.declared.word.WordProc.{WordProc}
-use Rattle.mid_code.specs.Words.{from_proc, longest}
-use Rattle.mid_code.specs.Sizes.{longest_chain}
-use Rattle.mid_code.proofs.ForCallers.{longest_times}
+use Rattle.rv32_isa.specs.declared.label.LabelLine.{LabelLine}
+use Rattle.rv32_isa.specs.Labels.{AreLines}
+use Rattle.word_code.specs.declared.word.WordProc.{WordProc}
+use Rattle.word_code.specs.declared.word.WordCode.{WordCode}
+use Rattle.word_code.specs.Words.{from_proc, longest, is_word_code}
+use Rattle.word_code.specs.Sizes.{longest_chain}
+use Rattle.word_code.proofs.ForCallers.{longest_times}
 use Rattle.reg_scan.specs.declared.homes.Homes.{Homes}
 use Rattle.rv32_codegen.specs.Stack.{frame_for, most_frame, stack_need}
-use Rattle.rv32_codegen.specs.Lowering.{AllHomes}
-use Rattle.word_lowering.specs.declared.lowering.TheConstants.{ROUTINE_VARIABLES, ROUTINE_CHAIN}
+use Rattle.rv32_codegen.specs.Layout.{code_size}
+use Rattle.rv32_codegen.specs.Lowering.{AllHomes, CanRun, AlwaysDoes, MakeFrames, most_bytes}
+use Rattle.word_code.specs.declared.routine.TheConstants.{ROUTINE_VARIABLES, ROUTINE_CHAIN}
 use Rattle.word_lowering.specs.declared.may_lower.TheConstants.{MOST_VARS}
 use Rattle.word_lowering.specs.Lowers.{AreSmall}
 use Rattle.word_lowering.proofs.ForCallers.{small_found, call_room}
+use Rattle.core_compiler.specs.Stages.{CanLayOut, HasLines}
 
 -- ---- frames
 
@@ -55,5 +60,28 @@ module _ (procs : List WordProc) (homes : List Homes) (all : AllHomes procs home
   pub stack_most : stack_need procs homes ≤ 268435456
   stack_most = omega (arith, call_room procs small chain, call_frame)
 
-pub stack_whole : (procs : List WordProc) (homes : List Homes) → stack_need procs homes % 16 ≡ 0
+stack_whole : (procs : List WordProc) (homes : List Homes) → stack_need procs homes % 16 ≡ 0
 stack_whole procs homes = omega arith
+
+pub can_run : (words : WordCode) (homes : List Homes) → AllHomes words.procs homes → CanLayOut words → (heap : ℕ) → heap ≤ 16777216 →
+    CanRun words homes heap (stack_need words.procs homes)
+can_run words homes all can heap few = record {
+  no_circle = can.no_circle;
+  statics_most = can.statics_most;
+  heap_most = few;
+  stack_whole = stack_whole words.procs homes;
+  stack_least = omega arith;
+  stack_most = stack_most words.procs homes all can.small can.chain;
+}
+
+-- label code of word code, as `code` gives it
+abbrev pub has_lines : (words : WordCode) (homes : List Homes) (lines : List LabelLine) (bytes : ℕ) → AllHomes words.procs homes → CanLayOut words →
+    AreLines lines → AlwaysDoes lines words homes → (is_word_code words ≡ true → MakeFrames lines words.procs homes) → code_size lines ≡ bytes →
+    bytes ≤ most_bytes words.procs → HasLines words bytes
+has_lines words homes lines bytes all can fits does frames size bound = record {
+  homes = homes;
+  lines = lines;
+  code = record { right = all; fits = fits; does = does; frames = frames can.formed; can = can_run words homes all can };
+  size = size;
+  bound = bound;
+}

@@ -1,22 +1,30 @@
--- What the image of a typed program does, and which stack it has.
-use Rattle.std.specs.Prelude.{◌≡◌, ℕ, ◌+◌, ◌*◌, List, [], length, None}
+-- What code of a typed program does and how many bytes it has, and what its image does.
+use Rattle.std.specs.Prelude.{◌≡◌, ◌≤◌, ℕ, ◌+◌, ◌*◌, List, [], length, None, Ok, Result, Err}
 use Rattle.arc_base.specs.Event.{Event}
 use Rattle.arc_base.specs.Behaviour.{Live, Ended, Behaviour, Agrees, no_objects}
 use Rattle.arc_base.specs.Pace.{PacedFrom}
+use Rattle.arc_base.specs.declared.place.Stop.{Stop}
+use Rattle.arc_base.specs.declared.place.Stop.TheVariants.{Refused, Memory}
 use Rattle.nim_plan.specs.declared.plan.Plan.{Plan}
-use Rattle.nim_core.specs.Program.{Program}
-use Rattle.nim_core.specs.Meaning.{meaning}
-use Rattle.nim_core.specs.LeftOut.{first_left_out}
+use Rattle.nim_program.specs.Program.{Program}
+use Rattle.nim_meaning.specs.Meaning.{meaning}
+use Rattle.nim_meaning.specs.LeftOut.{first_left_out}
 use Rattle.rv32_isa.specs.declared.label.LabelLine.{LabelLine}
 use Rattle.rv32_isa.specs.Image.{Image}
+use Rattle.rv32_isa.specs.Labels.{AreLines}
 use Rattle.rv32_isa.specs.Machine.{Lives, machine}
-use Rattle.mid_code.specs.declared.word.WordCode.{WordCode}
-use Rattle.mid_code.specs.Words.{word_meaning}
+use Rattle.word_code.specs.declared.word.WordCode.{WordCode}
+use Rattle.word_code.specs.Words.{word_meaning}
+use Rattle.word_code.specs.declared.routine.TheConstants.{RUNTIME_DATA}
+use Rattle.program_limits.specs.Data.{data_counted}
+use Rattle.word_lowering.specs.declared.lowering.TheConstants.{MOST_HEAP, MORE_DATA}
 use Rattle.reg_scan.specs.declared.homes.Homes.{Homes}
-use Rattle.rv32_codegen.specs.Layout.{laid_out}
+use Rattle.rv32_codegen.specs.Layout.{code_size, laid_out}
 use Rattle.rv32_codegen.specs.Lowering.{AllHomes, CanRun, AlwaysDoes, MakeFrames}
 use Rattle.rv32_codegen.specs.Stack.{stack_need}
 use Rattle.core_compiler.specs.declared.program.TheConstants.{IMAGE_PACE, IMAGE_LATE, TIME_PACE, TIME_LATE}
+use Rattle.program_limits.specs.Limits.{tree_limits}
+use Rattle.core_compiler.specs.Limits.{code_bound}
 
 -- a program has no objects yet
 abbrev pub live_objects : Lives
@@ -31,46 +39,68 @@ abbrev pub EndsInTime : (low high : Behaviour Event) → Type 0
 EndsInTime low high = (n status : ℕ) (live : Live) → (high n).phase ≡ Ended status live →
     (other : Live) × ((low (time_for (high n).work)).phase ≡ Ended status other)
 
--- ---- the stack
+-- ---- code
 
--- The image lays out label code that does what word code does where its variables have these homes, with each heap and each stack from
--- what these homes need on that a machine may have, and this heap and the image's stack are such. The frames and places that the code makes
--- are those of these homes and procedures, and the image's own stack is exactly what they need.
-pub record IsLaidOut (words : WordCode) (homes : List Homes) (heap : ℕ) (image : Image) : Type 0 where
+-- The lines are label code of word code whose variables have these homes: they do what the word code does, with each heap and each stack
+-- from what these homes need on that a machine may have, and the frames and places that they make are those of these homes and procedures.
+-- A machine may have just the stack that is needed, with each heap.
+pub record IsLabelCode (words : WordCode) (homes : List Homes) (lines : List LabelLine) : Type 0 where
   pub right : AllHomes words.procs homes
-  pub lines : List LabelLine
+  pub fits : AreLines lines
   pub does : AlwaysDoes lines words homes
-  pub can : CanRun words homes heap image.stack
   pub frames : MakeFrames lines words.procs homes
-  pub made : image ≡ laid_out lines words.statics heap image.stack
-  pub stack : image.stack ≡ stack_need words.procs homes
+  pub can : (heap : ℕ) → heap ≤ MOST_HEAP → CanRun words homes heap (stack_need words.procs homes)
 
--- The image is that of some word code, which does what the program means on the image's stack, and its stack is exactly what that needs.
-pub record HasNeededStack (program : Program) (heap : ℕ) (image : Image) : Type 0 where
+-- Code of so many bytes does what the program means under a plan: label code of word code that means the same, with each heap and each stack
+-- that a machine may have. The bytes are those that the lines have where they are laid out, and no more than the bound for the
+-- program; its data are at most those of the program that count, and 4,092 bytes more.
+pub record HasCode (program : Program) (plan : Plan) (bytes : ℕ) : Type 0 where
   pub words : WordCode
   pub homes : List Homes
-  pub agrees : (plan : Plan) (input : List ℕ) → Agrees (word_meaning live_objects words heap image.stack input) (meaning program plan heap input)
-  pub laid : IsLaidOut words homes heap image
+  pub lines : List LabelLine
+  pub code : IsLabelCode words homes lines
+  pub agrees : (heap stack : ℕ) (input : List ℕ) → CanRun words homes heap stack →
+      Agrees (word_meaning live_objects words heap stack input) (meaning program plan heap input)
+  pub size : code_size lines ≡ bytes
+  pub bound : bytes ≤ code_bound program
+  pub data_most : length words.statics ≤ data_counted program + (MORE_DATA + RUNTIME_DATA)
 
--- ---- the whole
+-- the image of code with such a heap, and with just the stack that it needs
+abbrev pub image_with : {program : Program} {plan : Plan} {bytes : ℕ} → (heap : ℕ) → HasCode program plan bytes → Image
+image_with heap has = laid_out has.lines has.words.statics heap (stack_need has.words.procs has.homes)
 
--- For every input the machine on the image does what the program means, under each plan, with the heap that the image has; its work is
--- in proportion, and it ends in time. Its stack is exactly what some word code needs that does the same and that the image is made of.
-pub record DoesProgram (program : Program) (heap : ℕ) (image : Image) : Type 0 where
-  pub agrees : (plan : Plan) (input : List ℕ) → Agrees (machine live_objects image input) (meaning program plan heap input)
-  pub paced : (plan : Plan) (input : List ℕ) → PacedFrom IMAGE_PACE IMAGE_LATE (machine live_objects image input) (meaning program plan heap input)
-  pub in_time : (plan : Plan) (input : List ℕ) → EndsInTime (machine live_objects image input) (meaning program plan heap input)
-  pub stack : HasNeededStack program heap image
+-- ---- the number of bytes by which a program is taken or refused
+
+-- so many are those of its code, where it isn't refused before it has any
+abbrev pub HasCodeWhereWithin : Program → Plan → (bytes : ℕ) → Type 0
+HasCodeWhereWithin program plan bytes = tree_limits program ≡ Ok tt → HasCode program plan bytes
+
+-- there was an answer or a refusal; where memory was wanting, code need not be made
+abbrev pub UnlessMemory : {T : Type 0} → Result T Stop → Type 0 → Type 0
+UnlessMemory (Ok x) P = P
+UnlessMemory (Err (Refused code at)) P = P
+UnlessMemory (Err Memory) P = Unit {0}
+
+-- ---- the image
+
+-- For every input the machine on the image does what the program means under the plan, with the heap that the image has; its work is in
+-- proportion, and it ends in time. The image is that of code which does the same.
+pub record DoesProgram (program : Program) (plan : Plan) (heap : ℕ) (image : Image) : Type 0 where
+  pub agrees : (input : List ℕ) → Agrees (machine live_objects image input) (meaning program plan heap input)
+  pub paced : (input : List ℕ) → PacedFrom IMAGE_PACE IMAGE_LATE (machine live_objects image input) (meaning program plan heap input)
+  pub in_time : (input : List ℕ) → EndsInTime (machine live_objects image input) (meaning program plan heap input)
+  pub code : HasCode program plan (length image.code)
+  pub made : image ≡ image_with heap code
   pub heap_is : image.heap ≡ heap
   pub hooks : image.hooks ≡ []
 
 -- some image, with some heap, does what the program means, and so many bytes are its code
-pub record HasImage (program : Program) (code : ℕ) : Type 0 where
+pub record HasImage (program : Program) (plan : Plan) (code : ℕ) : Type 0 where
   pub heap : ℕ
   pub image : Image
-  pub does : DoesProgram program heap image
+  pub does : DoesProgram program plan heap image
   pub bytes : length image.code ≡ code
 
--- the code of which the limits of `check` speak, where all of the program is built
-abbrev pub HasImageWhereBuilt : Program → (code : ℕ) → Type 0
-HasImageWhereBuilt program code = first_left_out program ≡ None → HasImage program code
+-- the image of which the limits of `check` speak, where all of the program is built
+abbrev pub HasImageWhereBuilt : Program → Plan → (code : ℕ) → Type 0
+HasImageWhereBuilt program plan code = first_left_out program ≡ None → HasImage program plan code

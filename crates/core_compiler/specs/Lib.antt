@@ -1,6 +1,4 @@
-pub mod Frames
 pub mod Limits
 pub mod Compile
+pub mod Mean
 pub mod Stages
-pub mod DataViews
-pub mod Examples

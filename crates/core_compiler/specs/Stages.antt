@@ -1,46 +1,66 @@
 -- What the stages of the compiler give one another. No public contract speaks of it.
 use Rattle.std.specs.Prelude.{◌≡◌, ◌≤◌, ◌<◌, ℕ, ◌+◌, ◌*◌, ◌%◌, true, List, [], length, map}
-use Rattle.arc_base.specs.Behaviour.{Agrees, Sound}
+use Rattle.arc_base.specs.Event.{Event}
+use Rattle.arc_base.specs.Behaviour.{Seen, Agrees, Sound}
 use Rattle.arc_base.specs.Pace.{PacedFrom, Paced}
 use Rattle.arc_base.specs.declared.place.Code.TheVariants as code
 use Rattle.arc_base.specs.declared.place.Stop.{Stop}
 use Rattle.arc_base.specs.declared.place.Stop.TheVariants as stop
 use Rattle.nim_types.specs.declared.types.TypeDef.{TypeDef}
 use Rattle.nim_plan.specs.declared.plan.Plan.{Plan}
-use Rattle.nim_core.specs.Program.{Program}
-use Rattle.nim_core.specs.Meaning.{meaning}
+use Rattle.nim_program.specs.Program.{Program}
+use Rattle.nim_program.specs.Sizes.{HaveForms}
+use Rattle.nim_meaning.specs.Meaning.{meaning}
+use Rattle.rv32_isa.specs.declared.label.LabelLine.{LabelLine}
 use Rattle.rv32_isa.specs.Image.{Image}
 use Rattle.rv32_isa.specs.Machine.{machine}
-use Rattle.mid_code.specs.declared.flat.Flat.{Flat}
-use Rattle.mid_code.specs.declared.word.WordCode.{WordCode}
-use Rattle.mid_code.specs.Codes.{flat_meaning, flat_placed, AreNone, flat_hooks}
-use Rattle.mid_code.specs.Sizes.{longest_chain, has_no_circle, word_weight, code_weight}
-use Rattle.mid_code.specs.Words.{word_meaning, is_word_code, have_no_hooks}
-use Rattle.expr_lowering.specs.Frames.{beginning}
-use Rattle.flat_laws.specs.declared.laws.TheConstants.{FLAT_PACE, NODE_WEIGHT}
-use Rattle.flat_laws.specs.Counted.{program_parts}
+use Rattle.word_code.specs.declared.word.WordCode.{WordCode}
+use Rattle.flat_code.specs.declared.code.Code.{Code}
+use Rattle.flat_code.specs.declared.line.Line.{Line}
+use Rattle.flat_code.specs.Codes.{flat_plain, flat_meaning, hooks_of, AreNone}
+use Rattle.flat_code.specs.Fits.{code_fits}
+use Rattle.flat_code.specs.Scene.{known_in}
+use Rattle.flat_code.specs.Sizes.{code_weight, data_bytes}
+use Rattle.word_code.specs.Sizes.{longest_chain, has_no_circle, word_weight}
+use Rattle.word_code.specs.Words.{word_meaning, is_word_code, have_no_hooks}
+use Rattle.flat_runner.specs.Mean.{by_units}
+use Rattle.program_limits.specs.Frames.{beginning}
+use Rattle.flattening.specs.declared.laws.TheConstants.{FLAT_PACE, NODE_WEIGHT}
+use Rattle.flattening.specs.Counted.{program_parts}
+use Rattle.program_limits.specs.Data.{data_counted}
 use Rattle.rv32_codegen.specs.declared.label_code.TheConstants.{CODE_PACE}
 use Rattle.rv32_codegen.specs.declared.layout.TheConstants.{LAYOUT_PACE, MOST_CODE_BYTES}
 use Rattle.rv32_codegen.specs.declared.layout.LayFault.{LayFault}
 use Rattle.rv32_codegen.specs.declared.layout.LayFault.TheVariants.{TooLarge, Memory}
+use Rattle.rv32_codegen.specs.Layout.{code_size, laid_out}
 use Rattle.rv32_codegen.specs.Lowering.{most_bytes}
+use Rattle.rv32_codegen.specs.Stack.{stack_need}
 use Rattle.reg_scan.specs.declared.homes.Homes.{Homes}
-use Rattle.word_lowering.specs.declared.lowering.TheConstants.{WORD_PACE, MOST_HEAP, ROUTINES_WEIGHT, ROUTINE_CHAIN}
+use Rattle.word_code.specs.declared.routine.TheConstants.{ROUTINE_CHAIN, RUNTIME_DATA}
+use Rattle.word_lowering.specs.declared.lowering.TheConstants.{WORD_PACE, MOST_HEAP, ROUTINES_WEIGHT, MORE_DATA}
 use Rattle.word_lowering.specs.declared.may_lower.TheConstants.{MOST_DATA}
-use Rattle.word_lowering.specs.Stored.{HaveForms}
 use Rattle.word_lowering.specs.Lowers.{AreSmall}
-use Rattle.core_compiler.specs.Compile.{live_objects, IsLaidOut}
+use Rattle.core_compiler.specs.Compile.{live_objects, IsLabelCode}
 
 -- ---- a typed program and its flat code
 
--- flat code does what the program means, under each plan, and weighs as much as its parts
-pub record IsFlatOf (table : List TypeDef) (program : Program) (flat : Flat) : Type 0 where
-  pub agrees : (plan : Plan) (heap : ℕ) (input : List ℕ) → Agrees (flat_meaning table flat plan heap input) (meaning program plan heap input)
-  pub paced : (plan : Plan) (heap : ℕ) (input : List ℕ) →
-      Paced FLAT_PACE (flat_meaning table flat plan heap input) (meaning program plan heap input)
-  pub weight : code_weight (map flat_placed flat.procs) ≤ NODE_WEIGHT * program_parts program
+-- the same events, and the same end or none
+pub record ShowsSame (low high : Seen Event) : Type 0 where
+  pub events : low.events ≡ high.events
+  pub phase : low.phase ≡ high.phase
+
+-- Flat code does what the program means under the plan, and with so many units shows the same after some number of lines and ever after; its lines
+-- fit the types of its places; it weighs as much as the program's parts, and has the data that count. No type of the table contains itself.
+pub record IsFlatOf (table : List TypeDef) (program : Program) (plan : Plan) (flat : Code Line) : Type 0 where
+  pub agrees : (heap : ℕ) (input : List ℕ) → Agrees (flat_meaning table flat plan heap input) (meaning program plan heap input)
+  pub paced : (heap : ℕ) (input : List ℕ) → Paced FLAT_PACE (flat_meaning table flat plan heap input) (meaning program plan heap input)
+  pub exact : (heap : ℕ) (input : List ℕ) (units : ℕ) → (lines : ℕ)
+      × ((more : ℕ) → ShowsSame (by_units table plan flat heap input units (lines + more)) (meaning program plan heap input units))
+  pub fits : code_fits flat_plain (known_in table) flat.procs ≡ true
+  pub weight : code_weight flat_plain flat.procs ≤ NODE_WEIGHT * program_parts program
+  pub data_size : data_bytes flat_plain table flat.procs ≤ data_counted program
+  pub hooks : AreNone (hooks_of flat)
   pub forms : HaveForms table
-  pub hooks : AreNone (flat_hooks flat)
 
 -- ---- flat code and its word code
 
@@ -51,33 +71,44 @@ pub record CanLayOut (words : WordCode) : Type 0 where
   pub chain : longest_chain words.procs ≤ ROUTINE_CHAIN
   pub small : AreSmall words.procs
   pub whole : length words.statics % 4 ≡ 0
-  pub statics_most : length words.statics ≤ MOST_DATA
+  pub statics_most : length words.statics ≤ MOST_DATA + RUNTIME_DATA
 
--- word code does what flat code does under each plan, where that is never at a fault and never wrong
-pub record AreWordsOf (table : List TypeDef) (flat : Flat) (words : WordCode) : Type 0 where
-  pub agrees : (plan : Plan) (heap stack : ℕ) (input : List ℕ) → heap ≤ MOST_HEAP → Sound (flat_meaning table flat plan heap input) →
+-- Word code, with its runtime, does what flat code does under the plan, where that is never at a fault and never wrong.
+pub record AreWordsOf (table : List TypeDef) (plan : Plan) (flat : Code Line) (words : WordCode) : Type 0 where
+  pub agrees : (heap stack : ℕ) (input : List ℕ) → heap ≤ MOST_HEAP → code_fits flat_plain (known_in table) flat.procs ≡ true →
+      AreNone (hooks_of flat) → Sound (flat_meaning table flat plan heap input) →
       Agrees (word_meaning live_objects words heap stack input) (flat_meaning table flat plan heap input)
-  pub paced : (plan : Plan) (heap stack : ℕ) (input : List ℕ) → heap ≤ MOST_HEAP → Sound (flat_meaning table flat plan heap input) →
+  pub paced : (heap stack : ℕ) (input : List ℕ) → heap ≤ MOST_HEAP → code_fits flat_plain (known_in table) flat.procs ≡ true →
+      AreNone (hooks_of flat) → Sound (flat_meaning table flat plan heap input) →
       PacedFrom WORD_PACE 1 (word_meaning live_objects words heap stack input) (flat_meaning table flat plan heap input)
   pub can : CanLayOut words
-  pub weight : word_weight words.procs ≤ code_weight (map flat_placed flat.procs) + ROUTINES_WEIGHT
-  pub hooks : AreNone (flat_hooks flat) → have_no_hooks words.procs ≡ true
+  pub weight : word_weight words.procs ≤ code_weight flat_plain flat.procs + ROUTINES_WEIGHT
+  pub data_size : length words.statics ≤ data_bytes flat_plain table flat.procs + (MORE_DATA + RUNTIME_DATA)
+  pub hooks : AreNone (hooks_of flat) → have_no_hooks words.procs ≡ true
 
 -- ---- word code and its image
 
--- the image does what word code does, which is never at a fault, and its stack is exactly what that needs with these homes of its variables
-pub record IsImageOf (words : WordCode) (homes : List Homes) (heap : ℕ) (image : Image) : Type 0 where
+-- word code has label code, which is laid out in so many bytes
+pub record HasLines (words : WordCode) (bytes : ℕ) : Type 0 where
+  pub homes : List Homes
+  pub lines : List LabelLine
+  pub code : IsLabelCode words homes lines
+  pub size : code_size lines ≡ bytes
+  pub bound : bytes ≤ most_bytes words.procs
+
+-- the image is that of such label code, with the stack that it needs; it does what the word code does, which is never at a fault
+pub record IsImageOf (words : WordCode) (heap : ℕ) (image : Image) : Type 0 where
+  pub from : HasLines words (length image.code)
+  pub made : image ≡ laid_out from.lines words.statics heap (stack_need words.procs from.homes)
   pub agrees : (input : List ℕ) → Sound (word_meaning live_objects words heap image.stack input) →
       Agrees (machine live_objects image input) (word_meaning live_objects words heap image.stack input)
   pub paced : (input : List ℕ) → Sound (word_meaning live_objects words heap image.stack input) →
       PacedFrom (LAYOUT_PACE * CODE_PACE) 2 (machine live_objects image input) (word_meaning live_objects words heap image.stack input)
-  pub laid : IsLaidOut words homes heap image
-  pub code : length image.code ≤ most_bytes words.procs
   pub hooks : have_no_hooks words.procs ≡ true → image.hooks ≡ []
 
--- there is no image, since the code is too large, or no memory was found
+-- there is no image, since the label code is too large, or no memory was found
 abbrev pub IsTooLarge : WordCode → LayFault → Type 0
-IsTooLarge words (TooLarge n) = (MOST_CODE_BYTES < n) × (n ≤ most_bytes words.procs)
+IsTooLarge words (TooLarge n) = (MOST_CODE_BYTES < n) × HasLines words n
 IsTooLarge words Memory = Unit {0}
 
 -- ---- refusals

@@ -1,17 +1,16 @@
 // From word code to its image: homes for its variables, label code, the stack, and the layout.
-ghost use Rattle.std.specs.Prelude.{◌≤◌, List, IfOk, IfErr};
+ghost use Rattle.std.specs.Prelude.{◌≤◌, IfOk, IfErr};
 ghost use Rattle.rv32_isa.specs.Image.{image_of};
-ghost use Rattle.reg_scan.specs.declared.homes.Homes.{Homes as HomesOf};
 ghost use Rattle.rv32_codegen.specs.Lowering.{AllHomes};
 ghost use Rattle.word_lowering.specs.Lowers.{AreSmall};
 ghost use Rattle.core_compiler.specs.Stages.{CanLayOut, IsImageOf, IsTooLarge};
 
 use arc_base::{Items, Memory, agreement};
-use mid_code::{WordCode, WordProc};
 use reg_scan::{Homes, assign};
 use rv32_codegen::{LayFault, code, lay_out, layouts, stack_need};
 use rv32_isa::Image;
 use std::alloc::Global;
+use word_code::{WordCode, WordProc};
 
 // Homes for the variables of each procedure.
 fn homes_of(alloc: Global, procs: &[WordProc]) -> Result<Items<Homes>, Memory>
@@ -32,7 +31,7 @@ fn image_by(alloc: Global, words: &WordCode, homes: &[Homes], heap: u32) -> Resu
     requires homes { AllHomes words.now.procs homes.now }
     requires can { CanLayOut words.now }
     requires heap { heap ≤ 16777216 }
-    ensures is { IfOk result (λ image. IsImageOf words.now homes.now heap (image_of image)) }
+    ensures is { IfOk result (λ image. IsImageOf words.now heap (image_of image)) }
     ensures fault { IfErr result (λ fault. IsTooLarge words.now fault) }
 {
     let lines = code(alloc, words, homes)?;
@@ -46,8 +45,7 @@ fn image_by(alloc: Global, words: &WordCode, homes: &[Homes], heap: u32) -> Resu
 pub fn image_of_words(alloc: Global, words: &WordCode, heap: u32) -> Result<Image, LayFault>
     requires can { CanLayOut words.now }
     requires heap { heap ≤ 16777216 }
-    ensures is { IfOk result (λ image.
-        (homes : List HomesOf) × IsImageOf words.now homes heap (image_of image)) }
+    ensures is { IfOk result (λ image. IsImageOf words.now heap (image_of image)) }
     ensures fault { IfErr result (λ fault. IsTooLarge words.now fault) }
 {
     let homes = homes_of(alloc, words.procs.as_slice())?;

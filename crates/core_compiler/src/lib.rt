@@ -1,15 +1,14 @@
-//! From a typed program to its image, and which programs have one.
+//! What commands do with a typed program: they compile it to an image, say whether it has one, or run what it means.
 #![tactic(auto)]
 
-mod data;
 mod image;
 mod laws;
+mod meaning;
 mod program;
-mod texts;
 
-pub use data::MOST_DATA;
-pub use laws::program_limits;
+pub use laws::code_limits;
+pub use meaning::mean_core;
 pub use program::{
     BYTES_OF_ALL, BYTES_OF_PART, IMAGE_LATE, IMAGE_PACE, TIME_LATE, TIME_PACE, check_core,
-    compile_core, within,
+    compile_core, within_core,
 };

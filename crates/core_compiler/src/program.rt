@@ -1,29 +1,35 @@
 // What commands do with a typed program: its image, stage by stage, or only whether it has one.
-ghost use Rattle.std.specs.Prelude.{◌≡◌, ◌≤◌, ℕ, length, IfOk};
+ghost use Rattle.std.specs.Prelude.{◌≡◌, ◌≤◌, ℕ, true, length, Ok, IfOk};
 ghost use Rattle.arc_base.specs.Refusal.{Answers};
+ghost use Rattle.nim_plan.specs.Order.{IsInOrder};
+ghost use Rattle.nim_program.specs.Sizes.{HaveForms};
+ghost use Rattle.nim_program.specs.Numbering.{is_numbered_program};
+ghost use Rattle.nim_program.specs.Typed.{IsTyped};
 ghost use Rattle.rv32_isa.specs.declared.image.Image.{Image as RustImage};
 ghost use Rattle.rv32_isa.specs.Image.{image_of};
-ghost use Rattle.mid_code.specs.declared.flat.Flat.{Flat as FlatCode};
-ghost use Rattle.expr_lowering.specs.Programs.{program_in};
-ghost use Rattle.word_lowering.specs.Stored.{HaveForms};
-ghost use Rattle.core_compiler.specs.Limits.{flat_limits, code_bound, build_limits, check_limits};
-ghost use Rattle.core_compiler.specs.Compile.{DoesProgram, HasImageWhereBuilt};
+ghost use Rattle.program_limits.specs.Limits.{program_in, tree_limits};
+ghost use Rattle.core_compiler.specs.Limits.{build_limits, check_limits};
+ghost use Rattle.core_compiler.specs.Compile.{HasCodeWhereWithin, UnlessMemory, DoesProgram};
+ghost use Rattle.core_compiler.specs.Compile.{HasImageWhereBuilt};
 ghost use Rattle.core_compiler.specs.Stages.{IsFlatOf, AreWordsOf, too_large};
 
-use crate::data::data_fits;
 use crate::image::image_of_words;
 use arc_base::{Code, Memory, Place, Stop, agreement};
-use expr_lowering::flatten;
-use flat_laws::flat_code;
+use destructor_injection::owned_of;
+use flat_code::Flat;
+use flattening::{fits, flat_code, flatten, sizes};
+use formed_programs::{formed, table_forms};
 use goto_exceptions::branches;
-use mid_code::{Flat, WordCode};
-use nim_core::{Program, meanings};
+use nim_meaning::meanings;
+use nim_plan::Plan;
+use nim_program::Program;
 use nim_types::TypeTable;
-use owned_code::owned_of;
-use plain_core::left_out;
+use program_limits::{left_out, within};
+use refc_runtime::runtime;
 use rv32_codegen::LayFault;
 use rv32_isa::Image;
 use std::alloc::Global;
+use word_code::WordCode;
 use word_lowering::words;
 
 /// The machine does at most so many times the work of the meaning and `IMAGE_LATE` more.
@@ -40,10 +46,10 @@ pub const TIME_PACE: u32 = 262_144;
 pub const TIME_LATE: u32 = 64;
 
 /// The most bytes of code for each part that is counted of a program.
-pub const BYTES_OF_PART: u32 = 1_536;
+pub const BYTES_OF_PART: u32 = 1_824;
 
 /// And for the whole.
-pub const BYTES_OF_ALL: u32 = 4_820;
+pub const BYTES_OF_ALL: u32 = 5_204;
 
 // The main module is too large.
 fn too_large() -> Stop
@@ -59,69 +65,69 @@ fn too_large() -> Stop
     }
 }
 
-// Flat code of a program that is built, whose procedures can be called and whose data is small.
-fn flat_within(alloc: Global, program: &Program) -> Result<Flat, Stop>
-    ensures answers { Answers (λ (flat : FlatCode). tt)
-        (flat_limits (program_in program.now)) result }
-    ensures flat { IfOk result (λ flat.
-        IsFlatOf program.now.types (program_in program.now) flat) }
+/// The flat code of a program that is built, under a plan.
+pub fn flat_of(alloc: Global, program: &Program, plan: &Plan) -> Result<Flat, Memory>
+    requires typed { IsTyped (program_in program.now) }
+    requires numbered { is_numbered_program (program_in program.now) ≡ true }
+    requires within { tree_limits (program_in program.now) ≡ Ok tt }
+    ensures { IfOk result (λ flat.
+        IsFlatOf program.now.types (program_in program.now) plan.now flat) }
 {
-    match left_out(program) {
-        Some(at) => {
-            return Err(Stop::Refused {
-                code: Code::LeftOut,
-                at,
-            });
-        }
-        None => {}
-    }
-    let flat = flatten(alloc, program)?;
+    let flat = flatten(alloc, program, plan)?;
+    formed();
+    table_forms();
     flat_code();
-    let fits = data_fits(program);
-    if fits {
-        Ok(flat)
-    } else {
-        drop(flat);
-        Err(too_large())
-    }
+    fits();
+    sizes();
+    meanings();
+    Ok(flat)
 }
 
-// Flat code, without its plan and its exceptions, as word code.
-fn words_of(alloc: Global, types: &TypeTable, flat: &Flat) -> Result<WordCode, Memory>
-    requires { HaveForms types.now }
-    ensures { IfOk result (λ words. AreWordsOf types.now flat.now words) }
+// Flat code without its plan and its exceptions, as word code with its runtime.
+fn words_of(alloc: Global, types: &TypeTable, plan: &Plan, flat: &Flat) -> Result<WordCode, Memory>
+    requires forms { HaveForms types.now }
+    requires ordered { IsInOrder plan.now }
+    ensures { IfOk result (λ words. AreWordsOf types.now plan.now flat.now words) }
 {
     agreement();
-    let owned = owned_of(alloc, flat)?;
+    let owned = owned_of(alloc, flat, plan)?;
     let blocks = branches(alloc, &owned)?;
-    words(alloc, &blocks, types)
+    let words = words(alloc, &blocks, types)?;
+    let runtime = runtime(alloc)?;
+    words.join(alloc, runtime)
 }
 
-/// Refuses a program with a form that isn't built (E23), with a procedure that is too large to be
-/// called (E21), and one whose data is too large (E25).
-pub fn within(alloc: Global, program: &Program) -> Result<(), Stop>
-    ensures { Answers (λ (done : Unit {0}). tt) (flat_limits (program_in program.now)) result }
+/// Refuses a typed program with a form that isn't built (E23), one with a procedure that is too large
+/// to be called or with a type of too many levels (E21), and one whose data is too large (E25).
+pub fn within_core(alloc: Global, program: &Program) -> Result<(), Stop>
+    requires { IsTyped (program_in program.now) }
+    ensures { Answers (λ (done : Unit {0}). tt) (tree_limits (program_in program.now)) result }
 {
-    let flat = flat_within(alloc, program)?;
-    drop(flat);
-    Ok(())
+    table_forms();
+    within(alloc, program)
 }
 
-/// The image of a typed program: for every input and every number of steps, and under each plan, its
-/// machine does what the program means, with a heap of that many bytes, at most 16,777,216.
+/// The image of a typed program: for every input and every number of steps its machine does what the
+/// program means under the plan, with a heap of that many bytes, at most 16,777,216.
 ///
 /// Refused is a program with a form that isn't built (E23), with a procedure that is too large to be
-/// called (E21), and one whose data or code is too large (E25).
-pub fn compile_core(alloc: Global, program: &Program, heap: u32) -> Result<Image, Stop>
-    requires { heap ≤ 16777216 }
+/// called (E21), and one whose data or code is too large (E25). The bytes of code by which it is taken
+/// or refused are those of code that does what the program means.
+pub fn compile_core(alloc: Global, program: &Program, plan: &Plan, heap: u32) -> Result<Image, Stop>
+    requires typed { IsTyped (program_in program.now) }
+    requires numbered { is_numbered_program (program_in program.now) ≡ true }
+    requires ordered { IsInOrder plan.now }
+    requires heap { heap ≤ 16777216 }
     ensures answers { (code : ℕ) × Answers (λ (image : RustImage). tt)
         (build_limits code (program_in program.now)) result
-        × IfOk result (λ image. (length image.code ≡ code)
-        × (code ≤ code_bound (program_in program.now))) }
-    ensures does { IfOk result (λ image. DoesProgram (program_in program.now) heap (image_of image)) }
+        × UnlessMemory result (HasCodeWhereWithin (program_in program.now) plan.now code)
+        × IfOk result (λ image. length image.code ≡ code) }
+    ensures does { IfOk result (λ image.
+        DoesProgram (program_in program.now) plan.now heap (image_of image)) }
 {
-    let flat = flat_within(alloc, program)?;
-    let words = words_of(alloc, &program.types, &flat)?;
+    within_core(alloc, program)?;
+    let flat = flat_of(alloc, program, plan)?;
+    let words = words_of(alloc, &program.types, plan, &flat)?;
     agreement();
     meanings();
     match image_of_words(alloc, &words, heap) {
@@ -133,18 +139,22 @@ pub fn compile_core(alloc: Global, program: &Program, heap: u32) -> Result<Image
 
 /// Refuses what `compile_core` refuses, whatever the heap, but for a program with a form that isn't
 /// built: of that it says nothing.
-pub fn check_core(alloc: Global, program: &Program) -> Result<(), Stop>
+pub fn check_core(alloc: Global, program: &Program, plan: &Plan) -> Result<(), Stop>
+    requires typed { IsTyped (program_in program.now) }
+    requires numbered { is_numbered_program (program_in program.now) ≡ true }
+    requires ordered { IsInOrder plan.now }
     ensures answers { (code : ℕ) × Answers (λ (done : Unit {0}). tt)
         (check_limits code (program_in program.now)) result
-        × IfOk result (λ done. HasImageWhereBuilt (program_in program.now) code) }
+        × UnlessMemory result (HasCodeWhereWithin (program_in program.now) plan.now code)
+        × IfOk result (λ done. HasImageWhereBuilt (program_in program.now) plan.now code) }
 {
-    match left_out(program) {
+    match left_out(alloc, program)? {
         Some(_) => {
             return Ok(());
         }
         None => {}
     }
-    let image = compile_core(alloc, program, 0)?;
+    let image = compile_core(alloc, program, plan, 0)?;
     drop(image);
     Ok(())
 }

@@ -10,7 +10,7 @@ use Rattle.arc_base.specs.Refusal.{and_then, Answers}
 use Rattle.nim_tree.specs.Statements.{Parameters, Head}
 use Rattle.nim_tree.specs.Types.{Written}
 use Rattle.nim_types.specs.Types.{Ty}
-use Rattle.nim_core.specs.declared.program.Param.{Param}
+use Rattle.nim_program.specs.declared.program.Param.{Param}
 use Rattle.expr_rules.specs.Answers.{Answer}
 use Rattle.expr_rules.specs.Env.{Env}
 use Rattle.expr_parts.specs.declared.scope.Decl.{Decl}

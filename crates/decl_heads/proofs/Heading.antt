@@ -7,8 +7,8 @@ use Rattle.arc_base.specs.declared.place.Stop.{Stop}
 use Rattle.nim_types.specs.Types.{Ty}
 use Rattle.nim_tree.specs.declared.name.Declared.{Declared}
 use Rattle.nim_tree.specs.Statements.{Head}
-use Rattle.nim_core.specs.declared.program.Mode.{Mode}
-use Rattle.nim_core.specs.declared.program.Param.{Param}
+use Rattle.nim_program.specs.declared.program.Mode.{Mode}
+use Rattle.nim_program.specs.declared.program.Param.{Param}
 use Rattle.expr_rules.specs.Env.{Parameter}
 use Rattle.expr_parts.specs.declared.scope.Parameter.{Parameter as RustParameter}
 use Rattle.expr_parts.specs.View.{parameter_of, ParametersWithin}

@@ -8,8 +8,8 @@ use Rattle.arc_base.specs.declared.place.Place.{Place}
 use Rattle.nim_tree.specs.declared.name.Name.{Name}
 use Rattle.nim_types.specs.Types.{Ty}
 use Rattle.nim_types.specs.Table.{type_at}
-use Rattle.nim_core.specs.declared.program.Mode.{Mode}
-use Rattle.nim_core.specs.declared.program.Param.{Param}
+use Rattle.nim_program.specs.declared.program.Mode.{Mode}
+use Rattle.nim_program.specs.declared.program.Param.{Param}
 use Rattle.expr_rules.specs.Answers.{Answer}
 use Rattle.expr_rules.specs.Env.{Entry}
 use Rattle.expr_parts.specs.declared.scope.Decl.{Decl}

@@ -14,8 +14,8 @@ use Rattle.nim_tree.specs.Statements.{Parameters, Head}
 use Rattle.nim_types.specs.Types as type
 use Rattle.nim_types.specs.Types.{Ty}
 use Rattle.nim_types.specs.Table.{type_at, IsBelow}
-use Rattle.nim_core.specs.declared.program.Param.{Param}
-use Rattle.nim_core.specs.View.{if_type}
+use Rattle.nim_program.specs.declared.program.Param.{Param}
+use Rattle.nim_program.specs.View.{if_type}
 use Rattle.expr_rules.specs.Answers.{Answer}
 use Rattle.expr_rules.specs.Env.{Env}
 use Rattle.expr_parts.specs.declared.scope.Decl.{Decl}

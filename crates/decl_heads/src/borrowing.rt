@@ -3,7 +3,7 @@ ghost use Rattle.std.specs.Prelude.{◌≡◌, ◌<◌, ◌&&◌, not, Bool, Lis
 ghost use Rattle.nim_tree.specs.Statements.{head_of};
 ghost use Rattle.nim_types.specs.Types.{Ty, Facts, same};
 ghost use Rattle.nim_types.specs.Table.{type_at, IsBelow};
-ghost use Rattle.nim_core.specs.View.{if_type};
+ghost use Rattle.nim_program.specs.View.{if_type};
 ghost use Rattle.expr_rules.specs.Env.{callable, known_behind, unknown};
 ghost use Rattle.expr_rules.specs.Constructions.{base_of};
 ghost use Rattle.expr_parts.specs.View.{Under, ParametersWithin, DeclsWithin};

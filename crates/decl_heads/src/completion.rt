@@ -3,7 +3,7 @@ ghost use Rattle.std.specs.Prelude.{◌≡◌, ◌||◌, ◌&&◌, not, ℕ, Lis
 ghost use Rattle.arc_base.specs.declared.place.Place.{Place};
 ghost use Rattle.nim_types.specs.Types.{Ty, Facts};
 ghost use Rattle.nim_types.specs.Table.{IsBelow};
-ghost use Rattle.nim_core.specs.View.{if_type};
+ghost use Rattle.nim_program.specs.View.{if_type};
 ghost use Rattle.expr_rules.specs.Choices.{same_value};
 ghost use Rattle.expr_parts.specs.View.{Under, ParametersWithin, WhatWithin, parameter_of};
 ghost use Rattle.expr_parts.specs.View.{procedure_of, entry_by};

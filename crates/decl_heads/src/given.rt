@@ -21,7 +21,7 @@ use decl_parts::state::{State, after};
 use expr_parts::scope::{Decl, Scope, What};
 use expr_parts::value::refusal;
 use indent_scanner::normal_form;
-use nim_core::{Mode, Param, PlaceDecl};
+use nim_program::{Mode, Param, PlaceDecl};
 use nim_tree::Name;
 use nim_types::TypeId;
 use std::alloc::Global;

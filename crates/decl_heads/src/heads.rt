@@ -22,7 +22,7 @@ use decl_parts::heads::has_borrow;
 use decl_parts::state::State;
 use expr_parts::scope::Parameter;
 use expr_parts::value::refusal;
-use nim_core::Param;
+use nim_program::Param;
 use nim_tree::ProcHead;
 use std::alloc::Global;
 

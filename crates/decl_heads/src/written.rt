@@ -2,7 +2,7 @@
 ghost use Rattle.std.specs.Prelude.{option_map, Some};
 ghost use Rattle.nim_tree.specs.Types.{written_of};
 ghost use Rattle.nim_types.specs.Table.{IsBelow};
-ghost use Rattle.nim_core.specs.View.{if_type};
+ghost use Rattle.nim_program.specs.View.{if_type};
 ghost use Rattle.decl_rules.specs.Written.{if_written};
 ghost use Rattle.decl_parts.specs.View.{Ready, Typing};
 

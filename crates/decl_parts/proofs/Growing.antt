@@ -12,9 +12,10 @@ use Rattle.expr_parts.specs.declared.scope.Decl.{Decl}
 use Rattle.expr_parts.specs.declared.scope.Scope.{Scope}
 use Rattle.expr_parts.specs.View.{Under, Grown, ParametersWithin, WhatWithin, DeclsWithin}
 use Rattle.expr_parts.specs.ViewReady.{IsReady}
+use Rattle.decl_parts.specs.declared.state.ResultPlace.{ResultPlace as RustResultPlace}
 use Rattle.decl_parts.specs.declared.state.Inside.{Inside as RustInside}
 use Rattle.decl_parts.specs.declared.state.Inside.TheVariants as inside
-use Rattle.decl_parts.specs.View.{InsideWithin}
+use Rattle.decl_parts.specs.View.{ResultWithin, InsideWithin}
 
 params_more : (m n : ℕ) (ps : List Parameter) → m ≤ n → ParametersWithin m ps → ParametersWithin n ps
 params_more m n [] le h = tt
@@ -48,9 +49,13 @@ ready_more {a = a} {b = b} {scope = scope} g r = record {
   decls = decls_more (length a) (length b) scope.decls g.length r.decls;
 }
 
+pub result_more : (m n : ℕ) (o : Option RustResultPlace) → m ≤ n → ResultWithin m o → ResultWithin n o
+result_more m n None le h = tt
+result_more m n (Some r) le h = omega (arith, le, h)
+
 pub inside_more : (m n : ℕ) (i : RustInside) → m ≤ n → InsideWithin m i → InsideWithin n i
 inside_more m n inside.ModuleCode le h = tt
-inside_more m n (inside.Procedure gives) le h = below_more m n gives le h
+inside_more m n (inside.Procedure gives) le h = result_more m n gives le h
 
 -- ---- facts
 

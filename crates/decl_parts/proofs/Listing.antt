@@ -1,15 +1,15 @@
 -- Statements one after another.
-use Rattle.std.proofs.Common.{◌≡◌, List, [], ◌∷◌, ◌++◌, refl, sym, ap, ◌∙◌, append_assoc, append-nil, Some, None, Vec, Global}
+use Rattle.std.proofs.Common.{◌≡◌, List, [], ◌∷◌, ◌++◌, refl, sym, ap, ◌∙◌, append_assoc, append-nil, Vec, Global}
 use Rattle.std.specs.Prelude.{Result, Ok, Err, IfOk, IfErr}
 use Rattle.arc_base.specs.declared.place.Stop.{Stop}
 use Rattle.arc_base.specs.declared.place.Stop.TheVariants as stop
 use Rattle.arc_base.specs.Refusal.{and_then, Answers}
 use Rattle.nim_types.specs.Types.{Ty}
-use Rattle.nim_core.specs.declared.stmt.Stmt.{Stmt as RustStmt}
-use Rattle.nim_core.specs.declared.stmt.Stmt.TheVariants as S
-use Rattle.nim_core.specs.Program as P
-use Rattle.nim_core.specs.Program.{Stmts}
-use Rattle.nim_core.specs.View.{stmts_of, stmt_before}
+use Rattle.nim_program.specs.declared.stmt.Stmt.{Stmt as RustStmt}
+use Rattle.nim_program.specs.declared.stmt.Stmt.TheVariants as S
+use Rattle.nim_program.specs.Program as P
+use Rattle.nim_program.specs.Program.{Stmts}
+use Rattle.nim_program.specs.View.{stmts_of, stmt_before}
 use Rattle.expr_rules.specs.Answers.{Answer}
 use Rattle.expr_parts.proofs.ForCallers.{answers_as}
 use Rattle.decl_parts.specs.declared.state.State.{State as RustState}
@@ -21,25 +21,17 @@ use Rattle.decl_parts.proofs.Stating.{further_same, further_on, stands_still, st
 -- ---- steps
 
 step_front : (ts : List Ty) (s : RustStmt) (rest : Stmts) → steps_in (stmt_before ts s rest) ≡ steps_in (stmt_before ts s P.Empty) ++ steps_in rest
-step_front ts (S.Eval node value) rest = refl
-step_front ts (S.Discard node None) rest = refl
-step_front ts (S.Discard node (Some value)) rest = refl
-step_front ts (S.Give node value) rest = refl
-step_front ts (S.Return node None) rest = refl
-step_front ts (S.Return node (Some value)) rest = refl
-step_front ts (S.Break node) rest = refl
-step_front ts (S.Continue node) rest = refl
-step_front ts (S.Declare node place None) rest = refl
-step_front ts (S.Declare node place (Some value)) rest = refl
-step_front ts (S.Pass node) rest = refl
-step_front ts (S.Assign node path value) rest = refl
-step_front ts (S.Update node operator path value) rest = refl
-step_front ts (S.Append node path value) rest = refl
+step_front ts (S.Do value) rest = refl
+step_front ts (S.Idle node parts) rest = refl
+step_front ts (S.Give node back value) rest = refl
+step_front ts (S.Leave node leaving parts) rest = refl
+step_front ts (S.Declare node place cursor value) rest = refl
 step_front ts (S.If' node p branches q otherwise) rest = refl
 step_front ts (S.Case' node selector p branches q otherwise) rest = refl
-step_front ts (S.While' node condition p body) rest = refl
-step_front ts (S.Count' node variable bounds p body) rest = refl
-step_front ts (S.Each' node variable path p body) rest = refl
+step_front ts (S.Loop' node kind head p body) rest = refl
+step_front ts (S.Raise node exception message) rest = refl
+step_front ts (S.Try' node p body q handlers r last) rest = refl
+step_front ts (S.Defer' node p last) rest = refl
 
 pub steps_append : (ts : List Ty) (xs ys : List RustStmt) → steps_of ts (xs ++ ys) ≡ steps_of ts xs ++ steps_of ts ys
 steps_append ts [] ys = refl
@@ -52,8 +44,8 @@ steps_append ts (x ∷ xs) ys =
 pub blocked_steps : (b : Stmts) → block_of (steps_in b) ≡ b
 blocked_steps P.Empty = refl
 blocked_steps (P.Then s rest) = ap (P.Then s) (blocked_steps rest)
-blocked_steps (P.Declare node place rest) = ap (P.Declare node place) (blocked_steps rest)
-blocked_steps (P.DeclareAs node place value rest) = ap (P.DeclareAs node place value) (blocked_steps rest)
+blocked_steps (P.Declare node place cursor value rest) = ap (P.Declare node place cursor value) (blocked_steps rest)
+blocked_steps (P.Defer node last rest) = ap (P.Defer node last) (blocked_steps rest)
 
 -- ---- answers
 

@@ -10,8 +10,8 @@ use Rattle.arc_base.specs.Refusal.{and_then, refused, Answers}
 use Rattle.nim_types.specs.declared.types.TypeDef.{TypeDef}
 use Rattle.nim_types.specs.Types.{Ty, Facts, fact_of}
 use Rattle.nim_types.specs.Table.{facts_in}
-use Rattle.nim_core.specs.declared.stmt.Stmt.{Stmt as RustStmt}
-use Rattle.nim_core.specs.Program as P
+use Rattle.nim_program.specs.declared.stmt.Stmt.{Stmt as RustStmt}
+use Rattle.nim_program.specs.Program as P
 use Rattle.expr_rules.specs.Answers.{Answer}
 use Rattle.expr_rules.specs.Env.{Env}
 use Rattle.expr_parts.specs.View.{Under}

@@ -1,7 +1,7 @@
 -- What the code's values and states stand for under a list of types, by their numbers, and what is said of calls that go from one
 -- state to another. Contracts of the pass alone speak of it.
 use Rattle.std.specs.Prelude.{◌≡◌, ℕ, ◌<◌, ◌≤◌, List, [], ◌∷◌, ◌++◌, ◌||◌}
-use Rattle.std.specs.Prelude.{length, map, drop, Bool, true, false, Option, Some, None}
+use Rattle.std.specs.Prelude.{length, map, drop, codes, Bool, true, false, Option, Some, None}
 use Rattle.std.specs.Prelude.{Result, IfOk, OnOk}
 use Rattle.std.proofs.Common.{Vec, Global}
 use Rattle.arc_base.specs.declared.place.Place.{Place}
@@ -9,11 +9,13 @@ use Rattle.arc_base.specs.declared.place.Stop.{Stop}
 use Rattle.arc_base.specs.Refusal.{Answers}
 use Rattle.nim_types.specs.Types as type
 use Rattle.nim_types.specs.Types.{Ty, Fact, same, fact_of}
-use Rattle.nim_types.specs.Table.{facts_in, IsBelow}
-use Rattle.nim_core.specs.declared.stmt.Stmt.{Stmt as RustStmt}
-use Rattle.nim_core.specs.Program as P
-use Rattle.nim_core.specs.Program.{Stmts, Proc}
-use Rattle.nim_core.specs.View.{if_type, declared_of, stmts_of, stmt_before}
+use Rattle.nim_types.specs.Table.{facts_in, type_at, IsBelow}
+use Rattle.nim_program.specs.declared.stmt.Branch.{Branch as RustBranch}
+use Rattle.nim_program.specs.declared.stmt.CaseBranch.{CaseBranch as RustCaseBranch}
+use Rattle.nim_program.specs.declared.stmt.Stmt.{Stmt as RustStmt}
+use Rattle.nim_program.specs.Program as P
+use Rattle.nim_program.specs.Program.{Stmts, Proc}
+use Rattle.nim_program.specs.View.{declared_of, stmts_of, stmt_before}
 use Rattle.expr_rules.specs.Answers.{Answer}
 use Rattle.expr_rules.specs.Env.{Env}
 use Rattle.expr_rules.specs.Constructions.{is_among}
@@ -22,10 +24,11 @@ use Rattle.expr_parts.specs.declared.value.Typed.{Typed as RustTyped}
 use Rattle.expr_parts.specs.View.{Under, Grown, env_of, valued_of, number_of}
 use Rattle.expr_parts.specs.ViewReady.{IsReady}
 use Rattle.expr_parts.specs.ViewDecls.{declares as declares_in}
-use Rattle.decl_rules.specs.State.{Inside, module_code, a_procedure, Around, Item, State, Step, does, declares, declares_as, Stated, stated_as}
+use Rattle.decl_rules.specs.State.{ResultPlace, Inside, module_code, a_procedure, Around, Item, State, Step, does, declares, defers, Stated, stated_as}
 use Rattle.decl_rules.specs.State.{own_entries, is_declared}
 use Rattle.decl_rules.specs.Values.{Value, as_value}
 use Rattle.decl_parts.specs.declared.values.Numbered.{Numbered}
+use Rattle.decl_parts.specs.declared.state.ResultPlace.{ResultPlace as RustResultPlace}
 use Rattle.decl_parts.specs.declared.state.Inside.{Inside as RustInside}
 use Rattle.decl_parts.specs.declared.state.Inside.TheVariants as inside
 use Rattle.decl_parts.specs.declared.state.Around.{Around as RustAround}
@@ -54,18 +57,34 @@ abbrev pub is_text_type : Option Ty → Bool
 is_text_type (Some type.text) = true
 is_text_type _ = false
 
+-- ---- names
+
+abbrev pub place_of : ℕ → List ℕ → Place → Ty → P.Declared
+place_of number name at of = record { number = number; name = name; at = at; of = of }
+
 -- ---- around
+
+abbrev pub result_place : List Ty → RustResultPlace → P.Declared
+result_place ts r = place_of r.number (codes "result") r.at (type_at ts r.ty)
+
+abbrev pub if_result : List Ty → Option RustResultPlace → ResultPlace
+if_result ts None = None
+if_result ts (Some r) = Some (result_place ts r)
+
+abbrev pub ResultWithin : ℕ → Option RustResultPlace → Type 0
+ResultWithin n None = Unit {0}
+ResultWithin n (Some r) = r.ty < n
 
 abbrev pub inside_of : List Ty → RustInside → Inside
 inside_of ts inside.ModuleCode = module_code
-inside_of ts (inside.Procedure gives) = a_procedure (if_type ts gives)
+inside_of ts (inside.Procedure gives) = a_procedure (if_result ts gives)
 
 abbrev pub around_of : List Ty → RustAround → Around
 around_of ts a = record { inside = inside_of ts a.inside; outermost = a.outermost; in_loop = a.in_loop }
 
 abbrev pub InsideWithin : ℕ → RustInside → Type 0
 InsideWithin n inside.ModuleCode = Unit {0}
-InsideWithin n (inside.Procedure gives) = IsBelow n gives
+InsideWithin n (inside.Procedure gives) = ResultWithin n gives
 
 -- ---- states
 
@@ -134,8 +153,8 @@ pub record Stating {A T : Type 0} (old new : RustState) (of : List Ty → Beside
 abbrev pub steps_in : Stmts → List Step
 steps_in P.Empty = []
 steps_in (P.Then s rest) = does s ∷ steps_in rest
-steps_in (P.Declare node place rest) = declares node place ∷ steps_in rest
-steps_in (P.DeclareAs node place value rest) = declares_as node place value ∷ steps_in rest
+steps_in (P.Declare node place cursor value rest) = declares node place cursor value ∷ steps_in rest
+steps_in (P.Defer node last rest) = defers node last ∷ steps_in rest
 
 abbrev pub steps_of : List Ty → List RustStmt → List Step
 steps_of ts all = steps_in (stmts_of ts all)
@@ -150,6 +169,16 @@ one_stated ts b st s = stated_as (step_of ts s) (state_of ts b st)
 abbrev pub all_stated_as : List Ty → Beside → RustState → List RustStmt → Stated
 all_stated_as ts b st all = stated_as (steps_of ts all) (state_of ts b st)
 
+-- the blocks of branches
+
+abbrev pub bodies_in : List Ty → List RustBranch → List Stmts
+bodies_in ts [] = []
+bodies_in ts (one ∷ rest) = stmts_of ts one.body.items ∷ bodies_in ts rest
+
+abbrev pub arm_bodies_in : List Ty → List RustCaseBranch → List Stmts
+arm_bodies_in ts [] = []
+arm_bodies_in ts (one ∷ rest) = stmts_of ts one.body.items ∷ arm_bodies_in ts rest
+
 -- a call that makes one statement, where the rules say of the state before
 abbrev pub StatedSo : (old new : RustState) → (said : List Ty → State → Answer Stated) → Result RustStmt Stop → Type 0
 StatedSo old new said r = Stating old new (λ ts b s. one_stated ts b new s) (λ ts b. said ts (state_of ts b old)) r
@@ -157,11 +186,6 @@ StatedSo old new said r = Stating old new (λ ts b s. one_stated ts b new s) (λ
 -- a call that makes any number of them
 abbrev pub AllStatedSo : (old new : RustState) → (said : List Ty → State → Answer Stated) → Result (Vec RustStmt Global) Stop → Type 0
 AllStatedSo old new said r = Stating old new (λ ts b all. all_stated_as ts b new all.items) (λ ts b. said ts (state_of ts b old)) r
-
--- ---- names
-
-abbrev pub place_of : ℕ → List ℕ → Place → Ty → P.Declared
-place_of number name at of = record { number = number; name = name; at = at; of = of }
 
 -- the names that a scope has, and others that a definition gives before
 abbrev pub own_names : (outside : ℕ) → List Decl → State → (before : List (List ℕ)) → Type 0

@@ -2,7 +2,7 @@
 ghost use Rattle.std.specs.Prelude.{◌≡◌, ◌<◌, ℕ, List, [], ◌∷◌, Option, length, map};
 ghost use Rattle.nim_types.specs.Types.{Ty, Facts};
 ghost use Rattle.nim_types.specs.Table.{type_at, IsBelow};
-ghost use Rattle.nim_core.specs.View.{if_type};
+ghost use Rattle.nim_program.specs.View.{if_type};
 ghost use Rattle.expr_rules.specs.Env.{Parameter as Given};
 ghost use Rattle.expr_parts.specs.View.{Under, ParametersWithin, parameter_of};
 ghost use Rattle.decl_rules.specs.Heads.{mode_of, is_written, is_result_name, is_dollar};
@@ -15,7 +15,7 @@ use expr_parts::borrowed::comparison_named;
 use expr_parts::kinds::{entry, is_same, is_text};
 use expr_parts::names::is_word;
 use expr_parts::scope::Parameter;
-use nim_core::Mode;
+use nim_program::Mode;
 use nim_tree::{ParamMode, Pragma, PragmaKind};
 use nim_types::{TypeId, TypeTable};
 

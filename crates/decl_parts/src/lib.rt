@@ -4,6 +4,7 @@
 pub mod heads;
 pub mod names;
 pub mod nodes;
+pub mod same;
 pub mod state;
 pub mod stmts;
 pub mod typing;

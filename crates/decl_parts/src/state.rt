@@ -5,17 +5,26 @@ ghost use Rattle.nim_types.specs.Types.{Ty};
 ghost use Rattle.decl_rules.specs.State.{deeper, looping};
 ghost use Rattle.decl_parts.specs.View.{around_of};
 
-use arc_base::{Items, Stop};
+use arc_base::{Items, Place, Stop};
 use expr_parts::scope::Scope;
-use nim_core::PlaceDecl;
+use nim_program::PlaceDecl;
 use nim_types::{TypeId, TypeTable};
+
+/// The place of a procedure's result, whose name is `result`.
+#[derive(Clone, Copy)]
+pub struct ResultPlace {
+    pub number: u32,
+    /// Where its type is written.
+    pub at: Place,
+    pub ty: TypeId,
+}
 
 /// The code that a statement stands in.
 #[derive(Clone, Copy)]
 pub enum Inside {
     ModuleCode,
-    /// The body of a procedure, with the type of its result.
-    Procedure(Option<TypeId>),
+    /// The body of a procedure, with the place of its result.
+    Procedure(Option<ResultPlace>),
 }
 
 /// What stands around a statement.

@@ -3,7 +3,7 @@ ghost use Rattle.std.specs.Prelude.{◌≡◌, ◌++◌, [], ◌∷◌, OnOk, If
 ghost use Rattle.arc_base.specs.declared.place.Stop.TheVariants as Stop;
 
 use arc_base::Stop;
-use nim_core::Stmt;
+use nim_program::Stmt;
 use std::alloc::Global;
 
 /// Puts statements behind others.

@@ -3,7 +3,7 @@ ghost use Rattle.std.specs.Prelude.{◌<◌, suc, length};
 ghost use Rattle.nim_tree.specs.Terms as term;
 ghost use Rattle.nim_tree.specs.Terms.{term_of, parts_of, part};
 ghost use Rattle.nim_types.specs.Table.{type_at, IsBelow};
-ghost use Rattle.nim_core.specs.View.{if_type};
+ghost use Rattle.nim_program.specs.View.{if_type};
 ghost use Rattle.expr_rules.specs.Typed.{typed};
 ghost use Rattle.expr_parts.specs.View.{typed_of, want_of};
 ghost use Rattle.expr_parts.specs.ViewReady.{WantWithin};

@@ -4,25 +4,27 @@ ghost use Rattle.arc_base.specs.Refusal.{Answers, and_then};
 ghost use Rattle.nim_tree.specs.Terms.{term_of};
 ghost use Rattle.nim_types.specs.Types.{Ty, Facts};
 ghost use Rattle.nim_types.specs.Table.{type_at, meant, IsBelow};
-ghost use Rattle.nim_core.specs.View.{expr_of, if_type};
+ghost use Rattle.nim_program.specs.View.{expr_of, if_type};
 ghost use Rattle.expr_rules.specs.Answers.{value_of};
 ghost use Rattle.expr_rules.specs.Demands.{is_selector};
 ghost use Rattle.expr_parts.specs.View.{Under, Grown, KindsIn, env_of, want_of, valued_of};
 ghost use Rattle.expr_parts.specs.View.{number_of};
 ghost use Rattle.expr_parts.specs.ViewReady.{IsReady, WantWithin};
 ghost use Rattle.decl_rules.specs.Values.{as_value, valued_term, accepted_if, selector_rule};
-ghost use Rattle.decl_rules.specs.Values.{result_want, returned, is_result, element_rule};
-ghost use Rattle.decl_parts.specs.View.{numbered_of, no_other_type};
+ghost use Rattle.decl_rules.specs.Values.{result_want, type_given, given_want, returned, has_type};
+ghost use Rattle.decl_rules.specs.Values.{element_rule};
+ghost use Rattle.decl_parts.specs.View.{numbered_of, no_other_type, result_place, if_result};
+ghost use Rattle.decl_parts.specs.View.{ResultWithin};
 
+use crate::state::ResultPlace;
 use arc_base::{Code, Stop};
 use check_exprs::public::type_expr;
 use expr_parts::branching::value_of;
 use expr_parts::kinds::{entry, is_ordinal, is_same, is_text};
-use expr_parts::nodes::node_of;
 use expr_parts::parts::element_type;
 use expr_parts::scope::{Kinds, Scope};
 use expr_parts::value::{Typed, Value, Want, refusal};
-use nim_core::Expr;
+use nim_program::Expr;
 use nim_tree::Expr as Tree;
 use nim_types::{TypeDef, TypeId, TypeTable};
 use std::alloc::Global;
@@ -76,7 +78,7 @@ pub fn accepted_if(accepts: bool, value: Value) -> Result<Value, Stop>
     ensures same { IfOk result (λ v. v ≡ value) }
 {
     if !accepts {
-        let at = node_of(&value.expr).at;
+        let at = value.expr.node().at;
         drop(value);
         return Err(refusal(Code::NotTyped, at));
     }
@@ -90,7 +92,7 @@ pub fn numbered_if(accepts: bool, given: Numbered) -> Result<Numbered, Stop>
     ensures same { IfOk result (λ v. v ≡ given) }
 {
     if !accepts {
-        let at = node_of(&given.value.expr).at;
+        let at = given.value.expr.node().at;
         drop(given);
         return Err(refusal(Code::NotTyped, at));
     }
@@ -110,13 +112,35 @@ pub fn is_annotated(types: &TypeTable, ty: Option<TypeId>, of: TypeId) -> bool
     }
 }
 
-/// The type that the place of a result gives.
+/// The type that a definition wants of its value.
 pub fn result_want(gives: Option<TypeId>) -> Want
     ensures want { (ts : List Ty) → want_of ts result ≡ result_want (if_type ts gives) }
     ensures within { (n : ℕ) → IsBelow n gives → WantWithin n result }
 {
     match gives {
         Some(ty) => Want::Whole(ty),
+        None => Want::Nothing,
+    }
+}
+
+/// The type of a result.
+pub fn type_given(gives: Option<ResultPlace>) -> Option<TypeId>
+    ensures ty { (ts : List Ty) → if_type ts result ≡ type_given (if_result ts gives) }
+    ensures within { (n : ℕ) → ResultWithin n gives → IsBelow n result }
+{
+    match gives {
+        Some(place) => Some(place.ty),
+        None => None,
+    }
+}
+
+/// What the place of a result wants.
+pub fn given_want(gives: Option<ResultPlace>) -> Want
+    ensures want { (ts : List Ty) → want_of ts result ≡ given_want (if_result ts gives) }
+    ensures within { (n : ℕ) → ResultWithin n gives → WantWithin n result }
+{
+    match gives {
+        Some(place) => Want::Whole(place.ty),
         None => Want::Nothing,
     }
 }
@@ -138,43 +162,44 @@ pub fn selector_rule(types: &TypeTable, value: Value) -> Result<Value, Stop>
 }
 
 /// What is returned has the type of the result.
-pub fn returned(types: &TypeTable, gives: Option<TypeId>, expr: Expr) -> Result<Value, Stop>
-    requires gives { IsBelow (length types.now) gives }
+pub fn returned(types: &TypeTable, gives: Option<ResultPlace>, expr: Expr) -> Result<Value, Stop>
+    requires gives { ResultWithin (length types.now) gives }
     requires expr { IsBelow (length types.now) (number_of expr) }
     ensures { (ts : List Ty) (facts : Facts) → Under types.now ts facts
-        → Answers (valued_of ts) (returned (if_type ts gives) (expr_of ts expr)) result }
+        → Answers (valued_of ts) (returned (if_result ts gives) (expr_of ts expr)) result }
 {
     match gives {
-        Some(ty) => returned_as(types, ty, expr),
+        Some(place) => returned_as(types, place, expr),
         None => {
-            let at = node_of(&expr).at;
+            let at = expr.node().at;
             drop(expr);
             Err(refusal(Code::NotTyped, at))
         }
     }
 }
 
-fn returned_as(types: &TypeTable, ty: TypeId, expr: Expr) -> Result<Value, Stop>
-    requires ty { ty < length types.now }
+fn returned_as(types: &TypeTable, place: ResultPlace, expr: Expr) -> Result<Value, Stop>
+    requires place { place.ty < length types.now }
     requires expr { IsBelow (length types.now) (number_of expr) }
     ensures { (ts : List Ty) (facts : Facts) → Under types.now ts facts
-        → Answers (valued_of ts) (returned (Some (type_at ts ty)) (expr_of ts expr)) result }
+        → Answers (valued_of ts) (returned (Some (result_place ts place)) (expr_of ts expr))
+        result }
 {
     match value_of(expr) {
-        Ok(value) => accepted_if(is_same(types, ty, value.ty), value),
+        Ok(value) => accepted_if(is_same(types, place.ty, value.ty), value),
         Err(stop) => Err(stop),
     }
 }
 
 /// Whether a body that gives a result may end with a value of the type.
-pub fn is_result(types: &TypeTable, ends: Option<TypeId>, ty: TypeId) -> bool
-    requires ends { IsBelow (length types.now) ends }
+pub fn has_type(types: &TypeTable, ends: Option<ResultPlace>, ty: TypeId) -> bool
+    requires ends { ResultWithin (length types.now) ends }
     requires ty { ty < length types.now }
     ensures { (ts : List Ty) (facts : Facts) → Under types.now ts facts
-        → is_result (if_type ts ends) (type_at ts ty) ≡ result }
+        → has_type (if_result ts ends) (type_at ts ty) ≡ result }
 {
     match ends {
-        Some(end) => is_same(types, end, ty),
+        Some(place) => is_same(types, place.ty, ty),
         None => false,
     }
 }
@@ -189,6 +214,6 @@ pub fn element_rule(types: &TypeTable, kinds: Kinds, value: &Value) -> Result<Ty
 {
     match element_type(kinds.char, entry(types, value.ty)) {
         Some(ty) => Ok(ty),
-        None => Err(refusal(Code::NotTyped, node_of(&value.expr).at)),
+        None => Err(refusal(Code::NotTyped, value.expr.node().at)),
     }
 }

@@ -9,9 +9,9 @@ use Rattle.nim_tree.specs.declared.stmt.Binding.TheVariants as binding
 use Rattle.nim_tree.specs.Terms.{Term, Parts}
 use Rattle.nim_tree.specs.Statements.{Definition, Statement, defines, returns, Statements, Branches}
 use Rattle.nim_types.specs.Types.{Ty}
-use Rattle.nim_core.specs.Program.{Label}
+use Rattle.nim_program.specs.Program.{Label}
 use Rattle.expr_rules.specs.Env.{Env}
-use Rattle.decl_rules.specs.State.{Around, deeper, State, entered, Stated, Blocked}
+use Rattle.decl_rules.specs.State.{ResultPlace, Around, deeper, State, entered, Stated, Blocked}
 use Rattle.decl_rules.specs.Values.{Value, condition, procedure_rule}
 use Rattle.decl_rules.specs.Definitions.{definitions_rule}
 use Rattle.decl_rules.specs.Stated.{Branched, Armed, block_by, stated, all_stated, all_branches, all_arms, is_constant}
@@ -35,20 +35,20 @@ no_condition_complete l (F.f_tests r) = bind_err _ r
 no_condition_complete l (F.f_test e w) = bind_ok _ e (no_value_as_complete l w)
 
 -- a definition of variables
-variables_so : (a : Around) (ends : Option Ty) (st : State) (at : Place) (b : Binding) (all : List Definition) → is_constant b ≡ false
+variables_so : (a : Around) (ends : ResultPlace) (st : State) (at : Place) (b : Binding) (all : List Definition) → is_constant b ≡ false
     → stated a ends st (defines at b all) ≡ definitions_rule a at b st all
 variables_so a ends st at binding.Const all e = cc
 variables_so a ends st at binding.Let all e = refl
 variables_so a ends st at binding.Var all e = refl
 
 -- `return` outside of procedures, with a value or without
-no_return : (a : Around) (ends : Option Ty) (st : State) (at : Place) (t : Option Term) (c : Code) (p : Place)
+no_return : (a : Around) (ends : ResultPlace) (st : State) (at : Place) (t : Option Term) (c : Code) (p : Place)
     → IsRefusal (procedure_rule at a.inside) c p → IsRefusal (stated a ends st (returns at t)) c p
 no_return a ends st at None c p r = bind_err _ r
 no_return a ends st at (Some t) c p r = bind_err _ r
 
 mutual
-  pub stated_complete : Below → {a : Around} {ends : Option Ty} {st : State} {s : Statement} {x : Stated} → IsStated a ends st s x
+  pub stated_complete : Below → {a : Around} {ends : ResultPlace} {st : State} {s : Statement} {x : Stated} → IsStated a ends st s x
       → stated a ends st s ≡ Ok x
   stated_complete l R.s_discard = refl
   stated_complete l (R.s_discard_value h) = bind_ok _ (value_complete l h) refl
@@ -69,13 +69,13 @@ mutual
       bind_ok _ (value_complete l h) (bind_ok _ e (bind_ok _ (arms_complete l k) (bind_ok _ (block_complete l j) (bind_ok _ f refl))))
   stated_complete l (R.s_while h k) = bind_ok _ (value_as_complete l h) (bind_ok _ (block_complete l k) refl)
   stated_complete l (R.s_for_each h e k) = bind_ok _ (value_complete l h) (bind_ok _ e (bind_ok _ (block_complete l k) refl))
-  stated_complete l (R.s_for_up_to h g k) =
+  stated_complete l (R.s_for_range R.to_last h g k) =
       bind_ok _ (value_as_complete l h) (bind_ok _ (value_as_complete l g) (bind_ok _ (block_complete l k) refl))
-  stated_complete l (R.s_for_below h g k) =
+  stated_complete l (R.s_for_range R.below_last h g k) =
       bind_ok _ (value_as_complete l h) (bind_ok _ (value_as_complete l g) (bind_ok _ (block_complete l k) refl))
   stated_complete l (R.s_procedure e g j) = bind_ok _ (holding _ e) (bind_ok _ (head_complete l g) (bind_ok _ (all_stated_complete l j) refl))
 
-  pub all_stated_complete : Below → {a : Around} {ends : Option Ty} {st : State} {all : Statements} {x : Stated} → AreStated a ends st all x
+  pub all_stated_complete : Below → {a : Around} {ends : ResultPlace} {st : State} {all : Statements} {x : Stated} → AreStated a ends st all x
       → all_stated a ends st all ≡ Ok x
   all_stated_complete l R.s_none = refl
   all_stated_complete l (R.s_more h k) = bind_ok _ (stated_complete l h) (bind_ok _ (all_stated_complete l k) refl)
@@ -95,7 +95,7 @@ mutual
   arms_complete l (R.s_arms e k j) = bind_ok _ e (bind_ok _ (block_complete l k) (bind_ok _ (arms_complete l j) refl))
 
 mutual
-  pub not_stated_complete : Below → {a : Around} {ends : Option Ty} {st : State} {s : Statement} {c : Code} {p : Place} → IsNotStated a ends st s c p
+  pub not_stated_complete : Below → {a : Around} {ends : ResultPlace} {st : State} {s : Statement} {c : Code} {p : Place} → IsNotStated a ends st s c p
       → IsRefusal (stated a ends st s) c p
   not_stated_complete l (F.r_discard w) = bind_err _ (no_value_complete l w)
   not_stated_complete l {a} {ends} {st} (F.r_return {at = at} {p = p} {t = t} {c = c} r) = no_return a ends st at t c p r
@@ -135,19 +135,19 @@ mutual
   not_stated_complete l (F.r_each w) = bind_err _ (no_value_complete l w)
   not_stated_complete l (F.r_each_type h r) = bind_ok _ (value_complete l h) (bind_err _ r)
   not_stated_complete l (F.r_each_body h e w) = bind_ok _ (value_complete l h) (bind_ok _ e (bind_err _ (no_block_complete l w)))
-  not_stated_complete l (F.r_first w) = bind_err _ (no_value_as_complete l w)
-  not_stated_complete l (F.r_last h w) = bind_ok _ (value_as_complete l h) (bind_err _ (no_value_as_complete l w))
-  not_stated_complete l (F.r_up_to_body h g w) =
+  not_stated_complete l (F.r_range_first R.to_last w) = bind_err _ (no_value_as_complete l w)
+  not_stated_complete l (F.r_range_last R.to_last h w) = bind_ok _ (value_as_complete l h) (bind_err _ (no_value_as_complete l w))
+  not_stated_complete l (F.r_range_body R.to_last h g w) =
       bind_ok _ (value_as_complete l h) (bind_ok _ (value_as_complete l g) (bind_err _ (no_block_complete l w)))
-  not_stated_complete l (F.r_start w) = bind_err _ (no_value_as_complete l w)
-  not_stated_complete l (F.r_end h w) = bind_ok _ (value_as_complete l h) (bind_err _ (no_value_as_complete l w))
-  not_stated_complete l (F.r_below_body h g w) =
+  not_stated_complete l (F.r_range_first R.below_last w) = bind_err _ (no_value_as_complete l w)
+  not_stated_complete l (F.r_range_last R.below_last h w) = bind_ok _ (value_as_complete l h) (bind_err _ (no_value_as_complete l w))
+  not_stated_complete l (F.r_range_body R.below_last h g w) =
       bind_ok _ (value_as_complete l h) (bind_ok _ (value_as_complete l g) (bind_err _ (no_block_complete l w)))
   not_stated_complete l (F.r_level e) = bind_err _ (failing _ e)
   not_stated_complete l (F.r_head e w) = bind_ok _ (holding _ e) (bind_err _ (no_head_complete l w))
   not_stated_complete l (F.r_body e g w) = bind_ok _ (holding _ e) (bind_ok _ (head_complete l g) (bind_err _ (none_stated_complete l w)))
 
-  pub none_stated_complete : Below → {a : Around} {ends : Option Ty} {st : State} {all : Statements} {c : Code} {p : Place}
+  pub none_stated_complete : Below → {a : Around} {ends : ResultPlace} {st : State} {all : Statements} {c : Code} {p : Place}
       → AreNotStated a ends st all c p → IsRefusal (all_stated a ends st all) c p
   none_stated_complete l (F.r_statement w) = bind_err _ (not_stated_complete l w)
   none_stated_complete l (F.r_statements h w) = bind_ok _ (stated_complete l h) (bind_err _ (none_stated_complete l w))

@@ -2,7 +2,7 @@
 use Rattle.std.proofs.Common.{◌≡◌, ℕ, zero, suc, ◌≤◌, ◌<◌, Bool, true, false, List, [], ◌∷◌, length, refl, sym, ap, subst, inl, inr, arith}
 use Rattle.std.specs.Prelude.{◌⊎◌, nat_eq, if◌then◌else◌}
 use Rattle.std.proofs.lemmas.Option.{slice_get_past}
-use Rattle.nim_core.specs.Program.{Proc}
+use Rattle.nim_program.specs.Program.{Proc}
 use Rattle.decl_rules.specs.Occurrences.{Occurrence, global, calls, hands}
 use Rattle.decl_rules.specs.Whole.{occurring, in_proc, is_named, names_within}
 use Rattle.decl_rules.proofs.Least.{either_way, no_bool, IsIn, here as here_in, further as further_in, Grows, stable}

@@ -1,14 +1,14 @@
 -- Each statement is typed in one way, or refused in one way; each list of modules is one program, or is refused in one way.
 use Rattle.std.proofs.Common.{◌≡◌, sym, ap, inl, inr, ◌∙◌}
-use Rattle.std.specs.Prelude.{◌⊎◌, Option, Ok, Err, List}
+use Rattle.std.specs.Prelude.{◌⊎◌, Ok, Err, List, []}
 use Rattle.arc_base.specs.declared.place.Place.{Place}
 use Rattle.arc_base.specs.declared.place.Code.{Code}
 use Rattle.arc_base.specs.Refusal.{Refusal}
 use Rattle.nim_tree.specs.Statements.{Statement}
 use Rattle.nim_types.specs.Types.{Ty}
-use Rattle.nim_core.specs.Program.{Program}
+use Rattle.nim_program.specs.Program.{Program}
 use Rattle.expr_rules.specs.Answers.{Answer}
-use Rattle.decl_rules.specs.State.{Around, State, Stated}
+use Rattle.decl_rules.specs.State.{ResultPlace, Around, State, Stated}
 use Rattle.decl_rules.specs.Elaborated.{Module}
 use Rattle.decl_rules.specs.Laws.{HasStated, HasRefusal, EachStatement, OneStated, OneRefusal, NotBoth, StatementsComputed, RefusalsComputed, HasProgram}
 use Rattle.decl_rules.specs.Laws.{HasNone, EachProgram, OneProgram, OneReason, NeverBoth, ProgramsComputed, ReasonsComputed}
@@ -50,7 +50,7 @@ never {A} {x} {w} e f = let same : ◌≡◌ {A = Answer A} (Ok x) (Err w) = sym
 
 -- ---- statements
 
-either : {a : Around} {ends : Option Ty} {st : State} {s : Statement} {answer : Answer Stated} → StatedSo a ends st s answer
+either : {a : Around} {ends : ResultPlace} {st : State} {s : Statement} {answer : Answer Stated} → StatedSo a ends st s answer
     → HasStated a ends st s ⊎ HasRefusal a ends st s
 either (m_ok {a = x} h) = inl (x, h)
 either (m_err {f = w} h) = inr (w.code, w.at, h)
@@ -75,24 +75,25 @@ refusals_computed l a ends st s c p = (λ h. not_stated_complete l h, λ r. mean
 
 -- ---- programs
 
-program_or_none : {all : List Module} {answer : Answer Program} → ProgramSo all answer → HasProgram all ⊎ HasNone all
+program_or_none : {types : List Ty} {all : List Module} {answer : Answer Program} → ProgramSo types all answer → HasProgram types all ⊎ HasNone all
 program_or_none (m_ok {a = x} h) = inl (x, h)
 program_or_none (m_err {f = w} h) = inr (w.code, w.at, h)
 
 pub each_program : Below → EachProgram
-each_program l all = program_or_none (program_sound l all)
+each_program l types all = program_or_none (program_sound l types all)
 
 pub one_program : Below → OneProgram
-one_program l all x y h g = one_given (program_complete l h) (program_complete l g)
+one_program l types all x y h g = one_given (program_complete l h) (program_complete l g)
 
+-- of refusals the list of types says nothing
 pub one_reason : Below → OneReason
-one_reason l all c d p q h g = one_refused (no_program_complete l h) (no_program_complete l g)
+one_reason l all c d p q h g = one_refused (no_program_complete l [] h) (no_program_complete l [] g)
 
 pub never_both : Below → NeverBoth
-never_both l all x c p h g = never (program_complete l h) (no_program_complete l g)
+never_both l types all x c p h g = never (program_complete l h) (no_program_complete l types g)
 
 pub programs_computed : Below → ProgramsComputed
-programs_computed l all x = (λ h. program_complete l h, λ r. means_ok (program_sound l all) r)
+programs_computed l types all x = (λ h. program_complete l h, λ r. means_ok (program_sound l types all) r)
 
 pub reasons_computed : Below → ReasonsComputed
-reasons_computed l all c p = (λ h. no_program_complete l h, λ r. means_err (program_sound l all) r)
+reasons_computed l types all c p = (λ h. no_program_complete l types h, λ r. means_err (program_sound l types all) r)

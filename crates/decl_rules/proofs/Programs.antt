@@ -4,7 +4,8 @@ use Rattle.std.specs.Prelude.{None, Ok}
 use Rattle.arc_base.specs.declared.place.Place.{Place}
 use Rattle.arc_base.specs.declared.place.Code.{Code}
 use Rattle.arc_base.specs.Refusal.{IsRefusal}
-use Rattle.nim_core.specs.Program.{Program}
+use Rattle.nim_types.specs.Types.{Ty}
+use Rattle.nim_program.specs.Program.{Program}
 use Rattle.expr_rules.specs.Answers.{Answer}
 use Rattle.decl_rules.specs.State.{in_module, State, Stated}
 use Rattle.decl_rules.specs.Elaborated.{Module, nothing_known, module_begins, modules_stated, elaborated}
@@ -33,19 +34,21 @@ pub no_modules_complete : Below → {st : State} {all : List Module} {c : Code} 
 no_modules_complete l (P.f_module w) = bind_err _ (none_stated_complete l w)
 no_modules_complete l (P.f_modules h w) = bind_ok _ (all_stated_complete l h) (bind_err _ (no_modules_complete l w))
 
-abbrev pub ProgramSo : List Module → Answer Program → Type 0
-ProgramSo all = Means (λ program. IsProgram all program) (λ c p. IsNoProgram all c p)
+abbrev pub ProgramSo : List Ty → List Module → Answer Program → Type 0
+ProgramSo types all = Means (λ program. IsProgram types all program) (λ c p. IsNoProgram all c p)
 
-pub program_sound : Below → (all : List Module) → ProgramSo all (elaborated all)
-program_sound l all =
+pub program_sound : Below → (types : List Ty) (all : List Module) → ProgramSo types all (elaborated types all)
+program_sound l types all =
     means_then (itself _)
     (λ _ e. means_then (modules_sound l nothing_known all)
     (λ s h. means_then (itself _) (λ _ f. m_ok (P.p_program e h f)) (λ c p r. P.f_text e h r)) (λ c p r. P.f_program e r)) (λ c p r. P.f_left_out r)
 
-pub program_complete : Below → {all : List Module} {program : Program} → IsProgram all program → elaborated all ≡ Ok program
+pub program_complete : Below → {types : List Ty} {all : List Module} {program : Program} → IsProgram types all program
+    → elaborated types all ≡ Ok program
 program_complete l (P.p_program e h f) = bind_ok _ e (bind_ok _ (modules_complete l h) (bind_ok _ f refl))
 
-pub no_program_complete : Below → {all : List Module} {c : Code} {p : Place} → IsNoProgram all c p → IsRefusal (elaborated all) c p
-no_program_complete l (P.f_left_out r) = bind_err _ r
-no_program_complete l (P.f_program e w) = bind_ok _ e (bind_err _ (no_modules_complete l w))
-no_program_complete l (P.f_text e h r) = bind_ok _ e (bind_ok _ (modules_complete l h) (bind_err _ r))
+pub no_program_complete : Below → (types : List Ty) {all : List Module} {c : Code} {p : Place} → IsNoProgram all c p
+    → IsRefusal (elaborated types all) c p
+no_program_complete l types (P.f_left_out r) = bind_err _ r
+no_program_complete l types (P.f_program e w) = bind_ok _ e (bind_err _ (no_modules_complete l w))
+no_program_complete l types (P.f_text e h r) = bind_ok _ e (bind_ok _ (modules_complete l h) (bind_err _ r))

@@ -1,6 +1,6 @@
 -- Statements: what is computed is what the rules say.
 use Rattle.std.proofs.Common.{ℕ, suc, List, [], ◌++◌, refl}
-use Rattle.std.specs.Prelude.{Option, Some, None}
+use Rattle.std.specs.Prelude.{Some, None}
 use Rattle.arc_base.specs.declared.place.Place.{Place}
 use Rattle.nim_tree.specs.declared.stmt.Binding.TheVariants as binding
 use Rattle.nim_tree.specs.Terms as term
@@ -10,12 +10,12 @@ use Rattle.nim_tree.specs.Statements.{assigns, commands, defines, types, branche
 use Rattle.nim_tree.specs.Statements.{Branches, no_branches, branch}
 use Rattle.nim_types.specs.Types as type
 use Rattle.nim_types.specs.Types.{Ty}
-use Rattle.nim_core.specs.Program.{Label}
+use Rattle.nim_program.specs.Program.{Label}
 use Rattle.expr_rules.specs.Env.{Env}
 use Rattle.expr_rules.specs.Answers.{Answer, nothing}
-use Rattle.decl_rules.specs.State.{Around, in_body, deeper, looping, State, up_to_node, entered, Stated, noting, Blocked}
-use Rattle.decl_rules.specs.Values.{Value, condition, result_want, source_want}
-use Rattle.decl_rules.specs.Bodies.{behind_head, before_body}
+use Rattle.decl_rules.specs.State.{ResultPlace, Around, in_body, deeper, looping, State, up_to_node, entered, Stated, noting, Blocked}
+use Rattle.decl_rules.specs.Values.{Value, condition, given_want, source_want}
+use Rattle.decl_rules.specs.Bodies.{result_of, behind_head, before_body}
 use Rattle.decl_rules.specs.Stated.{has_statements, ends_with, Branched, Armed, for_state, block_by, stated, all_stated, all_branches, all_arms}
 use Rattle.decl_rules.specs.Rules as R
 use Rattle.decl_rules.specs.Rules.{IsCondition, IsStated, AreStated, IsBlock, AreBranches, AreArms}
@@ -34,10 +34,10 @@ condition_sound l env n at tests =
     means_then (itself _) (λ t e. means_map (value_as_sound l env type.bool n t) (λ v h. R.s_condition e h) (λ c p r. F.f_test e r))
     (λ c p r. F.f_tests r)
 
-abbrev pub StatedSo : Around → Option Ty → State → Statement → Answer Stated → Type 0
+abbrev pub StatedSo : Around → ResultPlace → State → Statement → Answer Stated → Type 0
 StatedSo a ends st s = Means (λ x. IsStated a ends st s x) (λ c p. IsNotStated a ends st s c p)
 
-abbrev pub AllStatedSo : Around → Option Ty → State → Statements → Answer Stated → Type 0
+abbrev pub AllStatedSo : Around → ResultPlace → State → Statements → Answer Stated → Type 0
 AllStatedSo a ends st all = Means (λ x. AreStated a ends st all x) (λ c p. AreNotStated a ends st all c p)
 
 abbrev pub BlockSo : Around → State → Statements → Answer Blocked → Type 0
@@ -55,14 +55,14 @@ block_sound : {a : Around} {st : State} {body : Statements} {answer : Answer Sta
 block_sound h = means_then h (λ s k. m_ok (R.s_block k)) (λ c p r. F.r_block r)
 
 mutual
-  pub stated_sound : Below → (a : Around) (ends : Option Ty) (st : State) (s : Statement) → StatedSo a ends st s (stated a ends st s)
+  pub stated_sound : Below → (a : Around) (ends : ResultPlace) (st : State) (s : Statement) → StatedSo a ends st s (stated a ends st s)
   stated_sound l a ends st (discards at None) = m_ok R.s_discard
   stated_sound l a ends st (discards at (Some t)) =
       means_then (value_sound l st.env nothing (suc st.node) t) (λ v h. m_ok (R.s_discard_value h)) (λ c p r. F.r_discard r)
   stated_sound l a ends st (returns at None) = means_then (itself _) (λ gives e. m_ok (R.s_return e)) (λ c p r. F.r_return r)
   stated_sound l a ends st (returns at (Some t)) =
       means_then (itself _)
-      (λ gives e. means_then (typed_sound l st.env (result_want gives) (suc st.node) t)
+      (λ gives e. means_then (typed_sound l st.env (given_want gives) (suc st.node) t)
       (λ x h. means_then (itself _) (λ v r. m_ok (R.s_return_value e h r)) (λ c p r. F.r_return_value e h r)) (λ c p r. F.r_return_term e r))
       (λ c p r. F.r_return r)
   stated_sound l a ends st (raises at t) = m_err F.r_raise
@@ -74,7 +74,7 @@ mutual
       (λ c p r. at_once (λ c p. IsNotStated a ends st (continues at) c p) r.1 (F.r_continue r.0))
   stated_sound l a ends st (imports at names) = m_err F.r_import
   stated_sound l a ends st (evaluates at t) =
-      means_then (typed_sound l st.env (result_want ends) (suc st.node) t)
+      means_then (typed_sound l st.env (given_want ends) (suc st.node) t)
       (λ x h. means_then (itself _) (λ s e. m_ok (R.s_evaluate h e)) (λ c p r. F.r_evaluate h r)) (λ c p r. F.r_expression r)
   stated_sound l a ends st (assigns at op t u) =
       means_then (value_sound l st.env nothing (suc st.node) t)
@@ -84,7 +84,7 @@ mutual
       (λ w k. means_then (itself _) (λ source g. m_ok (R.s_assign h e f k g)) (λ c p r. F.r_source_type h e f k r))
       (λ c p r. F.r_source h e f r)) (λ c p r. F.r_written h e r)) (λ c p r. F.r_target_type h r)) (λ c p r. F.r_target r)
   stated_sound l a ends st (commands at t operands) =
-      means_then (typed_sound l st.env (result_want ends) (suc st.node) (term.call at t operands))
+      means_then (typed_sound l st.env (given_want ends) (suc st.node) (term.call at t operands))
       (λ x h. means_then (itself _) (λ s e. m_ok (R.s_command h e)) (λ c p r. F.r_command h r)) (λ c p r. F.r_call r)
   stated_sound l a ends st (defines at binding.Const all) =
       means_then (constants_sound l st all) (λ behind h. m_ok (R.s_constants h)) (λ c p r. F.r_constants r)
@@ -117,22 +117,25 @@ mutual
       means_then (value_as_sound l st.env type.int (suc st.node) t)
       (λ v h. means_then (value_as_sound l st.env type.int v.next u)
       (λ w g. means_then (block_sound (all_stated_sound l (deeper (looping a)) None (entered (for_state st w x type.int)) body))
-      (λ b k. m_ok (R.s_for_up_to h g k)) (λ c p r. F.r_up_to_body h g r)) (λ c p r. F.r_last h r)) (λ c p r. F.r_first r)
+      (λ b k. m_ok (R.s_for_range R.to_last h g k)) (λ c p r. F.r_range_body R.to_last h g r)) (λ c p r. F.r_range_last R.to_last h r))
+      (λ c p r. F.r_range_first R.to_last r)
   stated_sound l a ends st (counts at x (below t u) body) =
       means_then (value_as_sound l st.env type.int (suc st.node) t)
       (λ v h. means_then (value_as_sound l st.env type.int v.next u)
       (λ w g. means_then (block_sound (all_stated_sound l (deeper (looping a)) None (entered (for_state st w x type.int)) body))
-      (λ b k. m_ok (R.s_for_below h g k)) (λ c p r. F.r_below_body h g r)) (λ c p r. F.r_end h r)) (λ c p r. F.r_start r)
+      (λ b k. m_ok (R.s_for_range R.below_last h g k)) (λ c p r. F.r_range_body R.below_last h g r)) (λ c p r. F.r_range_last R.below_last h r))
+      (λ c p r. F.r_range_first R.below_last r)
   stated_sound l a ends st (tries at body all finally) = m_err F.r_try
   stated_sound l a ends st (defers at body) = m_err F.r_defer
   stated_sound l a ends st (proclaims at h body) =
       means_then (tested a.outermost at)
       (λ _ e. means_then (head_sound l st at h (has_statements body))
-      (λ k g. means_then (all_stated_sound l (in_body k.signature.gives) k.signature.gives (before_body (behind_head st at h k) h k) body)
+      (λ k g. means_then (all_stated_sound l (in_body (result_of (behind_head st at h k) h k)) (result_of (behind_head st at h k) h k)
+      (before_body (behind_head st at h k) h k) body)
       (λ s j. m_ok (R.s_procedure e g j)) (λ c p r. F.r_body e g r)) (λ c p r. F.r_head e r))
       (λ c p r. at_once (λ c p. IsNotStated a ends st (proclaims at h body) c p) r.1 (F.r_level r.0))
 
-  pub all_stated_sound : Below → (a : Around) (ends : Option Ty) (st : State) (all : Statements) → AllStatedSo a ends st all (all_stated a ends st all)
+  pub all_stated_sound : Below → (a : Around) (ends : ResultPlace) (st : State) (all : Statements) → AllStatedSo a ends st all (all_stated a ends st all)
   all_stated_sound l a ends st empty = m_ok R.s_none
   all_stated_sound l a ends st (then first rest) =
       means_then (stated_sound l a (ends_with ends rest) st first)

@@ -8,7 +8,7 @@ use Rattle.nim_tree.specs.Terms.{Term}
 use Rattle.nim_tree.specs.Types as written
 use Rattle.nim_tree.specs.Types.{Written, Arguments, no_arguments, argument, Fields, no_fields, fields}
 use Rattle.nim_types.specs.Types.{Ty}
-use Rattle.nim_core.specs.Program.{Expr}
+use Rattle.nim_program.specs.Program.{Expr}
 use Rattle.expr_rules.specs.Env.{Env}
 use Rattle.expr_rules.specs.Answers.{Answer, Typed, typed_as, Want, nothing, inner}
 use Rattle.expr_rules.specs.Typed.{typed}

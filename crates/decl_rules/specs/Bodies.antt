@@ -7,9 +7,9 @@ use Rattle.nim_tree.specs.declared.name.Name.{Name}
 use Rattle.nim_tree.specs.Types.{Written}
 use Rattle.nim_tree.specs.Statements.{Head}
 use Rattle.nim_types.specs.Types.{Ty}
-use Rattle.nim_core.specs.Program.{Declared, Param, Body, Proc}
+use Rattle.nim_program.specs.Program.{Declared, Param, Body, Proc}
 use Rattle.expr_rules.specs.Env.{Entry, variable, procedure}
-use Rattle.decl_rules.specs.State.{State, declaring, entered, left, Item, announces, completes, Stated, block_of}
+use Rattle.decl_rules.specs.State.{ResultPlace, State, declaring, entered, left, Item, announces, completes, Stated, block_of}
 use Rattle.decl_rules.specs.Written.{type_place}
 use Rattle.decl_rules.specs.Heads.{Given, Headed, parameters_of, with_parameters, procedure_name}
 
@@ -21,25 +21,25 @@ params_from place (g ∷ rest) =
     record { place = record { number = place; name = g.name.text; at = g.name.at; of = g.of }; mode = g.mode } ∷ params_from (suc place) rest
 
 -- `result` stands where its type is written
-abbrev pub result_at : ℕ → Option Written → Option Ty → Option Declared
+abbrev pub result_at : ℕ → Option Written → Option Ty → ResultPlace
 result_at place (Some t) (Some ty) = Some (record { number = place; name = codes "result"; at = type_place t; of = ty })
 result_at place (Some t) None = None
 result_at place None ty = None
 
 -- behind the parameters
-abbrev pub result_of : State → Head → Headed → Option Declared
+abbrev pub result_of : State → Head → Headed → ResultPlace
 result_of st h k = result_at (st.place + length k.signature.params) h.gives k.signature.gives
 
-abbrev pub result_entries : Option Declared → List Entry
+abbrev pub result_entries : ResultPlace → List Entry
 result_entries None = []
 result_entries (Some d) = variable (codes "result") d.number d.of true false ∷ []
 
-abbrev pub results : Option Declared → ℕ
+abbrev pub results : ResultPlace → ℕ
 results None = 0
 results (Some d) = 1
 
 -- behind it
-abbrev pub with_result : State → Option Declared → State
+abbrev pub with_result : State → ResultPlace → State
 with_result st d = record (declaring st (result_entries d)) { place = st.place + results d }
 
 -- ---- behind the head
@@ -54,9 +54,11 @@ proc_of at h k place body =
     record {
       name = h.name.text;
       at = at;
+      type_params = 0;
       params = params_from place k.signature.params;
       gives = k.signature.gives;
       body = body;
+      hook = None;
     }
 
 -- what is borrowed needs no body
@@ -84,7 +86,13 @@ before_body st h k = entered (with_result (with_parameters (entered st) k.signat
 
 abbrev pub body_of : State → Head → Headed → Stated → Body
 body_of st h k s =
-    record { first = st.place; places = s.state.place - st.place; result = result_of st h k; stmts = block_of s.steps }
+    record {
+      first = st.place;
+      places = s.state.place - st.place;
+      before = st.node;
+      result = result_of st h k;
+      stmts = block_of s.steps;
+    }
 
 -- The procedure has the name, the place and the parameters of the declaration with its body.
 abbrev pub with_body : State → Place → Head → Headed → Stated → State

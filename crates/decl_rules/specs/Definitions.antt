@@ -12,13 +12,14 @@ use Rattle.nim_tree.specs.declared.stmt.Binding.TheVariants as binding
 use Rattle.nim_tree.specs.Terms.{Term}
 use Rattle.nim_tree.specs.Statements.{Definition}
 use Rattle.nim_types.specs.Types.{Ty}
-use Rattle.nim_core.specs.Program as P
-use Rattle.nim_core.specs.Program.{Literal}
+use Rattle.nim_program.specs.Program as P
+use Rattle.nim_program.specs.Program.{Literal, Args, NoArg}
+use Rattle.nim_program.specs.Nodes.{one_value}
 use Rattle.expr_rules.specs.Env.{Env, Entry, variable, constant}
 use Rattle.expr_rules.specs.Answers.{Answer, not_typed, node, Valued}
 use Rattle.expr_rules.specs.Constructions.{is_among}
 use Rattle.expr_rules.specs.Constants.{constant_rule}
-use Rattle.decl_rules.specs.State.{State, Around, own_entries, is_declared, if_new, if_typed, declaring, declares, declares_as, Stated, stated_as, and_more}
+use Rattle.decl_rules.specs.State.{State, Around, own_entries, is_declared, if_new, if_typed, declaring, declares, Stated, stated_as, and_more}
 use Rattle.decl_rules.specs.Values.{Value, valued_term, of_type, result_want}
 use Rattle.decl_rules.specs.Written.{if_written}
 
@@ -91,14 +92,16 @@ with_variable st a b d ty n =
       globals = st.globals ++ if_global a.outermost (place_for st d ty);
     }
 
--- a variable that starts at its default
+-- a variable with a value, whose nodes end at n, or without
+abbrev pub variable_as : Around → Place → Binding → Ty → Args → (n : ℕ) → State → Declared → Stated
+variable_as a at b ty value n st d = stated_as (declares (node st.node at) (place_for st d ty) false value ∷ []) (with_variable st a b d ty n)
+
+-- one that starts at its default
 abbrev pub defaulted : Around → Place → Binding → Ty → State → Declared → Stated
-defaulted a at b ty st d =
-    stated_as (declares (node st.node at) (place_for st d ty) ∷ []) (with_variable st a b d ty (suc st.node))
+defaulted a at b ty st d = variable_as a at b ty NoArg (suc st.node) st d
 
 abbrev pub initialised : Around → Place → Binding → Value → State → Declared → Stated
-initialised a at b v st d =
-    stated_as (declares_as (node st.node at) (place_for st d v.given.of) v.given.expr ∷ []) (with_variable st a b d v.given.of v.next)
+initialised a at b v st d = variable_as a at b v.given.of (one_value v.given.expr) v.next st d
 
 abbrev pub default_rule : Around → Place → Binding → Option Ty → State → Declared → Answer Stated
 default_rule a at b (Some ty) st d = Ok (defaulted a at b ty st d)

@@ -5,7 +5,8 @@
 use Rattle.std.specs.Prelude.{ℕ, List, [], ◌∷◌, None, Ok}
 use Rattle.arc_base.specs.Refusal.{and_then}
 use Rattle.nim_tree.specs.Statements.{Statements}
-use Rattle.nim_core.specs.Program.{Program}
+use Rattle.nim_types.specs.Types.{Ty}
+use Rattle.nim_program.specs.Program.{Program}
 use Rattle.expr_rules.specs.Env.{outermost}
 use Rattle.expr_rules.specs.Answers.{Answer}
 use Rattle.decl_rules.specs.LeftOut.{nothing_left_out}
@@ -47,18 +48,19 @@ modules_stated st [] = Ok (stated_as [] st)
 modules_stated st (m ∷ rest) =
     and_then (module_stated st m) (λ one. and_then (modules_stated one.state rest) (λ more. Ok (and_more one more)))
 
--- the start code spans the places of all procedures
-abbrev pub program_of : Stated → Program
-program_of s =
+-- The list says which types have which numbers, and nothing else of the program. The start code spans the places and nodes of all procedures.
+abbrev pub program_of : (types : List Ty) → Stated → Program
+program_of types s =
     record {
+      types = types;
       facts = s.state.env.facts;
       procs = s.state.procs;
       globals = s.state.globals;
-      start = record { first = 0; places = s.state.place; result = None; stmts = block_of s.steps };
+      start = record { first = 0; places = s.state.place; before = 0; result = None; stmts = block_of s.steps };
     }
 
-abbrev pub elaborated : List Module → Answer Program
-elaborated all =
+abbrev pub elaborated : (types : List Ty) → List Module → Answer Program
+elaborated types all =
     and_then (none_left_out all) (λ _.
     and_then (modules_stated nothing_known all) (λ s.
-    and_then (text_rule s.state.procs s.state.text) (λ _. Ok (program_of s))))
+    and_then (text_rule s.state.procs s.state.text) (λ _. Ok (program_of types s))))

@@ -10,7 +10,7 @@ use Rattle.nim_tree.specs.declared.stmt.ParamMode.{ParamMode}
 use Rattle.nim_tree.specs.Terms.{Term}
 use Rattle.nim_tree.specs.Types.{Written, Body, Declaration}
 use Rattle.nim_tree.specs.Statements.{Definition, Parameters, Head, Statements}
-use Rattle.nim_core.specs.Program.{Program}
+use Rattle.nim_program.specs.Program.{Program}
 use Rattle.expr_rules.specs.Answers.{Answer}
 use Rattle.decl_rules.specs.Elaborated.{elaborated}
 
@@ -55,7 +55,7 @@ outcome (Ok program) = accepted
 outcome (Err refusal) = stops refusal.code refusal.at.line refusal.at.column
 
 abbrev pub said : Statements → Outcome
-said body = outcome (elaborated (record { number = 0; body = body } ∷ []))
+said body = outcome (elaborated [] (record { number = 0; body = body } ∷ []))
 
 -- a module, and what is said of it
 pub data Row : Type 0 where

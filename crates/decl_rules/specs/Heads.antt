@@ -17,8 +17,8 @@ use Rattle.nim_tree.specs.Types.{Written}
 use Rattle.nim_tree.specs.Statements.{Parameters, Head}
 use Rattle.nim_types.specs.Types as type
 use Rattle.nim_types.specs.Types.{Ty, same, same_text}
-use Rattle.nim_core.specs.declared.program.Mode.{Mode}
-use Rattle.nim_core.specs.declared.program.Mode.TheVariants.{Plain, Sink, Var}
+use Rattle.nim_program.specs.declared.program.Mode.{Mode}
+use Rattle.nim_program.specs.declared.program.Mode.TheVariants.{Plain, Sink, Var}
 use Rattle.expr_rules.specs.Env.{Env, Entry, variable, procedure, name_in, Parameter, Procedure, known_as, callable}
 use Rattle.expr_rules.specs.Answers.{Answer}
 use Rattle.expr_rules.specs.Builtins.{is_shown}

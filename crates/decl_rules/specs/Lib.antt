@@ -9,6 +9,7 @@ pub mod Definitions
 pub mod Heads
 pub mod Bodies
 pub mod Stated
+pub mod Turns
 pub mod Occurrences
 pub mod Whole
 pub mod Naming

@@ -1,6 +1,6 @@
 -- The globals that a procedure names, as the least set: by a use in its body, or through a procedure that its body calls.
 use Rattle.std.specs.Prelude.{◌≡◌, ◌↔◌, ℕ, true, List, ◌∷◌}
-use Rattle.nim_core.specs.Program.{Proc}
+use Rattle.nim_program.specs.Program.{Proc}
 use Rattle.decl_rules.specs.Occurrences.{Occurrence, global, calls}
 use Rattle.decl_rules.specs.Whole.{occurring, names}
 

@@ -6,7 +6,8 @@ use Rattle.std.specs.Prelude.{◌≡◌, List, [], ◌∷◌, None, Ok}
 use Rattle.arc_base.specs.declared.place.Place.{Place}
 use Rattle.arc_base.specs.declared.place.Code.{Code}
 use Rattle.arc_base.specs.Refusal.{IsRefusal}
-use Rattle.nim_core.specs.Program.{Program}
+use Rattle.nim_types.specs.Types.{Ty}
+use Rattle.nim_program.specs.Program.{Program}
 use Rattle.decl_rules.specs.State.{in_module, State, Stated, stated_as, and_more}
 use Rattle.decl_rules.specs.Rules.{AreStated}
 use Rattle.decl_rules.specs.Refusals.{AreNotStated}
@@ -19,9 +20,10 @@ pub data AreModules : State → List Module → Stated → Type 0 where
   p_more : {st : State} {m : Module} {rest : List Module} {one more : Stated} → AreStated in_module None (module_begins st m.number) m.body one
       → AreModules one.state rest more → AreModules st (m ∷ rest) (and_more one more)
 
-pub data IsProgram : List Module → Program → Type 0 where
+-- with any list of types by number
+pub data IsProgram (types : List Ty) : List Module → Program → Type 0 where
   p_program : {all : List Module} {s : Stated} → none_left_out all ≡ Ok tt → AreModules nothing_known all s
-      → text_rule s.state.procs s.state.text ≡ Ok tt → IsProgram all (program_of s)
+      → text_rule s.state.procs s.state.text ≡ Ok tt → IsProgram types all (program_of types s)
 
 pub data AreNoModules : State → List Module → Code → Place → Type 0 where
   f_module : {st : State} {m : Module} {rest : List Module} {c : Code} {p : Place}

@@ -13,29 +13,29 @@ use Rattle.nim_tree.specs.declared.stmt.Binding.TheVariants as binding
 use Rattle.nim_tree.specs.Terms as term
 use Rattle.nim_tree.specs.Terms.{Term, Parts}
 use Rattle.nim_tree.specs.Types.{Declaration}
-use Rattle.nim_tree.specs.Statements.{Definition, Parameters, Head, each, up_to, below, Statement, discards, returns, raises, breaks, continues, imports}
+use Rattle.nim_tree.specs.Statements.{Definition, Parameters, Head, Course, each, Statement, discards, returns, raises, breaks, continues, imports}
 use Rattle.nim_tree.specs.Statements.{evaluates, assigns, commands, defines, types, branches, selects, repeats, counts, tries, defers, proclaims, Statements}
 use Rattle.nim_tree.specs.Statements.{then, Branches, branch, Handlers}
 use Rattle.nim_types.specs.Types as type
 use Rattle.nim_types.specs.Types.{Ty}
-use Rattle.nim_core.specs.Program.{Expr, Label}
+use Rattle.nim_program.specs.Program.{Expr, Label}
 use Rattle.expr_rules.specs.Env.{Env}
 use Rattle.expr_rules.specs.Answers.{node, Valued, nothing}
 use Rattle.expr_rules.specs.Builtins.{write_rule}
 use Rattle.expr_rules.specs.Rules.{IsTyped}
 use Rattle.expr_rules.specs.Refusals.{IsRefused}
 use Rattle.expr_rules.specs.Typed.{labels}
-use Rattle.decl_rules.specs.State.{Around, in_body, deeper, looping, State, up_to_node, entered, Stated, noting, Blocked}
-use Rattle.decl_rules.specs.Values.{Value, procedure_rule, result_want, returned, evaluated, target_rule, source_want, source_rule, element_rule}
-use Rattle.decl_rules.specs.Values.{single_test, selector_rule, target_at}
+use Rattle.decl_rules.specs.State.{ResultPlace, Around, in_body, deeper, looping, State, up_to_node, entered, Stated, noting, Blocked}
+use Rattle.decl_rules.specs.Values.{Value, procedure_rule, result_want, given_want, returned, evaluated, target_rule, source_want, source_rule}
+use Rattle.decl_rules.specs.Values.{element_rule, single_test, selector_rule, target_at}
 use Rattle.decl_rules.specs.Definitions.{names_rule, annotated, fixed_value}
 use Rattle.decl_rules.specs.Heads.{Given, given_as, mode_of, group_names, with_parameters, Signature, has_result, Headed, head_by}
-use Rattle.decl_rules.specs.Bodies.{behind_head, before_body}
+use Rattle.decl_rules.specs.Bodies.{result_of, behind_head, before_body}
 use Rattle.decl_rules.specs.Stated.{has_statements, ends_with, covered, Branched, Armed, for_state, is_constant}
 use Rattle.decl_rules.specs.TypeRules.{IsValue, IsValueAs, IsWritten, IfWritten}
 use Rattle.decl_rules.specs.TypeRefusals.{IsNoValue, IsNoValueAs, IsNotWritten, IfNotWritten, IsNoSection}
 use Rattle.decl_rules.specs.Rules.{IsDefined, IsVariable, IsDefinition, IsConstant, AreGiven, IsSignature, IsHead}
-use Rattle.decl_rules.specs.Rules.{IsCondition, IsStated, IsBlock, AreBranches, AreArms}
+use Rattle.decl_rules.specs.Rules.{IsCondition, IsRange, IsStated, IsBlock, AreBranches, AreArms}
 
 -- ---- definitions
 
@@ -124,121 +124,116 @@ pub data IsNoCondition (env : Env) : ℕ → Place → Parts → Code → Place 
       → IsNoCondition env n at tests c p
 
 mutual
-  pub data IsNotStated : Around → (ends : Option Ty) → State → Statement → Code → Place → Type 0 where
-    r_discard : {a : Around} {ends : Option Ty} {st : State} {at p : Place} {t : Term} {c : Code} → IsNoValue st.env nothing (suc st.node) t c p
+  pub data IsNotStated : Around → (ends : ResultPlace) → State → Statement → Code → Place → Type 0 where
+    r_discard : {a : Around} {ends : ResultPlace} {st : State} {at p : Place} {t : Term} {c : Code} → IsNoValue st.env nothing (suc st.node) t c p
         → IsNotStated a ends st (discards at (Some t)) c p
-    r_return : {a : Around} {ends : Option Ty} {st : State} {at p : Place} {t : Option Term} {c : Code} → IsRefusal (procedure_rule at a.inside) c p
+    r_return : {a : Around} {ends : ResultPlace} {st : State} {at p : Place} {t : Option Term} {c : Code} → IsRefusal (procedure_rule at a.inside) c p
         → IsNotStated a ends st (returns at t) c p
-    r_return_term : {a : Around} {ends gives : Option Ty} {st : State} {at p : Place} {t : Term} {c : Code} → procedure_rule at a.inside ≡ Ok gives
-        → IsRefused st.env (result_want gives) (suc st.node) t c p → IsNotStated a ends st (returns at (Some t)) c p
-    r_return_value : {a : Around} {ends gives : Option Ty} {st : State} {at p : Place} {t : Term} {e : Expr} {m : ℕ} {c : Code}
-        → procedure_rule at a.inside ≡ Ok gives → IsTyped st.env (result_want gives) (suc st.node) t e m → IsRefusal (returned gives e) c p
+    r_return_term : {a : Around} {ends gives : ResultPlace} {st : State} {at p : Place} {t : Term} {c : Code} → procedure_rule at a.inside ≡ Ok gives
+        → IsRefused st.env (given_want gives) (suc st.node) t c p → IsNotStated a ends st (returns at (Some t)) c p
+    r_return_value : {a : Around} {ends gives : ResultPlace} {st : State} {at p : Place} {t : Term} {e : Expr} {m : ℕ} {c : Code}
+        → procedure_rule at a.inside ≡ Ok gives → IsTyped st.env (given_want gives) (suc st.node) t e m → IsRefusal (returned gives e) c p
         → IsNotStated a ends st (returns at (Some t)) c p
     -- not built yet
-    r_raise : {a : Around} {ends : Option Ty} {st : State} {at : Place} {t : Option Term} → IsNotStated a ends st (raises at t) LeftOut at
-    r_import : {a : Around} {ends : Option Ty} {st : State} {at : Place} {names : List Name} → IsNotStated a ends st (imports at names) LeftOut at
-    r_try : {a : Around} {ends : Option Ty} {st : State} {at : Place} {body finally : Statements} {all : Handlers}
+    r_raise : {a : Around} {ends : ResultPlace} {st : State} {at : Place} {t : Option Term} → IsNotStated a ends st (raises at t) LeftOut at
+    r_import : {a : Around} {ends : ResultPlace} {st : State} {at : Place} {names : List Name} → IsNotStated a ends st (imports at names) LeftOut at
+    r_try : {a : Around} {ends : ResultPlace} {st : State} {at : Place} {body finally : Statements} {all : Handlers}
         → IsNotStated a ends st (tries at body all finally) LeftOut at
-    r_defer : {a : Around} {ends : Option Ty} {st : State} {at : Place} {body : Statements} → IsNotStated a ends st (defers at body) LeftOut at
-    r_break : {a : Around} {ends : Option Ty} {st : State} {at : Place} → a.in_loop ≡ false → IsNotStated a ends st (breaks at) NotTyped at
-    r_continue : {a : Around} {ends : Option Ty} {st : State} {at : Place} → a.in_loop ≡ false → IsNotStated a ends st (continues at) NotTyped at
-    r_expression : {a : Around} {ends : Option Ty} {st : State} {at p : Place} {t : Term} {c : Code} → IsRefused st.env (result_want ends) (suc st.node) t c p
+    r_defer : {a : Around} {ends : ResultPlace} {st : State} {at : Place} {body : Statements} → IsNotStated a ends st (defers at body) LeftOut at
+    r_break : {a : Around} {ends : ResultPlace} {st : State} {at : Place} → a.in_loop ≡ false → IsNotStated a ends st (breaks at) NotTyped at
+    r_continue : {a : Around} {ends : ResultPlace} {st : State} {at : Place} → a.in_loop ≡ false → IsNotStated a ends st (continues at) NotTyped at
+    r_expression : {a : Around} {ends : ResultPlace} {st : State} {at p : Place} {t : Term} {c : Code} → IsRefused st.env (given_want ends) (suc st.node) t c p
         → IsNotStated a ends st (evaluates at t) c p
     -- a value that nobody takes
-    r_evaluate : {a : Around} {ends : Option Ty} {st : State} {at p : Place} {t : Term} {e : Expr} {m : ℕ} {c : Code}
-        → IsTyped st.env (result_want ends) (suc st.node) t e m → IsRefusal (evaluated ends (node st.node at) e) c p
+    r_evaluate : {a : Around} {ends : ResultPlace} {st : State} {at p : Place} {t : Term} {e : Expr} {m : ℕ} {c : Code}
+        → IsTyped st.env (given_want ends) (suc st.node) t e m → IsRefusal (evaluated ends (node st.node at) e) c p
         → IsNotStated a ends st (evaluates at t) c p
-    r_call : {a : Around} {ends : Option Ty} {st : State} {at p : Place} {t : Term} {operands : Parts} {c : Code}
-        → IsRefused st.env (result_want ends) (suc st.node) (term.call at t operands) c p → IsNotStated a ends st (commands at t operands) c p
-    r_command : {a : Around} {ends : Option Ty} {st : State} {at p : Place} {t : Term} {operands : Parts} {e : Expr} {m : ℕ} {c : Code}
-        → IsTyped st.env (result_want ends) (suc st.node) (term.call at t operands) e m → IsRefusal (evaluated ends (node st.node at) e) c p
+    r_call : {a : Around} {ends : ResultPlace} {st : State} {at p : Place} {t : Term} {operands : Parts} {c : Code}
+        → IsRefused st.env (given_want ends) (suc st.node) (term.call at t operands) c p → IsNotStated a ends st (commands at t operands) c p
+    r_command : {a : Around} {ends : ResultPlace} {st : State} {at p : Place} {t : Term} {operands : Parts} {e : Expr} {m : ℕ} {c : Code}
+        → IsTyped st.env (given_want ends) (suc st.node) (term.call at t operands) e m → IsRefusal (evaluated ends (node st.node at) e) c p
         → IsNotStated a ends st (commands at t operands) c p
-    r_target : {a : Around} {ends : Option Ty} {st : State} {at p : Place} {op : AssignOp} {t u : Term} {c : Code}
+    r_target : {a : Around} {ends : ResultPlace} {st : State} {at p : Place} {op : AssignOp} {t u : Term} {c : Code}
         → IsNoValue st.env nothing (suc st.node) t c p
         → IsNotStated a ends st (assigns at op t u) c p
-    r_target_type : {a : Around} {ends : Option Ty} {st : State} {at p : Place} {op : AssignOp} {t u : Term} {v : Value} {c : Code}
+    r_target_type : {a : Around} {ends : ResultPlace} {st : State} {at p : Place} {op : AssignOp} {t u : Term} {v : Value} {c : Code}
         → IsValue st.env nothing (suc st.node) t v → IsRefusal (target_rule op v.given) c p → IsNotStated a ends st (assigns at op t u) c p
     -- it can't be written
-    r_written : {a : Around} {ends : Option Ty} {st : State} {at p : Place} {op : AssignOp} {t u : Term} {v : Value} {target : Valued} {c : Code}
+    r_written : {a : Around} {ends : ResultPlace} {st : State} {at p : Place} {op : AssignOp} {t u : Term} {v : Value} {target : Valued} {c : Code}
         → IsValue st.env nothing (suc st.node) t v → target_rule op v.given ≡ Ok target → IsRefusal (write_rule (target_at st.env t target)) c p
         → IsNotStated a ends st (assigns at op t u) c p
-    r_source : {a : Around} {ends : Option Ty} {st : State} {at p : Place} {op : AssignOp} {t u : Term} {v : Value} {target : Valued} {c : Code}
+    r_source : {a : Around} {ends : ResultPlace} {st : State} {at p : Place} {op : AssignOp} {t u : Term} {v : Value} {target : Valued} {c : Code}
         → IsValue st.env nothing (suc st.node) t v → target_rule op v.given ≡ Ok target → write_rule (target_at st.env t target) ≡ Ok tt
         → IsNoValue st.env (source_want op target.of) v.next u c p → IsNotStated a ends st (assigns at op t u) c p
-    r_source_type : {a : Around} {ends : Option Ty} {st : State} {at p : Place} {op : AssignOp} {t u : Term} {v w : Value} {target : Valued}
+    r_source_type : {a : Around} {ends : ResultPlace} {st : State} {at p : Place} {op : AssignOp} {t u : Term} {v w : Value} {target : Valued}
         {c : Code} → IsValue st.env nothing (suc st.node) t v → target_rule op v.given ≡ Ok target → write_rule (target_at st.env t target) ≡ Ok tt
         → IsValue st.env (source_want op target.of) v.next u w → IsRefusal (source_rule op target.of w.given) c p
         → IsNotStated a ends st (assigns at op t u) c p
-    r_constants : {a : Around} {ends : Option Ty} {st : State} {at p : Place} {all : List Definition} {c : Code} → AreNoConstants st all c p
+    r_constants : {a : Around} {ends : ResultPlace} {st : State} {at p : Place} {all : List Definition} {c : Code} → AreNoConstants st all c p
         → IsNotStated a ends st (defines at binding.Const all) c p
-    r_variables : {a : Around} {ends : Option Ty} {st : State} {at p : Place} {b : Binding} {all : List Definition} {c : Code} → is_constant b ≡ false
+    r_variables : {a : Around} {ends : ResultPlace} {st : State} {at p : Place} {b : Binding} {all : List Definition} {c : Code} → is_constant b ≡ false
         → AreNoDefinitions a at b st all c p → IsNotStated a ends st (defines at b all) c p
-    r_types : {a : Around} {ends : Option Ty} {st : State} {at p : Place} {all : List Declaration} {c : Code} → IsNoSection st all c p
+    r_types : {a : Around} {ends : ResultPlace} {st : State} {at p : Place} {all : List Declaration} {c : Code} → IsNoSection st all c p
         → IsNotStated a ends st (types at all) c p
-    r_branches : {a : Around} {ends : Option Ty} {st : State} {at p : Place} {all : Branches} {otherwise : Statements} {c : Code}
+    r_branches : {a : Around} {ends : ResultPlace} {st : State} {at p : Place} {all : Branches} {otherwise : Statements} {c : Code}
         → AreNoBranches a (up_to_node st (suc st.node)) all c p → IsNotStated a ends st (branches at all otherwise) c p
-    r_else : {a : Around} {ends : Option Ty} {st : State} {at p : Place} {all : Branches} {otherwise : Statements} {b : Branched} {c : Code}
+    r_else : {a : Around} {ends : ResultPlace} {st : State} {at p : Place} {all : Branches} {otherwise : Statements} {b : Branched} {c : Code}
         → AreBranches a (up_to_node st (suc st.node)) all b → IsNoBlock a b.state otherwise c p
         → IsNotStated a ends st (branches at all otherwise) c p
-    r_selector : {a : Around} {ends : Option Ty} {st : State} {at p : Place} {t : Term} {all : Branches} {otherwise : Statements} {c : Code}
+    r_selector : {a : Around} {ends : ResultPlace} {st : State} {at p : Place} {t : Term} {all : Branches} {otherwise : Statements} {c : Code}
         → IsNoValue st.env nothing (suc st.node) t c p → IsNotStated a ends st (selects at t all otherwise) c p
-    r_selector_type : {a : Around} {ends : Option Ty} {st : State} {at p : Place} {t : Term} {all : Branches} {otherwise : Statements} {v : Value} {c : Code}
+    r_selector_type : {a : Around} {ends : ResultPlace} {st : State} {at p : Place} {t : Term} {all : Branches} {otherwise : Statements} {v : Value} {c : Code}
         → IsValue st.env nothing (suc st.node) t v → IsRefusal (selector_rule v.given) c p → IsNotStated a ends st (selects at t all otherwise) c p
-    r_arms : {a : Around} {ends : Option Ty} {st : State} {at p : Place} {t : Term} {all : Branches} {otherwise : Statements} {v : Value} {s : Valued}
+    r_arms : {a : Around} {ends : ResultPlace} {st : State} {at p : Place} {t : Term} {all : Branches} {otherwise : Statements} {v : Value} {s : Valued}
         {c : Code}
         → IsValue st.env nothing (suc st.node) t v → selector_rule v.given ≡ Ok s → AreNoArms a s.of [] (up_to_node st v.next) all c p
         → IsNotStated a ends st (selects at t all otherwise) c p
-    r_case_else : {a : Around} {ends : Option Ty} {st : State} {at p : Place} {t : Term} {all : Branches} {otherwise : Statements} {v : Value} {s : Valued}
+    r_case_else : {a : Around} {ends : ResultPlace} {st : State} {at p : Place} {t : Term} {all : Branches} {otherwise : Statements} {v : Value} {s : Valued}
         {b : Armed} {c : Code} → IsValue st.env nothing (suc st.node) t v → selector_rule v.given ≡ Ok s
         → AreArms a s.of [] (up_to_node st v.next) all b → IsNoBlock a b.state otherwise c p → IsNotStated a ends st (selects at t all otherwise) c p
     -- values without labels
-    r_cover : {a : Around} {ends : Option Ty} {st : State} {at p : Place} {t : Term} {all : Branches} {otherwise : Statements} {v : Value} {s : Valued}
+    r_cover : {a : Around} {ends : ResultPlace} {st : State} {at p : Place} {t : Term} {all : Branches} {otherwise : Statements} {v : Value} {s : Valued}
         {b : Armed} {o : Blocked} {c : Code} → IsValue st.env nothing (suc st.node) t v → selector_rule v.given ≡ Ok s
         → AreArms a s.of [] (up_to_node st v.next) all b → IsBlock a b.state otherwise o
         → IsRefusal (covered st.env.facts at s.of b.labels otherwise) c p → IsNotStated a ends st (selects at t all otherwise) c p
-    r_while : {a : Around} {ends : Option Ty} {st : State} {at p : Place} {t : Term} {body : Statements} {c : Code}
+    r_while : {a : Around} {ends : ResultPlace} {st : State} {at p : Place} {t : Term} {body : Statements} {c : Code}
         → IsNoValueAs st.env type.bool (suc st.node) t c p → IsNotStated a ends st (repeats at t body) c p
-    r_while_body : {a : Around} {ends : Option Ty} {st : State} {at p : Place} {t : Term} {body : Statements} {v : Value} {c : Code}
+    r_while_body : {a : Around} {ends : ResultPlace} {st : State} {at p : Place} {t : Term} {body : Statements} {v : Value} {c : Code}
         → IsValueAs st.env type.bool (suc st.node) t v → IsNoBlock (looping a) (up_to_node st v.next) body c p
         → IsNotStated a ends st (repeats at t body) c p
-    r_each : {a : Around} {ends : Option Ty} {st : State} {at p : Place} {x : Name} {t : Term} {body : Statements} {c : Code}
+    r_each : {a : Around} {ends : ResultPlace} {st : State} {at p : Place} {x : Name} {t : Term} {body : Statements} {c : Code}
         → IsNoValue st.env nothing (suc st.node) t c p → IsNotStated a ends st (counts at x (each t) body) c p
     -- it has no elements
-    r_each_type : {a : Around} {ends : Option Ty} {st : State} {at p : Place} {x : Name} {t : Term} {body : Statements} {v : Value} {c : Code}
+    r_each_type : {a : Around} {ends : ResultPlace} {st : State} {at p : Place} {x : Name} {t : Term} {body : Statements} {v : Value} {c : Code}
         → IsValue st.env nothing (suc st.node) t v → IsRefusal (element_rule v.given) c p → IsNotStated a ends st (counts at x (each t) body) c p
-    r_each_body : {a : Around} {ends : Option Ty} {st : State} {at p : Place} {x : Name} {t : Term} {body : Statements} {v : Value} {ty : Ty} {c : Code}
+    r_each_body : {a : Around} {ends : ResultPlace} {st : State} {at p : Place} {x : Name} {t : Term} {body : Statements} {v : Value} {ty : Ty} {c : Code}
         → IsValue st.env nothing (suc st.node) t v → element_rule v.given ≡ Ok ty → IsNoBlock (looping a) (for_state st v x ty) body c p
         → IsNotStated a ends st (counts at x (each t) body) c p
-    r_first : {a : Around} {ends : Option Ty} {st : State} {at p : Place} {x : Name} {t u : Term} {body : Statements} {c : Code}
-        → IsNoValueAs st.env type.int (suc st.node) t c p → IsNotStated a ends st (counts at x (up_to t u) body) c p
-    r_last : {a : Around} {ends : Option Ty} {st : State} {at p : Place} {x : Name} {t u : Term} {body : Statements} {v : Value} {c : Code}
-        → IsValueAs st.env type.int (suc st.node) t v → IsNoValueAs st.env type.int v.next u c p
-        → IsNotStated a ends st (counts at x (up_to t u) body) c p
-    r_up_to_body : {a : Around} {ends : Option Ty} {st : State} {at p : Place} {x : Name} {t u : Term} {body : Statements} {v w : Value} {c : Code}
-        → IsValueAs st.env type.int (suc st.node) t v → IsValueAs st.env type.int v.next u w
-        → IsNoBlock (looping a) (for_state st w x type.int) body c p → IsNotStated a ends st (counts at x (up_to t u) body) c p
-    r_start : {a : Around} {ends : Option Ty} {st : State} {at p : Place} {x : Name} {t u : Term} {body : Statements} {c : Code}
-        → IsNoValueAs st.env type.int (suc st.node) t c p → IsNotStated a ends st (counts at x (below t u) body) c p
-    r_end : {a : Around} {ends : Option Ty} {st : State} {at p : Place} {x : Name} {t u : Term} {body : Statements} {v : Value} {c : Code}
-        → IsValueAs st.env type.int (suc st.node) t v → IsNoValueAs st.env type.int v.next u c p
-        → IsNotStated a ends st (counts at x (below t u) body) c p
-    r_below_body : {a : Around} {ends : Option Ty} {st : State} {at p : Place} {x : Name} {t u : Term} {body : Statements} {v w : Value} {c : Code}
-        → IsValueAs st.env type.int (suc st.node) t v → IsValueAs st.env type.int v.next u w
-        → IsNoBlock (looping a) (for_state st w x type.int) body c p → IsNotStated a ends st (counts at x (below t u) body) c p
+    r_range_first : {a : Around} {ends : ResultPlace} {st : State} {at p : Place} {x : Name} {course : Course} {t u : Term} {inclusive : Bool}
+        {body : Statements} {c : Code} → IsRange course t u inclusive → IsNoValueAs st.env type.int (suc st.node) t c p
+        → IsNotStated a ends st (counts at x course body) c p
+    r_range_last : {a : Around} {ends : ResultPlace} {st : State} {at p : Place} {x : Name} {course : Course} {t u : Term} {inclusive : Bool}
+        {body : Statements} {v : Value} {c : Code} → IsRange course t u inclusive → IsValueAs st.env type.int (suc st.node) t v
+        → IsNoValueAs st.env type.int v.next u c p → IsNotStated a ends st (counts at x course body) c p
+    r_range_body : {a : Around} {ends : ResultPlace} {st : State} {at p : Place} {x : Name} {course : Course} {t u : Term} {inclusive : Bool}
+        {body : Statements} {v w : Value} {c : Code} → IsRange course t u inclusive → IsValueAs st.env type.int (suc st.node) t v
+        → IsValueAs st.env type.int v.next u w → IsNoBlock (looping a) (for_state st w x type.int) body c p
+        → IsNotStated a ends st (counts at x course body) c p
     -- in a block
-    r_level : {a : Around} {ends : Option Ty} {st : State} {at : Place} {h : Head} {body : Statements} → a.outermost ≡ false
+    r_level : {a : Around} {ends : ResultPlace} {st : State} {at : Place} {h : Head} {body : Statements} → a.outermost ≡ false
         → IsNotStated a ends st (proclaims at h body) NotTyped at
-    r_head : {a : Around} {ends : Option Ty} {st : State} {at p : Place} {h : Head} {body : Statements} {c : Code} → a.outermost ≡ true
+    r_head : {a : Around} {ends : ResultPlace} {st : State} {at p : Place} {h : Head} {body : Statements} {c : Code} → a.outermost ≡ true
         → IsNoHead st at h (has_statements body) c p → IsNotStated a ends st (proclaims at h body) c p
-    r_body : {a : Around} {ends : Option Ty} {st : State} {at p : Place} {h : Head} {body : Statements} {k : Headed} {c : Code}
+    r_body : {a : Around} {ends : ResultPlace} {st : State} {at p : Place} {h : Head} {body : Statements} {k : Headed} {c : Code}
         → a.outermost ≡ true → IsHead st at h (has_statements body) k
-        → AreNotStated (in_body k.signature.gives) k.signature.gives (before_body (behind_head st at h k) h k) body c p
+        → AreNotStated (in_body (result_of (behind_head st at h k) h k)) (result_of (behind_head st at h k) h k)
+        (before_body (behind_head st at h k) h k) body c p
         → IsNotStated a ends st (proclaims at h body) c p
 
-  pub data AreNotStated : Around → (ends : Option Ty) → State → Statements → Code → Place → Type 0 where
-    r_statement : {a : Around} {ends : Option Ty} {st : State} {first : Statement} {rest : Statements} {c : Code} {p : Place}
+  pub data AreNotStated : Around → (ends : ResultPlace) → State → Statements → Code → Place → Type 0 where
+    r_statement : {a : Around} {ends : ResultPlace} {st : State} {first : Statement} {rest : Statements} {c : Code} {p : Place}
         → IsNotStated a (ends_with ends rest) st first c p → AreNotStated a ends st (then first rest) c p
-    r_statements : {a : Around} {ends : Option Ty} {st : State} {first : Statement} {rest : Statements} {one : Stated} {c : Code} {p : Place}
+    r_statements : {a : Around} {ends : ResultPlace} {st : State} {first : Statement} {rest : Statements} {one : Stated} {c : Code} {p : Place}
         → IsStated a (ends_with ends rest) st first one → AreNotStated a ends (noting a.outermost one) rest c p
         → AreNotStated a ends st (then first rest) c p
 

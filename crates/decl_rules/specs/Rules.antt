@@ -15,27 +15,28 @@ use Rattle.nim_tree.specs.declared.stmt.Binding.TheVariants as binding
 use Rattle.nim_tree.specs.Terms as term
 use Rattle.nim_tree.specs.Terms.{Term, Parts}
 use Rattle.nim_tree.specs.Types.{Declaration}
-use Rattle.nim_tree.specs.Statements.{Definition, Parameters, Head, each, up_to, below, Statement, discards, returns, breaks, continues, evaluates, assigns}
-use Rattle.nim_tree.specs.Statements.{commands, defines, types, branches, selects, repeats, counts, proclaims, Statements, empty, then}
+use Rattle.nim_tree.specs.Statements.{Definition, Parameters, Head, Course, each, up_to, below, Statement, discards, returns, breaks, continues}
+use Rattle.nim_tree.specs.Statements.{evaluates, assigns, commands, defines, types, branches, selects, repeats, counts, proclaims, Statements, empty, then}
 use Rattle.nim_tree.specs.Statements.{Branches, no_branches, branch}
 use Rattle.nim_types.specs.Types as type
 use Rattle.nim_types.specs.Types.{Ty}
-use Rattle.nim_core.specs.Program as P
-use Rattle.nim_core.specs.Program.{Expr, Label, Stmt, NoArm, NoBranch}
+use Rattle.nim_program.specs.declared.stmt.Leaving.TheVariants as leaving
+use Rattle.nim_program.specs.Program.{Expr, NoArg, Label, Stmt}
+use Rattle.nim_program.specs.Nodes.{discard}
 use Rattle.expr_rules.specs.Env.{Env}
 use Rattle.expr_rules.specs.Answers.{node, Valued, nothing}
 use Rattle.expr_rules.specs.Builtins.{write_rule}
 use Rattle.expr_rules.specs.Paths.{path_of}
 use Rattle.expr_rules.specs.Rules.{IsTyped}
 use Rattle.expr_rules.specs.Typed.{labels}
-use Rattle.decl_rules.specs.State.{Around, in_body, deeper, looping, State, declaring, up_to_node, entered, Stated, stated_as, did}
+use Rattle.decl_rules.specs.State.{ResultPlace, Around, in_body, deeper, looping, State, declaring, up_to_node, entered, Stated, stated_as, did}
 use Rattle.decl_rules.specs.State.{noting, and_more, Blocked, closed}
-use Rattle.decl_rules.specs.Values.{Value, procedure_rule, result_want, returned, evaluated, target_rule, source_want, source_rule, assigned}
-use Rattle.decl_rules.specs.Values.{element_rule, single_test, selector_rule, target_at}
+use Rattle.decl_rules.specs.Values.{Value, procedure_rule, result_want, given_want, returned, gives_back, evaluated, target_rule, source_want, source_rule}
+use Rattle.decl_rules.specs.Values.{assigned, element_rule, single_test, selector_rule, target_at}
 use Rattle.decl_rules.specs.Definitions.{names_rule, annotated, initialised, defaulted, constant_entries, Fixed, fixed_value}
 use Rattle.decl_rules.specs.Heads.{Given, given_as, mode_of, group_names, with_parameters, Signature, has_result, Headed, head_by}
-use Rattle.decl_rules.specs.Bodies.{behind_head, before_body, behind_body}
-use Rattle.decl_rules.specs.Stated.{has_statements, ends_with, covered, passed, Branched, Armed, branch_before, arm_before, branched}
+use Rattle.decl_rules.specs.Bodies.{result_of, behind_head, before_body, behind_body}
+use Rattle.decl_rules.specs.Stated.{has_statements, ends_with, covered, passed, leaves, Branched, Armed, branch_before, arm_before, branched}
 use Rattle.decl_rules.specs.Stated.{selected, repeated, gone_over, counted, for_state, is_constant}
 use Rattle.decl_rules.specs.TypeRules.{IsValue, IsValueAs, IsWritten, IfWritten, IsSection}
 
@@ -107,66 +108,68 @@ pub data IsCondition (env : Env) : ℕ → Place → Parts → Value → Type 0 
   s_condition : {n : ℕ} {at : Place} {tests : Parts} {t : Term} {v : Value} → single_test at tests ≡ Ok t → IsValueAs env type.bool n t v
       → IsCondition env n at tests v
 
+-- the ints from one to another, with that one or without
+pub data IsRange : Course → (first last : Term) → (inclusive : Bool) → Type 0 where
+  to_last : {t u : Term} → IsRange (up_to t u) t u true
+  below_last : {t u : Term} → IsRange (below t u) t u false
+
 mutual
-  pub data IsStated : Around → (ends : Option Ty) → State → Statement → Stated → Type 0 where
-    s_discard : {a : Around} {ends : Option Ty} {st : State} {at : Place}
-        → IsStated a ends st (discards at None) (did st (P.Discard (node st.node at)) (suc st.node))
-    s_discard_value : {a : Around} {ends : Option Ty} {st : State} {at : Place} {t : Term} {v : Value} → IsValue st.env nothing (suc st.node) t v
-        → IsStated a ends st (discards at (Some t)) (did st (P.DiscardValue (node st.node at) v.given.expr) v.next)
-    s_return : {a : Around} {ends gives : Option Ty} {st : State} {at : Place} → procedure_rule at a.inside ≡ Ok gives
-        → IsStated a ends st (returns at None) (did st (P.Return (node st.node at)) (suc st.node))
-    s_return_value : {a : Around} {ends gives : Option Ty} {st : State} {at : Place} {t : Term} {e : Expr} {m : ℕ} {v : Valued}
-        → procedure_rule at a.inside ≡ Ok gives → IsTyped st.env (result_want gives) (suc st.node) t e m → returned gives e ≡ Ok v
-        → IsStated a ends st (returns at (Some t)) (did st (P.ReturnValue (node st.node at) v.expr) m)
-    s_break : {a : Around} {ends : Option Ty} {st : State} {at : Place} → a.in_loop ≡ true
-        → IsStated a ends st (breaks at) (did st (P.Break (node st.node at)) (suc st.node))
-    s_continue : {a : Around} {ends : Option Ty} {st : State} {at : Place} → a.in_loop ≡ true
-        → IsStated a ends st (continues at) (did st (P.Continue (node st.node at)) (suc st.node))
-    s_evaluate : {a : Around} {ends : Option Ty} {st : State} {at : Place} {t : Term} {e : Expr} {m : ℕ} {s : Stmt}
-        → IsTyped st.env (result_want ends) (suc st.node) t e m → evaluated ends (node st.node at) e ≡ Ok s
+  pub data IsStated : Around → (ends : ResultPlace) → State → Statement → Stated → Type 0 where
+    s_discard : {a : Around} {ends : ResultPlace} {st : State} {at : Place}
+        → IsStated a ends st (discards at None) (passed st at)
+    s_discard_value : {a : Around} {ends : ResultPlace} {st : State} {at : Place} {t : Term} {v : Value} → IsValue st.env nothing (suc st.node) t v
+        → IsStated a ends st (discards at (Some t)) (did st (discard (node st.node at) v.given.expr) v.next)
+    s_return : {a : Around} {ends gives : ResultPlace} {st : State} {at : Place} → procedure_rule at a.inside ≡ Ok gives
+        → IsStated a ends st (returns at None) (leaves st at leaving.Return)
+    s_return_value : {a : Around} {ends gives : ResultPlace} {st : State} {at : Place} {t : Term} {e : Expr} {m : ℕ} {v : Valued}
+        → procedure_rule at a.inside ≡ Ok gives → IsTyped st.env (given_want gives) (suc st.node) t e m → returned gives e ≡ Ok v
+        → IsStated a ends st (returns at (Some t)) (did st (gives_back gives (node st.node at) v.expr) m)
+    s_break : {a : Around} {ends : ResultPlace} {st : State} {at : Place} → a.in_loop ≡ true
+        → IsStated a ends st (breaks at) (leaves st at leaving.Break)
+    s_continue : {a : Around} {ends : ResultPlace} {st : State} {at : Place} → a.in_loop ≡ true
+        → IsStated a ends st (continues at) (leaves st at leaving.Continue)
+    s_evaluate : {a : Around} {ends : ResultPlace} {st : State} {at : Place} {t : Term} {e : Expr} {m : ℕ} {s : Stmt}
+        → IsTyped st.env (given_want ends) (suc st.node) t e m → evaluated ends (node st.node at) e ≡ Ok s
         → IsStated a ends st (evaluates at t) (did st s m)
-    s_command : {a : Around} {ends : Option Ty} {st : State} {at : Place} {t : Term} {operands : Parts} {e : Expr} {m : ℕ} {s : Stmt}
-        → IsTyped st.env (result_want ends) (suc st.node) (term.call at t operands) e m → evaluated ends (node st.node at) e ≡ Ok s
+    s_command : {a : Around} {ends : ResultPlace} {st : State} {at : Place} {t : Term} {operands : Parts} {e : Expr} {m : ℕ} {s : Stmt}
+        → IsTyped st.env (given_want ends) (suc st.node) (term.call at t operands) e m → evaluated ends (node st.node at) e ≡ Ok s
         → IsStated a ends st (commands at t operands) (did st s m)
-    s_assign : {a : Around} {ends : Option Ty} {st : State} {at : Place} {op : AssignOp} {t u : Term} {v w : Value} {target source : Valued}
+    s_assign : {a : Around} {ends : ResultPlace} {st : State} {at : Place} {op : AssignOp} {t u : Term} {v w : Value} {target source : Valued}
         → IsValue st.env nothing (suc st.node) t v → target_rule op v.given ≡ Ok target → write_rule (target_at st.env t target) ≡ Ok tt
         → IsValue st.env (source_want op target.of) v.next u w → source_rule op target.of w.given ≡ Ok source
         → IsStated a ends st (assigns at op t u) (did st (assigned op (node st.node at) (path_of target.expr) source.expr) w.next)
-    s_constants : {a : Around} {ends : Option Ty} {st behind : State} {at : Place} {all : List Definition} → AreConstants st all behind
+    s_constants : {a : Around} {ends : ResultPlace} {st behind : State} {at : Place} {all : List Definition} → AreConstants st all behind
         → IsStated a ends st (defines at binding.Const all) (passed behind at)
-    s_variables : {a : Around} {ends : Option Ty} {st : State} {at : Place} {b : Binding} {all : List Definition} {s : Stated} → is_constant b ≡ false
+    s_variables : {a : Around} {ends : ResultPlace} {st : State} {at : Place} {b : Binding} {all : List Definition} {s : Stated} → is_constant b ≡ false
         → AreDefinitions a at b st all s → IsStated a ends st (defines at b all) s
-    s_types : {a : Around} {ends : Option Ty} {st : State} {at : Place} {all : List Declaration} {env : Env} → IsSection st all env
+    s_types : {a : Around} {ends : ResultPlace} {st : State} {at : Place} {all : List Declaration} {env : Env} → IsSection st all env
         → IsStated a ends st (types at all) (passed (record st { env = env }) at)
-    s_if : {a : Around} {ends : Option Ty} {st : State} {at : Place} {all : Branches} {otherwise : Statements} {b : Branched} {o : Blocked}
+    s_if : {a : Around} {ends : ResultPlace} {st : State} {at : Place} {all : Branches} {otherwise : Statements} {b : Branched} {o : Blocked}
         → AreBranches a (up_to_node st (suc st.node)) all b → IsBlock a b.state otherwise o
         → IsStated a ends st (branches at all otherwise) (branched st.node at b o)
-    s_case : {a : Around} {ends : Option Ty} {st : State} {at : Place} {t : Term} {all : Branches} {otherwise : Statements} {v : Value} {s : Valued} {b : Armed}
-        {o : Blocked} → IsValue st.env nothing (suc st.node) t v → selector_rule v.given ≡ Ok s → AreArms a s.of [] (up_to_node st v.next) all b
+    s_case : {a : Around} {ends : ResultPlace} {st : State} {at : Place} {t : Term} {all : Branches} {otherwise : Statements} {v : Value} {s : Valued}
+        {b : Armed} {o : Blocked} → IsValue st.env nothing (suc st.node) t v → selector_rule v.given ≡ Ok s → AreArms a s.of [] (up_to_node st v.next) all b
         → IsBlock a b.state otherwise o → covered st.env.facts at s.of b.labels otherwise ≡ Ok tt
         → IsStated a ends st (selects at t all otherwise) (selected st.node at v b o)
-    s_while : {a : Around} {ends : Option Ty} {st : State} {at : Place} {t : Term} {body : Statements} {c : Value} {b : Blocked}
+    s_while : {a : Around} {ends : ResultPlace} {st : State} {at : Place} {t : Term} {body : Statements} {c : Value} {b : Blocked}
         → IsValueAs st.env type.bool (suc st.node) t c → IsBlock (looping a) (up_to_node st c.next) body b
         → IsStated a ends st (repeats at t body) (repeated st.node at c b)
-    s_for_each : {a : Around} {ends : Option Ty} {st : State} {at : Place} {x : Name} {t : Term} {body : Statements} {v : Value} {ty : Ty} {b : Blocked}
+    s_for_each : {a : Around} {ends : ResultPlace} {st : State} {at : Place} {x : Name} {t : Term} {body : Statements} {v : Value} {ty : Ty} {b : Blocked}
         → IsValue st.env nothing (suc st.node) t v → element_rule v.given ≡ Ok ty → IsBlock (looping a) (for_state st v x ty) body b
         → IsStated a ends st (counts at x (each t) body) (gone_over st.node at st x v ty b)
-    s_for_up_to : {a : Around} {ends : Option Ty} {st : State} {at : Place} {x : Name} {t u : Term} {body : Statements} {v w : Value} {b : Blocked}
-        → IsValueAs st.env type.int (suc st.node) t v → IsValueAs st.env type.int v.next u w
-        → IsBlock (looping a) (for_state st w x type.int) body b
-        → IsStated a ends st (counts at x (up_to t u) body) (counted st.node at st x v w true b)
-    s_for_below : {a : Around} {ends : Option Ty} {st : State} {at : Place} {x : Name} {t u : Term} {body : Statements} {v w : Value} {b : Blocked}
-        → IsValueAs st.env type.int (suc st.node) t v → IsValueAs st.env type.int v.next u w
-        → IsBlock (looping a) (for_state st w x type.int) body b
-        → IsStated a ends st (counts at x (below t u) body) (counted st.node at st x v w false b)
-    s_procedure : {a : Around} {ends : Option Ty} {st : State} {at : Place} {h : Head} {body : Statements} {k : Headed} {s : Stated}
+    s_for_range : {a : Around} {ends : ResultPlace} {st : State} {at : Place} {x : Name} {course : Course} {t u : Term} {inclusive : Bool}
+        {body : Statements} {v w : Value} {b : Blocked} → IsRange course t u inclusive → IsValueAs st.env type.int (suc st.node) t v
+        → IsValueAs st.env type.int v.next u w → IsBlock (looping a) (for_state st w x type.int) body b
+        → IsStated a ends st (counts at x course body) (counted st.node at st x v w inclusive b)
+    s_procedure : {a : Around} {ends : ResultPlace} {st : State} {at : Place} {h : Head} {body : Statements} {k : Headed} {s : Stated}
         → a.outermost ≡ true → IsHead st at h (has_statements body) k
-        → AreStated (in_body k.signature.gives) k.signature.gives (before_body (behind_head st at h k) h k) body s
+        → AreStated (in_body (result_of (behind_head st at h k) h k)) (result_of (behind_head st at h k) h k)
+        (before_body (behind_head st at h k) h k) body s
         → IsStated a ends st (proclaims at h body) (stated_as [] (behind_body (has_statements body) (behind_head st at h k) at h k s))
 
-  pub data AreStated : Around → (ends : Option Ty) → State → Statements → Stated → Type 0 where
-    s_none : {a : Around} {ends : Option Ty} {st : State} → AreStated a ends st empty (stated_as [] st)
-    s_more : {a : Around} {ends : Option Ty} {st : State} {first : Statement} {rest : Statements} {one more : Stated}
+  pub data AreStated : Around → (ends : ResultPlace) → State → Statements → Stated → Type 0 where
+    s_none : {a : Around} {ends : ResultPlace} {st : State} → AreStated a ends st empty (stated_as [] st)
+    s_more : {a : Around} {ends : ResultPlace} {st : State} {first : Statement} {rest : Statements} {one more : Stated}
         → IsStated a (ends_with ends rest) st first one → AreStated a ends (noting a.outermost one) rest more
         → AreStated a ends st (then first rest) (and_more one more)
 
@@ -176,15 +179,15 @@ mutual
 
   -- of an `if`
   pub data AreBranches : Around → State → Branches → Branched → Type 0 where
-    s_no_branches : {a : Around} {st : State} → AreBranches a st no_branches (record { branches = NoBranch; state = st })
+    s_no_branches : {a : Around} {st : State} → AreBranches a st no_branches (record { tests = NoArg; blocks = []; state = st })
     s_branches : {a : Around} {st : State} {at : Place} {tests : Parts} {body : Statements} {rest : Branches} {c : Value} {b : Blocked} {more : Branched}
         → IsCondition st.env st.node at tests c → IsBlock a (up_to_node st c.next) body b → AreBranches a b.state rest more
         → AreBranches a st (branch at tests body rest) (branch_before c b more)
 
   -- of a `case` over values of the type, behind others with these labels
   pub data AreArms : Around → Ty → (before : List Label) → State → Branches → Armed → Type 0 where
-    s_no_arms : {a : Around} {ty : Ty} {before : List Label} {st : State} → AreArms a ty before st no_branches (record
-        { arms = NoArm; labels = before; state = st })
+    s_no_arms : {a : Around} {ty : Ty} {before : List Label} {st : State} → AreArms a ty before st no_branches
+        (record { rows = []; labels = before; blocks = []; state = st })
     s_arms : {a : Around} {ty : Ty} {before ls : List Label} {st : State} {at : Place} {tests : Parts} {body : Statements} {rest : Branches} {b : Blocked}
         {more : Armed} → labels st.env ty before tests ≡ Ok ls → IsBlock a st body b → AreArms a ty (before ++ ls) b.state rest more
         → AreArms a ty before st (branch at tests body rest) (arm_before ls b more)

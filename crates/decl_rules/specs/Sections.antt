@@ -9,7 +9,7 @@ use Rattle.nim_tree.specs.Types as body
 use Rattle.nim_tree.specs.Types.{Body, Declaration}
 use Rattle.nim_types.specs.Types as type
 use Rattle.nim_types.specs.Types.{Ty, Key, Facts}
-use Rattle.nim_core.specs.Program.{Number}
+use Rattle.nim_program.specs.Program.{Number}
 use Rattle.expr_rules.specs.Env.{Env, Entry, constant, named, pending, name_in}
 use Rattle.expr_rules.specs.Constructions.{is_among}
 use Rattle.expr_rules.specs.Answers.{Answer}

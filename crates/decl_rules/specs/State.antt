@@ -3,18 +3,21 @@ use Rattle.std.specs.Prelude.{ℕ, Bool, true, false, ◌||◌, nat_eq, List, []
 use Rattle.arc_base.specs.declared.place.Place.{Place}
 use Rattle.arc_base.specs.declared.place.Code.TheVariants.{Redefined}
 use Rattle.arc_base.specs.Refusal.{refused}
-use Rattle.nim_types.specs.Types.{Ty, same_text}
-use Rattle.nim_core.specs.declared.expr.Node.{Node}
-use Rattle.nim_core.specs.Program.{Expr, Declared, Stmt, Stmts, Empty, Then, Declare, DeclareAs, Proc}
+use Rattle.nim_types.specs.Types.{same_text}
+use Rattle.nim_program.specs.declared.expr.Node.{Node}
+use Rattle.nim_program.specs.Program.{Args, Declared, Stmt, Stmts, Empty, Then, Declare, Defer, Proc}
 use Rattle.expr_rules.specs.Env.{Env, Entry, name_in}
 use Rattle.expr_rules.specs.Answers.{Answer, not_typed}
 
 -- ---- around
 
+-- the place of a result, None where there is none
+abbrev pub ResultPlace : Type 0
+ResultPlace = Option Declared
+
 pub data Inside : Type 0 where
   module_code : Inside
-  -- of a procedure, with the type of its result
-  a_procedure : (gives : Option Ty) → Inside
+  a_procedure : (gives : ResultPlace) → Inside
 
 pub record Around : Type 0 where
   pub inside : Inside
@@ -25,7 +28,7 @@ pub record Around : Type 0 where
 abbrev pub in_module : Around
 in_module = record { inside = module_code; outermost = true; in_loop = false }
 
-abbrev pub in_body : Option Ty → Around
+abbrev pub in_body : ResultPlace → Around
 in_body gives = record { inside = a_procedure gives; outermost = false; in_loop = false }
 
 -- in a block of what stands there
@@ -112,15 +115,17 @@ if_typed false at = not_typed at
 
 -- ---- typed statements in order
 
+-- a statement before what follows it in its block
 pub data Step : Type 0 where
   does : Stmt → Step
-  declares : Node → Declared → Step
-  declares_as : Node → Declared → Expr → Step
+  -- with its value, or without
+  declares : Node → Declared → (cursor : Bool) → Args → Step
+  defers : Node → (last : Stmts) → Step
 
 abbrev pub step_before : Step → Stmts → Stmts
 step_before (does s) rest = Then s rest
-step_before (declares node place) rest = Declare node place rest
-step_before (declares_as node place value) rest = DeclareAs node place value rest
+step_before (declares node place cursor value) rest = Declare node place cursor value rest
+step_before (defers node last) rest = Defer node last rest
 
 abbrev pub block_of : List Step → Stmts
 block_of [] = Empty

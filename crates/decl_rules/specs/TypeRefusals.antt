@@ -13,7 +13,7 @@ use Rattle.nim_tree.specs.Types as written
 use Rattle.nim_tree.specs.Types.{Written, Arguments, argument, Fields, fields, Body, Declaration}
 use Rattle.nim_types.specs.Types as type
 use Rattle.nim_types.specs.Types.{Ty, Key}
-use Rattle.nim_core.specs.Program.{Expr}
+use Rattle.nim_program.specs.Program.{Expr}
 use Rattle.expr_rules.specs.Env.{Env}
 use Rattle.expr_rules.specs.Answers.{value_of, Want, nothing, inner}
 use Rattle.expr_rules.specs.Names.{callee_rule, length_rule}

@@ -1,5 +1,5 @@
 -- Values in statements.
-use Rattle.std.specs.Prelude.{ℕ, ℤ, Bool, true, false, Option, Some, None, Ok}
+use Rattle.std.specs.Prelude.{ℕ, ℤ, Bool, true, false, if◌then◌else◌, Option, Some, None, Ok}
 use Rattle.arc_base.specs.declared.place.Place.{Place}
 use Rattle.arc_base.specs.Refusal.{and_then}
 use Rattle.nim_tree.specs.declared.stmt.AssignOp.{AssignOp}
@@ -7,9 +7,12 @@ use Rattle.nim_tree.specs.declared.stmt.AssignOp.TheVariants as sign
 use Rattle.nim_tree.specs.Terms.{Term, Parts, no_parts, part}
 use Rattle.nim_types.specs.Types as type
 use Rattle.nim_types.specs.Types.{Ty, same}
-use Rattle.nim_core.specs.declared.expr.Node.{Node}
-use Rattle.nim_core.specs.declared.expr.Operator.TheVariants as operator
-use Rattle.nim_core.specs.Program.{Expr, Path, Stmt, Eval, Give, Assign, Update, Append, type_of}
+use Rattle.nim_program.specs.declared.expr.Node.{Node}
+use Rattle.nim_program.specs.declared.operation.Operator.TheVariants as operator
+use Rattle.nim_program.specs.declared.stmt.Leaving.TheVariants as leaving
+use Rattle.nim_program.specs.Program.{Expr, Path, Stmt, Idle, Give, Leave, type_of}
+use Rattle.nim_program.specs.Nodes.{one_value, path_and_value, discard, assign, update, append}
+use Rattle.nim_program.specs.SelfAssignment.{is_itself, is_result}
 use Rattle.expr_rules.specs.Env.{Env}
 use Rattle.expr_rules.specs.Answers.{Answer, not_typed, place_in, Valued, value_of, Want, nothing, whole, inner}
 use Rattle.expr_rules.specs.Builtins.{is_int, is_text}
@@ -18,7 +21,7 @@ use Rattle.expr_rules.specs.Demands.{is_selector}
 use Rattle.expr_rules.specs.Names.{length_rule}
 use Rattle.expr_rules.specs.Paths.{can_be_written}
 use Rattle.expr_rules.specs.Typed.{typed}
-use Rattle.decl_rules.specs.State.{Inside, module_code, a_procedure}
+use Rattle.decl_rules.specs.State.{ResultPlace, Inside, module_code, a_procedure}
 
 -- a typed value, and the first number behind its nodes
 pub record Value : Type 0 where
@@ -63,7 +66,7 @@ selector_rule v = accepted_if (is_selector v.of) v
 -- ---- results
 
 -- a procedure alone has a result
-abbrev pub procedure_rule : Place → Inside → Answer (Option Ty)
+abbrev pub procedure_rule : Place → Inside → Answer ResultPlace
 procedure_rule at (a_procedure gives) = Ok gives
 procedure_rule at module_code = not_typed at
 
@@ -71,25 +74,39 @@ abbrev pub result_want : Option Ty → Want
 result_want None = nothing
 result_want (Some ty) = whole ty
 
+abbrev pub type_given : ResultPlace → Option Ty
+type_given None = None
+type_given (Some place) = Some place.of
+
+abbrev pub given_want : ResultPlace → Want
+given_want gives = result_want (type_given gives)
+
 -- what is returned has the type of the result
-abbrev pub returned : Option Ty → Expr → Answer Valued
+abbrev pub returned : ResultPlace → Expr → Answer Valued
 returned None e = not_typed (place_in e)
-returned (Some ty) e = and_then (value_of e) (of_type ty)
+returned (Some place) e = and_then (value_of e) (of_type place.of)
 
-abbrev pub given_if : Bool → Node → Expr → Answer Stmt
-given_if true node e = Ok (Give node e)
-given_if false node e = not_typed (place_in e)
+-- the result becomes the value; nothing is done where it is the result itself
+abbrev pub gives_back : ResultPlace → Node → Expr → Stmt
+gives_back gives node e = if is_result gives e then Leave node leaving.Return (one_value e) else Give node true e
 
-abbrev pub is_result : Option Ty → Ty → Bool
-is_result None t = false
-is_result (Some ty) t = same ty t
+abbrev pub gives_last : ResultPlace → Node → Expr → Stmt
+gives_last gives node e = if is_result gives e then Idle node (one_value e) else Give node false e
 
-abbrev pub evaluated_by : Option Ty → Node → Expr → Option Ty → Answer Stmt
-evaluated_by ends node e None = Ok (Eval node e)
-evaluated_by ends node e (Some t) = given_if (is_result ends t) node e
+abbrev pub given_if : Bool → ResultPlace → Node → Expr → Answer Stmt
+given_if true ends node e = Ok (gives_last ends node e)
+given_if false ends node e = not_typed (place_in e)
+
+abbrev pub has_type : ResultPlace → Ty → Bool
+has_type None t = false
+has_type (Some place) t = same place.of t
+
+abbrev pub evaluated_by : ResultPlace → Node → Expr → Option Ty → Answer Stmt
+evaluated_by ends node e None = Ok (discard node e)
+evaluated_by ends node e (Some t) = given_if (has_type ends t) ends node e
 
 -- An expression that is a statement gives no value, or it ends a body with a result of its type.
-abbrev pub evaluated : (ends : Option Ty) → Node → Expr → Answer Stmt
+abbrev pub evaluated : (ends : ResultPlace) → Node → Expr → Answer Stmt
 evaluated ends node e = evaluated_by ends node e (type_of e)
 
 -- ---- assignments
@@ -122,12 +139,13 @@ is_source op t s = same t s
 abbrev pub source_rule : AssignOp → Ty → Valued → Answer Valued
 source_rule op t v = accepted_if (is_source op t v.of) v
 
+-- what is assigned to itself stays as it is
 abbrev pub assigned : AssignOp → Node → Path → Expr → Stmt
-assigned sign.Set node path e = Assign node path e
-assigned sign.Plus node path e = Update node operator.Add path e
-assigned sign.Minus node path e = Update node operator.Subtract path e
-assigned sign.Times node path e = Update node operator.Multiply path e
-assigned sign.Join node path e = Append node path e
+assigned sign.Set node path e = if is_itself path e then Idle node (path_and_value path e) else assign node path e
+assigned sign.Plus node path e = update node operator.Add path e
+assigned sign.Minus node path e = update node operator.Subtract path e
+assigned sign.Times node path e = update node operator.Multiply path e
+assigned sign.Join node path e = append node path e
 
 -- ---- what a `for` goes over
 

@@ -3,7 +3,7 @@ use Rattle.std.specs.Prelude.{ℕ, zero, suc, Bool, true, false, not, ◌&&◌, 
 use Rattle.arc_base.specs.declared.place.Place.{Place}
 use Rattle.arc_base.specs.declared.place.Code.TheVariants.{VarOfGlobal, MissingBody}
 use Rattle.arc_base.specs.Refusal.{and_then, refused}
-use Rattle.nim_core.specs.Program.{Body, Proc, Stmts, Empty, Then, Declare, DeclareAs}
+use Rattle.nim_program.specs.Program.{Body, Proc, Stmts, Empty, Then, Declare, Defer}
 use Rattle.expr_rules.specs.Answers.{Answer}
 use Rattle.decl_rules.specs.State.{Item, announces, completes, code}
 use Rattle.decl_rules.specs.Occurrences.{Occurrence, global, calls, hands, in_block}
@@ -57,8 +57,8 @@ occurrences_rule all (o ∷ rest) = and_then (occurrence_rule all o) (λ _. occu
 abbrev pub declares_any : Stmts → Bool
 declares_any Empty = false
 declares_any (Then s rest) = declares_any rest
-declares_any (Declare node place rest) = true
-declares_any (DeclareAs node place a rest) = true
+declares_any (Declare node place cursor value rest) = true
+declares_any (Defer node last rest) = declares_any rest
 
 -- whether the body of the procedure comes before a further global
 abbrev pub comes_in_time : ℕ → List Item → Bool

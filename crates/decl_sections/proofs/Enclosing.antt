@@ -1,7 +1,7 @@
 -- Definitions that contain one: by marks, and as the rule says.
 use Rattle.std.proofs.Common.{◌≡◌, ℕ, zero, suc, ◌+◌, ◌<◌, ◌≤◌, List, [], ◌∷◌, length, drop, Some, None, refl, sym, ap, ap₂}
 use Rattle.std.proofs.Common.{◌∙◌, arith, ⊎_elim}
-use Rattle.std.specs.Prelude.{Bool, true, false, not, if◌then◌else◌, Option, slice_get, slice_set, map, nat_eq, ◌⊎◌}
+use Rattle.std.specs.Prelude.{Bool, true, false, not, if◌then◌else◌, Option, slice_get, slice_set, map, nat_eq}
 use Rattle.std.proofs.lemmas.Bool.{false_from_ne_true, cases_lt, eqb-true, eqb-false}
 use Rattle.std.proofs.lemmas.Option.{none-some, same_Some}
 use Rattle.arc_base.specs.Refusal.{and_then}

@@ -6,7 +6,7 @@ use Rattle.std.proofs.lemmas.Bool.{false_from_ne_true}
 use Rattle.std.proofs.lemmas.Option.{none-some, same_Some}
 use Rattle.nim_types.specs.Types.{Ty, Key, Facts, same_key}
 use Rattle.nim_types.specs.Table.{type_at}
-use Rattle.nim_core.specs.View.{if_type}
+use Rattle.nim_program.specs.View.{if_type}
 use Rattle.decl_rules.specs.Meanings.{Defined, KnownType, meaning_in, or_name, known_facts, known_keys, is_key_among, is_usable, known_behind, known_through}
 use Rattle.decl_rules.specs.Meanings.{known_of, next_in, meant_in, is_made_of}
 use Rattle.decl_rules.specs.Meanings.{is_next as is_next_key}

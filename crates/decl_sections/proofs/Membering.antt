@@ -5,7 +5,7 @@ use Rattle.std.specs.HashSet.{HashSet, contains}
 use Rattle.std.proofs.lemmas.List.{map-append}
 use Rattle.nim_types.specs.Types.{Ty, same_text}
 use Rattle.nim_types.specs.Table.{type_at}
-use Rattle.nim_core.specs.Program.{Number}
+use Rattle.nim_program.specs.Program.{Number}
 use Rattle.expr_rules.specs.Constructions.{is_among}
 use Rattle.expr_rules.specs.Env.{Entry, constant}
 use Rattle.expr_parts.specs.declared.scope.Decl.{Decl}

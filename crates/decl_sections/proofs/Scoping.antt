@@ -12,7 +12,7 @@ use Rattle.nim_types.specs.declared.types.TypeDef.{TypeDef}
 use Rattle.nim_types.specs.Types as type
 use Rattle.nim_types.specs.Types.{Ty, Key}
 use Rattle.nim_types.specs.Table.{facts_in}
-use Rattle.nim_core.specs.View.{if_type}
+use Rattle.nim_program.specs.View.{if_type}
 use Rattle.expr_rules.specs.Env.{Env, named}
 use Rattle.expr_rules.specs.Constructions.{is_among}
 use Rattle.expr_parts.specs.declared.scope.Decl.{Decl}

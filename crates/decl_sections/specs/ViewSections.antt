@@ -14,7 +14,7 @@ use Rattle.nim_types.specs.declared.types.TypeDef.{TypeDef}
 use Rattle.nim_types.specs.Types as type
 use Rattle.nim_types.specs.Types.{Ty, Key, same_key}
 use Rattle.nim_types.specs.Table.{facts_in}
-use Rattle.nim_core.specs.View.{if_type}
+use Rattle.nim_program.specs.View.{if_type}
 use Rattle.expr_rules.specs.Answers.{Answer}
 use Rattle.expr_rules.specs.Env.{Entry}
 use Rattle.expr_rules.specs.Constructions.{is_among}

@@ -3,7 +3,7 @@ use Rattle.std.specs.Prelude.{◌≡◌, ℕ, pos, Bool, false, List, [], ◌++�
 use Rattle.nim_tree.specs.Types.{Declaration}
 use Rattle.nim_types.specs.declared.types.TypeDef.{TypeDef}
 use Rattle.nim_types.specs.Types.{Ty, Key}
-use Rattle.nim_core.specs.declared.expr.Literal.TheVariants as V
+use Rattle.nim_program.specs.declared.expr.Literal.TheVariants as V
 use Rattle.expr_parts.specs.declared.scope.Decl.{Decl}
 use Rattle.expr_parts.specs.declared.scope.Scope.{Scope}
 use Rattle.expr_parts.specs.declared.scope.What.TheVariants as what

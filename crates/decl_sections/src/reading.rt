@@ -33,7 +33,7 @@ use decl_types::bodies::{Declared, Meaning, body, check_single, new_in_section, 
 use decl_types::known::{Definition, is_sound};
 use decl_types::nodes::Names;
 use expr_parts::scope::{Decl, Scope, What};
-use nim_core::Literal;
+use nim_program::Literal;
 use nim_tree::{TypeBody, TypeDef as Tree};
 use nim_types::{TypeDef, TypeId, TypeTable};
 use std::alloc::Global;

@@ -8,7 +8,7 @@ use Rattle.nim_types.specs.Types as type
 use Rattle.nim_types.specs.Types.{Ty, Key, Fact, Facts, fact_of, members, members_in}
 use Rattle.nim_types.specs.Table.{type_at, types_in, facts_in, meant, said_of}
 use Rattle.nim_types.proofs.ForCallers.{count, front, at_entry, said_number}
-use Rattle.nim_core.specs.Program.{Label}
+use Rattle.nim_program.specs.Program.{Label}
 use Rattle.expr_rules.specs.Choices.{span, covers, cover_by, cover_rule}
 use Rattle.decl_parts.specs.declared.state.State.{State as RustState}
 use Rattle.decl_parts.specs.View.{Over, Further}

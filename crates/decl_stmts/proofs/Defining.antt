@@ -13,9 +13,9 @@ use Rattle.nim_tree.specs.declared.stmt.Binding.{Binding}
 use Rattle.nim_types.specs.Types.{Ty, Facts}
 use Rattle.nim_types.specs.declared.types.TypeDef.{TypeDef}
 use Rattle.nim_types.specs.Table.{facts_in}
-use Rattle.nim_core.specs.declared.stmt.Stmt.{Stmt as RustStmt}
-use Rattle.nim_core.specs.Program as P
-use Rattle.nim_core.specs.View.{declared_of}
+use Rattle.nim_program.specs.declared.stmt.Stmt.{Stmt as RustStmt}
+use Rattle.nim_program.specs.Program as P
+use Rattle.nim_program.specs.View.{declared_of}
 use Rattle.expr_rules.specs.Answers.{Answer}
 use Rattle.expr_rules.specs.Env.{Env, Entry}
 use Rattle.expr_parts.specs.declared.scope.Decl.{Decl}

@@ -6,7 +6,7 @@ use Rattle.arc_base.specs.declared.place.Stop.TheVariants as stop
 use Rattle.nim_tree.specs.declared.name.Declared.{Declared}
 use Rattle.nim_types.specs.Types.{Ty}
 use Rattle.nim_types.specs.Table.{type_at}
-use Rattle.nim_core.specs.View.{literal_of}
+use Rattle.nim_program.specs.View.{literal_of}
 use Rattle.expr_rules.specs.Env.{Entry}
 use Rattle.expr_parts.specs.declared.scope.Decl.{Decl}
 use Rattle.expr_parts.specs.declared.scope.Scope.{Scope}

@@ -2,7 +2,7 @@
 use Rattle.std.proofs.Common.{◌≡◌, ℕ, suc, List, [], ◌∷◌, ◌++◌, length, refl, sym, ap, ap₂, ◌∙◌, append_assoc, Vec, Global}
 use Rattle.std.proofs.Common.{arith, ◌<◌, subst, length-append}
 use Rattle.std.proofs.lemmas.List.{length-map, map-append}
-use Rattle.std.specs.Prelude.{Result, Ok, Err, map, Bool, true, false, Option}
+use Rattle.std.specs.Prelude.{Result, Ok, Err, map, Bool, true, false}
 use Rattle.arc_base.specs.declared.place.Place.{Place}
 use Rattle.arc_base.specs.declared.place.Stop.{Stop}
 use Rattle.arc_base.specs.Refusal.{and_then}
@@ -13,10 +13,11 @@ use Rattle.nim_tree.specs.Terms.{Term}
 use Rattle.nim_types.specs.Types as type
 use Rattle.nim_types.specs.Types.{Ty}
 use Rattle.nim_types.specs.Table.{type_at}
-use Rattle.nim_core.specs.declared.stmt.Stmt.{Stmt as RustStmt}
-use Rattle.nim_core.specs.declared.expr.Node.{Node}
-use Rattle.nim_core.specs.Program as P
-use Rattle.nim_core.specs.View.{stmts_of}
+use Rattle.nim_program.specs.declared.stmt.Stmt.{Stmt as RustStmt}
+use Rattle.nim_program.specs.declared.expr.Node.{Node}
+use Rattle.nim_program.specs.Nodes.{one_path, two_values}
+use Rattle.nim_program.specs.Program as P
+use Rattle.nim_program.specs.View.{stmts_of}
 use Rattle.expr_rules.specs.Answers.{Answer, node, nothing}
 use Rattle.expr_rules.specs.Paths.{path_of}
 use Rattle.expr_rules.specs.Env.{Entry, variable}
@@ -24,7 +25,7 @@ use Rattle.expr_parts.specs.declared.scope.Decl.{Decl}
 use Rattle.expr_parts.specs.declared.scope.Scope.{Scope}
 use Rattle.expr_parts.specs.declared.scope.What.TheVariants as what
 use Rattle.expr_parts.specs.View.{entry_of}
-use Rattle.decl_rules.specs.State.{Around, State, left, declaring, Blocked, blocked, looping, stated_as, does, up_to_node}
+use Rattle.decl_rules.specs.State.{ResultPlace, Around, State, left, declaring, Blocked, blocked, looping, stated_as, does, up_to_node}
 use Rattle.decl_rules.specs.Values.{Value, valued_term, value_as, element_rule}
 use Rattle.decl_rules.specs.Bodies.{with_loop_variable, loop_variable}
 use Rattle.decl_rules.specs.Stated.{stated, for_state}
@@ -106,12 +107,13 @@ body_left : {B : Type 0} (a : Around) (st : State) (x : Name) (ty : Ty) (body : 
     → and_then (block_rule a (with_loop_variable st x ty) body) (λ b. g (blocked b.stmts (left st b.state))) ≡ and_then (loop_rule a st x ty body) g
 body_left a st x ty body g = sym (one_part (block_rule a (with_loop_variable st x ty) body) (λ b. blocked b.stmts (left st b.state)) g)
 
-pub each_is : (a : Around) (ends : Option Ty) (st : State) (at : Place) (x : Name) (t : Term) (body : Statements)
+pub each_is : (a : Around) (ends : ResultPlace) (st : State) (at : Place) (x : Name) (t : Term) (body : Statements)
     → stated a ends st (counts at x (each t) body)
     ≡ and_then (valued_term st.env nothing (suc st.node) t) (λ v. each_behind (looping a) st (node st.node at) x body v)
 each_is a ends st at x t body =
     let n = node st.node at in
-    let made = λ (v : Value) (ty : Ty) (b : Blocked). Ok (stated_as (does (P.Each n (loop_variable st x ty) (path_of v.given.expr) b.stmts) ∷ []) b.state) in
+    let made = λ (v : Value) (ty : Ty) (b : Blocked).
+    Ok (stated_as (does (P.Loop n (P.Each (loop_variable st x ty)) (one_path (path_of v.given.expr)) b.stmts) ∷ []) b.state) in
     let inner = λ (v : Value) (ty : Ty). and_then (block_rule (looping a) (for_state st v x ty) body)
     (λ b. made v ty (blocked b.stmts (left (up_to_node st v.next) b.state))) in
     then_as (λ (v : Value). and_then (element_rule v.given) (inner v)) (λ v. each_behind (looping a) st n x body v)
@@ -122,11 +124,12 @@ each_is a ends st at x t body =
 ints_are : (a : Around) (st : State) (n : Node) (x : Name) (inclusive : Bool) (first last : Term) (body : Statements)
     → and_then (value_as st.env type.int (suc st.node) first) (λ v. and_then (value_as st.env type.int v.next last) (λ w.
     and_then (block_rule a (for_state st w x type.int) body) (λ b.
-    Ok (stated_as (does (P.Count n (loop_variable st x type.int) v.given.expr w.given.expr inclusive b.stmts) ∷ []) (left (up_to_node st w.next) b.state)))))
+    Ok (stated_as (does (P.Loop n (P.Count (loop_variable st x type.int) inclusive) (two_values v.given.expr w.given.expr) b.stmts) ∷ [])
+    (left (up_to_node st w.next) b.state)))))
     ≡ and_then (value_as st.env type.int (suc st.node) first) (λ v. ints_behind a st n x inclusive last body v)
 ints_are a st n x inclusive first last body =
     let made = λ (v w : Value) (b : Blocked).
-    Ok (stated_as (does (P.Count n (loop_variable st x type.int) v.given.expr w.given.expr inclusive b.stmts) ∷ []) b.state) in
+    Ok (stated_as (does (P.Loop n (P.Count (loop_variable st x type.int) inclusive) (two_values v.given.expr w.given.expr) b.stmts) ∷ []) b.state) in
     let inner = λ (v w : Value). and_then (block_rule a (for_state st w x type.int) body)
     (λ b. made v w (blocked b.stmts (left (up_to_node st w.next) b.state))) in
     then_as (λ (v : Value). and_then (value_as st.env type.int v.next last) (inner v)) (λ v. ints_behind a st n x inclusive last body v)
@@ -134,14 +137,14 @@ ints_are a st n x inclusive first last body =
     (λ w. body_left a (up_to_node st w.next) x type.int body (made v w)) (value_as st.env type.int v.next last))
     (value_as st.env type.int (suc st.node) first)
 
-pub course_is : (a : Around) (ends : Option Ty) (st : State) (at : Place) (x : Name) (inclusive : Bool) (first last : Term) (body : Statements)
+pub course_is : (a : Around) (ends : ResultPlace) (st : State) (at : Place) (x : Name) (inclusive : Bool) (first last : Term) (body : Statements)
     → stated a ends st (counts at x (course_by inclusive first last) body)
     ≡ and_then (value_as st.env type.int (suc st.node) first) (λ v. ints_behind (looping a) st (node st.node at) x inclusive last body v)
 course_is a ends st at x true first last body = ints_are (looping a) st (node st.node at) x true first last body
 course_is a ends st at x false first last body = ints_are (looping a) st (node st.node at) x false first last body
 
 pub course_as : {old new : RustState} {r : Result (Vec RustStmt Global) Stop} {c d : Course} (a : List Ty → Around)
-    (ends : List Ty → Option Ty) (at : Place) (x : Name) (body : Statements) → c ≡ d
+    (ends : List Ty → ResultPlace) (at : Place) (x : Name) (body : Statements) → c ≡ d
     → AllStatedSo old new (λ ts st. stated (a ts) (ends ts) st (counts at x d body)) r
     → AllStatedSo old new (λ ts st. stated (a ts) (ends ts) st (counts at x c body)) r
 course_as {old = old} {new = new} {r = r} a ends at x body e j =

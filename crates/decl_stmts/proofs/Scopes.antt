@@ -3,7 +3,7 @@ use Rattle.std.proofs.Common.{◌≡◌, ℕ, Bool, true, false, List, [], ◌�
 use Rattle.std.proofs.Common.{ap₂, ◌∙◌, subst, append-nil, arith, Vec, Global, inl, inr}
 use Rattle.std.proofs.Math.Seq.{take-append_seam}
 use Rattle.std.proofs.lemmas.List.{length-map}
-use Rattle.std.specs.Prelude.{Result, Ok, Err, map, Option, None, ◌⊎◌}
+use Rattle.std.specs.Prelude.{Result, Ok, Err, map, None, ◌⊎◌}
 use Rattle.arc_base.specs.declared.place.Stop.{Stop}
 use Rattle.arc_base.specs.declared.place.Code.TheVariants.{NotTyped}
 use Rattle.arc_base.specs.declared.place.Place.{Place}
@@ -19,20 +19,20 @@ use Rattle.nim_tree.specs.declared.stmt.Def.{Def}
 use Rattle.nim_tree.specs.declared.types.TypeDef.{TypeDef as TypeDefTree}
 use Rattle.nim_tree.specs.Terms.{Term, Parts, parts_of}
 use Rattle.nim_types.specs.Types.{Ty}
-use Rattle.nim_core.specs.declared.stmt.Branch.{Branch as RustBranch}
-use Rattle.nim_core.specs.declared.stmt.Stmt.{Stmt as RustStmt}
-use Rattle.nim_core.specs.Program as P
-use Rattle.nim_core.specs.View.{expr_of, stmts_of, branches_of}
+use Rattle.nim_program.specs.declared.stmt.Branch.{Branch as RustBranch}
+use Rattle.nim_program.specs.declared.stmt.Stmt.{Stmt as RustStmt}
+use Rattle.nim_program.specs.Program as P
+use Rattle.nim_program.specs.View.{expr_of, stmts_of, branch_conditions}
 use Rattle.expr_rules.specs.Answers.{Answer}
 use Rattle.expr_parts.specs.declared.scope.Decl.{Decl}
 use Rattle.expr_parts.specs.View.{DeclsWithin, entry_of}
-use Rattle.decl_rules.specs.State.{Around, State, Stated, and_more, noting, if_typed, entered, deeper, left, up_to_node}
+use Rattle.decl_rules.specs.State.{ResultPlace, Around, State, Stated, and_more, noting, if_typed, entered, deeper, left, up_to_node}
 use Rattle.decl_rules.specs.State.{with_entries, Blocked, blocked, closed}
 use Rattle.decl_rules.specs.Definitions.{definitions_rule}
 use Rattle.decl_rules.specs.Values.{Value, condition}
 use Rattle.decl_rules.specs.Stated.{Branched, stated, all_stated, all_branches, ends_with}
 use Rattle.decl_parts.specs.declared.state.State.{State as RustState}
-use Rattle.decl_parts.specs.View.{Beside, state_of, all_stated_as, Ready, Stands, Stating, AllStatedSo}
+use Rattle.decl_parts.specs.View.{Beside, state_of, all_stated_as, bodies_in, Ready, Stands, Stating, AllStatedSo}
 use Rattle.decl_parts.proofs.ForCallers.{blocked_steps, further_as, further_to, stated_so, stated_stops}
 use Rattle.decl_stmts.specs.ViewStated.{block_rule, blocked_as, BlockSo, branch_as, OneBranch, branch_rule, IsPlain}
 
@@ -48,7 +48,7 @@ pub then_others : (a : Around) (st : State) (first : Statement) (rest : Statemen
     → all_stated a None st (then first rest)
     ≡ and_then (stated a None st first) (λ one. and_then (all_stated a None one.state rest) (λ more. Ok (and_more one more)))
 then_others a st first rest inner =
-    ap (λ (e : Option Ty). and_then (stated a e st first)
+    ap (λ (e : ResultPlace). and_then (stated a e st first)
     (λ one. and_then (all_stated a None (noting a.outermost one) rest) (λ more. Ok (and_more one more))))
     (ends_nothing rest)
     ∙ ap (λ (k : Bool). and_then (stated a None st first) (λ one. and_then (all_stated a None (noting k one) rest) (λ more. Ok (and_more one more)))) inner
@@ -133,38 +133,48 @@ block_stops a inner body old mid count s e i j =
 
 -- ---- branches
 
-abbrev with_branches : List Ty → List RustBranch → P.Branches → P.Branches
-with_branches ts [] more = more
-with_branches ts (one ∷ rest) more = P.ABranch (expr_of ts one.condition) (stmts_of ts one.body.items) (with_branches ts rest more)
+abbrev with_tests : List Ty → List RustBranch → P.Args → P.Args
+with_tests ts [] more = more
+with_tests ts (one ∷ rest) more = P.ByValue (expr_of ts one.condition) (with_tests ts rest more)
 
 -- branches that are done, before others
 abbrev pub branches_onto : List Ty → List RustBranch → Branched → Branched
-branches_onto ts done more = record { branches = with_branches ts done more.branches; state = more.state }
+branches_onto ts done more =
+    record { tests = with_tests ts done more.tests; blocks = bodies_in ts done ++ more.blocks; state = more.state }
 
 abbrev pub branch_onto : OneBranch → Branched → Branched
-branch_onto one more = record { branches = P.ABranch one.test one.block more.branches; state = more.state }
+branch_onto one more = record { tests = P.ByValue one.test more.tests; blocks = one.block ∷ more.blocks; state = more.state }
 
-all_done : (ts : List Ty) (done : List RustBranch) → with_branches ts done P.NoBranch ≡ branches_of ts done
+all_done : (ts : List Ty) (done : List RustBranch) → with_tests ts done P.NoArg ≡ branch_conditions ts done
 all_done ts [] = refl
-all_done ts (one ∷ done) = ap (P.ABranch (expr_of ts one.condition) (stmts_of ts one.body.items)) (all_done ts done)
+all_done ts (one ∷ done) = ap (P.ByValue (expr_of ts one.condition)) (all_done ts done)
 
-pub branches_done : (ts : List Ty) (done : List RustBranch) (st : State) → branches_onto ts done (record { branches = P.NoBranch; state = st })
-    ≡ record { branches = branches_of ts done; state = st }
-branches_done ts done st = ap (λ (all : P.Branches). record { branches = all; state = st }) (all_done ts done)
+pub branches_done : (ts : List Ty) (done : List RustBranch) (st : State)
+    → branches_onto ts done (record { tests = P.NoArg; blocks = []; state = st })
+    ≡ record { tests = branch_conditions ts done; blocks = bodies_in ts done; state = st }
+branches_done ts done st =
+    ap₂ (λ (tests : P.Args) (blocks : List P.Stmts). record { tests = tests; blocks = blocks; state = st }) (all_done ts done)
+    (append-nil (bodies_in ts done))
 
 pub no_branch_done : (ts : List Ty) (done : List RustBranch) (more : Branched) → done ≡ [] → branches_onto ts done more ≡ more
 no_branch_done ts done more e = ap (λ l. branches_onto ts l more) e
 
-with_more : (ts : List Ty) (done : List RustBranch) (one : RustBranch) (more : P.Branches)
-    → with_branches ts (done ++ one ∷ []) more ≡ with_branches ts done (P.ABranch (expr_of ts one.condition) (stmts_of ts one.body.items) more)
-with_more ts [] one more = refl
-with_more ts (x ∷ done) one more = ap (P.ABranch (expr_of ts x.condition) (stmts_of ts x.body.items)) (with_more ts done one more)
+with_test : (ts : List Ty) (done : List RustBranch) (one : RustBranch) (more : P.Args)
+    → with_tests ts (done ++ one ∷ []) more ≡ with_tests ts done (P.ByValue (expr_of ts one.condition) more)
+with_test ts [] one more = refl
+with_test ts (x ∷ done) one more = ap (P.ByValue (expr_of ts x.condition)) (with_test ts done one more)
+
+with_body : (ts : List Ty) (done : List RustBranch) (one : RustBranch) (more : List P.Stmts)
+    → bodies_in ts (done ++ one ∷ []) ++ more ≡ bodies_in ts done ++ stmts_of ts one.body.items ∷ more
+with_body ts [] one more = refl
+with_body ts (x ∷ done) one more = ap (λ l. stmts_of ts x.body.items ∷ l) (with_body ts done one more)
 
 pub branch_more : (ts : List Ty) (b : Beside) (new : RustState) (done all : List RustBranch) (one : RustBranch) (more : Branched) → all ≡ done ++ one ∷ []
     → branches_onto ts done (branch_onto (branch_as ts b new one) more) ≡ branches_onto ts all more
 branch_more ts b new done all one more e =
-    ap (λ (x : P.Branches). record { branches = x; state = more.state })
-    (sym (with_more ts done one more.branches) ∙ ap (λ l. with_branches ts l more.branches) (sym e))
+    ap₂ (λ (tests : P.Args) (blocks : List P.Stmts). record { tests = tests; blocks = blocks; state = more.state })
+    (sym (with_test ts done one more.tests)) (sym (with_body ts done one more.blocks))
+    ∙ ap (λ l. branches_onto ts l more) (sym e)
 
 pub one_part : {A B C : Type 0} (y : Answer A) (k : A → B) (g : B → Answer C) → and_then (and_then y (λ b. Ok (k b))) g ≡ and_then y (λ b. g (k b))
 one_part (Ok b) k g = refl
@@ -198,13 +208,13 @@ no_procedure false at h body go p = refl
 
 -- ---- statements as the code has them
 
-pub stated_as_tree : {old new : RustState} {r : Result (Vec RustStmt Global) Stop} {x y : Statement} (a : List Ty → Around) (ends : List Ty → Option Ty)
+pub stated_as_tree : {old new : RustState} {r : Result (Vec RustStmt Global) Stop} {x y : Statement} (a : List Ty → Around) (ends : List Ty → ResultPlace)
     → x ≡ y → AllStatedSo old new (λ ts st. stated (a ts) (ends ts) st y) r → AllStatedSo old new (λ ts st. stated (a ts) (ends ts) st x) r
 stated_as_tree {old = old} {new = new} {r = r} a ends e j =
     subst (λ (s : Statement). AllStatedSo old new (λ ts st. stated (a ts) (ends ts) st s) r) (sym e) j
 
 -- variables, and no constants
-pub no_constants : (a : Around) (ends : Option Ty) (st : State) (at : Place) (b : Binding) (all : List Definition)
+pub no_constants : (a : Around) (ends : ResultPlace) (st : State) (at : Place) (b : Binding) (all : List Definition)
     → (b ≡ binding.Let) ⊎ (b ≡ binding.Var) → stated a ends st (defines at b all) ≡ definitions_rule a at b st all
 no_constants a ends st at binding.Let all h = refl
 no_constants a ends st at binding.Var all h = refl

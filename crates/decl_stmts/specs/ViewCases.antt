@@ -5,10 +5,11 @@ use Rattle.arc_base.specs.Refusal.{and_then}
 use Rattle.nim_tree.specs.Statements.{Statements, Branches}
 use Rattle.nim_tree.specs.Terms.{Parts}
 use Rattle.nim_types.specs.Types.{Ty, Facts}
-use Rattle.nim_core.specs.declared.expr.Node.{Node}
-use Rattle.nim_core.specs.Program as P
-use Rattle.nim_core.specs.Program.{Label, Stmts, Arms}
-use Rattle.nim_core.specs.View.{label_of, arms_of, stmts_of}
+use Rattle.nim_program.specs.declared.expr.Node.{Node}
+use Rattle.nim_program.specs.Program as P
+use Rattle.nim_program.specs.Program.{Label, Stmts}
+use Rattle.nim_program.specs.Nodes.{selecting, blocks_of}
+use Rattle.nim_program.specs.View.{label_of, branch_labels, stmts_of}
 use Rattle.expr_rules.specs.Answers.{Answer, Valued, node}
 use Rattle.expr_rules.specs.Choices.{cover_rule}
 use Rattle.expr_rules.specs.Typed.{labels}
@@ -18,11 +19,12 @@ use Rattle.decl_rules.specs.Stated.{Armed, all_arms, covered}
 use Rattle.decl_parts.specs.declared.state.State.{State as RustState}
 use Rattle.decl_stmts.specs.declared.blocks.cases.Arms.{Arms as RustArms}
 use Rattle.decl_stmts.specs.declared.blocks.cases.Arm.{Arm as RustArm}
-use Rattle.decl_parts.specs.View.{Beside, state_of}
+use Rattle.decl_parts.specs.View.{Beside, state_of, arm_bodies_in}
 use Rattle.decl_stmts.specs.ViewStated.{block_rule}
 
 abbrev pub armed_as : List Ty → Beside → RustState → RustArms → Armed
-armed_as ts b st all = record { arms = arms_of ts all.all.items; labels = all.labels; state = state_of ts b st }
+armed_as ts b st all =
+    record { rows = branch_labels all.all.items; labels = all.labels; blocks = arm_bodies_in ts all.all.items; state = state_of ts b st }
 
 -- a branch, and the state behind it
 pub record OneArm : Type 0 where
@@ -46,7 +48,7 @@ abbrev pub selection_else : Around → Facts → Node → Statements → Valued 
 selection_else a facts node otherwise v b =
     and_then (block_rule a b.state otherwise) (λ o.
     and_then (covered facts node.at v.of b.labels otherwise) (λ _.
-    Ok (stated_as (does (P.Select node v.expr b.arms o.stmts) ∷ []) o.state)))
+    Ok (stated_as (does (P.Select node (P.ByLabels b.rows) (selecting v.expr P.NoArg) (blocks_of b.blocks o.stmts)) ∷ []) o.state)))
 
 -- the branches, behind the selector
 abbrev pub selection_over : Around → State → Place → Branches → Statements → Valued → ℕ → Answer Stated
@@ -61,6 +63,7 @@ abbrev pub covered_by : (lacks_else : Bool) → Facts → Place → Ty → List 
 covered_by true facts at ty ls = cover_rule facts at ty None ls
 covered_by false facts at ty ls = Ok tt
 
-abbrev pub covered_as : (lacks_else : Bool) → Facts → Node → Valued → Arms → List Label → Stmts → State → Answer Stated
-covered_as lacks_else facts node v arms ls otherwise st =
-    and_then (covered_by lacks_else facts node.at v.of ls) (λ _. Ok (stated_as (does (P.Select node v.expr arms otherwise) ∷ []) st))
+abbrev pub covered_as : (lacks_else : Bool) → Facts → Node → Valued → List (List Label) → List Stmts → List Label → Stmts → State → Answer Stated
+covered_as lacks_else facts node v rows blocks ls otherwise st =
+    and_then (covered_by lacks_else facts node.at v.of ls) (λ _.
+    Ok (stated_as (does (P.Select node (P.ByLabels rows) (selecting v.expr P.NoArg) (blocks_of blocks otherwise)) ∷ []) st))

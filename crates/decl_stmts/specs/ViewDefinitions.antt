@@ -4,7 +4,7 @@ use Rattle.arc_base.specs.declared.place.Stop.{Stop}
 use Rattle.arc_base.specs.Refusal.{Answers}
 use Rattle.nim_tree.specs.declared.name.Declared.{Declared}
 use Rattle.nim_types.specs.Types.{Ty}
-use Rattle.nim_core.specs.View.{literal_of}
+use Rattle.nim_program.specs.View.{literal_of}
 use Rattle.expr_rules.specs.Answers.{Answer}
 use Rattle.expr_rules.specs.Env.{Env, Entry}
 use Rattle.expr_parts.specs.View.{Grown, entry_of, WhatWithin}

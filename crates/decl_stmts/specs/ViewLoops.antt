@@ -6,8 +6,9 @@ use Rattle.nim_tree.specs.Statements.{Course, up_to, below, Statements}
 use Rattle.nim_tree.specs.Terms.{Term}
 use Rattle.nim_types.specs.Types as type
 use Rattle.nim_types.specs.Types.{Ty}
-use Rattle.nim_core.specs.declared.expr.Node.{Node}
-use Rattle.nim_core.specs.Program as P
+use Rattle.nim_program.specs.declared.expr.Node.{Node}
+use Rattle.nim_program.specs.Nodes.{one_path, two_values}
+use Rattle.nim_program.specs.Program as P
 use Rattle.expr_rules.specs.Answers.{Answer}
 use Rattle.expr_rules.specs.Paths.{path_of}
 use Rattle.decl_rules.specs.State.{Around, State, Stated, stated_as, does, up_to_node, left, Blocked, blocked}
@@ -29,7 +30,7 @@ loop_rule a st x ty body =
 abbrev pub each_within : Around → State → Node → Name → Statements → Value → Ty → Answer Stated
 each_within a st node x body v ty =
     and_then (loop_rule a (up_to_node st v.next) x ty body) (λ b.
-    Ok (stated_as (does (P.Each node (loop_variable st x ty) (path_of v.given.expr) b.stmts) ∷ []) b.state))
+    Ok (stated_as (does (P.Loop node (P.Each (loop_variable st x ty)) (one_path (path_of v.given.expr)) b.stmts) ∷ []) b.state))
 
 abbrev pub each_behind : Around → State → Node → Name → Statements → Value → Answer Stated
 each_behind a st node x body v = and_then (element_rule v.given) (λ ty. each_within a st node x body v ty)
@@ -38,7 +39,8 @@ each_behind a st node x body v = and_then (element_rule v.given) (λ ty. each_wi
 abbrev pub ints_within : Around → State → Node → Name → (inclusive : Bool) → Statements → (first last : Value) → Answer Stated
 ints_within a st node x inclusive body v w =
     and_then (loop_rule a (up_to_node st w.next) x type.int body) (λ b.
-    Ok (stated_as (does (P.Count node (loop_variable st x type.int) v.given.expr w.given.expr inclusive b.stmts) ∷ []) b.state))
+    Ok (stated_as
+    (does (P.Loop node (P.Count (loop_variable st x type.int) inclusive) (two_values v.given.expr w.given.expr) b.stmts) ∷ []) b.state))
 
 abbrev pub ints_behind : Around → State → Node → Name → (inclusive : Bool) → (last : Term) → Statements → Value → Answer Stated
 ints_behind a st node x inclusive u body v =

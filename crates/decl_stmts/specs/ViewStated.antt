@@ -9,23 +9,25 @@ use Rattle.nim_tree.specs.Statements.{Statement, proclaims, Statements}
 use Rattle.nim_tree.specs.Terms.{Term, Parts}
 use Rattle.nim_types.specs.Types as type
 use Rattle.nim_types.specs.Types.{Ty}
-use Rattle.nim_types.specs.Table.{IsBelow}
-use Rattle.nim_core.specs.declared.expr.Node.{Node}
-use Rattle.nim_core.specs.declared.stmt.Branch.{Branch as RustBranch}
-use Rattle.nim_core.specs.declared.stmt.Stmt.{Stmt as RustStmt}
-use Rattle.nim_core.specs.Program as P
-use Rattle.nim_core.specs.Program.{Stmts}
-use Rattle.nim_core.specs.View.{expr_of, stmts_of, branches_of}
+use Rattle.nim_program.specs.declared.expr.Node.{Node}
+use Rattle.nim_program.specs.declared.stmt.Branch.{Branch as RustBranch}
+use Rattle.nim_program.specs.declared.stmt.Stmt.{Stmt as RustStmt}
+use Rattle.nim_program.specs.Nodes.{one_value, blocks_of}
+use Rattle.nim_program.specs.Program as P
+use Rattle.nim_program.specs.Program.{Stmts}
+use Rattle.nim_program.specs.View.{expr_of, stmts_of, branch_conditions}
 use Rattle.expr_rules.specs.Answers.{Answer, Valued, node}
 use Rattle.expr_rules.specs.Builtins.{write_rule}
 use Rattle.expr_rules.specs.Paths.{path_of}
 use Rattle.expr_rules.specs.Typed.{typed}
-use Rattle.decl_rules.specs.State.{Around, State, Step, does, Stated, stated_as, did, up_to_node, deeper, entered, Blocked, blocked}
+use Rattle.decl_rules.specs.State.{ResultPlace, Around, State, Step, does, Stated, stated_as, did, up_to_node, deeper, entered, Blocked, blocked}
 use Rattle.decl_rules.specs.Stated.{Branched, all_stated, block_by}
-use Rattle.decl_rules.specs.Values.{Value, valued_term, target_rule, target_at, source_want, source_rule, assigned, result_want, returned, condition}
+use Rattle.decl_rules.specs.Values.{Value, valued_term, target_rule, target_at, source_want, source_rule, assigned, given_want, returned, gives_back}
+use Rattle.decl_rules.specs.Values.{condition}
+use Rattle.decl_parts.specs.declared.state.ResultPlace.{ResultPlace as RustResultPlace}
 use Rattle.decl_parts.specs.declared.state.State.{State as RustState}
 use Rattle.decl_parts.specs.declared.state.Around.{Around as RustAround}
-use Rattle.decl_parts.specs.View.{Beside, state_of, steps_of, all_stated_as, Stating, Ready, InsideWithin}
+use Rattle.decl_parts.specs.View.{Beside, state_of, steps_of, all_stated_as, bodies_in, Stating, Ready, ResultWithin, InsideWithin}
 use Rattle.decl_stmts.specs.declared.statements.PlainStmt.{PlainStmt}
 use Rattle.decl_stmts.specs.declared.statements.PlainStmt.TheVariants as kind
 
@@ -39,19 +41,16 @@ listed_stated ts b st all = all_stated_as ts b st all.items
 
 -- a statement of one node
 abbrev pub plain_of : PlainStmt → Node → P.Stmt
-plain_of kind.Pass n = P.Pass n
-plain_of kind.Discard n = P.Discard n
-plain_of kind.Return n = P.Return n
-plain_of kind.Break n = P.Break n
-plain_of kind.Continue n = P.Continue n
+plain_of kind.Pass n = P.Idle n P.NoArg
+plain_of (kind.Leaves leaving) n = P.Leave n leaving P.NoArg
 
 -- ---- results
 
 -- a result behind the type that it has to have
-abbrev pub return_behind : State → Place → Term → Option Ty → Answer Stated
+abbrev pub return_behind : State → Place → Term → ResultPlace → Answer Stated
 return_behind st at t gives =
-    and_then (typed st.env (result_want gives) (suc st.node) t) (λ x.
-    and_then (returned gives x.expr) (λ v. Ok (did st (P.ReturnValue (node st.node at) v.expr) x.next)))
+    and_then (typed st.env (given_want gives) (suc st.node) t) (λ x.
+    and_then (returned gives x.expr) (λ v. Ok (did st (gives_back gives (node st.node at) v.expr) x.next)))
 
 -- ---- assignments
 
@@ -84,7 +83,7 @@ abbrev pub BlockSo : (old new : RustState) → (said : List Ty → State → Ans
 BlockSo old new said r = Stating old new (λ ts b stmts. blocked_as ts b new stmts.items) (λ ts b. said ts (state_of ts b old)) r
 
 abbrev pub branched_as : List Ty → Beside → RustState → List RustBranch → Branched
-branched_as ts b st all = record { branches = branches_of ts all; state = state_of ts b st }
+branched_as ts b st all = record { tests = branch_conditions ts all; blocks = bodies_in ts all; state = state_of ts b st }
 
 -- a branch, and the state behind it
 pub record OneBranch : Type 0 where
@@ -108,13 +107,13 @@ branch_rule a st at tests body = and_then (condition st.env st.node at tests) (�
 abbrev pub choice_behind : Around → Node → Statements → Branched → Answer Stated
 choice_behind a node otherwise b =
     and_then (block_rule a b.state otherwise) (λ o.
-    Ok (stated_as (does (P.Branch node b.branches o.stmts) ∷ []) o.state))
+    Ok (stated_as (does (P.Select node P.ByConditions b.tests (blocks_of b.blocks o.stmts)) ∷ []) o.state))
 
 -- the body of a loop, behind its condition
 abbrev pub repetition_behind : Around → State → Node → Statements → Value → Answer Stated
 repetition_behind a st node body c =
     and_then (block_rule a (up_to_node st c.next) body) (λ b.
-    Ok (stated_as (does (P.While node c.given.expr b.stmts) ∷ []) b.state))
+    Ok (stated_as (does (P.Loop node P.While (one_value c.given.expr) b.stmts) ∷ []) b.state))
 
 -- a procedure stands at the outermost level alone, where it is looked at by itself
 abbrev pub IsPlain : (outermost : Bool) → Statement → Type 0
@@ -123,8 +122,8 @@ IsPlain true _ = Unit {0}
 IsPlain false s = Unit {0}
 
 -- what a statement needs of what stands around it
-pub record Fits (st : RustState) (a : RustAround) (gives : Option ℕ) (s : Statement) : Type 0 where
+pub record Fits (st : RustState) (a : RustAround) (gives : Option RustResultPlace) (s : Statement) : Type 0 where
   pub ready : Ready st
   pub around : InsideWithin (length st.types) a.inside
-  pub ends : IsBelow (length st.types) gives
+  pub ends : ResultWithin (length st.types) gives
   pub plain : IsPlain a.outermost s

@@ -1,37 +1,39 @@
 // Assignments.
-ghost use Rattle.std.specs.Prelude.{◌≡◌, ◌<◌, ℕ, [], ◌∷◌, List, Option, length, IfOk, Ok};
+ghost use Rattle.std.specs.Prelude.{◌≡◌, ◌<◌, ℕ, [], ◌∷◌, List, length, IfOk, IfErr, Ok};
+ghost use Rattle.arc_base.specs.declared.place.Stop.TheVariants as Stop;
 ghost use Rattle.arc_base.specs.Refusal.{Answers, and_then};
-ghost use Rattle.nim_tree.specs.declared.stmt.AssignOp.TheVariants.{Join};
+ghost use Rattle.nim_tree.specs.declared.stmt.AssignOp.TheVariants.{Set, Join};
 ghost use Rattle.nim_tree.specs.Statements as tree;
 ghost use Rattle.nim_tree.specs.Terms.{term_of};
 ghost use Rattle.nim_types.specs.Types.{Ty, Facts};
 ghost use Rattle.nim_types.specs.Table.{type_at, meant};
-ghost use Rattle.nim_core.specs.View.{expr_of, path_of as path_in};
+ghost use Rattle.nim_program.specs.Nodes.{update};
+ghost use Rattle.nim_program.specs.View.{expr_of, path_of as path_in};
 ghost use Rattle.expr_rules.specs.Answers.{Valued};
 ghost use Rattle.expr_rules.specs.Builtins.{write_rule};
 ghost use Rattle.expr_rules.specs.Paths.{path_of};
 ghost use Rattle.expr_parts.specs.View.{Under, env_of, valued_of, want_of};
 ghost use Rattle.expr_parts.specs.ViewReady.{WantWithin};
-ghost use Rattle.decl_rules.specs.State.{Around as Near, did, does};
+ghost use Rattle.decl_rules.specs.State.{Around as Near, ResultPlace as Gives, did, does};
 ghost use Rattle.decl_rules.specs.Stated.{stated};
 ghost use Rattle.decl_rules.specs.Values.{is_target, target_rule, target_at, source_want};
 ghost use Rattle.decl_rules.specs.Values.{is_source, source_rule, assigned};
-ghost use Rattle.decl_parts.specs.View.{numbered_of, step_of, Ready, AllStatedSo};
+ghost use Rattle.decl_parts.specs.View.{numbered_of, steps_of, Ready, AllStatedSo};
 ghost use Rattle.decl_stmts.specs.ViewStated.{is_char, assign_source};
 ghost use Rattle.decl_stmts.specs.ViewStated.{assign_checked, assign_behind};
 
 use arc_base::{Code, Place, Stop};
+use decl_parts::nodes::{does_two, idle_with_two};
+use decl_parts::same::is_itself;
 use decl_parts::state::State;
-use decl_parts::stmts::list_of;
 use decl_parts::typing::{value_at, value_first};
 use decl_parts::values::{Numbered, accepted_if};
 use expr_parts::kinds::{entry, is_int, is_same, is_text};
-use expr_parts::nodes::node_of;
 use expr_parts::paths::path_of;
 use expr_parts::scope::Scope;
 use expr_parts::value::{Value, Want, refusal};
 use expr_steps::writable::can_be_written;
-use nim_core::{Expr, Node, Operator, Path, Stmt};
+use nim_program::{Expr, Node, Operand, Operation, Operator, Path, Stmt};
 use nim_tree::{AssignOp, Expr as Tree};
 use nim_types::{TypeDef, TypeId, TypeTable};
 use std::alloc::Global;
@@ -64,7 +66,7 @@ fn check_target(alloc: Global, scope: &Scope, tree: &Tree, expr: &Expr) -> Resul
 {
     let writable = can_be_written(alloc, scope, tree, expr)?;
     if !writable {
-        return Err(refusal(Code::NotAssignable, node_of(expr).at));
+        return Err(refusal(Code::NotAssignable, expr.node().at));
     }
     Ok(())
 }
@@ -114,32 +116,71 @@ fn is_source(types: &TypeTable, op: AssignOp, target: TypeId, ty: TypeId) -> boo
     }
 }
 
+// What is assigned to itself stays as it is.
+fn set(alloc: Global, node: Node, path: Path, value: Expr) -> Result<Vec<Stmt>, Stop>
+    ensures list { IfOk result (λ all. (ts : List Ty) → steps_of ts all.items
+        ≡ does (assigned Set node (path_in ts path) (expr_of ts value)) ∷ []) }
+    ensures memory { IfErr result (λ stop. stop ≡ Stop.Memory) }
+{
+    if is_itself(&path, &value) {
+        return idle_with_two(alloc, node, path, value);
+    }
+    does_two(
+        alloc,
+        node,
+        Operation::Assign,
+        Operand::At(path),
+        Operand::Value(value),
+    )
+}
+
+fn updated(
+    alloc: Global,
+    node: Node,
+    operator: Operator,
+    path: Path,
+    value: Expr,
+) -> Result<Vec<Stmt>, Stop>
+    ensures list { IfOk result (λ all. (ts : List Ty) → steps_of ts all.items
+        ≡ does (update node operator (path_in ts path) (expr_of ts value)) ∷ []) }
+    ensures memory { IfErr result (λ stop. stop ≡ Stop.Memory) }
+{
+    let operation = Operation::Update(operator);
+    does_two(
+        alloc,
+        node,
+        operation,
+        Operand::At(path),
+        Operand::Value(value),
+    )
+}
+
 // The statement that writes a value to a path.
-fn written(node: Node, op: AssignOp, path: Path, value: Expr) -> Stmt
-    ensures { (ts : List Ty) → step_of ts result
-        ≡ does (assigned op node (path_in ts path) (expr_of ts value)) ∷ [] }
+fn written(
+    alloc: Global,
+    node: Node,
+    op: AssignOp,
+    path: Path,
+    value: Expr,
+) -> Result<Vec<Stmt>, Stop>
+    ensures list { IfOk result (λ all. (ts : List Ty) → steps_of ts all.items
+        ≡ does (assigned op node (path_in ts path) (expr_of ts value)) ∷ []) }
+    ensures memory { IfErr result (λ stop. stop ≡ Stop.Memory) }
 {
     match op {
-        AssignOp::Set => Stmt::Assign { node, path, value },
-        AssignOp::Plus => Stmt::Update {
-            node,
-            operator: Operator::Add,
-            path,
-            value,
-        },
-        AssignOp::Minus => Stmt::Update {
-            node,
-            operator: Operator::Subtract,
-            path,
-            value,
-        },
-        AssignOp::Times => Stmt::Update {
-            node,
-            operator: Operator::Multiply,
-            path,
-            value,
-        },
-        AssignOp::Join => Stmt::Append { node, path, value },
+        AssignOp::Set => set(alloc, node, path, value),
+        AssignOp::Plus => updated(alloc, node, Operator::Add, path, value),
+        AssignOp::Minus => updated(alloc, node, Operator::Subtract, path, value),
+        AssignOp::Times => updated(alloc, node, Operator::Multiply, path, value),
+        AssignOp::Join => {
+            does_two(
+                alloc,
+                node,
+                Operation::Append,
+                Operand::At(path),
+                Operand::Value(value),
+            )
+        }
     }
 }
 
@@ -160,7 +201,7 @@ fn assignment(
         (path_of (expr_of ts target.expr)) v.expr) source.next))) result }
 {
     if !is_source(&state.types, op, target.ty, source.value.ty) {
-        let at = node_of(&source.value.expr).at;
+        let at = source.value.expr.node().at;
         drop(target);
         drop(source);
         return Err(refusal(Code::NotTyped, at));
@@ -173,7 +214,7 @@ fn assignment(
         }
     };
     state.node = source.next;
-    list_of(alloc, written(node, op, path, source.value.expr))
+    written(alloc, node, op, path, source.value.expr)
 }
 
 // Behind what is written, whose nodes end before the first number.
@@ -257,7 +298,7 @@ pub fn assign(
     value: &Tree,
 ) -> Result<Vec<Stmt>, Stop>
     requires ready { Ready state.old }
-    ensures { (a : List Ty → Near) (ends : List Ty → Option Ty) → AllStatedSo state.old state.new
+    ensures { (a : List Ty → Near) (ends : List Ty → Gives) → AllStatedSo state.old state.new
         (λ ts st. stated (a ts) (ends ts) st (tree.assigns at op (term_of target.now)
         (term_of value.now))) result }
 {

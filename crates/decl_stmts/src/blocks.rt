@@ -1,5 +1,5 @@
 // Blocks, and statements with blocks.
-ghost use Rattle.std.specs.Prelude.{◌≡◌, List, Option, length, false, map, None, Ok};
+ghost use Rattle.std.specs.Prelude.{◌≡◌, List, length, false, map, None, Ok};
 ghost use Rattle.arc_base.specs.Refusal.{and_then};
 ghost use Rattle.nim_tree.specs.Statements as tree;
 ghost use Rattle.nim_tree.specs.Statements.{statement_of, statements_of, branches_of, course_of};
@@ -7,11 +7,10 @@ ghost use Rattle.nim_tree.specs.Statements.{definition_of};
 ghost use Rattle.nim_tree.specs.Terms.{term_of, parts_of};
 ghost use Rattle.nim_tree.specs.Types.{declaration_of};
 ghost use Rattle.nim_types.specs.Types.{Ty};
-ghost use Rattle.nim_core.specs.View.{if_type};
 ghost use Rattle.decl_rules.specs.Definitions.{constants_rule};
-ghost use Rattle.decl_rules.specs.State.{Around as Near};
+ghost use Rattle.decl_rules.specs.State.{Around as Near, ResultPlace as Gives};
 ghost use Rattle.decl_rules.specs.Stated.{stated, all_stated, all_branches, passed};
-ghost use Rattle.decl_parts.specs.View.{around_of, numbered_of, state_of};
+ghost use Rattle.decl_parts.specs.View.{around_of, numbered_of, state_of, if_result};
 ghost use Rattle.decl_parts.specs.View.{InsideWithin, Ready, Stating, AllStatedSo};
 ghost use Rattle.decl_stmts.specs.ViewStated.{block_rule, branched_as, branch_as, BlockSo};
 ghost use Rattle.decl_stmts.specs.ViewStated.{branch_rule, branch_behind, choice_behind};
@@ -27,19 +26,19 @@ use crate::statements::{break_loop, command, continue_loop, discard, evaluate, p
 use arc_base::{Code, Place, Stop};
 use cases::selection;
 use decl_parts::nodes::{choice_of, repetition_of};
-use decl_parts::state::{Around, State, after, leave};
+use decl_parts::state::{Around, ResultPlace, State, after, leave};
 use decl_parts::stmts::{append, list_of};
 use decl_parts::typing::{condition_at, value_as_first};
 use decl_parts::values::Numbered;
 use decl_sections::stated::section;
+use expr_parts::nodes::one_operand;
 use expr_parts::value::refusal;
 use loops::{each_element, each_int};
-use nim_core::{Branch, Node, Stmt};
+use nim_program::{Branch, Kind, Node, Operand, Stmt};
 use nim_tree::{
     Binding, Branch as TreeBranch, Def, Expr as Term, Name, Over, Stmt as Tree,
     TypeDef as Declaration,
 };
-use nim_types::TypeId;
 use std::alloc::Global;
 
 // A section of constants, which is a statement that does nothing.
@@ -67,7 +66,7 @@ fn type_section(
     all: &[Declaration],
 ) -> Result<Vec<Stmt>, Stop>
     requires ready { Ready state.old }
-    ensures { (a : List Ty → Near) (ends : List Ty → Option Ty) → AllStatedSo state.old state.new
+    ensures { (a : List Ty → Near) (ends : List Ty → Gives) → AllStatedSo state.old state.new
         (λ ts st. stated (a ts) (ends ts) st (tree.types at (map declaration_of all.now)))
         result }
 {
@@ -87,7 +86,7 @@ fn defined(
     defs: &[Def],
 ) -> Result<Vec<Stmt>, Stop>
     requires ready { Ready state.old }
-    ensures { (ends : List Ty → Option Ty) → AllStatedSo state.old state.new (λ ts st. stated
+    ensures { (ends : List Ty → Gives) → AllStatedSo state.old state.new (λ ts st. stated
         (around_of ts around) (ends ts) st (tree.defines at binding (map definition_of defs.now)))
         result }
 {
@@ -230,7 +229,7 @@ fn choice(
 ) -> Result<Vec<Stmt>, Stop>
     requires ready { Ready state.old }
     requires around { InsideWithin (length state.old.types) around.inside }
-    ensures { (ends : List Ty → Option Ty) → AllStatedSo state.old state.new (λ ts st. stated
+    ensures { (ends : List Ty → Gives) → AllStatedSo state.old state.new (λ ts st. stated
         (around_of ts around) (ends ts) st (tree.branches at (branches_of branches.now)
         (statements_of otherwise.now))) result }
 {
@@ -280,7 +279,7 @@ fn repetition(
 ) -> Result<Vec<Stmt>, Stop>
     requires ready { Ready state.old }
     requires around { InsideWithin (length state.old.types) around.inside }
-    ensures { (ends : List Ty → Option Ty) → AllStatedSo state.old state.new (λ ts st. stated
+    ensures { (ends : List Ty → Gives) → AllStatedSo state.old state.new (λ ts st. stated
         (around_of ts around) (ends ts) st (tree.repeats at (term_of condition.now)
         (statements_of body.now))) result }
 {
@@ -311,10 +310,11 @@ fn repetition_with(
         node (statements_of body.now) (numbered_of ts given)) result }
 {
     state.node = given.next;
+    let head = one_operand(alloc, Operand::Value(given.value.expr))?;
     match block(alloc, state, around, body) {
-        Ok(stmts) => list_of(alloc, repetition_of(node, given.value.expr, stmts)),
+        Ok(stmts) => list_of(alloc, repetition_of(node, Kind::While, head, stmts)),
         Err(stop) => {
-            drop(given);
+            drop(head);
             Err(stop)
         }
     }
@@ -333,7 +333,7 @@ fn each(
 ) -> Result<Vec<Stmt>, Stop>
     requires ready { Ready state.old }
     requires around { InsideWithin (length state.old.types) around.inside }
-    ensures { (ends : List Ty → Option Ty) → AllStatedSo state.old state.new (λ ts st. stated
+    ensures { (ends : List Ty → Gives) → AllStatedSo state.old state.new (λ ts st. stated
         (around_of ts around) (ends ts) st (tree.counts at name.now (course_of over.now)
         (statements_of body.now))) result }
 {
@@ -354,12 +354,12 @@ pub fn statement(
     alloc: Global,
     state: &mut State,
     around: Around,
-    ends: Option<TypeId>,
+    ends: Option<ResultPlace>,
     tree: &Tree,
 ) -> Result<Vec<Stmt>, Stop>
     requires { Fits state.old around ends (statement_of tree.now) }
     ensures { AllStatedSo state.old state.new (λ ts st. stated (around_of ts around)
-        (if_type ts ends) st (statement_of tree.now)) result }
+        (if_result ts ends) st (statement_of tree.now)) result }
 {
     match tree {
         Tree::Discard { at, value } => discard(alloc, state, *at, value),

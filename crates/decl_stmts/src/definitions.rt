@@ -9,7 +9,7 @@ ghost use Rattle.nim_tree.specs.Terms.{term_of};
 ghost use Rattle.nim_tree.specs.Types.{written_of};
 ghost use Rattle.nim_types.specs.Types.{Ty};
 ghost use Rattle.nim_types.specs.Table.{type_at, IsBelow};
-ghost use Rattle.nim_core.specs.View.{declared_of, if_type};
+ghost use Rattle.nim_program.specs.View.{declared_of, if_type};
 ghost use Rattle.expr_rules.specs.Env.{variable};
 ghost use Rattle.expr_parts.specs.View.{entry_of, WhatWithin, DeclsWithin};
 ghost use Rattle.decl_rules.specs.Definitions.{is_var_binding, initialised, default_rule};
@@ -31,7 +31,7 @@ use decl_written::stated::written_type;
 use expr_parts::scope::{Decl, What};
 use expr_parts::value::refusal;
 use indent_scanner::normal_form;
-use nim_core::{Node, PlaceDecl, Stmt};
+use nim_program::{Node, PlaceDecl, Stmt};
 use nim_tree::{Binding, Declared, Def, Expr as Tree, TypeTree};
 use nim_types::TypeId;
 use std::alloc::Global;
@@ -180,8 +180,13 @@ fn with_value(
             return Err(stop);
         }
     };
-    let value = Some(given.value.expr);
-    new_of(alloc, Stmt::Declare { node, place, value }, decl)
+    let stmt = Stmt::Declare {
+        node,
+        place,
+        cursor: false,
+        value: Some(given.value.expr),
+    };
+    new_of(alloc, stmt, decl)
 }
 
 // A variable that starts at the default of its type.
@@ -212,8 +217,13 @@ fn without_value(
         place.number,
         ty,
     )?;
-    let value = None;
-    new_of(alloc, Stmt::Declare { node, place, value }, decl)
+    let stmt = Stmt::Declare {
+        node,
+        place,
+        cursor: false,
+        value: None,
+    };
+    new_of(alloc, stmt, decl)
 }
 
 fn initialised(

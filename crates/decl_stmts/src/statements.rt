@@ -1,31 +1,34 @@
 // Statements without blocks.
 ghost use Rattle.std.specs.Prelude.{◌≡◌, suc, [], ◌∷◌, List, Option, option_map, length};
-ghost use Rattle.std.specs.Prelude.{None, Some, Ok};
+ghost use Rattle.std.specs.Prelude.{None, Some, Ok, IfOk, IfErr};
+ghost use Rattle.arc_base.specs.declared.place.Stop.TheVariants as Stop;
 ghost use Rattle.arc_base.specs.Refusal.{Answers, and_then};
 ghost use Rattle.nim_tree.specs.Statements as tree;
 ghost use Rattle.nim_tree.specs.Terms.{term_of, parts_of};
 ghost use Rattle.nim_types.specs.Types.{Ty, Facts};
 ghost use Rattle.nim_types.specs.Table.{IsBelow};
-ghost use Rattle.nim_core.specs.Program as P;
-ghost use Rattle.nim_core.specs.View.{expr_of, if_type};
+ghost use Rattle.nim_program.specs.View.{expr_of};
 ghost use Rattle.expr_rules.specs.Answers.{node};
 ghost use Rattle.expr_parts.specs.View.{Under, number_of};
-ghost use Rattle.decl_rules.specs.State.{Around as Near, did, does};
+ghost use Rattle.decl_rules.specs.State.{Around as Near, ResultPlace as Gives, did, does};
 ghost use Rattle.decl_rules.specs.Stated.{stated, passed};
-ghost use Rattle.decl_rules.specs.Values.{returned, evaluated, given_if};
-ghost use Rattle.decl_parts.specs.View.{around_of, step_of, InsideWithin, Ready, AllStatedSo};
+ghost use Rattle.decl_rules.specs.Values.{returned, gives_back, gives_last, evaluated, given_if};
+ghost use Rattle.decl_parts.specs.View.{around_of, step_of, steps_of, if_result, ResultWithin};
+ghost use Rattle.decl_parts.specs.View.{InsideWithin, Ready, AllStatedSo};
 ghost use Rattle.decl_stmts.specs.ViewStated.{listed_steps, plain_of, return_behind};
 
 use arc_base::{Code, Place, Stop};
-use decl_parts::state::{Around, Inside, State, after};
+use decl_parts::nodes::{does_one, gives, idle, idle_with, leaves, leaves_with};
+use decl_parts::same::is_result;
+use decl_parts::state::{Around, Inside, ResultPlace, State, after};
 use decl_parts::stmts::list_of;
 use decl_parts::typing::{type_command, type_first, value_first};
-use decl_parts::values::{is_result, result_want, returned};
-use expr_parts::nodes::{node_of, type_number};
+use decl_parts::values::{given_want, has_type, returned};
+use expr_parts::nodes::type_number;
 use expr_parts::value::{Typed, Want, refusal};
-use nim_core::{Expr, Node, Stmt};
+use nim_program::{Expr, Leaving, Node, Operand, Operation, Stmt};
 use nim_tree::Expr as Tree;
-use nim_types::{TypeId, TypeTable};
+use nim_types::TypeTable;
 use std::alloc::Global;
 
 /// A statement of one node.
@@ -33,25 +36,16 @@ use std::alloc::Global;
 pub enum PlainStmt {
     /// It does nothing.
     Pass,
-    /// `discard` without a value
-    Discard,
-    /// `return` without a value
-    Return,
-    /// `break`
-    Break,
-    /// `continue`
-    Continue,
+    /// Control leaves.
+    Leaves(Leaving),
 }
 
-fn stmt_of(kind: PlainStmt, node: Node) -> Stmt
+fn stmt_of(alloc: Global, kind: PlainStmt, node: Node) -> Stmt
     ensures { (ts : List Ty) → step_of ts result ≡ does (plain_of kind node) ∷ [] }
 {
     match kind {
-        PlainStmt::Pass => Stmt::Pass { node },
-        PlainStmt::Discard => Stmt::Discard { node, value: None },
-        PlainStmt::Return => Stmt::Return { node, value: None },
-        PlainStmt::Break => Stmt::Break { node },
-        PlainStmt::Continue => Stmt::Continue { node },
+        PlainStmt::Pass => idle(node, Vec::new(alloc)),
+        PlainStmt::Leaves(leaving) => leaves(node, leaving, Vec::new(alloc)),
     }
 }
 
@@ -68,7 +62,7 @@ fn plain(alloc: Global, state: &mut State, at: Place, kind: PlainStmt) -> Result
     match after(state.node) {
         Ok(next) => {
             state.node = next;
-            list_of(alloc, stmt_of(kind, node))
+            list_of(alloc, stmt_of(alloc, kind, node))
         }
         Err(stop) => Err(stop),
     }
@@ -90,7 +84,7 @@ fn discard_value(
     value: &Tree,
 ) -> Result<Vec<Stmt>, Stop>
     requires ready { Ready state.old }
-    ensures { (a : List Ty → Near) (ends : List Ty → Option Ty) → AllStatedSo state.old state.new
+    ensures { (a : List Ty → Near) (ends : List Ty → Gives) → AllStatedSo state.old state.new
         (λ ts st. stated (a ts) (ends ts) st (tree.discards at (Some (term_of value.now))))
         result }
 {
@@ -101,8 +95,12 @@ fn discard_value(
     match value_first(alloc, state, Want::Nothing, value) {
         Ok(given) => {
             state.node = given.next;
-            let value = Some(given.value.expr);
-            list_of(alloc, Stmt::Discard { node, value })
+            does_one(
+                alloc,
+                node,
+                Operation::Discard,
+                Operand::Value(given.value.expr),
+            )
         }
         Err(stop) => Err(stop),
     }
@@ -116,13 +114,13 @@ pub fn discard(
     value: &Option<Tree>,
 ) -> Result<Vec<Stmt>, Stop>
     requires ready { Ready state.old }
-    ensures { (a : List Ty → Near) (ends : List Ty → Option Ty) → AllStatedSo state.old state.new
+    ensures { (a : List Ty → Near) (ends : List Ty → Gives) → AllStatedSo state.old state.new
         (λ ts st. stated (a ts) (ends ts) st (tree.discards at (option_map term_of value.now)))
         result }
 {
     match value {
         Some(value) => discard_value(alloc, state, at, value),
-        None => plain(alloc, state, at, PlainStmt::Discard),
+        None => plain(alloc, state, at, PlainStmt::Pass),
     }
 }
 
@@ -134,14 +132,14 @@ pub fn break_loop(
     at: Place,
 ) -> Result<Vec<Stmt>, Stop>
     requires ready { Ready state.old }
-    ensures { (ends : List Ty → Option Ty) → AllStatedSo state.old state.new
+    ensures { (ends : List Ty → Gives) → AllStatedSo state.old state.new
         (λ ts st. stated (around_of ts around) (ends ts) st (tree.breaks at)) result }
 {
     let in_loop = around.in_loop;
     if !in_loop {
         return Err(refusal(Code::NotTyped, at));
     }
-    plain(alloc, state, at, PlainStmt::Break)
+    plain(alloc, state, at, PlainStmt::Leaves(Leaving::Break))
 }
 
 /// `continue`
@@ -152,14 +150,14 @@ pub fn continue_loop(
     at: Place,
 ) -> Result<Vec<Stmt>, Stop>
     requires ready { Ready state.old }
-    ensures { (ends : List Ty → Option Ty) → AllStatedSo state.old state.new
+    ensures { (ends : List Ty → Gives) → AllStatedSo state.old state.new
         (λ ts st. stated (around_of ts around) (ends ts) st (tree.continues at)) result }
 {
     let in_loop = around.in_loop;
     if !in_loop {
         return Err(refusal(Code::NotTyped, at));
     }
-    plain(alloc, state, at, PlainStmt::Continue)
+    plain(alloc, state, at, PlainStmt::Leaves(Leaving::Continue))
 }
 
 // `return` without a value.
@@ -170,36 +168,52 @@ fn return_nothing(
     at: Place,
 ) -> Result<Vec<Stmt>, Stop>
     requires ready { Ready state.old }
-    ensures { (ends : List Ty → Option Ty) → AllStatedSo state.old state.new
+    ensures { (ends : List Ty → Gives) → AllStatedSo state.old state.new
         (λ ts st. stated (around_of ts around) (ends ts) st (tree.returns at None)) result }
 {
     match around.inside {
         Inside::ModuleCode => Err(refusal(Code::NotTyped, at)),
-        Inside::Procedure(_) => plain(alloc, state, at, PlainStmt::Return),
+        Inside::Procedure(_) => plain(alloc, state, at, PlainStmt::Leaves(Leaving::Return)),
     }
+}
+
+// The result becomes the value, and control goes back; the result itself isn't evaluated.
+fn given_back(
+    alloc: Global,
+    place: Option<ResultPlace>,
+    node: Node,
+    value: Expr,
+) -> Result<Vec<Stmt>, Stop>
+    ensures list { IfOk result (λ all. (ts : List Ty) → steps_of ts all.items
+        ≡ does (gives_back (if_result ts place) node (expr_of ts value)) ∷ []) }
+    ensures memory { IfErr result (λ stop. stop ≡ Stop.Memory) }
+{
+    if is_result(place, &value) {
+        return leaves_with(alloc, node, Leaving::Return, value);
+    }
+    list_of(alloc, gives(node, true, value))
 }
 
 // What is returned, where it has been typed.
 fn returned_value(
     alloc: Global,
     state: &mut State,
-    gives: Option<TypeId>,
+    gives: Option<ResultPlace>,
     node: Node,
     typed: Typed,
 ) -> Result<Vec<Stmt>, Stop>
     requires ready { Ready state.old }
-    requires gives { IsBelow (length state.old.types) gives }
+    requires gives { ResultWithin (length state.old.types) gives }
     requires within { IsBelow (length state.old.types) (number_of typed.expr) }
     ensures { AllStatedSo state.old state.new (λ ts st. and_then
-        (returned (if_type ts gives) (expr_of ts typed.expr))
-        (λ v. Ok (did st (P.ReturnValue node v.expr) typed.next))) result }
+        (returned (if_result ts gives) (expr_of ts typed.expr))
+        (λ v. Ok (did st (gives_back (if_result ts gives) node v.expr) typed.next))) result }
 {
     let next = typed.next;
     match returned(&state.types, gives, typed.expr) {
         Ok(value) => {
             state.node = next;
-            let value = Some(value.expr);
-            list_of(alloc, Stmt::Return { node, value })
+            given_back(alloc, gives, node, value.expr)
         }
         Err(stop) => Err(stop),
     }
@@ -208,20 +222,20 @@ fn returned_value(
 fn return_from(
     alloc: Global,
     state: &mut State,
-    gives: Option<TypeId>,
+    gives: Option<ResultPlace>,
     at: Place,
     value: &Tree,
 ) -> Result<Vec<Stmt>, Stop>
     requires ready { Ready state.old }
-    requires gives { IsBelow (length state.old.types) gives }
+    requires gives { ResultWithin (length state.old.types) gives }
     ensures { AllStatedSo state.old state.new (λ ts st. return_behind st at (term_of value.now)
-        (if_type ts gives)) result }
+        (if_result ts gives)) result }
 {
     let node = Node {
         number: state.node,
         at,
     };
-    match type_first(alloc, state, result_want(gives), value) {
+    match type_first(alloc, state, given_want(gives), value) {
         Ok(typed) => returned_value(alloc, state, gives, node, typed),
         Err(stop) => Err(stop),
     }
@@ -237,7 +251,7 @@ fn return_value(
 ) -> Result<Vec<Stmt>, Stop>
     requires ready { Ready state.old }
     requires around { InsideWithin (length state.old.types) around.inside }
-    ensures { (ends : List Ty → Option Ty) → AllStatedSo state.old state.new
+    ensures { (ends : List Ty → Gives) → AllStatedSo state.old state.new
         (λ ts st. stated (around_of ts around) (ends ts) st
         (tree.returns at (Some (term_of value.now)))) result }
 {
@@ -257,7 +271,7 @@ pub fn return_by(
 ) -> Result<Vec<Stmt>, Stop>
     requires ready { Ready state.old }
     requires around { InsideWithin (length state.old.types) around.inside }
-    ensures { (ends : List Ty → Option Ty) → AllStatedSo state.old state.new
+    ensures { (ends : List Ty → Gives) → AllStatedSo state.old state.new
         (λ ts st. stated (around_of ts around) (ends ts) st
         (tree.returns at (option_map term_of value.now))) result }
 {
@@ -267,50 +281,73 @@ pub fn return_by(
     }
 }
 
+// The result becomes the value; nothing is done where it is the result itself.
+fn given_last(
+    alloc: Global,
+    place: Option<ResultPlace>,
+    node: Node,
+    value: Expr,
+) -> Result<Vec<Stmt>, Stop>
+    ensures list { IfOk result (λ all. (ts : List Ty) → steps_of ts all.items
+        ≡ does (gives_last (if_result ts place) node (expr_of ts value)) ∷ []) }
+    ensures memory { IfErr result (λ stop. stop ≡ Stop.Memory) }
+{
+    if is_result(place, &value) {
+        return idle_with(alloc, node, value);
+    }
+    list_of(alloc, gives(node, false, value))
+}
+
 // An expression that is a statement: it gives no value, or it ends a body.
-fn evaluated_as(alloc: Global, accepts: bool, node: Node, value: Expr) -> Result<Vec<Stmt>, Stop>
-    ensures { (ts : List Ty) → Answers (listed_steps ts) (and_then (given_if accepts node
-        (expr_of ts value)) (λ s. Ok (does s ∷ []))) result }
+fn evaluated_as(
+    alloc: Global,
+    accepts: bool,
+    ends: Option<ResultPlace>,
+    node: Node,
+    value: Expr,
+) -> Result<Vec<Stmt>, Stop>
+    ensures { (ts : List Ty) → Answers (listed_steps ts) (and_then (given_if accepts
+        (if_result ts ends) node (expr_of ts value)) (λ s. Ok (does s ∷ []))) result }
 {
     if !accepts {
-        let at = node_of(&value).at;
+        let at = value.node().at;
         drop(value);
         return Err(refusal(Code::NotTyped, at));
     }
-    list_of(alloc, Stmt::Give { node, value })
+    given_last(alloc, ends, node, value)
 }
 
 fn evaluated(
     alloc: Global,
     types: &TypeTable,
-    ends: Option<TypeId>,
+    ends: Option<ResultPlace>,
     node: Node,
     value: Expr,
 ) -> Result<Vec<Stmt>, Stop>
-    requires ends { IsBelow (length types.now) ends }
+    requires ends { ResultWithin (length types.now) ends }
     requires within { IsBelow (length types.now) (number_of value) }
     ensures { (ts : List Ty) (facts : Facts) → Under types.now ts facts
-        → Answers (listed_steps ts) (and_then (evaluated (if_type ts ends) node
+        → Answers (listed_steps ts) (and_then (evaluated (if_result ts ends) node
         (expr_of ts value)) (λ s. Ok (does s ∷ []))) result }
 {
     match type_number(&value) {
-        Some(ty) => evaluated_as(alloc, is_result(types, ends, ty), node, value),
-        None => list_of(alloc, Stmt::Eval { node, value }),
+        Some(ty) => evaluated_as(alloc, has_type(types, ends, ty), ends, node, value),
+        None => does_one(alloc, node, Operation::Discard, Operand::Value(value)),
     }
 }
 
 fn evaluation(
     alloc: Global,
     state: &mut State,
-    ends: Option<TypeId>,
+    ends: Option<ResultPlace>,
     node: Node,
     typed: Typed,
 ) -> Result<Vec<Stmt>, Stop>
     requires ready { Ready state.old }
-    requires ends { IsBelow (length state.old.types) ends }
+    requires ends { ResultWithin (length state.old.types) ends }
     requires within { IsBelow (length state.old.types) (number_of typed.expr) }
     ensures { AllStatedSo state.old state.new (λ ts st. and_then
-        (evaluated (if_type ts ends) node (expr_of ts typed.expr))
+        (evaluated (if_result ts ends) node (expr_of ts typed.expr))
         (λ s. Ok (did st s typed.next))) result }
 {
     state.node = typed.next;
@@ -321,20 +358,20 @@ fn evaluation(
 pub fn evaluate(
     alloc: Global,
     state: &mut State,
-    ends: Option<TypeId>,
+    ends: Option<ResultPlace>,
     at: Place,
     value: &Tree,
 ) -> Result<Vec<Stmt>, Stop>
     requires ready { Ready state.old }
-    requires ends { IsBelow (length state.old.types) ends }
+    requires ends { ResultWithin (length state.old.types) ends }
     ensures { (a : List Ty → Near) → AllStatedSo state.old state.new (λ ts st. stated (a ts)
-        (if_type ts ends) st (tree.evaluates at (term_of value.now))) result }
+        (if_result ts ends) st (tree.evaluates at (term_of value.now))) result }
 {
     let node = Node {
         number: state.node,
         at,
     };
-    match type_first(alloc, state, result_want(ends), value) {
+    match type_first(alloc, state, given_want(ends), value) {
         Ok(typed) => evaluation(alloc, state, ends, node, typed),
         Err(stop) => Err(stop),
     }
@@ -344,22 +381,22 @@ pub fn evaluate(
 pub fn command(
     alloc: Global,
     state: &mut State,
-    ends: Option<TypeId>,
+    ends: Option<ResultPlace>,
     at: Place,
     callee: &Tree,
     operands: &[Tree],
 ) -> Result<Vec<Stmt>, Stop>
     requires ready { Ready state.old }
-    requires ends { IsBelow (length state.old.types) ends }
+    requires ends { ResultWithin (length state.old.types) ends }
     ensures { (a : List Ty → Near) → AllStatedSo state.old state.new (λ ts st. stated (a ts)
-        (if_type ts ends) st (tree.commands at (term_of callee.now) (parts_of operands.now)))
+        (if_result ts ends) st (tree.commands at (term_of callee.now) (parts_of operands.now)))
         result }
 {
     let node = Node {
         number: state.node,
         at,
     };
-    match type_command(alloc, state, result_want(ends), at, callee, operands) {
+    match type_command(alloc, state, given_want(ends), at, callee, operands) {
         Ok(typed) => evaluation(alloc, state, ends, node, typed),
         Err(stop) => Err(stop),
     }

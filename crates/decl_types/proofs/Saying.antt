@@ -9,7 +9,7 @@ use Rattle.nim_tree.specs.declared.name.Declared.{Declared}
 use Rattle.nim_tree.specs.Types.{Written, Fields, no_fields, fields}
 use Rattle.nim_types.specs.declared.types.FieldName.{FieldName}
 use Rattle.nim_types.specs.Types.{Ty, same_text}
-use Rattle.nim_core.specs.Program.{Number}
+use Rattle.nim_program.specs.Program.{Number}
 use Rattle.expr_rules.specs.Answers.{Answer}
 use Rattle.expr_rules.specs.Constructions.{is_among}
 use Rattle.expr_rules.specs.Env.{Env, Entry, constant}

@@ -7,7 +7,7 @@ use Rattle.nim_tree.specs.Types.{Body, Fields, no_fields, fields}
 use Rattle.nim_types.specs.declared.types.FieldName.{FieldName}
 use Rattle.nim_types.specs.Types.{Ty, Field}
 use Rattle.nim_types.specs.Table.{type_at, AllBelow}
-use Rattle.nim_core.specs.Program.{Number}
+use Rattle.nim_program.specs.Program.{Number}
 use Rattle.expr_rules.specs.Env.{Env, Entry, constant}
 use Rattle.expr_rules.specs.Answers.{Answer}
 use Rattle.expr_parts.specs.declared.scope.Decl.{Decl}

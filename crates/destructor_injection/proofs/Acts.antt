@@ -5,7 +5,7 @@ use Rattle.std.proofs.lemmas.Bool.Decides.{eqb_tells}
 use Rattle.nim_plan.specs.declared.plan.Act.{Act}
 use Rattle.nim_plan.specs.declared.plan.Plan.{Plan}
 use Rattle.nim_plan.specs.declared.plan.SiteAct.{SiteAct}
-use Rattle.plan_sets.specs.Order.{HasAct, IsInOrder}
+use Rattle.nim_plan.specs.Order.{HasAct, IsInOrder}
 use Rattle.nim_meaning.specs.Here.{act_in, act_at}
 
 abbrev entry : ℕ → Act → SiteAct

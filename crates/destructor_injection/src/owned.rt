@@ -1,14 +1,13 @@
 // Flat code as owned code, procedure by procedure and line by line.
 ghost use Rattle.std.specs.Prelude.{◌≡◌, IfOk, map};
-ghost use Rattle.plan_sets.specs.Order.{IsInOrder};
+ghost use Rattle.nim_plan.specs.Order.{IsInOrder};
 ghost use Rattle.nim_meaning.specs.Here.{act_at};
 ghost use Rattle.flat_code.specs.Codes.{under, each_line};
 ghost use Rattle.destructor_injection.specs.Injecting.{IsOwned};
 
 use arc_base::{Items, Memory, agreement};
 use flat_code::{CodeProc, Flat, Line, Owned, OwnedLine, codes, copied};
-use nim_plan::Plan;
-use plan_sets::act_of;
+use nim_plan::{Plan, act_of};
 use std::alloc::Global;
 
 /// Owned code does at most so many times the work of the flat code that it is of.

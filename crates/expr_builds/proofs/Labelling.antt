@@ -8,10 +8,10 @@ use Rattle.arc_base.specs.declared.place.Place.{Place}
 use Rattle.arc_base.specs.declared.place.Code.TheVariants.{CaseCover}
 use Rattle.nim_types.specs.Types as type
 use Rattle.nim_types.specs.Types.{Ty, Facts, same_text}
-use Rattle.nim_core.specs.declared.expr.Label.{Label as RustLabel}
-use Rattle.nim_core.specs.declared.expr.Label.TheVariants as label
-use Rattle.nim_core.specs.View.{label_of, if_type}
-use Rattle.nim_core.specs.Program.{Label, Ordinals, Exactly}
+use Rattle.nim_program.specs.declared.expr.Label.{Label as RustLabel}
+use Rattle.nim_program.specs.declared.expr.Label.TheVariants as label
+use Rattle.nim_program.specs.View.{label_of, if_type}
+use Rattle.nim_program.specs.Program.{Label, Ordinals, Exactly}
 use Rattle.expr_builds.specs.declared.ranges.Range.{Range}
 use Rattle.expr_rules.specs.Builtins.{is_text}
 use Rattle.expr_rules.specs.Choices.{clash, clashes, has_any, are_covered, covers, span_of, is_enough, cover_by}

@@ -1,5 +1,5 @@
 -- Plans of objects: the fields of names first, and then that none comes twice.
-use Rattle.std.proofs.Common.{◌≡◌, ℕ, suc, ◌<◌, List, [], ◌∷◌, ◌++◌, length, refl, sym, ap, ap₂, ◌∙◌, Some, None}
+use Rattle.std.proofs.Common.{◌≡◌, ℕ, ◌<◌, List, [], ◌∷◌, ◌++◌, refl, sym, ap, ap₂, ◌∙◌, Some, None}
 use Rattle.std.proofs.Common.{append_assoc, append-nil}
 use Rattle.std.specs.Prelude.{Bool, true, false, ◌||◌, if◌then◌else◌, nat_eq, map, Option, Ok, Err}
 use Rattle.arc_base.specs.declared.place.Place.{Place}
@@ -9,20 +9,16 @@ use Rattle.arc_base.specs.declared.place.Stop.TheVariants as stop
 use Rattle.arc_base.specs.Refusal.{and_then, Answers}
 use Rattle.nim_types.specs.Types as type
 use Rattle.nim_types.specs.Types.{Ty, Fact}
-use Rattle.nim_core.specs.declared.expr.Init.{Init}
-use Rattle.nim_core.specs.Program.{Inits, NoInit, AnInit}
-use Rattle.nim_core.specs.View.{inits_of as inits_in, expr_of}
 use Rattle.expr_parts.specs.declared.scope.What.{What}
 use Rattle.expr_parts.specs.declared.scope.What.TheVariants as what
 use Rattle.expr_parts.specs.declared.parts.Found.{Found as RustFound}
 use Rattle.expr_builds.specs.declared.plans.Plan.{Plan as RustPlan}
-use Rattle.expr_parts.specs.declared.value.Value.{Value as RustValue}
 use Rattle.expr_rules.specs.Env.{Env, Known, unknown, known_next}
 use Rattle.expr_rules.specs.Answers.{Answer, not_typed}
 use Rattle.expr_rules.specs.Constructions.{Found, Plan, fields_for, field_named, field_or_unknown, with_field, is_number_among, object_by}
 use Rattle.expr_rules.specs.Constructions.{object_of}
-use Rattle.expr_rules.specs.Constructions.{plan_as, plan_with, inits_of, init_before}
-use Rattle.expr_parts.specs.View.{found_of, valued_of, entry_by, are_fields}
+use Rattle.expr_rules.specs.Constructions.{plan_as, plan_with, numbers_of}
+use Rattle.expr_parts.specs.View.{found_of, entry_by, are_fields}
 use Rattle.expr_builds.specs.ViewBuilt.{FoundsWithin, has_number, found_twice, found_before, fields_found, plan_once, plan_of}
 use Rattle.expr_parts.proofs.ForCallers.{refuses}
 
@@ -165,52 +161,6 @@ behind_nothing ts done (Err r) e = refl
 
 -- ---- a value for each field
 
-abbrev pub inits_front : List Ty → List Init → Inits → Inits
-inits_front ts [] rest = rest
-inits_front ts (i ∷ all) rest = AnInit i.field (expr_of ts i.value) (inits_front ts all rest)
-
-abbrev pub inits_behind : List Ty → List Init → Option Inits → Option Inits
-inits_behind ts all None = None
-inits_behind ts all (Some rest) = Some (inits_front ts all rest)
-
-front_last : (ts : List Ty) (all : List Init) (i : Init) (rest : Inits)
-    → inits_front ts (all ++ i ∷ []) rest ≡ inits_front ts all (AnInit i.field (expr_of ts i.value) rest)
-front_last ts [] i rest = refl
-front_last ts (j ∷ all) i rest = ap (AnInit j.field (expr_of ts j.value)) (front_last ts all i rest)
-
-front_none : (ts : List Ty) (all : List Init) → inits_front ts all NoInit ≡ inits_in ts all
-front_none ts [] = refl
-front_none ts (i ∷ all) = ap (AnInit i.field (expr_of ts i.value)) (front_none ts all)
-
--- before the first
-pub no_init : (ts : List Ty) (done : List Init) (said : Option Inits) → done ≡ [] → said ≡ inits_behind ts done said
-no_init ts done None e = refl
-no_init ts done (Some rest) e = ap (λ d. Some (inits_front ts d rest)) (sym e)
-
--- one value more
-pub one_init : (ts : List Ty) (done more : List Init) (i : Init) (f : RustFound) (fs : List RustFound) (v : RustValue) (vs : List RustValue)
-    → more ≡ done ++ i ∷ [] → i.field ≡ f.number → i.value ≡ v.expr
-    → inits_behind ts done (inits_of (map (found_of ts) (f ∷ fs)) (map (valued_of ts) (v ∷ vs)))
-    ≡ inits_behind ts more (inits_of (map (found_of ts) fs) (map (valued_of ts) vs))
-one_init ts done more i f fs v vs m field value =
-    let left = inits_of (map (found_of ts) fs) (map (valued_of ts) vs) in
-    by_rest left ∙ ap (λ d. inits_behind ts d left) (sym m)
-  where
-    by_rest : (o : Option Inits) → inits_behind ts done (init_before (found_of ts f) (valued_of ts v) o) ≡ inits_behind ts (done ++ i ∷ []) o
-    by_rest None = refl
-    by_rest (Some r) =
-        ap Some (ap₂ (λ k e. inits_front ts done (AnInit k (expr_of ts e) r)) (sym field) (sym value) ∙ sym (front_last ts done i r))
-
--- all values
-pub all_inits : (ts : List Ty) (done : List Init) (fs : List RustFound) (vs : List RustValue) (said : Option Inits) → fs ≡ [] → vs ≡ []
-    → said ≡ inits_behind ts done (inits_of (map (found_of ts) fs) (map (valued_of ts) vs)) → said ≡ Some (inits_in ts done)
-all_inits ts done fs vs said e h k =
-    k ∙ ap₂ (λ gs us. inits_behind ts done (inits_of (map (found_of ts) gs) (map (valued_of ts) us))) e h ∙ ap Some (front_none ts done)
-
--- not as many values as fields
-pub not_counted : (ts : List Ty) (fs : List RustFound) (vs : List RustValue) → (length fs ≡ length vs → ⊥)
-    → inits_of (map (found_of ts) fs) (map (valued_of ts) vs) ≡ None
-not_counted ts [] [] h = absurd (h refl)
-not_counted ts [] (v ∷ vs) h = refl
-not_counted ts (f ∷ fs) [] h = refl
-not_counted ts (f ∷ fs) (v ∷ vs) h = ap (init_before (found_of ts f) (valued_of ts v)) (not_counted ts fs vs (λ e. h (ap suc e)))
+pub numbers_are : (ts : List Ty) (fs : List RustFound) → numbers_of (map (found_of ts) fs) ≡ map (λ f. f.number) fs
+numbers_are ts [] = refl
+numbers_are ts (f ∷ fs) = ap (λ is. f.number ∷ is) (numbers_are ts fs)

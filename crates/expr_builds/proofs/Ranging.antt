@@ -4,7 +4,7 @@ use Rattle.std.proofs.Common.{⊎_elim, Some, None}
 use Rattle.std.specs.Prelude.{ℤ, pos, ◌+ℤ◌, Bool, true, false, ◌&&◌, ◌||◌, if◌then◌else◌, int_le, int_lt, map, slice_get, insert, Option}
 use Rattle.std.proofs.lemmas.Bool.{cases_lt}
 use Rattle.std.proofs.lemmas.Option.{same_Some, slice_get_within}
-use Rattle.nim_core.specs.Program.{Label, Ordinals}
+use Rattle.nim_program.specs.Program.{Label, Ordinals}
 use Rattle.expr_rules.specs.Choices.{clash, clashes, has_value, has_any}
 use Rattle.expr_builds.specs.declared.ranges.Range.{Range}
 use Rattle.expr_builds.specs.ViewLabels.{label_in, AllAbove, IsAscending, IsPlace, ends_at, begins_by, all_from, behind}

@@ -15,7 +15,7 @@ use Rattle.nim_types.specs.declared.types.TypeDef.TheVariants as D
 use Rattle.nim_types.specs.Types as type
 use Rattle.nim_types.specs.Types.{Ty, Tys, Facts, same_all}
 use Rattle.nim_types.specs.Table.{type_at, types_at, meant, AllBelow, IsWithin}
-use Rattle.nim_core.specs.View.{if_type}
+use Rattle.nim_program.specs.View.{if_type}
 use Rattle.expr_parts.specs.declared.value.Value.{Value as RustValue}
 use Rattle.expr_rules.specs.Answers.{whole, inner, types_of, Want, Valued}
 use Rattle.expr_rules.specs.Constructions.{part_names, tuple_type, are_names, has_twice, inner_wants, tuple_wants}

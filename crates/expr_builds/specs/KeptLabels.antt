@@ -2,9 +2,9 @@
 use Rattle.std.specs.Prelude.{◌≡◌, ℕ, List, map, nat_eq}
 use Rattle.std.specs.Cmp.Lexicographic.{pointwise}
 use Rattle.std.specs.HashSet.{HashSet, contains}
-use Rattle.nim_core.specs.Program.{Exactly}
-use Rattle.nim_core.specs.declared.expr.Label.{Label as RustLabel}
-use Rattle.nim_core.specs.View.{label_of}
+use Rattle.nim_program.specs.Program.{Exactly}
+use Rattle.nim_program.specs.declared.expr.Label.{Label as RustLabel}
+use Rattle.nim_program.specs.View.{label_of}
 use Rattle.expr_builds.specs.declared.ranges.Range.{Range}
 use Rattle.expr_rules.specs.Choices.{clashes}
 use Rattle.expr_builds.specs.ViewLabels.{IsAscending, SameOrdinals}

@@ -2,7 +2,7 @@
 use Rattle.std.specs.Prelude.{◌≡◌, ℕ, ◌<◌, ◌≤◌, ℤ, pos, ◌+ℤ◌, Bool, true, false, int_le, int_lt, if◌then◌else◌, List, []}
 use Rattle.std.specs.Prelude.{◌∷◌, map, slice_get}
 use Rattle.std.specs.Prelude.{Option, Some, None}
-use Rattle.nim_core.specs.Program.{Label, Ordinals}
+use Rattle.nim_program.specs.Program.{Label, Ordinals}
 use Rattle.expr_builds.specs.declared.ranges.Range.{Range}
 use Rattle.expr_builds.specs.declared.ranges.Span.{Span as RustSpan}
 use Rattle.expr_rules.specs.Choices.{Span, clashes}

@@ -3,8 +3,8 @@ ghost use Rattle.std.specs.Prelude.{◌≡◌, ◌<◌, ◌++◌, [], ◌∷◌,
 ghost use Rattle.arc_base.specs.Refusal.{Answers};
 ghost use Rattle.nim_types.specs.Types.{Ty, Facts};
 ghost use Rattle.nim_types.specs.Table.{type_at, IsBelow};
-ghost use Rattle.nim_core.specs.Program.{Ordinals, Exactly};
-ghost use Rattle.nim_core.specs.View.{label_of, if_type};
+ghost use Rattle.nim_program.specs.Program.{Ordinals, Exactly};
+ghost use Rattle.nim_program.specs.View.{label_of, if_type};
 ghost use Rattle.expr_rules.specs.Choices.{new_label, covers, is_enough, cover_rule};
 ghost use Rattle.expr_parts.specs.View.{Under};
 ghost use Rattle.expr_builds.specs.ViewLabels.{span_in};
@@ -13,7 +13,7 @@ use crate::ranges::{Range, Span, add_range, covers, has_some, span_of};
 use arc_base::{Bytes, Code, Place, Stop};
 use expr_parts::kinds::{entry, is_text};
 use expr_parts::value::{allow, refusal};
-use nim_core::Label;
+use nim_program::Label;
 use nim_types::{TypeId, TypeTable};
 use std::alloc::Global;
 use std::collections::HashSet;
@@ -31,8 +31,8 @@ pub struct Labels {
 
 impl Model for Labels {
     ghost use Rattle.std.specs.Prelude.{List, map};
-    ghost use Rattle.nim_core.specs.Program.{Label};
-    ghost use Rattle.nim_core.specs.View.{label_of};
+    ghost use Rattle.nim_program.specs.Program.{Label};
+    ghost use Rattle.nim_program.specs.View.{label_of};
 
     ghost Value = { List Label };
 

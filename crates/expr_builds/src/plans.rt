@@ -5,12 +5,11 @@ ghost use Rattle.arc_base.specs.Refusal.{Answers};
 ghost use Rattle.nim_tree.specs.Terms.{parts_of};
 ghost use Rattle.nim_types.specs.Types.{Ty, Facts, fact_of};
 ghost use Rattle.nim_types.specs.Table.{type_at, IsBelow};
-ghost use Rattle.nim_core.specs.View.{expr_of, if_type};
+ghost use Rattle.nim_program.specs.View.{expr_of, if_type};
 ghost use Rattle.expr_rules.specs.Env.{Known, known_next};
 ghost use Rattle.expr_rules.specs.Constructions.{object_of, fields_for, plan_for, plan_with, plan_as};
 ghost use Rattle.expr_rules.specs.Constructions.{construct_rule, field_or_unknown, field_named};
-ghost use Rattle.expr_rules.specs.Constructions.{object_by, inits_of, part_names};
-ghost use Rattle.nim_core.specs.View.{inits_of as inits_in};
+ghost use Rattle.expr_rules.specs.Constructions.{object_by, part_names};
 ghost use Rattle.expr_parts.specs.declared.scope.Scope.{Scope};
 ghost use Rattle.expr_parts.specs.View.{Under, env_of, entry_by, found_of, valued_of, number_of};
 ghost use Rattle.expr_parts.specs.View.{WhatWithin, DeclsWithin};
@@ -18,16 +17,16 @@ ghost use Rattle.expr_builds.specs.ViewBuilt.{plan_of, FoundsWithin, PlanWithin,
 ghost use Rattle.expr_builds.specs.ViewBuilt.{fields_found, plan_once};
 
 use crate::tuples::part_names;
-use arc_base::{Bytes, Code, Place, Stop};
+use arc_base::{Bytes, Code, Items, Place, Stop};
 use expr_parts::conversions::has_fields;
 use expr_parts::kinds::entry;
 use expr_parts::names::{is_built_in, undeclared};
-use expr_parts::nodes_of_lists::constructed;
+use expr_parts::nodes::constructed;
 use expr_parts::parts::{Found, field_named};
 use expr_parts::scope::{Scope, What};
-use expr_parts::value::{Value, refusal};
+use expr_parts::value::{Value, operands_in, refusal};
 use indent_scanner::normal_form;
-use nim_core::{Expr, Init};
+use nim_program::Expr;
 use nim_tree::Expr as Tree;
 use nim_types::{TypeId, TypeTable};
 use std::alloc::Global;
@@ -229,28 +228,16 @@ pub fn plan_for(
     }
 }
 
-// A value for each field, in order.
-fn inits(alloc: Global, chosen: &[Found], values: Vec<Value>) -> Result<Vec<Init>, Stop>
-    requires { length chosen.now ≡ length values.items }
-    ensures inits { IfOk result (λ is. (ts : List Ty) →
-        inits_of (map (found_of ts) chosen.now) (map (valued_of ts) values.items)
-        ≡ Some (inits_in ts is.items)) }
+// The numbers of fields, in order.
+fn numbers_of(alloc: Global, chosen: &[Found]) -> Result<Items<u32>, Stop>
+    ensures numbers { IfOk result (λ is. is ≡ map (λ f. f.number) chosen.now) }
     ensures memory { IfErr result (λ stop. stop ≡ Stop.Memory) }
 {
-    let mut inits = Vec::new(alloc);
-    let mut rest = chosen;
-    for value in values {
-        let Some((found, others)) = rest.split_first() else {
-            drop(value);
-            return Err(Stop::Memory);
-        };
-        rest = others;
-        inits.push(Init {
-            field: found.number,
-            value: value.expr,
-        })?;
+    let mut numbers = Items::new(alloc);
+    for found in chosen {
+        numbers.push(found.number)?;
     }
-    Ok(inits)
+    Ok(numbers)
 }
 
 /// An object from values of the fields of a plan, in order.
@@ -261,13 +248,13 @@ pub fn construct_rule(
     plan: Plan,
     values: Vec<Value>,
 ) -> Result<Expr, Stop>
-    ensures answers { (ts : List Ty) → Answers (expr_of ts) (construct_rule number at
-        (plan_of ts plan) (map (valued_of ts) values.items)) result }
+    ensures expr { IfOk result (λ e. (ts : List Ty) → expr_of ts e ≡ construct_rule number at
+        (type_at ts plan.ty) (map (found_of ts) plan.chosen.items)
+        (map (valued_of ts) values.items)) }
     ensures number { IfOk result (λ e. number_of e ≡ Some plan.ty) }
+    ensures memory { IfErr result (λ stop. stop ≡ Stop.Memory) }
 {
-    if plan.chosen.len() != values.len() {
-        return Err(refusal(Code::NotTyped, at));
-    }
-    let parts = inits(alloc, plan.chosen.as_slice(), values)?;
-    Ok(constructed(number, at, plan.ty, parts))
+    let fields = numbers_of(alloc, plan.chosen.as_slice())?;
+    let operands = operands_in(alloc, values)?;
+    Ok(constructed(number, at, plan.ty, fields, operands))
 }

@@ -1,7 +1,7 @@
 // Ranges of ordinals in order, and what they cover.
 ghost use Rattle.std.specs.Prelude.{◌≡◌, ◌≤◌, ◌||◌, true, false, int_le, List, length, map, slice_get, IfErr, OnOk, OnErr};
 ghost use Rattle.arc_base.specs.declared.place.Stop.TheVariants as Stop;
-ghost use Rattle.nim_core.specs.Program.{Label};
+ghost use Rattle.nim_program.specs.Program.{Label};
 ghost use Rattle.expr_rules.specs.Choices.{clash, clashes, covers, span, span_of};
 ghost use Rattle.nim_types.specs.Types.{Ty, Facts, fact_of};
 ghost use Rattle.nim_types.specs.Table.{meant, said_of};

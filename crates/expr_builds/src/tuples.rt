@@ -7,7 +7,7 @@ ghost use Rattle.arc_base.specs.Refusal.{Answers};
 ghost use Rattle.nim_tree.specs.Terms.{term_of, parts_of};
 ghost use Rattle.nim_types.specs.Types.{Ty, Facts, tuple};
 ghost use Rattle.nim_types.specs.Table.{type_at, types_at, AllBelow, IsBelow, IsWithin, meant};
-ghost use Rattle.nim_core.specs.View.{expr_of, if_type};
+ghost use Rattle.nim_program.specs.View.{expr_of, if_type};
 ghost use Rattle.expr_rules.specs.Env.{Env};
 ghost use Rattle.expr_rules.specs.Answers.{inner, Valued};
 ghost use Rattle.expr_rules.specs.Constructions.{part_names, has_twice, are_names, tuple_type};
@@ -24,11 +24,11 @@ use expr_parts::branching::wanted;
 use expr_parts::elements::{array_of, empty_sequence, sequence_of};
 use expr_parts::grow::add;
 use expr_parts::kinds::entry;
-use expr_parts::nodes_of_lists::made;
+use expr_parts::nodes::applied;
 use expr_parts::sizes::is_sized;
-use expr_parts::value::{Value, Want, exprs_in, refusal};
+use expr_parts::value::{Value, Want, operands_in, refusal};
 use indent_scanner::normal_form;
-use nim_core::Expr;
+use nim_program::{Expr, Operation};
 use nim_tree::Expr as Tree;
 use nim_types::{TypeDef, TypeId, TypeTable};
 use std::alloc::Global;
@@ -185,8 +185,8 @@ fn make_tuple(
     if !is_sized(types, ty) {
         return Err(refusal(Code::NotTyped, at));
     }
-    let parts = exprs_in(alloc, values)?;
-    Ok(made(number, at, ty, parts))
+    let parts = operands_in(alloc, values)?;
+    Ok(applied(number, at, Some(ty), Operation::Make, parts))
 }
 
 /// A tuple of values, one for each of these parts.

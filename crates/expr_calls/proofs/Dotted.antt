@@ -6,8 +6,8 @@ use Rattle.arc_base.specs.declared.place.Stop.{Stop}
 use Rattle.arc_base.specs.declared.place.Stop.TheVariants as stop
 use Rattle.arc_base.specs.Refusal.{Answers}
 use Rattle.nim_types.specs.Types.{Ty}
-use Rattle.nim_core.specs.declared.expr.Expr.{Expr as RustExpr}
-use Rattle.nim_core.specs.View.{expr_of}
+use Rattle.nim_program.specs.declared.expr.Expr.{Expr as RustExpr}
+use Rattle.nim_program.specs.View.{expr_of}
 use Rattle.expr_rules.specs.Answers.{Operand, value, open_sequence, a_type, the_input}
 use Rattle.expr_rules.specs.Constructions.{Found}
 use Rattle.expr_rules.specs.Env.{Env}

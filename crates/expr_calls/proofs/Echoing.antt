@@ -6,9 +6,12 @@ use Rattle.arc_base.specs.declared.place.Code.TheVariants.{NotTyped}
 use Rattle.arc_base.specs.Refusal.{and_then, refused}
 use Rattle.nim_types.specs.Types.{Ty, same}
 use Rattle.nim_types.specs.Table.{type_at}
-use Rattle.nim_core.specs.Program.{AnExpr, NoExpr, Exprs, Echo}
-use Rattle.nim_core.specs.View.{exprs_of as exprs_in, expr_of}
-use Rattle.nim_core.specs.declared.expr.Expr.{Expr as RustExpr}
+use Rattle.nim_program.specs.Program.{ByValue, NoArg, Args}
+use Rattle.nim_program.specs.Nodes.{echo}
+use Rattle.nim_program.specs.View.{expr_of, operand_before, operands_of}
+use Rattle.nim_program.specs.declared.expr.Expr.{Expr as RustExpr}
+use Rattle.nim_program.specs.declared.expr.Operand.{Operand as RustArgument}
+use Rattle.nim_program.specs.declared.expr.Operand.TheVariants as argument
 use Rattle.expr_parts.specs.declared.scope.Parameter.{Parameter as RustParameter}
 use Rattle.expr_parts.specs.declared.value.Operand.{Operand as RustOperand}
 use Rattle.expr_rules.specs.Answers.{Answer, not_typed, node, only_if, settled, Valued, Operand, value, exprs_of}
@@ -66,46 +69,46 @@ some_first (fit ∷ all) = refl
 
 -- ---- what `echo` shows
 
--- expressions before others
-abbrev pub exprs_front : List Ty → List RustExpr → Exprs → Exprs
-exprs_front ts [] rest = rest
-exprs_front ts (e ∷ es) rest = AnExpr (expr_of ts e) (exprs_front ts es rest)
+-- operands before others
+abbrev pub args_front : List Ty → List RustArgument → Args → Args
+args_front ts [] rest = rest
+args_front ts (a ∷ all) rest = operand_before ts a (args_front ts all rest)
 
-abbrev pub shown_behind : List Ty → List RustExpr → Place → Option (List Valued) → Answer Exprs
+abbrev pub shown_behind : List Ty → List RustArgument → Place → Option (List Valued) → Answer Args
 shown_behind ts done at None = not_typed at
-shown_behind ts done at (Some vs) = Ok (exprs_front ts done (exprs_of vs))
+shown_behind ts done at (Some vs) = Ok (args_front ts done (exprs_of vs))
 
 pub none_before : (ts : List Ty) (at : Place) (o : Option (List Valued)) → shown_by at o ≡ shown_behind ts [] at o
 none_before ts at None = refl
 none_before ts at (Some vs) = refl
 
-front_last : (ts : List Ty) (done : List RustExpr) (e : RustExpr) (rest : Exprs)
-    → exprs_front ts done (AnExpr (expr_of ts e) rest) ≡ exprs_front ts (done ++ e ∷ []) rest
+front_last : (ts : List Ty) (done : List RustArgument) (e : RustExpr) (rest : Args)
+    → args_front ts done (ByValue (expr_of ts e) rest) ≡ args_front ts (done ++ argument.Value e ∷ []) rest
 front_last ts [] e rest = refl
-front_last ts (x ∷ done) e rest = ap (AnExpr (expr_of ts x)) (front_last ts done e rest)
+front_last ts (a ∷ done) e rest = ap (operand_before ts a) (front_last ts done e rest)
 
-one_before : (ts : List Ty) (done : List RustExpr) (at : Place) (v : Valued) (e : RustExpr) (o : Option (List Valued)) → expr_of ts e ≡ v.expr
-    → shown_behind ts done at (shown_before true v o) ≡ shown_behind ts (done ++ e ∷ []) at o
+one_before : (ts : List Ty) (done : List RustArgument) (at : Place) (v : Valued) (e : RustExpr) (o : Option (List Valued)) → expr_of ts e ≡ v.expr
+    → shown_behind ts done at (shown_before true v o) ≡ shown_behind ts (done ++ argument.Value e ∷ []) at o
 one_before ts done at v e (Some vs) h =
-    ap (λ x. Ok (exprs_front ts done (AnExpr x (exprs_of vs)))) (sym h) ∙ ap Ok (front_last ts done e (exprs_of vs))
+    ap (λ x. Ok (args_front ts done (ByValue x (exprs_of vs)))) (sym h) ∙ ap Ok (front_last ts done e (exprs_of vs))
 one_before ts done at v e None h = refl
 
 -- one more
-pub one_shown : (ts : List Ty) (env : Env) (done : List RustExpr) (at : Place) (o : Operand) (os : List Operand) (e : RustExpr)
+pub one_shown : (ts : List Ty) (env : Env) (done : List RustArgument) (at : Place) (o : Operand) (os : List Operand) (e : RustExpr)
     → IsShown ts env o (Some e)
-    → shown_behind ts done at (all_shown env (o ∷ os)) ≡ shown_behind ts (done ++ e ∷ []) at (all_shown env os)
+    → shown_behind ts done at (all_shown env (o ∷ os)) ≡ shown_behind ts (done ++ argument.Value e ∷ []) at (all_shown env os)
 one_shown ts env done at o os e h =
     ap (λ x. shown_behind ts done at (all_shown env (x ∷ os))) h.1
     ∙ ap (λ b. shown_behind ts done at (shown_before b h.0 (all_shown env os))) h.2
     ∙ one_before ts done at h.0 e (all_shown env os) h.3
 
-front_all : (ts : List Ty) (done : List RustExpr) → exprs_front ts done NoExpr ≡ exprs_in ts done
+front_all : (ts : List Ty) (done : List RustArgument) → args_front ts done NoArg ≡ operands_of ts done
 front_all ts [] = refl
-front_all ts (e ∷ done) = ap (AnExpr (expr_of ts e)) (front_all ts done)
+front_all ts (a ∷ done) = ap (operand_before ts a) (front_all ts done)
 
 -- all
-pub shown_all : (ts : List Ty) (env : Env) (done : List RustExpr) (at : Place)
-    → shown_behind ts done at (all_shown env []) ≡ Ok (exprs_in ts done)
+pub shown_all : (ts : List Ty) (env : Env) (done : List RustArgument) (at : Place)
+    → shown_behind ts done at (all_shown env []) ≡ Ok (operands_of ts done)
 shown_all ts env done at = ap Ok (front_all ts done)
 
 -- an operand that is a value
@@ -117,10 +120,10 @@ value_shown ts env v e false h s = λ rest. ap (λ b. shown_before b v (all_show
 -- `echo` of what is shown
 pub echo_so : (ts : List Ty) (env : Env) (n : ℕ) (at place : Place) (os : List RustOperand) → no_fit_at at os ≡ place
     → echo_rule env n at (map (operand_of ts) os)
-    ≡ and_then (shown_by place (all_shown env (map (operand_of ts) os))) (λ xs. Ok (Echo (node n at) xs))
+    ≡ and_then (shown_by place (all_shown env (map (operand_of ts) os))) (λ xs. Ok (echo (node n at) xs))
 echo_so ts env n at place os e = by_all (all_shown env (map (operand_of ts) os))
   where
     by_all : (a : Option (List Valued))
-        → echo_by n at (map (operand_of ts) os) a ≡ and_then (shown_by place a) (λ xs. Ok (Echo (node n at) xs))
+        → echo_by n at (map (operand_of ts) os) a ≡ and_then (shown_by place a) (λ xs. Ok (echo (node n at) xs))
     by_all (Some vs) = refl
     by_all None = no_fit_is ts at os ∙ ap (λ p. refused NotTyped p) e

@@ -10,10 +10,10 @@ use Rattle.nim_tree.specs.declared.expr.BinaryOp.{BinaryOp}
 use Rattle.nim_tree.specs.declared.expr.BinaryOp.TheVariants as sign
 use Rattle.nim_types.specs.Types.{Ty}
 use Rattle.nim_types.specs.Table.{type_at}
-use Rattle.nim_core.specs.declared.expr.Comparison.{Comparison}
-use Rattle.nim_core.specs.declared.expr.Expr.{Expr as RustExpr}
-use Rattle.nim_core.specs.Program.{Expr}
-use Rattle.nim_core.specs.View.{expr_of}
+use Rattle.nim_program.specs.declared.operation.Comparison.{Comparison}
+use Rattle.nim_program.specs.declared.expr.Expr.{Expr as RustExpr}
+use Rattle.nim_program.specs.Program.{Expr}
+use Rattle.nim_program.specs.View.{expr_of}
 use Rattle.expr_parts.specs.declared.scope.Parameter.{Parameter as RustParameter}
 use Rattle.expr_parts.specs.declared.value.Operand.{Operand as RustOperand}
 use Rattle.expr_parts.specs.declared.value.Operand.TheVariants as operand
@@ -74,8 +74,7 @@ unnamed op x a b d e f g h = absurd (both_ways (is_comparison op) (others op a b
 
 pub means_other : (m : Meaning) → (m ≡ meaning.Nothing → ⊥) → HasMeaning m
 means_other (meaning.Computes o) f = tt
-means_other meaning.Both f = tt
-means_other meaning.Either f = tt
+means_other (meaning.StopsEarly s) f = tt
 means_other meaning.Joins f = tt
 means_other (meaning.Compares c) f = tt
 means_other meaning.Nothing f = absurd (f refl)

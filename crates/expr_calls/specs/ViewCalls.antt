@@ -3,9 +3,9 @@ use Rattle.std.specs.Prelude.{◌≡◌, ℕ, Bool, true, false, List, [], ◌�
 use Rattle.arc_base.specs.declared.place.Place.{Place}
 use Rattle.nim_types.specs.Types.{Ty}
 use Rattle.nim_types.specs.Table.{type_at}
-use Rattle.nim_core.specs.Program.{Expr, Exprs}
-use Rattle.nim_core.specs.View.{expr_of}
-use Rattle.nim_core.specs.declared.expr.Expr.{Expr as RustExpr}
+use Rattle.nim_program.specs.Program.{Expr, Args}
+use Rattle.nim_program.specs.View.{expr_of}
+use Rattle.nim_program.specs.declared.expr.Expr.{Expr as RustExpr}
 use Rattle.expr_parts.specs.declared.operators.Meaning.{Meaning}
 use Rattle.expr_parts.specs.declared.operators.Meaning.TheVariants as meaning
 use Rattle.expr_rules.specs.Answers.{Answer, not_typed, Valued, Operand, value, exprs_of}
@@ -33,8 +33,8 @@ abbrev pub IsShown : List Ty → Env → Operand → Option RustExpr → Type 0
 IsShown ts env o (Some e) = (v : Valued) × (o ≡ value v) × (can_show env v ≡ true) × (expr_of ts e ≡ v.expr)
 IsShown ts env o None = (rest : List Operand) → all_shown env (o ∷ rest) ≡ None
 
--- the expressions that are shown, where each operand can be
-abbrev pub shown_by : Place → Option (List Valued) → Answer Exprs
+-- what is shown, as operands, where each can be
+abbrev pub shown_by : Place → Option (List Valued) → Answer Args
 shown_by at (Some vs) = Ok (exprs_of vs)
 shown_by at None = not_typed at
 

@@ -5,7 +5,7 @@ ghost use Rattle.arc_base.specs.declared.place.Stop.TheVariants as Stop;
 ghost use Rattle.arc_base.specs.Refusal.{Answers};
 ghost use Rattle.nim_types.specs.Types.{Ty, Facts};
 ghost use Rattle.nim_types.specs.Table.{IsBelow};
-ghost use Rattle.nim_core.specs.View.{expr_of};
+ghost use Rattle.nim_program.specs.View.{expr_of};
 ghost use Rattle.expr_rules.specs.Answers.{only_if};
 ghost use Rattle.expr_rules.specs.Names.{call_rule, field_rule, field_or_call, method_rule};
 ghost use Rattle.expr_rules.specs.Names.{default_of_value};
@@ -20,12 +20,11 @@ use crate::dollars::echo_rule;
 use arc_base::{Code, Place, Stop};
 use expr_operations::operand_lists::alone;
 use expr_parts::names::{check_callee, is_default, is_echo};
-use expr_parts::nodes::node_of;
 use expr_parts::operators::unary;
 use expr_parts::parts::{Found, field_named, read_field};
 use expr_parts::scope::Scope;
 use expr_parts::value::{Operand, Value, refusal};
-use nim_core::Expr;
+use nim_program::Expr;
 use nim_tree::UnaryOp;
 use nim_types::TypeTable;
 use std::alloc::Global;
@@ -64,7 +63,7 @@ fn default_of_value(name: &[u8], operand: &Operand) -> Option<Place>
     ensures { (ts : List Ty) → default_of_value name.now (operand_of ts operand.now) ≡ result }
 {
     match operand {
-        Operand::Value(value) => place_if(is_default(name), node_of(&value.expr).at),
+        Operand::Value(value) => place_if(is_default(name), value.expr.node().at),
         _ => None,
     }
 }

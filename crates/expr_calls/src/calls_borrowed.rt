@@ -3,7 +3,7 @@ ghost use Rattle.std.specs.Prelude.{◌≡◌, ◌∷◌, [], List, length, map,
 ghost use Rattle.arc_base.specs.Refusal.{Answers};
 ghost use Rattle.nim_types.specs.Types.{Ty, Facts};
 ghost use Rattle.nim_types.specs.Table.{IsBelow};
-ghost use Rattle.nim_core.specs.View.{expr_of};
+ghost use Rattle.nim_program.specs.View.{expr_of};
 ghost use Rattle.expr_rules.specs.Answers.{Valued};
 ghost use Rattle.expr_rules.specs.Calls.{arguments_for, borrowed_call, called};
 ghost use Rattle.expr_rules.specs.Env.{Parameter as Passed};
@@ -17,7 +17,7 @@ use expr_parts::borrowed::{borrowed_on_one, borrowed_on_two, comparison_named};
 use expr_parts::scope::{Kinds, Parameter, Procedure};
 use expr_parts::settle::settle;
 use expr_parts::value::{Operand, Value, refusal};
-use nim_core::{Comparison, Expr};
+use nim_program::{Comparison, Expr};
 use nim_types::TypeTable;
 use std::alloc::Global;
 

@@ -5,7 +5,7 @@ ghost use Rattle.arc_base.specs.declared.place.Stop.TheVariants as Stop;
 ghost use Rattle.arc_base.specs.Refusal.{Answers};
 ghost use Rattle.nim_types.specs.Types.{Ty, Facts};
 ghost use Rattle.nim_types.specs.Table.{type_at, IsBelow};
-ghost use Rattle.nim_core.specs.View.{expr_of, exprs_of};
+ghost use Rattle.nim_program.specs.View.{expr_of, operands_of};
 ghost use Rattle.expr_rules.specs.Answers.{Valued, value, only_if};
 ghost use Rattle.expr_rules.specs.Calls.{arguments_for, fitting};
 ghost use Rattle.expr_rules.specs.Env.{callable, known_behind, unknown};
@@ -22,12 +22,11 @@ use arc_base::{Code, Place, Stop};
 use expr_operations::operand_lists::alone;
 use expr_parts::decls::Decls;
 use expr_parts::kinds::{entry, is_same, is_shown};
-use expr_parts::nodes::node_of;
-use expr_parts::nodes_of_lists::echoed;
+use expr_parts::nodes::applied;
 use expr_parts::scope::{Parameter, Scope};
 use expr_parts::settle::place_of_no_fit;
 use expr_parts::value::{Operand, Value, refusal};
-use nim_core::Expr;
+use nim_program::{Expr, Operand as Argument, Operation};
 use nim_types::{TypeId, TypeTable};
 use std::alloc::Global;
 
@@ -136,7 +135,7 @@ pub fn dollar_call(
         (valued_of ts value)) result }
     ensures within { IfOk result (λ e. IsBelow (length types.now) (number_of e)) }
 {
-    let at = node_of(&value.expr).at;
+    let at = value.expr.node().at;
     let operands = alone(alloc, Operand::Value(value))?;
     one_fitting(alloc, types, scope, number, at, b"$", operands)
 }
@@ -196,21 +195,21 @@ fn all_shown(
     scope: &Scope,
     place: Place,
     operands: Vec<Operand>,
-) -> Result<Vec<Expr>, Stop>
+) -> Result<Vec<Argument>, Stop>
     requires ready { IsReady types.now scope.now }
     requires operands { OperandsWithin (length types.now) operands.items }
     ensures { (ts : List Ty) (facts : Facts) → Under types.now ts facts
-        → Answers (λ es. exprs_of ts es.items) (shown_by place
+        → Answers (λ os. operands_of ts os.items) (shown_by place
         (all_shown (env_of ts facts scope.now) (map (operand_of ts) operands.items))) result }
 {
-    let mut exprs = Vec::new(alloc);
+    let mut shown = Vec::new(alloc);
     for operand in operands {
         match shown_of(types, scope, operand) {
-            Some(expr) => exprs.push(expr)?,
+            Some(expr) => shown.push(Argument::Value(expr))?,
             None => return Err(refusal(Code::NotTyped, place)),
         }
     }
-    Ok(exprs)
+    Ok(shown)
 }
 
 /// `echo` of operands.
@@ -231,7 +230,7 @@ pub fn echo_rule(
 {
     let place = place_of_no_fit(at, operands.as_slice());
     match all_shown(alloc, types, scope, place, operands) {
-        Ok(exprs) => Ok(echoed(number, at, exprs)),
+        Ok(shown) => Ok(applied(number, at, None, Operation::Echo, shown)),
         Err(stop) => Err(stop),
     }
 }

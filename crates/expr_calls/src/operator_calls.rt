@@ -3,7 +3,7 @@ ghost use Rattle.std.specs.Prelude.{◌≡◌, ◌<◌, List, length, Some, true
 ghost use Rattle.arc_base.specs.Refusal.{Answers};
 ghost use Rattle.nim_types.specs.Types.{Ty, Facts};
 ghost use Rattle.nim_types.specs.Table.{IsBelow};
-ghost use Rattle.nim_core.specs.View.{expr_of};
+ghost use Rattle.nim_program.specs.View.{expr_of};
 ghost use Rattle.expr_rules.specs.Answers.{value, open_sequence};
 ghost use Rattle.expr_rules.specs.Operators.{binary_rule, borrowed_by, borrowed_name};
 ghost use Rattle.expr_rules.specs.Operators.{is_comparison};
@@ -21,7 +21,7 @@ use expr_parts::operators::{Meaning, is_comparison, meaning_on};
 use expr_parts::scope::Scope;
 use expr_parts::settle::settle;
 use expr_parts::value::{Operand, Value, refusal};
-use nim_core::Expr;
+use nim_program::Expr;
 use nim_tree::BinaryOp;
 use nim_types::TypeTable;
 use std::alloc::Global;

@@ -7,11 +7,11 @@ use Rattle.nim_types.specs.Types.{Ty, Facts}
 use Rattle.nim_types.specs.declared.types.TypeDef.{TypeDef}
 use Rattle.nim_types.specs.declared.types.TypeDef.TheVariants as D
 use Rattle.nim_types.specs.Table.{type_at, parts_of, AllBelow}
-use Rattle.nim_core.specs.declared.expr.Literal.{Literal as RustLiteral}
-use Rattle.nim_core.specs.Program.{Literal, NoLiteral, ALiteral}
-use Rattle.nim_core.specs.View.{literal_of, literals_of}
+use Rattle.nim_program.specs.declared.expr.Literal.{Literal as RustLiteral}
+use Rattle.nim_program.specs.Program.{Literal, NoLiteral, ALiteral}
+use Rattle.nim_program.specs.View.{literal_of, literals_of}
 use Rattle.expr_rules.specs.Constants.{given_or}
-use Rattle.expr_rules.specs.Literals.{default_literal}
+use Rattle.nim_program.specs.Defaults.{default_literal}
 use Rattle.plain_values.specs.Entries.{and_last}
 use Rattle.plain_values.proofs.ForCallers.{literals_last}
 use Rattle.expr_constants.specs.ViewConstants.{known_parts, field_values, literal_or}

@@ -1,40 +1,43 @@
--- Evaluation of lists, one after another, and how much there is to evaluate.
-use Rattle.std.proofs.Common.{◌≡◌, ℕ, suc, ◌+◌, List, [], ◌∷◌, ◌++◌, refl, ap}
-use Rattle.nim_core.specs.Program as P
-use Rattle.nim_core.specs.Program.{Expr, Exprs, Path, Inits, Literal, Literals, NoLiteral, ALiteral}
-use Rattle.expr_rules.specs.Constants.{Evaluated, comes_to, traps, varies, on_two}
+-- Evaluation of operands, one after another, and how much there is to evaluate.
+use Rattle.std.proofs.Common.{◌≡◌, ℕ, suc, ◌+◌, ◌<◌, List, [], ◌∷◌, ◌++◌, length, refl, ap, arith}
+use Rattle.std.specs.Prelude.{Bool, true, false, if◌then◌else◌}
+use Rattle.std.proofs.lemmas.Bool.{both_ways}
+use Rattle.nim_types.specs.Types.{Ty, Facts}
+use Rattle.nim_program.specs.declared.expr.Literal.{Literal as RustLiteral}
+use Rattle.nim_program.specs.declared.expr.Operand.{Operand as RustArgument}
+use Rattle.nim_program.specs.declared.expr.Operand.TheVariants as argument
+use Rattle.nim_program.specs.View.{expr_of, path_of, operand_before, literal_of, literals_of}
+use Rattle.nim_program.specs.Program as P
+use Rattle.nim_program.specs.Program.{Expr, Path, Args, Literal, Literals, Number, Characters, NoObject, PartsOf, ElementsOf, NoLiteral, ALiteral}
+use Rattle.expr_rules.specs.Constants.{Evaluated, comes_to, traps, varies, on_one, on_two, alone, in_pair, limited, of_literal, values_in}
 use Rattle.plain_values.specs.Entries.{and_last}
-use Rattle.expr_constants.specs.ViewConstants.{and_value, and_given}
+use Rattle.expr_constants.specs.ViewConstants.{and_value, is_text, value_of}
 
 -- ---- how many expressions may be evaluated, with itself
 
 abbrev mutual
   pub expr_count : Expr → ℕ
-  expr_count (P.Measured at ty m path) = suc (path_count path)
-  expr_count (P.Unary at ty o a) = suc (expr_count a)
-  expr_count (P.Binary at ty o a b) = suc (expr_count a + expr_count b)
-  expr_count (P.Compare at ty c a b) = suc (expr_count a + expr_count b)
-  expr_count (P.Both at ty a b) = suc (expr_count a + expr_count b)
-  expr_count (P.Either at ty a b) = suc (expr_count a + expr_count b)
-  expr_count (P.Convert at ty a) = suc (expr_count a)
-  expr_count (P.Join at ty a b) = suc (expr_count a + expr_count b)
-  expr_count (P.Show at ty a) = suc (expr_count a)
-  expr_count (P.Make at ty parts) = suc (exprs_count parts)
-  expr_count (P.Sequence at ty parts) = suc (exprs_count parts)
-  expr_count (P.Construct at ty parts) = suc (inits_count parts)
+  expr_count (P.Apply node ty act operands) = suc (args_count operands)
+  expr_count (P.Early node ty short left right) = suc (expr_count left + expr_count right)
   expr_count _ = 1
 
   pub path_count : Path → ℕ
   path_count (P.Fresh e) = suc (expr_count e)
-  path_count _ = 0
+  path_count _ = 1
 
-  pub exprs_count : Exprs → ℕ
-  exprs_count P.NoExpr = 0
-  exprs_count (P.AnExpr e rest) = expr_count e + exprs_count rest
+  pub args_count : Args → ℕ
+  args_count P.NoArg = 0
+  args_count (P.ByValue e rest) = suc (expr_count e + args_count rest)
+  args_count (P.ByPath path rest) = suc (path_count path + args_count rest)
 
-  pub inits_count : Inits → ℕ
-  inits_count P.NoInit = 0
-  inits_count (P.AnInit field e rest) = expr_count e + inits_count rest
+-- of an operand
+abbrev pub argument_count : RustArgument → ℕ
+argument_count (argument.Value e) = expr_count (expr_of [] e)
+argument_count (argument.At path) = path_count (path_of [] path)
+
+pub one_counted : (a : RustArgument) (rest : Args) → args_count (operand_before [] a rest) ≡ suc (argument_count a + args_count rest)
+one_counted (argument.Value e) rest = refl
+one_counted (argument.At path) rest = refl
 
 -- ---- values before others
 
@@ -79,44 +82,11 @@ values_all varies = refl
 values_all traps = refl
 values_all (comes_to a) = ap comes_to (joined_none a)
 
--- ---- values of fields before others
-
-abbrev pub given_before : Evaluated (List (ℕ × Literal)) → Evaluated (List (ℕ × Literal)) → Evaluated (List (ℕ × Literal))
-given_before a b = on_two (λ xs ys. comes_to (xs ++ ys)) a b
-
-abbrev pub field_before : ℕ → Evaluated Literal → Evaluated (List (ℕ × Literal)) → Evaluated (List (ℕ × Literal))
-field_before field a b = on_two (λ l all. comes_to ((field, l) ∷ all)) a b
-
-last_given : (xs : List (ℕ × Literal)) (g : ℕ × Literal) (ys : List (ℕ × Literal)) → (xs ++ g ∷ []) ++ ys ≡ xs ++ g ∷ ys
-last_given [] g ys = refl
-last_given (x ∷ xs) g ys = ap (λ zs. x ∷ zs) (last_given xs g ys)
-
-pub one_field : (field : ℕ) (done : Evaluated (List (ℕ × Literal))) (v : Evaluated Literal) (rest : Evaluated (List (ℕ × Literal)))
-    → given_before (on_two (and_given field) done v) rest ≡ given_before done (field_before field v rest)
-one_field field varies v rest = refl
-one_field field traps varies rest = refl
-one_field field traps traps varies = refl
-one_field field traps traps traps = refl
-one_field field traps traps (comes_to r) = refl
-one_field field traps (comes_to l) varies = refl
-one_field field traps (comes_to l) traps = refl
-one_field field traps (comes_to l) (comes_to r) = refl
-one_field field (comes_to a) varies rest = refl
-one_field field (comes_to a) traps varies = refl
-one_field field (comes_to a) traps traps = refl
-one_field field (comes_to a) traps (comes_to r) = refl
-one_field field (comes_to a) (comes_to l) varies = refl
-one_field field (comes_to a) (comes_to l) traps = refl
-one_field field (comes_to a) (comes_to l) (comes_to r) = ap comes_to (last_given a (field, l) r)
-
-given_none : (xs : List (ℕ × Literal)) → xs ++ [] ≡ xs
-given_none [] = refl
-given_none (x ∷ xs) = ap (λ zs. x ∷ zs) (given_none xs)
-
-pub fields_all : (done : Evaluated (List (ℕ × Literal))) → given_before done (comes_to []) ≡ done
-fields_all varies = refl
-fields_all traps = refl
-fields_all (comes_to a) = ap comes_to (given_none a)
+-- the value of an operand before those of others
+pub one_valued : (facts : Facts) (ts : List Ty) (a : RustArgument) (rest : Args)
+    → values_in facts (operand_before ts a rest) ≡ value_before (value_of facts ts a) (values_in facts rest)
+one_valued facts ts (argument.Value e) rest = refl
+one_valued facts ts (argument.At path) rest = refl
 
 -- ---- before any
 
@@ -125,7 +95,43 @@ first_values varies = refl
 first_values traps = refl
 first_values (comes_to a) = refl
 
-pub first_given : (all : Evaluated (List (ℕ × Literal))) → given_before (comes_to []) all ≡ all
-first_given varies = refl
-first_given traps = refl
-first_given (comes_to a) = refl
+-- ---- literals
+
+-- a text has a limit
+pub literal_by : (l : Literal) (b : Bool) → is_text l ≡ b → of_literal l ≡ (if b then limited l else comes_to l)
+literal_by (Number z) true h = absurd (both_ways false refl h)
+literal_by (Number z) false h = refl
+literal_by (Characters bytes) true h = refl
+literal_by (Characters bytes) false h = absurd (both_ways true h refl)
+literal_by NoObject true h = absurd (both_ways false refl h)
+literal_by NoObject false h = refl
+literal_by (PartsOf all) true h = absurd (both_ways false refl h)
+literal_by (PartsOf all) false h = refl
+literal_by (ElementsOf all) true h = absurd (both_ways false refl h)
+literal_by (ElementsOf all) false h = refl
+
+-- ---- one value alone, and two
+
+-- one behind others isn't alone
+pub not_alone : (go : Literal → Evaluated Literal) (xs : List RustLiteral) (w : RustLiteral) → 0 < length xs
+    → alone go (literals_of (xs ++ w ∷ [])) ≡ varies
+not_alone go [] w h = absurd (omega (arith, h))
+not_alone go (x ∷ []) w h = refl
+not_alone go (x ∷ y ∷ xs) w h = refl
+
+abbrev pub behind_one : (Literal → Literal → Evaluated Literal) → RustLiteral → Literal → Evaluated Literal
+behind_one go w l = go l (literal_of w)
+
+pub pair_last : (go : Literal → Literal → Evaluated Literal) (xs : List RustLiteral) (w : RustLiteral)
+    → in_pair go (literals_of (xs ++ w ∷ [])) ≡ alone (behind_one go w) (literals_of xs)
+pair_last go [] w = refl
+pair_last go (x ∷ []) w = refl
+pair_last go (x ∷ y ∷ []) w = refl
+pair_last go (x ∷ y ∷ z ∷ xs) w = refl
+
+-- where the left one alone may be none
+pub behind_is : (go : Literal → Literal → Evaluated Literal) (w : RustLiteral) (a : Evaluated Literal)
+    → on_one (behind_one go w) a ≡ on_two go a (comes_to (literal_of w))
+behind_is go w (comes_to l) = refl
+behind_is go w traps = refl
+behind_is go w varies = refl

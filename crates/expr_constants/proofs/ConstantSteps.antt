@@ -11,9 +11,9 @@ use Rattle.nim_types.specs.Types.{Ty, Tys, Facts, same}
 use Rattle.nim_types.specs.declared.types.TypeDef.{TypeDef}
 use Rattle.nim_types.specs.declared.types.TypeDef.TheVariants as D
 use Rattle.nim_types.specs.Table.{types_at, meant, AllBelow, IsWithin}
-use Rattle.nim_core.specs.declared.expr.Node.{Node}
-use Rattle.nim_core.specs.Program.{Number}
-use Rattle.nim_core.specs.View.{if_type}
+use Rattle.nim_program.specs.declared.expr.Node.{Node}
+use Rattle.nim_program.specs.Program.{Number}
+use Rattle.nim_program.specs.View.{if_type}
 use Rattle.expr_rules.specs.Answers.{Answer, Typed, Valued, gives, not_typed, place_in}
 use Rattle.expr_rules.specs.Builtins.{is_int}
 use Rattle.expr_rules.specs.Choices.{label_by, label_value}
@@ -88,7 +88,7 @@ tuple_within n (D.Exception name at parent) ps h w = absurd (none-some ps h)
 abbrev pub indexed_by : List Ty → Env → ℕ → ℕ → Place → Valued → TypeDef → Valued → Option (List ℕ) → Answer Typed
 indexed_by ts env n k at v d i (Some ps) =
     and_then (and_then (constant_at env.facts at i) (numbered_part n at v (types_at ts ps))) (λ e. gives e k)
-indexed_by ts env n k at v d i None = element_of n k at v i (element_type (meant ts d))
+indexed_by ts env n k at v d i None = element_of env.facts n k at v i (element_type (meant ts d))
 
 pub indexed_is : (ts : List Ty) (env : Env) (n m k : ℕ) (at : Place) (v : Valued) (d : TypeDef) (i : Valued)
     → indexed env n m k at v (meant ts d) i ≡ indexed_by ts env n (behind (tuple_parts d) m k) at v d i (tuple_parts d)

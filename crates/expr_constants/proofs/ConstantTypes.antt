@@ -1,22 +1,19 @@
 -- What the entries of a table say of values of constants: which values types have, what they start at, and which fields they have.
-use Rattle.std.proofs.Common.{◌≡◌, ℕ, zero, suc, ◌<◌, List, [], ◌∷◌, length, refl, sym, ap, ap₂, ◌∙◌, Some, None, arith}
+use Rattle.std.proofs.Common.{◌≡◌, ℕ, suc, ◌<◌, List, [], ◌∷◌, length, refl, sym, ap, ap₂, ◌∙◌, Some, None, arith}
 use Rattle.std.specs.Prelude.{Bool, true, false, Option, nat_eq, if◌then◌else◌}
 use Rattle.std.proofs.lemmas.Bool.{both_ways, eqb-true, eq-eqb}
 use Rattle.nim_types.specs.Types as type
 use Rattle.nim_types.specs.Types.{Ty, Facts, fields_in}
-use Rattle.nim_types.specs.Forms as form
-use Rattle.nim_types.specs.Forms.{Form, Forms, form_of}
 use Rattle.nim_types.specs.declared.types.TypeDef.{TypeDef}
 use Rattle.nim_types.specs.declared.types.TypeDef.TheVariants as D
 use Rattle.nim_types.specs.declared.types.FieldName.{FieldName}
 use Rattle.nim_types.specs.Table.{type_at, types_in, fields_with, fields_fact, said_of, facts_in}
-use Rattle.nim_core.specs.declared.expr.Literal.{Literal as RustLiteral}
-use Rattle.nim_core.specs.Meaning.{limit_of}
-use Rattle.nim_core.specs.Program.{Literal, PartsOf, ALiteral}
-use Rattle.nim_core.specs.View.{literals_of}
-use Rattle.plain_values.specs.Starts.{so_many, start, starts, start_of}
+use Rattle.nim_program.specs.declared.expr.Literal.{Literal as RustLiteral}
+use Rattle.plain_values.specs.Values.{limit_of}
+use Rattle.nim_program.specs.Program.{Literal, ALiteral}
+use Rattle.nim_program.specs.View.{literals_of}
 use Rattle.expr_rules.specs.Constants.{Evaluated, comes_to, among, converted, count as count_of, given_or, field_literals}
-use Rattle.expr_rules.specs.Literals.{blank_literal, blank_literals, default_literal, times}
+use Rattle.nim_program.specs.Defaults.{default_literal}
 use Rattle.expr_parts.specs.View.{Under}
 use Rattle.expr_parts.proofs.ForCallers.{all_fields, all_known, front_of, none_known}
 use Rattle.expr_constants.specs.ViewConstants.{known_parts, field_values}
@@ -31,7 +28,7 @@ abbrev pub by_limit : Option ℕ → Literal → Evaluated Literal
 by_limit None l = comes_to l
 by_limit (Some values) l = among values l
 
-pub converted_as : (facts : Facts) (ty : Ty) (l : Literal) → converted facts ty l ≡ by_limit (limit_of facts ty) l
+pub converted_as : (facts : Facts) (ty : Ty) (l : Literal) → converted facts (Some ty) l ≡ by_limit (limit_of facts ty) l
 converted_as facts type.int l = refl
 converted_as facts type.bool l = refl
 converted_as facts type.char l = refl
@@ -48,29 +45,9 @@ converted_as facts (type.exception key) l = refl
 
 -- ---- what places start at, under a list that begins with that of the table
 
-many_times : (n : ℕ) (l : Literal) → so_many n l ≡ times n l
-many_times zero l = refl
-many_times (suc n) l = ap (ALiteral l) (many_times n l)
-
-mutual
-  start_blank : (f : Form) → start f ≡ blank_literal f
-  start_blank form.plain = refl
-  start_blank form.reference = refl
-  start_blank form.block = refl
-  start_blank (form.elements f) = refl
-  start_blank (form.row n f) = ap PartsOf (many_times n (start f) ∙ ap (times n) (start_blank f))
-  start_blank (form.parts fs) = ap PartsOf (starts_blank fs)
-  start_blank (form.resource fs) = ap PartsOf (starts_blank fs)
-  start_blank (form.wrapped f) = start_blank f
-
-  starts_blank : (fs : Forms) → starts fs ≡ blank_literals fs
-  starts_blank form.no_forms = refl
-  starts_blank (form.forms f fs) = ap₂ ALiteral (start_blank f) (starts_blank fs)
-
 pub start_under : {ds : List TypeDef} {us : List Ty} {fs : Facts} (i : ℕ) → Under ds us fs → i < length ds
-    → start_of (facts_in ds) (type_at (types_in ds) i) ≡ default_literal fs (type_at us i)
-start_under {ds} i u h =
-    start_blank (form_of (facts_in ds) (type_at (types_in ds) i)) ∙ sym (ap₂ default_literal u.said (front_of i u h))
+    → default_literal (facts_in ds) (type_at (types_in ds) i) ≡ default_literal fs (type_at us i)
+start_under {ds} i u h = sym (ap₂ default_literal u.said (front_of i u h))
 
 -- ---- fields
 

@@ -1,19 +1,20 @@
 -- What the code's values of constants stand for. It serves proofs: no public contract speaks of it but that of `value_in`.
-use Rattle.std.specs.Prelude.{ℕ, suc, ◌^◌, ◌-◌, ℤ, pos, negsuc, unsigned_abs, Bool, true, false, List, [], ◌∷◌, ◌++◌}
-use Rattle.std.specs.Prelude.{length, map, nat_eq, if◌then◌else◌, Option, Some, None, Vec}
+use Rattle.std.specs.Prelude.{ℕ, suc, ◌^◌, ◌-◌, ℤ, pos, negsuc, unsigned_abs, Bool, true, false, List, [], ◌∷◌}
+use Rattle.std.specs.Prelude.{length, nat_eq, if◌then◌else◌, Option, Some, None, Vec}
 use Rattle.std.specs.declared.alloc.Global.{Global}
 use Rattle.nim_types.specs.Types.{Ty, Facts}
 use Rattle.nim_types.specs.declared.types.TypeDef.{TypeDef}
 use Rattle.nim_types.specs.declared.types.TypeDef.TheVariants as D
 use Rattle.nim_types.specs.Table.{type_at}
-use Rattle.nim_core.specs.declared.expr.Literal.{Literal as RustLiteral}
-use Rattle.nim_core.specs.Program.{Literal, Literals, Number, Characters, NoLiteral, ALiteral}
-use Rattle.nim_core.specs.View.{literal_of, literals_of}
+use Rattle.nim_program.specs.declared.expr.Literal.{Literal as RustLiteral}
+use Rattle.nim_program.specs.Program.{Literal, Literals, Number, Characters, NoLiteral, ALiteral}
+use Rattle.nim_program.specs.declared.expr.Operand.{Operand as RustArgument}
+use Rattle.nim_program.specs.declared.expr.Operand.TheVariants as argument
+use Rattle.nim_program.specs.View.{expr_of, path_of, literals_of}
 use Rattle.expr_constants.specs.declared.evaluated.Evaluated.{Evaluated as RustEvaluated}
 use Rattle.expr_constants.specs.declared.evaluated.Evaluated.TheVariants as V
-use Rattle.expr_constants.specs.declared.evaluated.Given.{Given}
-use Rattle.expr_rules.specs.Constants.{given_or, Evaluated, comes_to, traps, varies}
-use Rattle.expr_rules.specs.Literals.{default_literal}
+use Rattle.expr_rules.specs.Constants.{given_or, value_in, value_at, Evaluated, comes_to, traps, varies}
+use Rattle.nim_program.specs.Defaults.{default_literal}
 use Rattle.plain_values.specs.Entries.{and_last}
 
 abbrev pub evaluated_of : {A B : Type 0} → (A → B) → RustEvaluated A → Evaluated B
@@ -38,11 +39,11 @@ letters (Number z) = unsigned_abs z ∷ []
 letters (Characters bytes) = bytes
 letters _ = []
 
--- ---- `and` and `or`
+abbrev pub is_text : Literal → Bool
+is_text (Characters bytes) = true
+is_text _ = false
 
-abbrev pub number_in : Evaluated Literal → Option ℤ
-number_in (comes_to (Number z)) = Some z
-number_in _ = None
+-- ---- `and` and `or`
 
 abbrev pub left_of : Evaluated Literal → Evaluated Literal → Evaluated Literal
 left_of a varies = varies
@@ -56,14 +57,10 @@ values_of all = literals_of all.items
 abbrev pub and_value : Literals → Literal → Evaluated Literals
 and_value all l = comes_to (and_last all l)
 
-abbrev pub given_of : Given → ℕ × Literal
-given_of g = (g.field, literal_of g.value)
-
-abbrev pub all_given : Vec Given Global → List (ℕ × Literal)
-all_given all = map given_of all.items
-
-abbrev pub and_given : (field : ℕ) → List (ℕ × Literal) → Literal → Evaluated (List (ℕ × Literal))
-and_given field all l = comes_to (all ++ (field, l) ∷ [])
+-- of an operand of a node
+abbrev pub value_of : Facts → List Ty → RustArgument → Evaluated Literal
+value_of facts ts (argument.Value e) = value_in facts (expr_of ts e)
+value_of facts ts (argument.At path) = value_at facts (path_of ts path)
 
 -- ---- objects
 

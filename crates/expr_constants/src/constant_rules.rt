@@ -3,7 +3,7 @@ ghost use Rattle.std.specs.Prelude.{◌<◌, ℕ, ℤ, List, length};
 ghost use Rattle.arc_base.specs.Refusal.{Answers, and_then};
 ghost use Rattle.nim_types.specs.Types.{Ty, Facts};
 ghost use Rattle.nim_types.specs.Table.{type_at};
-ghost use Rattle.nim_core.specs.View.{expr_of, label_of, literal_of};
+ghost use Rattle.nim_program.specs.View.{expr_of, label_of, literal_of};
 ghost use Rattle.expr_rules.specs.Choices.{label_by, label_value};
 ghost use Rattle.expr_rules.specs.Constants.{constant_rule, if_comes, value_in};
 ghost use Rattle.expr_rules.specs.Names.{length_by, length_limit, length_rule};
@@ -14,10 +14,9 @@ use crate::evaluated::Evaluated;
 use crate::evaluation::value_in;
 use arc_base::{Code, Place, Stop};
 use expr_parts::kinds::{entry, is_int, is_same};
-use expr_parts::nodes::node_of;
 use expr_parts::value::{Value, refusal};
 use expr_rules::MOST_ELEMENTS;
-use nim_core::{Expr, Label, Literal};
+use nim_program::{Expr, Label, Literal};
 use nim_types::{TypeId, TypeTable};
 use std::alloc::Global;
 
@@ -54,7 +53,7 @@ pub fn constant_rule(alloc: Global, types: &TypeTable, value: Value) -> Result<L
     ensures { (ts : List Ty) (facts : Facts) → Under types.now ts facts
         → Answers literal_of (constant_rule facts (valued_of ts value)) result }
 {
-    let literal = constant_at(alloc, types, node_of(&value.expr).at, &value.expr);
+    let literal = constant_at(alloc, types, value.expr.node().at, &value.expr);
     drop(value);
     literal
 }
@@ -70,7 +69,9 @@ fn label_by(at: Place, literal: Literal) -> Result<Label, Stop>
             high: value,
         }),
         Literal::Text(text) => Ok(Label::Text(text)),
-        Literal::Parts(_) | Literal::Elements(_) => Err(refusal(Code::NotTyped, at)),
+        Literal::Nil | Literal::Parts(_) | Literal::Elements(_) => {
+            Err(refusal(Code::NotTyped, at))
+        }
     }
 }
 
@@ -102,7 +103,7 @@ pub fn label_value(
     ensures { (ts : List Ty) (facts : Facts) → Under types.now ts facts
         → Answers label_of (label_value facts (type_at ts ty) (valued_of ts value)) result }
 {
-    let at = node_of(&value.expr).at;
+    let at = value.expr.node().at;
     if !is_same(types, ty, value.ty) {
         drop(value);
         return Err(refusal(Code::NotTyped, at));
@@ -119,7 +120,7 @@ fn length_by(at: Place, literal: &Literal) -> Result<i32, Stop>
 {
     match literal {
         Literal::Ordinal(value) => Ok(*value),
-        Literal::Text(_) | Literal::Parts(_) | Literal::Elements(_) => {
+        Literal::Text(_) | Literal::Nil | Literal::Parts(_) | Literal::Elements(_) => {
             Err(refusal(Code::NotTyped, at))
         }
     }
@@ -147,7 +148,7 @@ pub fn length_rule(alloc: Global, types: &TypeTable, value: Value) -> Result<i32
     ensures { (ts : List Ty) (facts : Facts) → Under types.now ts facts
         → Answers (λ (z : ℤ). z) (length_rule facts (valued_of ts value)) result }
 {
-    let at = node_of(&value.expr).at;
+    let at = value.expr.node().at;
     if !is_int(entry(types, value.ty)) {
         drop(value);
         return Err(refusal(Code::NotTyped, at));

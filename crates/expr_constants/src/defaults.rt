@@ -1,20 +1,20 @@
 // What values of types start at, and objects with values of some fields.
-ghost use Rattle.std.specs.Prelude.{◌≡◌, ◌<◌, List, length, map, IfOk};
+ghost use Rattle.std.specs.Prelude.{◌≡◌, ◌<◌, List, length, IfOk, Some};
 ghost use Rattle.nim_types.specs.Types.{Ty, Facts};
 ghost use Rattle.nim_types.specs.Table.{type_at, facts_in, AllBelow};
-ghost use Rattle.nim_core.specs.Program.{Literal as Meant, PartsOf};
-ghost use Rattle.nim_core.specs.View.{literal_of, literals_of};
-ghost use Rattle.expr_rules.specs.Constants.{given_or, object_of, on_one};
-ghost use Rattle.expr_rules.specs.Literals.{default_literal};
+ghost use Rattle.nim_program.specs.Program.{Literal as Meant, PartsOf};
+ghost use Rattle.nim_program.specs.View.{literal_of, literals_of};
+ghost use Rattle.expr_rules.specs.Constants.{given_or, object_of, on_one, with_values};
+ghost use Rattle.nim_program.specs.Defaults.{default_literal};
 ghost use Rattle.expr_parts.specs.View.{Under};
-ghost use Rattle.expr_constants.specs.ViewConstants.{all_given, evaluated_of, given_of, literal_or};
+ghost use Rattle.expr_constants.specs.ViewConstants.{evaluated_of, literal_or, values_of};
 ghost use Rattle.expr_constants.specs.ViewConstants.{known_parts, field_values};
 
-use crate::evaluated::{Evaluated, Given, limited};
+use crate::evaluated::{Evaluated, limited};
 use arc_base::Memory;
 use expr_parts::constants::copied;
 use expr_parts::kinds::known;
-use nim_core::Literal;
+use nim_program::Literal;
 use nim_types::{TypeDef, TypeId, TypeTable, declared_types};
 use plain_values::start_of;
 use std::alloc::Global;
@@ -41,16 +41,16 @@ pub fn default_literal(
 }
 
 // The value that is given of a field.
-fn given_at(given: &[Given], i: usize) -> Option<&Literal>
-    ensures { (other : Meant) → given_or i (map given_of given.now) other
+fn given_at<'a>(fields: &[u32], values: &'a [Literal], i: usize) -> Option<&'a Literal>
+    ensures { (other : Meant) → given_or i (with_values fields.now (literals_of values.now)) other
         ≡ literal_or (λ l. literal_of l.now) other result }
 {
-    for one in given {
-        if one.field as usize == i {
-            return Some(&one.value);
-        }
+    let (field, fields) = fields.split_first()?;
+    let (value, values) = values.split_first()?;
+    if *field as usize == i {
+        return Some(value);
     }
-    None
+    given_at(fields, values, i)
 }
 
 // The value of a field: what is given, else what it starts at.
@@ -60,15 +60,16 @@ fn field_literal(
     declared: u32,
     i: usize,
     ty: TypeId,
-    given: &[Given],
+    fields: &[u32],
+    values: &[Literal],
 ) -> Result<Literal, Memory>
     requires ty { ty < length types.now }
     requires declared { declared ≡ length (facts_in types.now) }
     ensures { IfOk result (λ l. (ts : List Ty) (facts : Facts) → Under types.now ts facts
-        → literal_of l ≡ given_or i (map given_of given.now)
+        → literal_of l ≡ given_or i (with_values fields.now (literals_of values.now))
         (default_literal facts (type_at ts ty))) }
 {
-    match given_at(given, i) {
+    match given_at(fields, values, i) {
         Some(literal) => copied(alloc, literal),
         None => default_literal(alloc, types, declared, ty),
     }
@@ -78,16 +79,18 @@ fn field_literals(
     alloc: Global,
     types: &TypeTable,
     parts: &[TypeId],
-    given: &[Given],
+    fields: &[u32],
+    values: &[Literal],
 ) -> Result<Vec<Literal>, Memory>
     requires { AllBelow (length types.now) parts.now }
     ensures { IfOk result (λ all. (ts : List Ty) (facts : Facts) → Under types.now ts facts
-        → literals_of all.items ≡ field_values facts ts 0 parts.now (map given_of given.now)) }
+        → literals_of all.items ≡ field_values facts ts 0 parts.now
+        (with_values fields.now (literals_of values.now))) }
 {
     let declared = declared_types(types);
     let mut all = Vec::new(alloc);
     for i in 0..parts.len() {
-        let literal = field_literal(alloc, types, declared, i, parts[i], given)?;
+        let literal = field_literal(alloc, types, declared, i, parts[i], fields, values)?;
         all.push(literal)?;
     }
     Ok(all)
@@ -114,13 +117,15 @@ fn object_with(
     alloc: Global,
     types: &TypeTable,
     ty: TypeId,
-    given: &[Given],
+    fields: &[u32],
+    values: &[Literal],
 ) -> Result<Evaluated<Literal>, Memory>
     ensures { IfOk result (λ e. (ts : List Ty) (facts : Facts) → Under types.now ts facts
-        → evaluated_of literal_of e ≡ object_of facts (type_at ts ty) (map given_of given.now)) }
+        → evaluated_of literal_of e ≡ object_of facts (Some (type_at ts ty))
+        (with_values fields.now (literals_of values.now))) }
 {
     let def = known(types, ty)?;
-    let all = field_literals(alloc, types, known_parts(def), given)?;
+    let all = field_literals(alloc, types, known_parts(def), fields, values)?;
     Ok(limited(parts_with(all)))
 }
 
@@ -129,14 +134,16 @@ pub fn construct(
     alloc: Global,
     types: &TypeTable,
     ty: TypeId,
-    given: &Evaluated<Vec<Given>>,
+    fields: &[u32],
+    values: &Evaluated<Vec<Literal>>,
 ) -> Result<Evaluated<Literal>, Memory>
     ensures { IfOk result (λ e. (ts : List Ty) (facts : Facts) → Under types.now ts facts
         → evaluated_of literal_of e
-        ≡ on_one (object_of facts (type_at ts ty)) (evaluated_of all_given given.now)) }
+        ≡ on_one (λ ls. object_of facts (Some (type_at ts ty)) (with_values fields.now ls))
+        (evaluated_of values_of values.now)) }
 {
-    match given {
-        Evaluated::Comes(given) => object_with(alloc, types, ty, given.as_slice()),
+    match values {
+        Evaluated::Comes(values) => object_with(alloc, types, ty, fields, values.as_slice()),
         Evaluated::Traps => Ok(Evaluated::Traps),
         Evaluated::Varies => Ok(Evaluated::Varies),
     }

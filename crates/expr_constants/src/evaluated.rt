@@ -1,20 +1,22 @@
 // What operations give of constants.
-ghost use Rattle.std.specs.Prelude.{◌≡◌, ◌++◌, map, IfOk, OnOk};
-ghost use Rattle.nim_core.specs.Ints.{truth};
-ghost use Rattle.nim_core.specs.Program.{ElementsOf, Number, PartsOf};
-ghost use Rattle.nim_core.specs.View.{literal_of, literals_of};
+ghost use Rattle.std.specs.Prelude.{◌≡◌, [], ◌∷◌, ◌++◌, IfOk, OnOk};
+ghost use Rattle.nim_program.specs.Ints.{truth};
+ghost use Rattle.nim_program.specs.Program.{ElementsOf, Number, PartsOf};
+ghost use Rattle.nim_program.specs.View.{literal_of, literals_of};
 ghost use Rattle.expr_rules.specs.Constants.{comes_to, on_one, on_two, unary_of, binary_of};
 ghost use Rattle.expr_rules.specs.Constants.{if_fine};
 ghost use Rattle.expr_rules.specs.Constants.{compare_of, both_of, either_of, unless_varies};
 ghost use Rattle.expr_rules.specs.Constants.{text_order, join_of, limited, measured, measure_of};
 ghost use Rattle.expr_constants.specs.ViewConstants.{evaluated_of, has_letters, letters};
-ghost use Rattle.expr_constants.specs.ViewConstants.{number_in, left_of, values_of};
-ghost use Rattle.expr_constants.specs.ViewConstants.{and_value, given_of, all_given, and_given};
+ghost use Rattle.expr_constants.specs.ViewConstants.{left_of, values_of, and_value};
+ghost use Rattle.expr_rules.specs.Constants.{Evaluated as Meaning, alone, in_pair, varies};
+ghost use Rattle.expr_rules.specs.Constants.{number_in, short_of};
+ghost use Rattle.nim_program.specs.Program.{Literal as Meant};
 ghost use Rattle.plain_values.specs.Checked.{checked_of};
 
 use crate::literal_sizes::is_small;
 use arc_base::{Bytes, Memory};
-use nim_core::{Comparison, Literal, Measure, Operator, UnaryOperator};
+use nim_program::{Comparison, Literal, Measure, Operator, Short, UnaryOperator};
 use plain_values::{Trap, add_char, apply, calculate, compares};
 use std::alloc::Global;
 
@@ -33,13 +35,6 @@ pub enum Evaluated<T> {
 pub struct Pair {
     pub left: Evaluated<Literal>,
     pub right: Evaluated<Literal>,
-}
-
-/// The value of a field, by its number.
-#[derive(Drop)]
-pub struct Given {
-    pub field: u32,
-    pub value: Literal,
 }
 
 // ---- values
@@ -78,7 +73,8 @@ fn unary_of(operator: UnaryOperator, a: &Literal) -> Evaluated<Literal>
 {
     match a {
         Literal::Ordinal(x) => number_or_trap(apply(operator, *x)),
-        Literal::Text(_) | Literal::Parts(_) | Literal::Elements(_) => Evaluated::Varies,
+        Literal::Text(_) | Literal::Nil | Literal::Parts(_) | Literal::Elements(_) =>
+            Evaluated::Varies,
     }
 }
 
@@ -181,8 +177,8 @@ fn unless_varies(a: &Evaluated<Literal>, value: i32) -> Evaluated<Literal>
     }
 }
 
-// The number that it comes to.
-fn number_in(a: &Evaluated<Literal>) -> Option<i32>
+/// The number that it comes to.
+pub fn number_in(a: &Evaluated<Literal>) -> Option<i32>
     ensures { result ≡ number_in (evaluated_of literal_of a.now) }
 {
     match a {
@@ -236,6 +232,17 @@ pub fn either(pair: Pair) -> Evaluated<Literal>
     }
 }
 
+/// An operator that stops early.
+pub fn stopping(short: Short, pair: Pair) -> Evaluated<Literal>
+    ensures { evaluated_of literal_of result ≡ short_of short
+        (evaluated_of literal_of pair.left) (evaluated_of literal_of pair.right) }
+{
+    match short {
+        Short::And => both(pair),
+        Short::Or => either(pair),
+    }
+}
+
 // ---- texts
 
 fn has_letters(a: &Literal) -> bool
@@ -251,7 +258,7 @@ fn add_letters(a: &Literal, text: &mut Bytes) -> Result<(), Memory>
     match a {
         Literal::Ordinal(z) => add_char(*z, text),
         Literal::Text(bytes) => text.append(bytes.as_slice()),
-        Literal::Parts(_) | Literal::Elements(_) => Ok(()),
+        Literal::Nil | Literal::Parts(_) | Literal::Elements(_) => Ok(()),
     }
 }
 
@@ -302,7 +309,7 @@ fn measure_of(measure: Measure, a: &Literal) -> Result<Evaluated<Literal>, Memor
         ≡ measure_of measure (literal_of a.now)) }
 {
     match a {
-        Literal::Ordinal(_) => Ok(Evaluated::Varies),
+        Literal::Ordinal(_) | Literal::Nil => Ok(Evaluated::Varies),
         Literal::Text(bytes) => measured(measure, bytes.as_slice().len()),
         Literal::Parts(all) => measured(measure, all.len()),
         Literal::Elements(all) => measured(measure, all.len()),
@@ -354,36 +361,79 @@ fn and_value(all: Vec<Literal>, value: Literal) -> Result<Evaluated<Vec<Literal>
     Ok(Evaluated::Comes(all))
 }
 
-/// Values of fields with one more, which follows them.
-pub fn with_given(
-    done: Evaluated<Vec<Given>>,
-    field: u32,
-    value: Evaluated<Literal>,
-) -> Result<Evaluated<Vec<Given>>, Memory>
-    ensures { IfOk result (λ e. evaluated_of all_given e
-        ≡ on_two (and_given field) (evaluated_of all_given done) (evaluated_of literal_of value)) }
+/// The value, where there is one alone.
+pub fn only(all: Evaluated<Vec<Literal>>) -> Evaluated<Literal>
+    ensures { (go : Meant → Meaning Meant) → on_one (alone go) (evaluated_of values_of all)
+        ≡ on_one go (evaluated_of literal_of result) }
 {
-    match done {
-        Evaluated::Comes(all) => match value {
-            Evaluated::Comes(value) => and_given(all, field, value),
-            Evaluated::Traps => Ok(Evaluated::Traps),
-            Evaluated::Varies => Ok(Evaluated::Varies),
-        },
-        Evaluated::Traps => match value {
-            Evaluated::Comes(_) | Evaluated::Traps => Ok(Evaluated::Traps),
-            Evaluated::Varies => Ok(Evaluated::Varies),
-        },
-        Evaluated::Varies => Ok(Evaluated::Varies),
+    match all {
+        Evaluated::Comes(all) => one_of(all),
+        Evaluated::Traps => Evaluated::Traps,
+        Evaluated::Varies => Evaluated::Varies,
     }
 }
 
-fn and_given(all: Vec<Given>, field: u32, value: Literal) -> Result<Evaluated<Vec<Given>>, Memory>
-    ensures { IfOk result (λ e. evaluated_of all_given e
-        ≡ and_given field (map given_of all.items) (literal_of value)) }
+fn one_of(all: Vec<Literal>) -> Evaluated<Literal>
+    ensures { (go : Meant → Meaning Meant) → alone go (literals_of all.items)
+        ≡ on_one go (evaluated_of literal_of result) }
 {
-    let mut all = all;
-    all.push(Given { field, value })?;
-    Ok(Evaluated::Comes(all))
+    let mut others = all;
+    match others.pop() {
+        Some(last) => unless_others(others.as_slice(), last),
+        None => Evaluated::Varies,
+    }
+}
+
+fn unless_others(others: &[Literal], last: Literal) -> Evaluated<Literal>
+    ensures { (go : Meant → Meaning Meant) → alone go (literals_of (others.now ++ last ∷ []))
+        ≡ on_one go (evaluated_of literal_of result) }
+{
+    let count = others.len();
+    if count > 0 {
+        drop(last);
+        return Evaluated::Varies;
+    }
+    Evaluated::Comes(last)
+}
+
+/// Both values, where there are two.
+pub fn two_of(all: Evaluated<Vec<Literal>>) -> Pair
+    ensures { (go : Meant → Meant → Meaning Meant) →
+        on_one (in_pair go) (evaluated_of values_of all)
+        ≡ on_two go (evaluated_of literal_of result.left) (evaluated_of literal_of result.right) }
+{
+    match all {
+        Evaluated::Comes(all) => pair_of(all),
+        Evaluated::Traps => Pair {
+            left: Evaluated::Traps,
+            right: Evaluated::Traps,
+        },
+        Evaluated::Varies => no_pair(),
+    }
+}
+
+fn no_pair() -> Pair
+    ensures left { evaluated_of literal_of result.left ≡ varies }
+    ensures right { evaluated_of literal_of result.right ≡ varies }
+{
+    Pair {
+        left: Evaluated::Varies,
+        right: Evaluated::Varies,
+    }
+}
+
+fn pair_of(all: Vec<Literal>) -> Pair
+    ensures { (go : Meant → Meant → Meaning Meant) → in_pair go (literals_of all.items)
+        ≡ on_two go (evaluated_of literal_of result.left) (evaluated_of literal_of result.right) }
+{
+    let mut others = all;
+    match others.pop() {
+        Some(right) => Pair {
+            left: one_of(others),
+            right: Evaluated::Comes(right),
+        },
+        None => no_pair(),
+    }
 }
 
 /// The parts of a tuple or an array.

@@ -5,24 +5,25 @@ ghost use Rattle.arc_base.specs.Refusal.{Answers, and_then};
 ghost use Rattle.nim_types.specs.Types.{Ty, Facts};
 ghost use Rattle.nim_types.specs.Table.{type_at, types_at, AllBelow, IsBelow};
 ghost use Rattle.nim_types.specs.declared.types.TypeDef.TheVariants.{Char};
-ghost use Rattle.nim_core.specs.Program.{Number};
-ghost use Rattle.nim_core.specs.View.{expr_of, literal_of};
+ghost use Rattle.nim_program.specs.Program.{Number};
+ghost use Rattle.nim_program.specs.View.{expr_of, if_type, literal_of};
 ghost use Rattle.expr_rules.specs.Answers.{typed_as};
 ghost use Rattle.expr_rules.specs.Constants.{if_comes, value_in};
-ghost use Rattle.expr_rules.specs.Constructions.{index_rule, indexed, nth_type};
+ghost use Rattle.expr_rules.specs.Constructions.{element_of, index_rule, indexed, nth_type};
 ghost use Rattle.expr_rules.specs.Constructions.{numbered_part, read_part};
 ghost use Rattle.expr_rules.specs.Env.{Env};
 ghost use Rattle.expr_parts.specs.View.{KindsIn, Under, env_of, number_of, typed_of, valued_of};
 ghost use Rattle.expr_constants.specs.ViewConstants.{behind, natural, tuple_parts};
 
 use crate::constant_rules::constant_at;
+use crate::evaluation::index_number;
 use arc_base::{Code, Place, Stop};
 use expr_parts::kinds::{entry, is_int};
 use expr_parts::nodes::type_number;
 use expr_parts::parts::{element_of, element_type, read_field};
 use expr_parts::scope::Scope;
 use expr_parts::value::{Typed, Value, refusal};
-use nim_core::{Expr, Literal};
+use nim_program::{Expr, Literal};
 use nim_types::{TypeDef, TypeId, TypeTable};
 use std::alloc::Global;
 
@@ -101,7 +102,7 @@ fn numbered_part(
 {
     match literal {
         Literal::Ordinal(i) => part_by(alloc, number, at, value, parts, *i),
-        Literal::Text(_) | Literal::Parts(_) | Literal::Elements(_) => {
+        Literal::Text(_) | Literal::Nil | Literal::Parts(_) | Literal::Elements(_) => {
             drop(value);
             Err(refusal(Code::NotTyped, at))
         }
@@ -144,6 +145,31 @@ fn tuple_parts(def: &TypeDef) -> Option<&[TypeId]>
     }
 }
 
+// The element at an index, of a type where it has elements.
+fn element_at(
+    alloc: Global,
+    types: &TypeTable,
+    number: u32,
+    at: Place,
+    value: Value,
+    index: Value,
+    ty: Option<TypeId>,
+) -> Result<Expr, Stop>
+    ensures answers { (ts : List Ty) (facts : Facts) (k : ℕ) → Under types.now ts facts
+        → Answers (λ e. typed_as (expr_of ts e) k) (element_of facts number k at
+        (valued_of ts value) (valued_of ts index) (if_type ts ty)) result }
+    ensures number { IfOk result (λ e. number_of e ≡ ty) }
+{
+    match index_number(alloc, types, &index.expr) {
+        Ok(constant) => element_of(alloc, number, at, value, index, constant, ty),
+        Err(_) => {
+            drop(value);
+            drop(index);
+            Err(Stop::Memory)
+        }
+    }
+}
+
 fn read(
     alloc: Global,
     types: &TypeTable,
@@ -167,7 +193,15 @@ fn read(
             drop(index);
             part
         }
-        None => element_of(alloc, number, at, value, index, element_type(chars, def)),
+        None => element_at(
+            alloc,
+            types,
+            number,
+            at,
+            value,
+            index,
+            element_type(chars, def),
+        ),
     }
 }
 

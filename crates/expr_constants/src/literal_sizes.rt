@@ -1,12 +1,12 @@
 // How large values of constants are.
 ghost use Rattle.std.specs.Prelude.{◌≡◌, ◌+◌, min, nat_le};
 ghost use Rattle.nim_types.specs.Forms.{or_word};
-ghost use Rattle.nim_core.specs.View.{literal_of, literals_of};
+ghost use Rattle.nim_program.specs.View.{literal_of, literals_of};
 ghost use Rattle.expr_rules.specs.Literals.{literal_bytes, part_bytes, all_bytes};
 ghost use Rattle.expr_constants.specs.ViewConstants.{most};
 
 use expr_rules::MOST_TYPE_BYTES;
-use nim_core::Literal;
+use nim_program::Literal;
 use nim_types::{LIST_BYTES, WORD_BYTES};
 
 // The bytes of a list that leads to so many.
@@ -33,7 +33,7 @@ fn part_bytes(literal: &Literal) -> u64
     ensures { result ≡ min (part_bytes (literal_of literal.now)) most }
 {
     match literal {
-        Literal::Ordinal(_) => u64::from(WORD_BYTES),
+        Literal::Ordinal(_) | Literal::Nil => u64::from(WORD_BYTES),
         Literal::Text(text) => list_bytes(text.as_slice().len() as u64),
         Literal::Parts(all) => or_word(all_bytes(all.as_slice())),
         Literal::Elements(all) => list_bytes(all_bytes(all.as_slice())),
@@ -56,7 +56,7 @@ fn literal_bytes(literal: &Literal) -> u64
     ensures { result ≡ min (literal_bytes (literal_of literal.now)) most }
 {
     match literal {
-        Literal::Ordinal(_) => u64::from(WORD_BYTES),
+        Literal::Ordinal(_) | Literal::Nil => u64::from(WORD_BYTES),
         Literal::Text(text) => text.as_slice().len() as u64,
         Literal::Parts(all) => or_word(all_bytes(all.as_slice())),
         Literal::Elements(all) => all_bytes(all.as_slice()),

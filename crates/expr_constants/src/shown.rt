@@ -2,15 +2,15 @@
 ghost use Rattle.std.specs.Prelude.{◌≡◌, List, IfOk, Some};
 ghost use Rattle.nim_types.specs.Types.{Ty, Facts};
 ghost use Rattle.nim_types.specs.Table.{type_at};
-ghost use Rattle.nim_core.specs.Program.{Number};
-ghost use Rattle.nim_core.specs.View.{literal_of, if_type};
+ghost use Rattle.nim_program.specs.Program.{Number};
+ghost use Rattle.nim_program.specs.View.{literal_of, if_type};
 ghost use Rattle.expr_rules.specs.Constants.{on_one, among, converted, shown};
 ghost use Rattle.expr_parts.specs.View.{Under};
 ghost use Rattle.expr_constants.specs.ViewConstants.{evaluated_of};
 
 use crate::evaluated::{Evaluated, limited, number_or_trap};
 use arc_base::{Bytes, Memory};
-use nim_core::Literal;
+use nim_program::Literal;
 use nim_types::{TypeId, TypeTable};
 use plain_values::{add_text, limit_of, one_of};
 use std::alloc::Global;
@@ -27,10 +27,10 @@ fn among(values: usize, a: Literal) -> Evaluated<Literal>
     }
 }
 
-// All numbers of a tree are of the table.
-fn converted(types: &TypeTable, ty: TypeId, a: Literal) -> Result<Evaluated<Literal>, Memory>
+// As one of a type. All numbers of a tree are of the table.
+fn converted_to(types: &TypeTable, ty: TypeId, a: Literal) -> Result<Evaluated<Literal>, Memory>
     ensures { IfOk result (λ e. (ts : List Ty) (facts : Facts) → Under types.now ts facts
-        → evaluated_of literal_of e ≡ converted facts (type_at ts ty) (literal_of a)) }
+        → evaluated_of literal_of e ≡ converted facts (Some (type_at ts ty)) (literal_of a)) }
 {
     if ty >= types.count() {
         return Err(Memory);
@@ -41,15 +41,29 @@ fn converted(types: &TypeTable, ty: TypeId, a: Literal) -> Result<Evaluated<Lite
     }
 }
 
+fn converted(
+    types: &TypeTable,
+    ty: Option<TypeId>,
+    a: Literal,
+) -> Result<Evaluated<Literal>, Memory>
+    ensures { IfOk result (λ e. (ts : List Ty) (facts : Facts) → Under types.now ts facts
+        → evaluated_of literal_of e ≡ converted facts (if_type ts ty) (literal_of a)) }
+{
+    match ty {
+        Some(ty) => converted_to(types, ty, a),
+        None => Ok(Evaluated::Comes(a)),
+    }
+}
+
 /// A value as one of another type.
 pub fn convert(
     types: &TypeTable,
-    ty: TypeId,
+    ty: Option<TypeId>,
     a: Evaluated<Literal>,
 ) -> Result<Evaluated<Literal>, Memory>
     ensures { IfOk result (λ e. (ts : List Ty) (facts : Facts) → Under types.now ts facts
         → evaluated_of literal_of e
-        ≡ on_one (converted facts (type_at ts ty)) (evaluated_of literal_of a)) }
+        ≡ on_one (converted facts (if_type ts ty)) (evaluated_of literal_of a)) }
 {
     match a {
         Evaluated::Comes(a) => converted(types, ty, a),
@@ -93,6 +107,7 @@ fn shown(
             Some(ty) => shown_number(alloc, types, ty, z),
             None => Ok(Evaluated::Varies),
         },
+        Literal::Nil => Ok(Evaluated::Varies),
         Literal::Parts(_) => Ok(Evaluated::Varies),
         Literal::Elements(_) => Ok(Evaluated::Varies),
     }

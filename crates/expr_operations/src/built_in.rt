@@ -2,20 +2,21 @@
 ghost use Rattle.std.specs.Prelude.{◌≡◌, ◌<◌, ℕ, List, [], ◌∷◌, option_map, IfSome};
 ghost use Rattle.nim_types.specs.Types.{Ty};
 ghost use Rattle.nim_types.specs.Table.{type_at, meant, IsBelow, IsWithin};
-ghost use Rattle.nim_core.specs.declared.expr.Node.{Node};
+ghost use Rattle.nim_program.specs.declared.expr.Node.{Node};
 ghost use Rattle.expr_rules.specs.Answers.{Valued, Operand, value, a_type, the_input, only_if};
 ghost use Rattle.expr_rules.specs.Builtins.{operations_named, first_row};
-ghost use Rattle.expr_rules.specs.Builtins.{stepped_by, added_to, resized_by, popped_from};
+ghost use Rattle.expr_rules.specs.Builtins.{stepped_by, joined_to, elements_of, resized_by, popped};
 ghost use Rattle.expr_operations.specs.ViewOperations.{rows_of, rows_in, AreKinds, KindsBelow};
-ghost use Rattle.expr_operations.specs.ViewOperations.{done_by, made_number, type_rows};
-ghost use Rattle.expr_operations.specs.ViewOperations.{second_rows, taken_with, taken_types};
-ghost use Rattle.expr_operations.specs.ViewOperations.{TakenWithin, pop_makes, popped_types};
+ghost use Rattle.expr_operations.specs.ViewOperations.{done_by, type_rows};
+ghost use Rattle.expr_operations.specs.ViewOperations.{second_rows, goes_of, taken_types};
+ghost use Rattle.expr_operations.specs.ViewOperations.{TakenWithin, pop_makes, popped_type};
 ghost use Rattle.expr_operations.specs.ViewOperations.{reading_rows, quit_rows};
+ghost use Rattle.expr_operations.specs.declared.built_in.BuiltIn.TheVariants.{Add as AddName};
 
-use expr_parts::kinds::{has_length, is_int, is_ordinal, is_shown};
+use expr_parts::kinds::{has_length, is_int, is_ordinal, is_shown, is_text};
 use expr_parts::names::is_word;
 use expr_parts::scope::Kinds;
-use nim_core::{Measure, Operator};
+use nim_program::{Measure, Operation, Operator};
 use nim_types::{TypeDef, TypeId};
 
 /// An operation, by its name.
@@ -80,41 +81,41 @@ pub fn operation_named(name: &[u8]) -> Option<BuiltIn>
     }
 }
 
-/// What is made of a value.
+/// How an operand is handed on: its value; its path, which is read in place; or its path, which is
+/// written.
 #[derive(Clone, Copy)]
-pub enum ValueNode {
-    Measure(Measure, TypeId),
-    Convert(TypeId),
-    Show(TypeId),
-    Quit,
+pub enum Hand {
+    AsValue,
+    InPlace,
+    ToWrite,
 }
 
-/// What is made of a path that can be written.
+/// What an operation makes of one operand: the node of a row of the table, with the type of its
+/// value.
 #[derive(Clone, Copy)]
-pub enum PlaceNode {
-    /// By one.
-    Step(Operator),
-    Pop(TypeId),
-    Move(TypeId),
-    ReadLine(TypeId),
+pub struct Makes {
+    pub hand: Hand,
+    pub ty: Option<TypeId>,
+    pub operation: Operation,
 }
 
-/// What an operation makes of one operand.
-#[derive(Clone, Copy)]
-pub enum Makes {
-    OfValue(ValueNode),
-    OfPlace(PlaceNode),
-}
-
-fn made_if(holds: bool, makes: Makes) -> Option<Makes>
-    ensures { result ≡ only_if holds makes }
+fn made_if(holds: bool, hand: Hand, ty: Option<TypeId>, operation: Operation) -> Option<Makes>
+    ensures { result ≡ only_if holds (record { hand = hand; ty = ty; operation = operation }) }
 {
-    if holds { Some(makes) } else { None }
+    if holds {
+        Some(Makes {
+            hand,
+            ty,
+            operation,
+        })
+    } else {
+        None
+    }
 }
 
 // The type of the last element, which is taken away.
-fn popped_from(def: &TypeDef) -> Option<TypeId>
-    ensures types { (ts : List Ty) → popped_from (meant ts def.now) ≡ popped_types ts result }
+fn popped(def: &TypeDef) -> Option<TypeId>
+    ensures types { (ts : List Ty) → popped (meant ts def.now) ≡ popped_type ts result }
     ensures within { (n : ℕ) → IsWithin n def.now → IsBelow n result }
 {
     match def {
@@ -127,7 +128,11 @@ fn pop_of(of: Option<TypeId>) -> Option<Makes>
     ensures { result ≡ pop_makes of }
 {
     match of {
-        Some(ty) => Some(Makes::OfPlace(PlaceNode::Pop(ty))),
+        Some(ty) => Some(Makes {
+            hand: Hand::ToWrite,
+            ty: Some(ty),
+            operation: Operation::Pop,
+        }),
         None => None,
     }
 }
@@ -138,31 +143,54 @@ pub fn makes_of_value(kinds: Kinds, operation: BuiltIn, def: &TypeDef, ty: TypeI
         → v.of ≡ type_at ts ty → (n : Node) → first_row n (rows_of operation) (value v ∷ [])
         ≡ option_map (done_by ts n v) result }
     ensures within { (n : ℕ) → KindsBelow n kinds → IsWithin n def.now → ty < n
-        → IfSome result (λ m. IsBelow n (made_number m)) }
+        → IfSome result (λ m. IsBelow n m.ty) }
 {
+    let int = Some(kinds.int);
     match operation {
         BuiltIn::Len => made_if(
             has_length(def),
-            Makes::OfValue(ValueNode::Measure(Measure::Len, kinds.int)),
+            Hand::InPlace,
+            int,
+            Operation::Measure(Measure::Len),
         ),
         BuiltIn::High => made_if(
             has_length(def),
-            Makes::OfValue(ValueNode::Measure(Measure::High, kinds.int)),
+            Hand::InPlace,
+            int,
+            Operation::Measure(Measure::High),
         ),
-        BuiltIn::Ord => made_if(
-            is_ordinal(def),
-            Makes::OfValue(ValueNode::Convert(kinds.int)),
+        BuiltIn::Ord => made_if(is_ordinal(def), Hand::AsValue, int, Operation::Convert),
+        BuiltIn::Chr => made_if(
+            is_int(def),
+            Hand::AsValue,
+            Some(kinds.char),
+            Operation::Convert,
         ),
-        BuiltIn::Chr => made_if(is_int(def), Makes::OfValue(ValueNode::Convert(kinds.char))),
-        BuiltIn::Dollar => made_if(is_shown(def), Makes::OfValue(ValueNode::Show(kinds.text))),
-        BuiltIn::Quit => made_if(is_int(def), Makes::OfValue(ValueNode::Quit)),
-        BuiltIn::Inc => made_if(is_int(def), Makes::OfPlace(PlaceNode::Step(Operator::Add))),
+        BuiltIn::Dollar => made_if(
+            is_shown(def),
+            Hand::AsValue,
+            Some(kinds.text),
+            Operation::Show,
+        ),
+        BuiltIn::Quit => made_if(is_int(def), Hand::AsValue, None, Operation::Quit),
+        BuiltIn::Inc => made_if(
+            is_int(def),
+            Hand::ToWrite,
+            None,
+            Operation::Update(Operator::Add),
+        ),
         BuiltIn::Dec => made_if(
             is_int(def),
-            Makes::OfPlace(PlaceNode::Step(Operator::Subtract)),
+            Hand::ToWrite,
+            None,
+            Operation::Update(Operator::Subtract),
         ),
-        BuiltIn::Move => Some(Makes::OfPlace(PlaceNode::Move(ty))),
-        BuiltIn::Pop => pop_of(popped_from(def)),
+        BuiltIn::Move => Some(Makes {
+            hand: Hand::ToWrite,
+            ty: Some(ty),
+            operation: Operation::Move,
+        }),
+        BuiltIn::Pop => pop_of(popped(def)),
         _ => None,
     }
 }
@@ -190,35 +218,75 @@ pub fn makes_of_type(operation: BuiltIn) -> Option<TypeNode>
     }
 }
 
-/// What is made of a path and a value.
+/// Which values go with a path of a type.
 #[derive(Clone, Copy)]
-pub enum JoinNode {
-    Step(Operator),
-    Add,
-    SetLen,
+pub enum Goes {
+    /// Ints, with an int.
+    Stepped,
+    /// What a text is made longer by.
+    Joined,
+    /// The elements of a sequence.
+    Elements,
+    /// Ints, with what has a length that can be set.
+    Resized,
+}
+
+/// What is made of a path and a value that goes with it.
+#[derive(Clone, Copy)]
+pub struct Join {
+    pub goes: Goes,
+    pub operation: Operation,
 }
 
 /// What an operation takes behind a path.
 #[derive(Clone, Copy)]
 pub enum Second {
     /// A value of a type that goes with the path's.
-    Value(JoinNode),
+    Value(Join),
     /// Another path of the type.
     Place,
     Nothing,
 }
 
-/// What an operation takes behind a path.
-pub fn second_of(operation: BuiltIn) -> Second
-    ensures { (n : Node) (v : Valued) (o : Operand)
+// What `add` takes behind a path of a type.
+fn added_to(def: &TypeDef) -> Second
+    ensures { (ts : List Ty) (n : Node) (v : Valued) (o : Operand) → v.of ≡ meant ts def.now
+        → first_row n (rows_of AddName) (value v ∷ o ∷ [])
+        ≡ first_row n (second_rows result) (value v ∷ o ∷ []) }
+{
+    if is_text(def) {
+        Second::Value(Join {
+            goes: Goes::Joined,
+            operation: Operation::Append,
+        })
+    } else {
+        Second::Value(Join {
+            goes: Goes::Elements,
+            operation: Operation::Add,
+        })
+    }
+}
+
+/// What an operation takes behind a path of a type.
+pub fn second_of(operation: BuiltIn, def: &TypeDef) -> Second
+    ensures { (ts : List Ty) (n : Node) (v : Valued) (o : Operand) → v.of ≡ meant ts def.now
         → first_row n (rows_of operation) (value v ∷ o ∷ [])
         ≡ first_row n (second_rows result) (value v ∷ o ∷ []) }
 {
     match operation {
-        BuiltIn::Inc => Second::Value(JoinNode::Step(Operator::Add)),
-        BuiltIn::Dec => Second::Value(JoinNode::Step(Operator::Subtract)),
-        BuiltIn::Add => Second::Value(JoinNode::Add),
-        BuiltIn::SetLen => Second::Value(JoinNode::SetLen),
+        BuiltIn::Inc => Second::Value(Join {
+            goes: Goes::Stepped,
+            operation: Operation::Update(Operator::Add),
+        }),
+        BuiltIn::Dec => Second::Value(Join {
+            goes: Goes::Stepped,
+            operation: Operation::Update(Operator::Subtract),
+        }),
+        BuiltIn::Add => added_to(def),
+        BuiltIn::SetLen => Second::Value(Join {
+            goes: Goes::Resized,
+            operation: Operation::SetLength,
+        }),
         BuiltIn::Swap => Second::Place,
         _ => Second::Nothing,
     }
@@ -243,13 +311,22 @@ fn stepped_by(kinds: Kinds, def: &TypeDef) -> Taken
     }
 }
 
-fn added_to(kinds: Kinds, def: &TypeDef) -> Taken
+fn joined_to(kinds: Kinds, def: &TypeDef) -> Taken
     ensures types { (ts : List Ty) → AreKinds ts kinds
-        → added_to (meant ts def.now) ≡ taken_types ts result }
-    ensures within { (n : ℕ) → KindsBelow n kinds → IsWithin n def.now → TakenWithin n result }
+        → joined_to (meant ts def.now) ≡ taken_types ts result }
+    ensures within { (n : ℕ) → KindsBelow n kinds → TakenWithin n result }
 {
     match def {
         TypeDef::Text => Taken::Either(kinds.text, kinds.char),
+        _ => Taken::Nothing,
+    }
+}
+
+fn elements_of(def: &TypeDef) -> Taken
+    ensures types { (ts : List Ty) → elements_of (meant ts def.now) ≡ taken_types ts result }
+    ensures within { (n : ℕ) → IsWithin n def.now → TakenWithin n result }
+{
+    match def {
         TypeDef::Seq(of) => Taken::One(*of),
         _ => Taken::Nothing,
     }
@@ -267,15 +344,16 @@ fn resized_by(kinds: Kinds, def: &TypeDef) -> Taken
 }
 
 /// The types of values that go with a path of a type.
-pub fn taken_by(kinds: Kinds, node: JoinNode, def: &TypeDef) -> Taken
+pub fn taken_by(kinds: Kinds, goes: Goes, def: &TypeDef) -> Taken
     ensures types { (ts : List Ty) → AreKinds ts kinds
-        → taken_with node (meant ts def.now) ≡ taken_types ts result }
+        → goes_of goes (meant ts def.now) ≡ taken_types ts result }
     ensures within { (n : ℕ) → KindsBelow n kinds → IsWithin n def.now → TakenWithin n result }
 {
-    match node {
-        JoinNode::Step(_) => stepped_by(kinds, def),
-        JoinNode::Add => added_to(kinds, def),
-        JoinNode::SetLen => resized_by(kinds, def),
+    match goes {
+        Goes::Stepped => stepped_by(kinds, def),
+        Goes::Joined => joined_to(kinds, def),
+        Goes::Elements => elements_of(def),
+        Goes::Resized => resized_by(kinds, def),
     }
 }
 

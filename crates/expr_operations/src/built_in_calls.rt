@@ -3,7 +3,7 @@ ghost use Rattle.std.specs.Prelude.{◌≡◌, ◌<◌, ◌∷◌, [], ℕ, List
 ghost use Rattle.arc_base.specs.Refusal.{Answers};
 ghost use Rattle.nim_types.specs.Types.{Ty, Facts, text};
 ghost use Rattle.nim_types.specs.Table.{type_at, IsBelow};
-ghost use Rattle.nim_core.specs.View.{expr_of};
+ghost use Rattle.nim_program.specs.View.{expr_of};
 ghost use Rattle.expr_rules.specs.Answers.{node, value as a_value, a_type, the_input};
 ghost use Rattle.expr_rules.specs.Builtins.{operation_by, first_row, operation_rule};
 ghost use Rattle.expr_parts.specs.View.{Under, KindsIn, OperandWithin, OperandsWithin};
@@ -18,15 +18,16 @@ use crate::built_in_pairs::on_two;
 use crate::operand_lists::{Given, taken_apart};
 use arc_base::{Code, Place, Stop};
 use expr_parts::kinds::{entry, is_int};
+use expr_parts::nodes::{applied, constant};
 use expr_parts::scope::Kinds;
 use expr_parts::settle::place_of_no_fit;
 use expr_parts::value::{Operand, Value, refusal};
-use nim_core::{Expr, Node};
+use nim_program::{Expr, Literal, Operation};
 use nim_types::{TypeId, TypeTable};
 use std::alloc::Global;
 
 // An operation without operands.
-fn on_nothing(number: u32, at: Place, operation: BuiltIn) -> Result<Expr, Stop>
+fn on_nothing(alloc: Global, number: u32, at: Place, operation: BuiltIn) -> Result<Expr, Stop>
     ensures answers { (ts : List Ty) → Answers (expr_of ts) (operation_by at []
         (first_row (node number at) (rows_of operation) [])) result }
     ensures within { (n : ℕ) → IfOk result (λ e. IsBelow n (number_of e)) }
@@ -34,10 +35,7 @@ fn on_nothing(number: u32, at: Place, operation: BuiltIn) -> Result<Expr, Stop>
     if !takes_nothing(operation) {
         return Err(refusal(Code::NotTyped, at));
     }
-    Ok(Expr::Quit {
-        node: Node { number, at },
-        status: None,
-    })
+    Ok(applied(number, at, None, Operation::Quit, Vec::new(alloc)))
 }
 
 // An operation on a value.
@@ -86,14 +84,11 @@ fn limit(
     if !is_int(entry(types, ty)) {
         return Err(refusal(Code::NotTyped, at));
     }
-    Ok(Expr::Ordinal {
-        node: Node { number, at },
-        ty: kinds.int,
-        value,
-    })
+    Ok(constant(number, at, kinds.int, Literal::Ordinal(value)))
 }
 
 fn of_type(
+    alloc: Global,
     types: &TypeTable,
     kinds: Kinds,
     number: u32,
@@ -112,15 +107,13 @@ fn of_type(
     match makes {
         TypeNode::Least => limit(types, kinds, number, at, -2_147_483_648, ty),
         TypeNode::Greatest => limit(types, kinds, number, at, 2_147_483_647, ty),
-        TypeNode::Default => Ok(Expr::Default {
-            node: Node { number, at },
-            ty,
-        }),
+        TypeNode::Default => Ok(applied(number, at, Some(ty), Operation::Default, Vec::new(alloc))),
     }
 }
 
 // An operation on a type.
 fn on_type(
+    alloc: Global,
     types: &TypeTable,
     kinds: Kinds,
     number: u32,
@@ -136,13 +129,19 @@ fn on_type(
     ensures within { IfOk result (λ e. IsBelow (length types.now) (number_of e)) }
 {
     match makes_of_type(operation) {
-        Some(makes) => of_type(types, kinds, number, at, makes, ty),
+        Some(makes) => of_type(alloc, types, kinds, number, at, makes, ty),
         None => Err(refusal(Code::NotTyped, at)),
     }
 }
 
 // An operation on standard input.
-fn on_input(kinds: Kinds, number: u32, at: Place, operation: BuiltIn) -> Result<Expr, Stop>
+fn on_input(
+    alloc: Global,
+    kinds: Kinds,
+    number: u32,
+    at: Place,
+    operation: BuiltIn,
+) -> Result<Expr, Stop>
     ensures answers { (ts : List Ty) → type_at ts kinds.text ≡ text
         → Answers (expr_of ts) (operation_by at (the_input ∷ [])
         (first_row (node number at) (rows_of operation) (the_input ∷ []))) result }
@@ -151,10 +150,13 @@ fn on_input(kinds: Kinds, number: u32, at: Place, operation: BuiltIn) -> Result<
     if !is_reading(operation) {
         return Err(refusal(Code::NotTyped, at));
     }
-    Ok(Expr::ReadLine {
-        node: Node { number, at },
-        ty: kinds.text,
-    })
+    Ok(applied(
+        number,
+        at,
+        Some(kinds.text),
+        Operation::ReadLine,
+        Vec::new(alloc),
+    ))
 }
 
 // An operation on one operand.
@@ -176,8 +178,8 @@ fn on_one(
 {
     match operand {
         Operand::Value(value) => on_value(alloc, types, kinds, number, at, operation, value),
-        Operand::Type(ty) => on_type(types, kinds, number, at, operation, ty),
-        Operand::Input => on_input(kinds, number, at, operation),
+        Operand::Type(ty) => on_type(alloc, types, kinds, number, at, operation, ty),
+        Operand::Input => on_input(alloc, kinds, number, at, operation),
         Operand::Open { at: place, .. } => Err(refusal(Code::NotTyped, place)),
     }
 }
@@ -203,7 +205,7 @@ fn on_given(
     ensures within { IfOk result (λ e. IsBelow (length types.now) (number_of e)) }
 {
     match taken_apart(operands) {
-        Given::Nothing => on_nothing(number, at, operation),
+        Given::Nothing => on_nothing(alloc, number, at, operation),
         Given::One(operand) => on_one(alloc, types, kinds, number, at, operation, operand),
         Given::Two(left, right) => {
             on_two(

@@ -3,7 +3,7 @@ ghost use Rattle.std.specs.Prelude.{◌≡◌, ◌<◌, ◌∷◌, [], ℕ, List
 ghost use Rattle.arc_base.specs.Refusal.{Answers};
 ghost use Rattle.nim_types.specs.Types.{Ty, Facts, same, bool};
 ghost use Rattle.nim_types.specs.Table.{type_at, IsBelow};
-ghost use Rattle.nim_core.specs.View.{expr_of, path_of as path_in};
+ghost use Rattle.nim_program.specs.View.{expr_of, path_of as path_in};
 ghost use Rattle.expr_rules.specs.Answers.{node, value as a_value, the_input};
 ghost use Rattle.expr_rules.specs.Builtins.{operation_by, first_row, settled_in, is_text};
 ghost use Rattle.expr_parts.specs.View.{Under, KindsIn, OperandWithin};
@@ -12,17 +12,16 @@ ghost use Rattle.expr_operations.specs.ViewOperations.{rows_of, second_rows, lin
 ghost use Rattle.expr_operations.specs.ViewOperations.{taken_types, TakenWithin, joined, swapped};
 ghost use Rattle.expr_operations.specs.declared.built_in.Second.TheVariants as Second;
 
-use crate::built_in::{
-    BuiltIn, JoinNode, Makes, PlaceNode, Second, Taken, is_reading, second_of, taken_by,
-};
-use crate::built_in_nodes::{join_node, make};
+use crate::built_in::{BuiltIn, Hand, Join, Makes, Second, Taken, is_reading, second_of, taken_by};
+use crate::built_in_nodes::make;
 use arc_base::{Code, Place, Stop};
 use expr_parts::kinds::{entry, is_same, is_text};
+use expr_parts::nodes;
 use expr_parts::paths::written;
 use expr_parts::scope::Kinds;
 use expr_parts::settle::{settle, settles};
 use expr_parts::value::{Operand, Value, refusal};
-use nim_core::{Expr, Node, Path};
+use nim_program::{Expr, Operand as Argument, Operation, Path};
 use nim_types::{TypeId, TypeTable};
 use std::alloc::Global;
 
@@ -69,16 +68,24 @@ fn write_with(
     alloc: Global,
     number: u32,
     at: Place,
-    kind: JoinNode,
+    join: Join,
     left: Value,
     right: Expr,
 ) -> Result<Expr, Stop>
-    ensures answers { (ts : List Ty) → Answers (expr_of ts) (joined (node number at) kind
+    ensures answers { (ts : List Ty) → Answers (expr_of ts) (joined (node number at) join
         (valued_of ts left) (expr_of ts right)) result }
     ensures within { (n : ℕ) → IfOk result (λ e. IsBelow n (number_of e)) }
 {
     match written(alloc, left) {
-        Ok(path) => join_node(alloc, number, at, kind, path, right),
+        Ok(path) => nodes::on_two(
+            alloc,
+            number,
+            at,
+            None,
+            join.operation,
+            Argument::At(path),
+            Argument::Value(right),
+        ),
         Err(stop) => {
             drop(right);
             Err(stop)
@@ -94,7 +101,7 @@ fn on_place_and_value(
     number: u32,
     at: Place,
     place: Place,
-    kind: JoinNode,
+    join: Join,
     left: Value,
     right: Operand,
 ) -> Result<Expr, Stop>
@@ -105,13 +112,13 @@ fn on_place_and_value(
         → no_fit_at at (right ∷ []) ≡ place
         → Answers (expr_of ts) (operation_by at
         (a_value (valued_of ts left) ∷ operand_of ts right ∷ [])
-        (first_row (node number at) (second_rows (Second.Value kind))
+        (first_row (node number at) (second_rows (Second.Value join))
         (a_value (valued_of ts left) ∷ operand_of ts right ∷ []))) result }
     ensures within { (n : ℕ) → IfOk result (λ e. IsBelow n (number_of e)) }
 {
-    let taken = taken_by(kinds, kind, entry(types, left.ty));
+    let taken = taken_by(kinds, join.goes, entry(types, left.ty));
     match settle_in(alloc, types, taken, right) {
-        Some(with) => write_with(alloc, number, at, kind, left, with.expr),
+        Some(with) => write_with(alloc, number, at, join, left, with.expr),
         None => {
             drop(left);
             Err(refusal(Code::NotTyped, place))
@@ -126,11 +133,15 @@ fn swap_with(alloc: Global, number: u32, at: Place, left: Path, right: Value) ->
     ensures within { (n : ℕ) → IfOk result (λ e. IsBelow n (number_of e)) }
 {
     match written(alloc, right) {
-        Ok(right) => Ok(Expr::Swap {
-            node: Node { number, at },
-            left,
-            right,
-        }),
+        Ok(right) => nodes::on_two(
+            alloc,
+            number,
+            at,
+            None,
+            Operation::Swap,
+            Argument::At(left),
+            Argument::At(right),
+        ),
         Err(stop) => {
             drop(left);
             Err(stop)
@@ -230,9 +241,9 @@ fn on_value_and(
         (a_value (valued_of ts left) ∷ operand_of ts right ∷ []))) result }
     ensures within { (n : ℕ) → IfOk result (λ e. IsBelow n (number_of e)) }
 {
-    match second_of(operation) {
-        Second::Value(kind) => {
-            on_place_and_value(alloc, types, kinds, number, at, place, kind, left, right)
+    match second_of(operation, entry(types, left.ty)) {
+        Second::Value(join) => {
+            on_place_and_value(alloc, types, kinds, number, at, place, join, left, right)
         }
         Second::Place => on_places(alloc, types, number, at, place, left, right),
         Second::Nothing => {
@@ -267,7 +278,11 @@ fn line_into(
         alloc,
         number,
         at,
-        Makes::OfPlace(PlaceNode::ReadLine(kinds.bool)),
+        Makes {
+            hand: Hand::ToWrite,
+            ty: Some(kinds.bool),
+            operation: Operation::ReadLineInto,
+        },
         value,
     )
 }

@@ -5,8 +5,8 @@ ghost use Rattle.arc_base.specs.Refusal.{Answers};
 ghost use Rattle.nim_types.specs.Types.{Ty, Facts, sequence};
 ghost use Rattle.nim_types.specs.Table.{type_at, IsBelow};
 ghost use Rattle.nim_types.specs.declared.types.TypeDef.TheVariants.{Int};
-ghost use Rattle.nim_core.specs.Program.{NewSequence};
-ghost use Rattle.nim_core.specs.View.{expr_of};
+ghost use Rattle.nim_program.specs.Nodes.{new_sequence};
+ghost use Rattle.nim_program.specs.View.{expr_of};
 ghost use Rattle.expr_rules.specs.Answers.{node};
 ghost use Rattle.expr_rules.specs.Names.{new_sequence_rule};
 ghost use Rattle.expr_parts.specs.View.{Under, Grown, OperandWithin, OperandsWithin};
@@ -16,10 +16,11 @@ ghost use Rattle.expr_parts.specs.ViewReady.{IsReady};
 use crate::operand_lists::only_operand;
 use arc_base::{Code, Place, Stop};
 use expr_parts::grow::add;
+use expr_parts::nodes::on_one;
 use expr_parts::scope::Scope;
 use expr_parts::settle::{place_of_no_fit, settle};
 use expr_parts::value::{Operand, refusal};
-use nim_core::{Expr, Node};
+use nim_program::{Expr, Operand as Argument, Operation};
 use nim_types::{TypeDef, TypeId, TypeTable};
 use std::alloc::Global;
 
@@ -35,19 +36,19 @@ fn so_many(
     requires of { of < length types.old }
     ensures grown { Grown types.old types.new }
     ensures answers { (ts : List Ty) (facts : Facts) → Under types.new ts facts
-        → Answers (expr_of ts) (Ok (NewSequence (node number at) (sequence (type_at ts of))
+        → Answers (expr_of ts) (Ok (new_sequence (node number at) (sequence (type_at ts of))
         (expr_of ts elements))) result }
     ensures within { IfOk result (λ e. IsBelow (length types.new) (number_of e)) }
 {
     match add(types, TypeDef::Seq(of)) {
-        Ok(ty) => {
-            let length = Box::new(alloc, elements)?;
-            Ok(Expr::NewSequence {
-                node: Node { number, at },
-                ty,
-                length,
-            })
-        }
+        Ok(ty) => on_one(
+            alloc,
+            number,
+            at,
+            Some(ty),
+            Operation::NewSequence,
+            Argument::Value(elements),
+        ),
         Err(stop) => {
             drop(elements);
             Err(stop)

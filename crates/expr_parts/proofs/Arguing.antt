@@ -5,10 +5,10 @@ use Rattle.std.proofs.lemmas.Option.{none-some, same_Some}
 use Rattle.arc_base.specs.declared.place.Stop.{Stop}
 use Rattle.arc_base.specs.Refusal.{and_then, Answers}
 use Rattle.nim_types.specs.Types.{Ty}
-use Rattle.nim_core.specs.declared.expr.Arg.{Arg as RustArg}
-use Rattle.nim_core.specs.declared.expr.Arg.TheVariants as arg
-use Rattle.nim_core.specs.Program.{Args, NoArg}
-use Rattle.nim_core.specs.View.{args_of, arg_before, path_of as path_in}
+use Rattle.nim_program.specs.declared.expr.Operand.{Operand as RustArgument}
+use Rattle.nim_program.specs.declared.expr.Operand.TheVariants as argument
+use Rattle.nim_program.specs.Program.{Args, NoArg}
+use Rattle.nim_program.specs.View.{operands_of, operand_before, path_of as path_in}
 use Rattle.expr_parts.specs.declared.scope.Parameter.{Parameter as RustParameter}
 use Rattle.expr_parts.specs.declared.value.Operand.{Operand as RustOperand}
 use Rattle.expr_rules.specs.Answers.{Answer, Valued, settled}
@@ -27,7 +27,8 @@ abbrev pub args_behind : List Argument → Answer Args → Answer Args
 args_behind all rest = and_then rest (λ r. Ok (args_front all r))
 
 -- the parameters and operands behind those that are arguments already: with what is said of them, all is said
-pub record ArgumentsLeft (ts : List Ty) (params : List RustParameter) (operands : List RustOperand) (done : List RustArg) (said : Answer Args) : Type 0 where
+pub record ArgumentsLeft (ts : List Ty) (params : List RustParameter) (operands : List RustOperand) (done : List RustArgument)
+    (said : Answer Args) : Type 0 where
   pub rest : List (Parameter × Valued)
   pub fits : arguments_for (map (parameter_of ts) params) (map (operand_of ts) operands) ≡ Some rest
   pub all : said ≡ args_behind (map (argument_of ts) done) (arguments_by (map (path_in ts) (paths_in done)) rest)
@@ -50,14 +51,14 @@ onto_some p None None given h = absurd (none-some given h)
 
 -- ---- paths of arguments
 
-paths_last : (done : List RustArg) (a : RustArg) → paths_in (done ++ a ∷ []) ≡ paths_in done ++ paths_of a
+paths_last : (done : List RustArgument) (a : RustArgument) → paths_in (done ++ a ∷ []) ≡ paths_in done ++ paths_of a
 paths_last [] a = append-nil (paths_of a)
 paths_last (x ∷ done) a = ap (λ z. paths_of x ++ z) (paths_last done a) ∙ sym (append_assoc (paths_of x) (paths_in done) (paths_of a))
 
-paths_next : (ts : List Ty) (done : List RustArg) (a : RustArg)
+paths_next : (ts : List Ty) (done : List RustArgument) (a : RustArgument)
     → map (path_in ts) (paths_in (done ++ a ∷ [])) ≡ paths_with (map (path_in ts) (paths_in done)) (argument_of ts a)
-paths_next ts done (arg.Value e) = ap (map (path_in ts)) (paths_last done (arg.Value e) ∙ append-nil (paths_in done))
-paths_next ts done (arg.Var p) = ap (map (path_in ts)) (paths_last done (arg.Var p)) ∙ map_last (path_in ts) (paths_in done) p
+paths_next ts done (argument.Value e) = ap (map (path_in ts)) (paths_last done (argument.Value e) ∙ append-nil (paths_in done))
+paths_next ts done (argument.At p) = ap (map (path_in ts)) (paths_last done (argument.At p)) ∙ map_last (path_in ts) (paths_in done) p
 
 -- ---- arguments before others
 
@@ -70,13 +71,13 @@ behind_last : (all : List Argument) (a : Argument) (rest : Answer Args)
 behind_last all a (Ok r) = ap Ok (front_last all a r)
 behind_last all a (Err e) = refl
 
-one_is : (ts : List Ty) (a : RustArg) (r : Args) → argument_before (argument_of ts a) r ≡ arg_before ts a r
-one_is ts (arg.Value e) r = refl
-one_is ts (arg.Var p) r = refl
+one_is : (ts : List Ty) (a : RustArgument) (r : Args) → argument_before (argument_of ts a) r ≡ operand_before ts a r
+one_is ts (argument.Value e) r = refl
+one_is ts (argument.At p) r = refl
 
-all_are : (ts : List Ty) (done : List RustArg) → args_front (map (argument_of ts) done) NoArg ≡ args_of ts done
+all_are : (ts : List Ty) (done : List RustArgument) → args_front (map (argument_of ts) done) NoArg ≡ operands_of ts done
 all_are ts [] = refl
-all_are ts (a ∷ done) = ap (argument_before (argument_of ts a)) (all_are ts done) ∙ one_is ts a (args_of ts done)
+all_are ts (a ∷ done) = ap (argument_before (argument_of ts a)) (all_are ts done) ∙ one_is ts a (operands_of ts done)
 
 -- ---- steps
 
@@ -88,8 +89,8 @@ opened ts p ps o os given h =
     onto_some (parameter_of ts p) (settled (parameter_of ts p).of (operand_of ts o)) (arguments_for (map (parameter_of ts) ps) (map (operand_of ts) os)) given h
 
 -- one argument more
-pub one_argument : (ts : List Ty) (p : RustParameter) (ps : List RustParameter) (o : RustOperand) (os : List RustOperand) (done : List RustArg)
-    (said : Answer Args) (a : RustArg) (l : ArgumentsLeft ts (p ∷ ps) (o ∷ os) done said)
+pub one_argument : (ts : List Ty) (p : RustParameter) (ps : List RustParameter) (o : RustOperand) (os : List RustOperand) (done : List RustArgument)
+    (said : Answer Args) (a : RustArgument) (l : ArgumentsLeft ts (p ∷ ps) (o ∷ os) done said)
     → ((v : Valued) → settled (parameter_of ts p).of (operand_of ts o) ≡ Some v
     → argument_by (map (path_in ts) (paths_in done)) p.mode v ≡ Ok (argument_of ts a))
     → ArgumentsLeft ts ps os (done ++ a ∷ []) said
@@ -110,7 +111,7 @@ one_argument ts p ps o os done said a l h =
 
 -- an argument that is refused
 pub no_argument : {T : Type 0} (of : T → Args) (ts : List Ty) (p : RustParameter) (ps : List RustParameter) (o : RustOperand) (os : List RustOperand)
-    (done : List RustArg) (said : Answer Args) (s : Stop) (l : ArgumentsLeft ts (p ∷ ps) (o ∷ os) done said)
+    (done : List RustArgument) (said : Answer Args) (s : Stop) (l : ArgumentsLeft ts (p ∷ ps) (o ∷ os) done said)
     → ((v : Valued) → settled (parameter_of ts p).of (operand_of ts o) ≡ Some v
     → Answers (argument_of ts) (argument_by (map (path_in ts) (paths_in done)) p.mode v) (Err s))
     → Answers of said (Err s)
@@ -124,8 +125,8 @@ no_argument of ts p ps o os done said s l h =
     (stops (λ (r : Args). r) (argument_of ts) (argument_by before p.mode f.first) go s (h f.first f.is)))
 
 -- all arguments
-pub no_more : (ts : List Ty) (ps : List RustParameter) (done : List RustArg) (said : Answer Args) → ArgumentsLeft ts ps [] done said
-    → said ≡ Ok (args_of ts done)
+pub no_more : (ts : List Ty) (ps : List RustParameter) (done : List RustArgument) (said : Answer Args) → ArgumentsLeft ts ps [] done said
+    → said ≡ Ok (operands_of ts done)
 no_more ts [] done said l =
     l.all ∙ ap (λ z. args_behind (map (argument_of ts) done) (arguments_by (map (path_in ts) (paths_in done)) z)) (sym (same_Some [] l.rest l.fits))
     ∙ ap Ok (all_are ts done)

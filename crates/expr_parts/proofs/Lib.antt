@@ -5,7 +5,9 @@ mod Fields
 mod Growing
 mod Indexing
 mod Knowing
+mod Making
 mod Naming
+mod Operands
 mod Overlapping
 mod Rows
 mod Settling

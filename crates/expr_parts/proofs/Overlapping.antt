@@ -2,10 +2,10 @@
 use Rattle.std.proofs.Common.{◌≡◌, List, [], ◌∷◌, ◌++◌, refl, sym, ap, ◌∙◌}
 use Rattle.std.specs.Prelude.{Bool, true, false, not, ◌||◌, nat_eq, map}
 use Rattle.nim_types.specs.Types.{Ty}
-use Rattle.nim_core.specs.declared.expr.Path.{Path as RustPath}
-use Rattle.nim_core.specs.declared.expr.Path.TheVariants as P
-use Rattle.nim_core.specs.Program.{Path}
-use Rattle.nim_core.specs.View.{path_of as path_in}
+use Rattle.nim_program.specs.declared.expr.Path.{Path as RustPath}
+use Rattle.nim_program.specs.declared.expr.Path.TheVariants as P
+use Rattle.nim_program.specs.Program.{Path}
+use Rattle.nim_program.specs.View.{path_of as path_in}
 use Rattle.expr_parts.specs.declared.overlap.Step.{Step as RustStep}
 use Rattle.expr_parts.specs.declared.overlap.Step.TheVariants as step
 use Rattle.expr_rules.specs.Paths.{steps_of, differ, overlap, overlaps_any, field, element}
@@ -16,7 +16,9 @@ pub steps_are : (ts : List Ty) (p : RustPath) → steps_of (path_in ts p) ≡ ma
 steps_are ts (P.Variable node ty place global) = refl
 steps_are ts (P.Fresh' p e) = refl
 steps_are ts (P.Field' node ty p base k) = ap (λ z. z ++ field k ∷ []) (steps_are ts base) ∙ sym (map_last step_of (steps_in base) (step.Field k))
-steps_are ts (P.Element' node ty p base q index) = ap (λ z. z ++ element ∷ []) (steps_are ts base) ∙ sym (map_last step_of (steps_in base) step.Element)
+steps_are ts (P.Element' node ty p base q index constant) =
+    ap (λ z. z ++ element ∷ []) (steps_are ts base) ∙ sym (map_last step_of (steps_in base) step.Element)
+steps_are ts (P.Deref' ty p base) = steps_are ts base
 
 pub differ_is : (a b : List RustStep) → differ (map step_of a) (map step_of b) ≡ differ_in a b
 differ_is [] b = refl

@@ -1,15 +1,11 @@
--- What an expression holds in rows, as the code has it, is its list.
-use Rattle.std.proofs.Common.{◌≡◌, ℕ, zero, suc, ◌+◌, ◌<◌, ◌≤◌, List, [], ◌∷◌, ◌++◌, length, drop, get_or, Vec, refl, sym, ap, ◌∙◌, Global, arith}
+-- Values of constants that are copied one by one.
+use Rattle.std.proofs.Common.{◌≡◌, ℕ, zero, suc, ◌+◌, ◌<◌, ◌≤◌, List, [], ◌∷◌, ◌++◌, length, drop, get_or, refl, sym, ap, ◌∙◌, arith}
 use Rattle.std.proofs.Common.{add-one}
 use Rattle.std.proofs.Math.Seq.{drop-cons}
-use Rattle.nim_core.specs.Program.{Literals}
-use Rattle.nim_core.specs.Program.{Literal, Number, Characters, PartsOf, ElementsOf, NoLiteral, ALiteral}
-use mathlib.Core.Former.{Count}
-use Rattle.nim_core.specs.declared.expr.Literal.{Literal as RustLiteral, Row_of-Literal, end_of-Literal, more_of-Literal}
-use Rattle.nim_core.specs.declared.expr.Literal.{items-the_row-Literal, items_hidden-the_row-Literal-0}
-use Rattle.nim_core.specs.declared.expr.Literal.TheVariants as V
-use Rattle.nim_core.specs.Program as T
-use Rattle.nim_core.specs.View.{literal_of, literal_row, literals_of}
+use Rattle.nim_program.specs.Program.{Literal, Literals, Number, Characters, NoObject, PartsOf, ElementsOf, NoLiteral, ALiteral}
+use Rattle.nim_program.specs.declared.expr.Literal.{Literal as RustLiteral}
+use Rattle.nim_program.specs.Program as T
+use Rattle.nim_program.specs.View.{literal_of, literals_of}
 
 -- ---- values of constants
 
@@ -18,6 +14,7 @@ abbrev mutual
   pub literal_count : Literal → ℕ
   literal_count (Number z) = 1
   literal_count (Characters bytes) = 1
+  literal_count NoObject = 1
   literal_count (PartsOf all) = suc (all_count all)
   literal_count (ElementsOf all) = suc (all_count all)
 
@@ -29,25 +26,6 @@ abbrev mutual
 abbrev pub literals_front : List RustLiteral → Literals → Literals
 literals_front [] rest = rest
 literals_front (first ∷ all) rest = ALiteral (literal_of first) (literals_front all rest)
-
-literals_are : (n : Count) (row : Row_of-Literal n) → literal_row row ≡ literals_of (items-the_row-Literal n row)
-literals_are n end_of-Literal = refl
-literals_are n (more_of-Literal first row) = ap (T.ALiteral (literal_of first)) (literals_are _ row)
-
-abbrev literals_in : RustLiteral → (n : Count) × Row_of-Literal n
-literals_in (V.Parts' _ row) = (_, row)
-literals_in (V.Elements' _ row) = (_, row)
-literals_in _ = (_, end_of-Literal)
-
-pub parts_held : (all : Vec RustLiteral Global) → literal_of (V.Parts all) ≡ T.PartsOf (literals_of all.items)
-parts_held all =
-    let row = literals_in (V.Parts all) in
-    ap T.PartsOf (literals_are row.0 row.1 ∙ ap literals_of (items_hidden-the_row-Literal-0 all))
-
-pub elements_held : (all : Vec RustLiteral Global) → literal_of (V.Elements all) ≡ T.ElementsOf (literals_of all.items)
-elements_held all =
-    let row = literals_in (V.Elements all) in
-    ap T.ElementsOf (literals_are row.0 row.1 ∙ ap literals_of (items_hidden-the_row-Literal-0 all))
 
 front_more : (done : List RustLiteral) (l : RustLiteral) (rest : Literals)
     → literals_front (done ++ l ∷ []) rest ≡ literals_front done (T.ALiteral (literal_of l) rest)

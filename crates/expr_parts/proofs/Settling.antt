@@ -5,18 +5,19 @@ use Rattle.std.proofs.lemmas.Bool.{both_ways}
 use Rattle.arc_base.specs.declared.place.Place.{Place}
 use Rattle.nim_types.specs.Types as type
 use Rattle.nim_types.specs.Types.{Ty, Fact}
-use Rattle.nim_core.specs.Program.{Sequence, NoExpr, AnExpr, Construct, NoInit}
+use Rattle.nim_program.specs.Program.{NoArg, ByValue}
+use Rattle.nim_program.specs.Nodes as nodes
 use Rattle.expr_parts.specs.declared.value.Operand.{Operand as RustOperand}
 use Rattle.expr_parts.specs.declared.value.Operand.TheVariants as operand
 use Rattle.expr_rules.specs.Answers.{node, Valued, valued, only_if, open_as, no_fit, not_typed, exprs_of, Want}
 use Rattle.expr_rules.specs.Constructions.{or_from, empty_rule, empty_object, array_rule, sequence_rule, conversion_rule}
 use Rattle.expr_rules.specs.Env.{Env}
 use Rattle.nim_types.specs.Table.{type_at}
-use Rattle.nim_core.specs.declared.expr.Expr.{Expr as RustExpr}
-use Rattle.nim_core.specs.View.{expr_of, exprs_of as exprs_in}
+use Rattle.nim_program.specs.declared.expr.Operand.{Operand as RustArgument}
+use Rattle.nim_program.specs.View.{expr_of, operands_of}
 use Rattle.expr_parts.specs.declared.value.Value.{Value as RustValue}
 use Rattle.expr_rules.specs.Answers.{Operand, value, open_sequence, a_type, the_input}
-use Rattle.expr_parts.specs.View.{is_sequence, operand_of, valued_of, no_fit_at, no_fit_by, are_fields, array_by, OperandWithin, OperandsWithin}
+use Rattle.expr_parts.specs.View.{is_sequence, operand_of, valued_of, no_fit_at, no_fit_by, are_fields, array_by, handed_on, OperandWithin, OperandsWithin}
 
 pub some_only : {A : Type 0} (b : Bool) (x : A) → is_some (only_if b x) ≡ b
 some_only true x = refl
@@ -37,7 +38,7 @@ some_open (type.distinct key) at n = refl
 some_open (type.ref name to) at n = refl
 some_open (type.exception key) at n = refl
 
-pub is_open_as : (ty : Ty) (at : Place) (n : ℕ) → is_sequence ty ≡ true → (v : Valued) → v ≡ valued (Sequence (node n at) ty NoExpr) ty →
+pub is_open_as : (ty : Ty) (at : Place) (n : ℕ) → is_sequence ty ≡ true → (v : Valued) → v ≡ valued (nodes.sequence (node n at) ty NoArg) ty →
     Some v ≡ open_as ty at n
 is_open_as type.int at n h v e = absurd (both_ways false refl h)
 is_open_as type.bool at n h v e = absurd (both_ways false refl h)
@@ -84,7 +85,7 @@ pub first_of_some : (o other : Option Valued) → is_some o ≡ true → or_from
 first_of_some (Some v) other h = refl
 first_of_some None other h = absurd (both_ways false refl h)
 
-pub empty_is : (n : ℕ) (at : Place) (ty : Ty) → is_sequence ty ≡ true → empty_rule n at (Some ty) ≡ Ok (Sequence (node n at) ty NoExpr)
+pub empty_is : (n : ℕ) (at : Place) (ty : Ty) → is_sequence ty ≡ true → empty_rule n at (Some ty) ≡ Ok (nodes.sequence (node n at) ty NoArg)
 empty_is n at type.int h = absurd (both_ways false refl h)
 empty_is n at type.bool h = absurd (both_ways false refl h)
 empty_is n at type.char h = absurd (both_ways false refl h)
@@ -106,7 +107,7 @@ no_fit_one at (a_type ty) = refl
 no_fit_one at the_input = refl
 
 -- an object without given fields, by whether its fields are known
-pub empty_with : (n : ℕ) (at : Place) (ty : Ty) (o : Option Fact) → are_fields o ≡ true → empty_object n at ty o ≡ Ok (Construct (node n at) ty NoInit)
+pub empty_with : (n : ℕ) (at : Place) (ty : Ty) (o : Option Fact) → are_fields o ≡ true → empty_object n at ty o ≡ Ok (nodes.construct (node n at) ty [] NoArg)
 empty_with n at ty (Some (type.fields all resource)) h = refl
 empty_with n at ty (Some (type.members names)) h = absurd (both_ways false refl h)
 empty_with n at ty (Some (type.base t)) h = absurd (both_ways false refl h)
@@ -122,29 +123,29 @@ empty_without n at ty None h = refl
 
 -- ---- values in order
 
-pub exprs_are : (ts : List Ty) (vs : List RustValue) → exprs_of (map (valued_of ts) vs) ≡ exprs_in ts (map (λ v. v.expr) vs)
+pub exprs_are : (ts : List Ty) (vs : List RustValue) → exprs_of (map (valued_of ts) vs) ≡ operands_of ts (map handed_on vs)
 exprs_are ts [] = refl
-exprs_are ts (v ∷ vs) = ap (AnExpr (expr_of ts v.expr)) (exprs_are ts vs)
+exprs_are ts (v ∷ vs) = ap (ByValue (expr_of ts v.expr)) (exprs_are ts vs)
 
 pub counted : {X Y : Type 0} (f : X → Y) (xs : List X) → length (map f xs) ≡ length xs
 counted f [] = refl
 counted f (x ∷ xs) = ap suc (counted f xs)
 
 -- an array of the first value's type
-pub array_from : (ts : List Ty) (env : Env) (n : ℕ) (at : Place) (v : RustValue) (vs : List RustValue) (es : List RustExpr)
-    → es ≡ map (λ v. v.expr) (v ∷ vs)
-    → array_rule env n at (map (valued_of ts) (v ∷ vs)) ≡ array_by env.facts n at (length es) (type_at ts v.ty) (exprs_in ts es)
+pub array_from : (ts : List Ty) (env : Env) (n : ℕ) (at : Place) (v : RustValue) (vs : List RustValue) (es : List RustArgument)
+    → es ≡ map handed_on (v ∷ vs)
+    → array_rule env n at (map (valued_of ts) (v ∷ vs)) ≡ array_by env.facts n at (length es) (type_at ts v.ty) (operands_of ts es)
 array_from ts env n at v vs es e =
     ap₂ (λ k xs. array_by env.facts n at k (type_at ts v.ty) xs)
-    (counted (valued_of ts) (v ∷ vs) ∙ sym (ap length e ∙ counted (λ v. v.expr) (v ∷ vs)))
-    (exprs_are ts (v ∷ vs) ∙ ap (exprs_in ts) (sym e))
+    (counted (valued_of ts) (v ∷ vs) ∙ sym (ap length e ∙ counted handed_on (v ∷ vs)))
+    (exprs_are ts (v ∷ vs) ∙ ap (operands_of ts) (sym e))
 
 -- a sequence of them
-pub sequence_from : (ts : List Ty) (want : Want) (n : ℕ) (at : Place) (v : RustValue) (vs : List RustValue) (es : List RustExpr)
-    → es ≡ map (λ v. v.expr) (v ∷ vs)
-    → sequence_rule want n at (map (valued_of ts) (v ∷ vs)) ≡ Ok (Sequence (node n at) (type.sequence (type_at ts v.ty)) (exprs_in ts es))
+pub sequence_from : (ts : List Ty) (want : Want) (n : ℕ) (at : Place) (v : RustValue) (vs : List RustValue) (es : List RustArgument)
+    → es ≡ map handed_on (v ∷ vs)
+    → sequence_rule want n at (map (valued_of ts) (v ∷ vs)) ≡ Ok (nodes.sequence (node n at) (type.sequence (type_at ts v.ty)) (operands_of ts es))
 sequence_from ts want n at v vs es e =
-    ap (λ xs. Ok (Sequence (node n at) (type.sequence (type_at ts v.ty)) xs)) (exprs_are ts (v ∷ vs) ∙ ap (exprs_in ts) (sym e))
+    ap (λ xs. Ok (nodes.sequence (node n at) (type.sequence (type_at ts v.ty)) xs)) (exprs_are ts (v ∷ vs) ∙ ap (operands_of ts) (sym e))
 
 -- ---- a type that is called like a procedure
 

@@ -11,11 +11,11 @@ use Rattle.nim_types.specs.declared.types.TypeDef.TheVariants as D
 use Rattle.nim_types.specs.Types.{Ty, sequence, array, Fact, Facts, fields, same_text}
 use Rattle.nim_types.specs.Forms.{Form, HasForm}
 use Rattle.nim_types.specs.Table.{type_at, types_in, facts_in, IsTable, IsBelow}
-use Rattle.nim_core.specs.declared.expr.Expr.{Expr as RustExpr}
-use Rattle.nim_core.specs.declared.expr.Expr.TheVariants as E
-use Rattle.nim_core.specs.declared.expr.Path.{Path as RustPath}
-use Rattle.nim_core.specs.declared.expr.Path.TheVariants as P
-use Rattle.nim_core.specs.View.{expr_of, if_type, literal_of, path_of as path_in}
+use Rattle.nim_program.specs.declared.expr.Expr.{Expr as RustExpr}
+use Rattle.nim_program.specs.declared.expr.Expr.TheVariants as E
+use Rattle.nim_program.specs.declared.expr.Path.{Path as RustPath}
+use Rattle.nim_program.specs.declared.expr.Path.TheVariants as P
+use Rattle.nim_program.specs.View.{expr_of, if_type, literal_of, path_of as path_in}
 use Rattle.expr_parts.specs.declared.scope.Parameter.{Parameter as RustParameter}
 use Rattle.expr_parts.specs.declared.scope.Procedure.{Procedure as RustProcedure}
 use Rattle.expr_parts.specs.declared.scope.What.{What}
@@ -31,7 +31,9 @@ use Rattle.expr_parts.specs.declared.value.Operand.TheVariants as operand
 use Rattle.expr_parts.specs.declared.value.Typed.{Typed as RustTyped}
 use Rattle.expr_parts.specs.declared.operators.Meaning.{Meaning as RustMeaning}
 use Rattle.expr_parts.specs.declared.operators.Meaning.TheVariants as meaning
-use Rattle.expr_rules.specs.Operators.{Meaning, computes, both, either, joins, compares, means_nothing}
+use Rattle.nim_program.specs.declared.operation.Operation.TheVariants as operation
+use Rattle.nim_types.specs.Types as type
+use Rattle.expr_rules.specs.Operators.{Meaning, computes, does, stops_early, means_nothing}
 use Rattle.expr_parts.specs.declared.names.Former.{Former as RustFormer}
 use Rattle.expr_parts.specs.declared.names.Former.TheVariants as former
 use Rattle.expr_rules.specs.Demands.{Former, of_sequences, of_arrays, of_nothing}
@@ -41,15 +43,16 @@ use Rattle.expr_rules.specs.Calls.{Fit, arguments_for, Argument, by_value, by_va
 use Rattle.expr_parts.specs.declared.branching.Branching.{Branching as RustBranching}
 use Rattle.expr_parts.specs.declared.branching.Branching.TheVariants as branching
 use Rattle.expr_rules.specs.Choices.{Branching, undecided, decided}
-use Rattle.nim_core.specs.declared.expr.Arg.{Arg as RustArg}
-use Rattle.nim_core.specs.declared.expr.Arg.TheVariants as arg
+use Rattle.nim_program.specs.declared.expr.Operand.{Operand as RustArgument}
+use Rattle.nim_program.specs.declared.expr.Operand.TheVariants as argument
 use Rattle.expr_parts.specs.declared.overlap.Step.{Step as RustStep}
 use Rattle.expr_parts.specs.declared.overlap.Step.TheVariants as step
 use Rattle.expr_rules.specs.Paths.{Step, field, element, overlaps_any}
 use Rattle.expr_rules.specs.Env.{Env, Entry, variable, constant, named, pending, procedure, input, Parameter, Procedure, Known, unknown, known_next}
 use Rattle.arc_base.specs.declared.place.Code.{Code}
 use Rattle.arc_base.specs.Refusal.{and_then, refused}
-use Rattle.nim_core.specs.Program.{Expr, Exprs, Path, Make}
+use Rattle.nim_program.specs.Program.{Expr, Args, Path}
+use Rattle.nim_program.specs.Nodes.{make}
 use Rattle.expr_rules.specs.declared.limits.TheConstants.{MOST_ELEMENTS}
 use Rattle.expr_rules.specs.Sizes.{is_sized}
 use Rattle.expr_rules.specs.Answers.{Answer, not_typed, node, Typed, typed_as, Valued, Want, nothing, whole, inner, Operand, value, open_sequence}
@@ -75,38 +78,21 @@ pub record KindsIn (ds : List TypeDef) (kinds : Kinds) : Type 0 where
 
 abbrev mutual
   pub number_of : RustExpr → Option ℕ
-  number_of (E.Ordinal node ty z) = Some ty
-  number_of (E.Text node ty bytes) = Some ty
+  number_of (E.Apply' node ty operation p operands) = ty
+  number_of (E.Call' node ty proc types p operands) = ty
+  number_of (E.Construct' node ty numbers p operands) = Some ty
   number_of (E.Constant node ty l) = Some ty
-  number_of (E.Default node ty) = Some ty
   number_of (E.Read path) = number_at path
-  number_of (E.Measure node ty measure path) = Some ty
-  number_of (E.Unary' node ty operator p a) = Some ty
-  number_of (E.Binary' node ty operator p left q right) = Some ty
-  number_of (E.Compare' node ty comparison p left q right) = Some ty
-  number_of (E.Both' node ty p left q right) = Some ty
-  number_of (E.Either' node ty p left q right) = Some ty
-  number_of (E.Convert' node ty p a) = Some ty
-  number_of (E.Join' node ty p left q right) = Some ty
-  number_of (E.Show' node ty p a) = Some ty
-  number_of (E.Make' node ty p parts) = Some ty
-  number_of (E.Sequence' node ty p parts) = Some ty
-  number_of (E.Construct' node ty p parts) = Some ty
-  number_of (E.Call' node ty proc p args) = ty
+  number_of (E.Early' node ty short p left q right) = Some ty
   number_of (E.If' node ty p branches q otherwise) = ty
   number_of (E.Case' node ty p selector q branches otherwise) = ty
-  number_of (E.NewSequence' node ty p length) = Some ty
-  number_of (E.Pop node ty path) = Some ty
-  number_of (E.Move node ty path) = Some ty
-  number_of (E.ReadLine node ty) = Some ty
-  number_of (E.ReadLineInto node ty path) = Some ty
-  number_of _ = None
 
   pub number_at : RustPath → Option ℕ
   number_at (P.Variable node ty place global) = Some ty
   number_at (P.Fresh' p e) = number_of e
   number_at (P.Field' node ty p base k) = Some ty
-  number_at (P.Element' node ty p base q index) = Some ty
+  number_at (P.Element' node ty p base q index k) = Some ty
+  number_at (P.Deref' ty p base) = Some ty
 
 abbrev pub is_sequence : Ty → Bool
 is_sequence (sequence t) = true
@@ -166,6 +152,10 @@ FoundWithin n (Some d) = WhatWithin n d.what
 abbrev pub valued_of : List Ty → Value → Valued
 valued_of ts v = record { expr = expr_of ts v.expr; of = type_at ts v.ty; writable = v.writable }
 
+-- as an operand of a node
+abbrev pub handed_on : Value → RustArgument
+handed_on v = argument.Value v.expr
+
 abbrev pub want_of : List Ty → RustWant → Want
 want_of ts want.Nothing = nothing
 want_of ts (want.Whole id) = whole (type_at ts id)
@@ -185,10 +175,9 @@ typed_of ts t = typed_as (expr_of ts t.expr) t.next
 -- where the left operand is of the type
 abbrev pub meaning_in : Ty → RustMeaning → Meaning
 meaning_in ty (meaning.Computes operator) = computes operator ty
-meaning_in ty meaning.Both = both
-meaning_in ty meaning.Either = either
-meaning_in ty meaning.Joins = joins
-meaning_in ty (meaning.Compares comparison) = compares comparison
+meaning_in ty (meaning.StopsEarly short) = stops_early short
+meaning_in ty meaning.Joins = does operation.Join type.text
+meaning_in ty (meaning.Compares comparison) = does (operation.Compare comparison) type.bool
 meaning_in ty meaning.Nothing = means_nothing
 
 -- ---- operands
@@ -232,10 +221,10 @@ pub record Grown (old new : List TypeDef) : Type 0 where
 -- ---- elements
 
 -- an array of so many elements of a type
-abbrev pub array_by : Facts → ℕ → Place → ℕ → Ty → Exprs → Answer Expr
+abbrev pub array_by : Facts → ℕ → Place → ℕ → Ty → Args → Answer Expr
 array_by facts n at count ty elements =
     if nat_le count MOST_ELEMENTS
-    then (if is_sized facts (array count ty) then Ok (Make (node n at) (array count ty) elements) else not_typed at)
+    then (if is_sized facts (array count ty) then Ok (make (node n at) (array count ty) elements) else not_typed at)
     else not_typed at
 
 -- ---- what is allowed
@@ -311,7 +300,8 @@ abbrev pub steps_in : RustPath → List RustStep
 steps_in (P.Variable node ty place global) = []
 steps_in (P.Fresh' p e) = []
 steps_in (P.Field' node ty p base number) = steps_in base ++ step.Field number ∷ []
-steps_in (P.Element' node ty p base q index) = steps_in base ++ step.Element ∷ []
+steps_in (P.Element' node ty p base q index k) = steps_in base ++ step.Element ∷ []
+steps_in (P.Deref' ty p base) = steps_in base
 
 abbrev pub are_other_fields : RustStep → RustStep → Bool
 are_other_fields (step.Field i) (step.Field j) = not (nat_eq i j)
@@ -322,19 +312,19 @@ differ_in (x ∷ a) (y ∷ b) = are_other_fields x y || differ_in a b
 differ_in _ _ = false
 
 -- the paths of arguments that are passed as `var`
-abbrev pub paths_of : RustArg → List RustPath
-paths_of (arg.Value e) = []
-paths_of (arg.Var path) = path ∷ []
+abbrev pub paths_of : RustArgument → List RustPath
+paths_of (argument.Value e) = []
+paths_of (argument.At path) = path ∷ []
 
-abbrev pub paths_in : List RustArg → List RustPath
+abbrev pub paths_in : List RustArgument → List RustPath
 paths_in [] = []
 paths_in (first ∷ rest) = paths_of first ++ paths_in rest
 
 -- ---- arguments
 
-abbrev pub argument_of : List Ty → RustArg → Argument
-argument_of ts (arg.Value e) = by_value (expr_of ts e)
-argument_of ts (arg.Var path) = by_var (path_in ts path)
+abbrev pub argument_of : List Ty → RustArgument → Argument
+argument_of ts (argument.Value e) = by_value (expr_of ts e)
+argument_of ts (argument.At path) = by_var (path_in ts path)
 
 -- a path that is passed as `var`
 abbrev pub as_var : (writable : Bool) → List Path → Place → Path → Answer Argument

@@ -3,8 +3,8 @@ ghost use Rattle.std.specs.Prelude.{◌≡◌, ◌<◌, List, [], length, map, S
 ghost use Rattle.arc_base.specs.Refusal.{Answers};
 ghost use Rattle.nim_types.specs.Types.{Ty, Facts};
 ghost use Rattle.nim_types.specs.Table.{type_at};
-ghost use Rattle.nim_core.specs.View.{args_of};
-ghost use Rattle.nim_core.specs.View.{path_of as path_in};
+ghost use Rattle.nim_program.specs.View.{operands_of};
+ghost use Rattle.nim_program.specs.View.{path_of as path_in};
 ghost use Rattle.expr_rules.specs.Calls.{no_overlap, argument_by, arguments_by, arguments_for};
 ghost use Rattle.expr_rules.specs.Answers.{Valued, settled};
 ghost use Rattle.expr_rules.specs.Env.{Parameter as Given};
@@ -13,14 +13,13 @@ ghost use Rattle.expr_parts.specs.View.{operand_of, parameter_of};
 ghost use Rattle.expr_rules.specs.Paths.{overlaps_any};
 ghost use Rattle.expr_parts.specs.View.{paths_in, argument_of, as_var, valued_of};
 
-use crate::nodes::node_of;
 use crate::overlap::overlaps_any;
 use crate::paths::path_of;
 use crate::scope::Parameter;
 use crate::settle::settle;
 use crate::value::{Operand, Value, refusal};
 use arc_base::{Code, Place, Stop};
-use nim_core::{Arg, Mode, Path};
+use nim_program::{Mode, Operand as Argument, Path};
 use nim_types::TypeTable;
 use std::alloc::Global;
 
@@ -30,7 +29,7 @@ pub fn var_argument(
     writable: bool,
     at: Place,
     path: Path,
-    before: &[Arg],
+    before: &[Argument],
 ) -> Result<Path, Stop>
     ensures { (ts : List Ty) → Answers (path_in ts) (no_overlap writable
         (overlaps_any (path_in ts path) (map (path_in ts) (paths_in before.now))) at
@@ -50,29 +49,34 @@ fn passed_as_var(
     writable: bool,
     at: Place,
     path: Path,
-    before: &[Arg],
-) -> Result<Arg, Stop>
+    before: &[Argument],
+) -> Result<Argument, Stop>
     ensures { (ts : List Ty) → Answers (argument_of ts) (as_var writable
         (map (path_in ts) (paths_in before.now)) at (path_in ts path)) result }
 {
     match var_argument(alloc, writable, at, path, before) {
-        Ok(path) => Ok(Arg::Var(path)),
+        Ok(path) => Ok(Argument::At(path)),
         Err(stop) => Err(stop),
     }
 }
 
 /// A value as the argument of a parameter, behind other arguments.
-pub fn argument(alloc: Global, mode: Mode, value: Value, before: &[Arg]) -> Result<Arg, Stop>
+pub fn argument(
+    alloc: Global,
+    mode: Mode,
+    value: Value,
+    before: &[Argument],
+) -> Result<Argument, Stop>
     ensures { (ts : List Ty) → Answers (argument_of ts) (argument_by
         (map (path_in ts) (paths_in before.now)) mode (valued_of ts value)) result }
 {
     match mode {
         Mode::Var => {
-            let at = node_of(&value.expr).at;
+            let at = value.expr.node().at;
             let path = path_of(alloc, value.expr)?;
             passed_as_var(alloc, value.writable, at, path, before)
         }
-        Mode::Plain | Mode::Sink => Ok(Arg::Value(value.expr)),
+        Mode::Plain | Mode::Sink => Ok(Argument::Value(value.expr)),
     }
 }
 
@@ -82,8 +86,8 @@ fn settled_argument(
     types: &TypeTable,
     param: Parameter,
     operand: Operand,
-    before: &[Arg],
-) -> Result<Arg, Stop>
+    before: &[Argument],
+) -> Result<Argument, Stop>
     requires param { param.ty < length types.now }
     requires operand { OperandWithin (length types.now) operand }
     ensures { (ts : List Ty) (facts : Facts) → Under types.now ts facts → (v : Valued)
@@ -103,14 +107,14 @@ pub fn arguments(
     types: &TypeTable,
     params: &[Parameter],
     operands: Vec<Operand>,
-) -> Result<Vec<Arg>, Stop>
+) -> Result<Vec<Argument>, Stop>
     requires params { ParametersWithin (length types.now) params.now }
     requires operands { OperandsWithin (length types.now) operands.items }
     ensures { (ts : List Ty) (facts : Facts) → Under types.now ts facts
         → (given : List (Given × Valued))
         → arguments_for (map (parameter_of ts) params.now) (map (operand_of ts) operands.items)
         ≡ Some given
-        → Answers (λ args. args_of ts args.items) (arguments_by [] given) result }
+        → Answers (λ args. operands_of ts args.items) (arguments_by [] given) result }
 {
     let mut args = Vec::new(alloc);
     let mut rest = params;

@@ -1,23 +1,20 @@
 // Operations that a distinct type borrows from its base.
-ghost use Rattle.std.specs.Prelude.{◌≡◌, List, [], ◌∷◌, length, IfOk, IfErr, Some};
-ghost use Rattle.arc_base.specs.declared.place.Stop.TheVariants as Stop;
+ghost use Rattle.std.specs.Prelude.{◌≡◌, List, [], ◌∷◌, length, IfOk};
 ghost use Rattle.arc_base.specs.Refusal.{Answers};
 ghost use Rattle.nim_types.specs.Types.{Ty, Facts};
-ghost use Rattle.nim_types.specs.Table.{type_at, IsBelow};
-ghost use Rattle.nim_core.specs.Program as node_of;
-ghost use Rattle.nim_core.specs.View.{expr_of};
+ghost use Rattle.nim_types.specs.Table.{IsBelow};
+ghost use Rattle.nim_program.specs.View.{expr_of};
 ghost use Rattle.expr_rules.specs.Env.{Parameter};
-ghost use Rattle.expr_rules.specs.Answers.{node};
 ghost use Rattle.expr_rules.specs.Calls.{comparisons, comparison_named, borrowed_call};
 ghost use Rattle.expr_parts.specs.View.{Under, KindsIn, number_of, valued_of};
 
 use crate::names::is_word;
-use crate::nodes_of_two::compared;
+use crate::nodes::{on_one, on_two};
 use crate::scope::Kinds;
 use crate::value::{Value, refusal};
 use arc_base::{Code, Place, Stop};
-use nim_core::{Comparison, Expr, Node};
-use nim_types::{TypeId, TypeTable};
+use nim_program::{Comparison, Expr, Operand as Argument, Operation};
+use nim_types::TypeTable;
 use std::alloc::Global;
 
 /// The comparison with this name.
@@ -41,21 +38,6 @@ pub fn comparison_named(name: &[u8]) -> Option<Comparison>
     }
 }
 
-/// `$` of a value.
-pub fn shown(alloc: Global, number: u32, at: Place, ty: TypeId, operand: Expr) -> Result<Expr, Stop>
-    ensures expr { IfOk result (λ e. (ts : List Ty) → expr_of ts e ≡ node_of.Show (node number at)
-        (type_at ts ty) (expr_of ts operand)) }
-    ensures number { IfOk result (λ e. number_of e ≡ Some ty) }
-    ensures memory { IfErr result (λ stop. stop ≡ Stop.Memory) }
-{
-    let operand = Box::new(alloc, operand)?;
-    Ok(Expr::Show {
-        node: Node { number, at },
-        ty,
-        operand,
-    })
-}
-
 /// A borrowed operation on one value: `$`.
 pub fn borrowed_on_one(
     alloc: Global,
@@ -73,7 +55,14 @@ pub fn borrowed_on_one(
     ensures within { IfOk result (λ e. IsBelow (length types.now) (number_of e)) }
 {
     match comparison {
-        None => shown(alloc, number, at, kinds.text, value.expr),
+        None => on_one(
+            alloc,
+            number,
+            at,
+            Some(kinds.text),
+            Operation::Show,
+            Argument::Value(value.expr),
+        ),
         Some(_) => {
             drop(value);
             Err(refusal(Code::NotTyped, at))
@@ -99,8 +88,14 @@ pub fn borrowed_on_two(
     ensures within { IfOk result (λ e. IsBelow (length types.now) (number_of e)) }
 {
     match comparison {
-        Some(comparison) => compared(
-            alloc, number, at, kinds.bool, comparison, left.expr, right.expr,
+        Some(comparison) => on_two(
+            alloc,
+            number,
+            at,
+            Some(kinds.bool),
+            Operation::Compare(comparison),
+            Argument::Value(left.expr),
+            Argument::Value(right.expr),
         ),
         None => {
             drop(left);

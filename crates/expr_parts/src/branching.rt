@@ -3,7 +3,7 @@ ghost use Rattle.std.specs.Prelude.{◌≡◌, ◌<◌, ℕ, List, length, IfOk,
 ghost use Rattle.arc_base.specs.Refusal.{Answers};
 ghost use Rattle.nim_types.specs.Types.{Ty, Facts};
 ghost use Rattle.nim_types.specs.Table.{IsBelow};
-ghost use Rattle.nim_core.specs.View.{expr_of, if_type};
+ghost use Rattle.nim_program.specs.View.{expr_of, if_type};
 ghost use Rattle.expr_rules.specs.Answers.{value_of, inner_by, within, wanted};
 ghost use Rattle.expr_rules.specs.Choices.{branch_want, same_value, agrees, branching_behind};
 ghost use Rattle.expr_rules.specs.Choices.{branch_value, gives_in};
@@ -12,10 +12,10 @@ ghost use Rattle.expr_parts.specs.View.{BranchingWithin};
 ghost use Rattle.expr_parts.specs.ViewReady.{WantWithin, BranchesWithin};
 
 use crate::kinds::is_same;
-use crate::nodes::{node_of, type_number};
+use crate::nodes::type_number;
 use crate::value::{Value, Want, refusal};
 use arc_base::{Code, Stop};
-use nim_core::Expr;
+use nim_program::Expr;
 use nim_types::{TypeId, TypeTable};
 
 /// What is known of the values of branches.
@@ -120,7 +120,7 @@ pub fn branch_value(types: &TypeTable, branching: Branching, expr: Expr) -> Resu
     ensures same { IfOk result (λ e. e ≡ expr) }
 {
     if !agrees(types, branching, type_number(&expr)) {
-        let at = node_of(&expr).at;
+        let at = expr.node().at;
         drop(expr);
         return Err(refusal(Code::NotTyped, at));
     }
@@ -139,7 +139,7 @@ pub fn value_of(expr: Expr) -> Result<Value, Stop>
             writable: false,
         }),
         None => {
-            let at = node_of(&expr).at;
+            let at = expr.node().at;
             drop(expr);
             Err(refusal(Code::NotTyped, at))
         }

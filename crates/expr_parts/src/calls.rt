@@ -2,7 +2,7 @@
 ghost use Rattle.std.specs.Prelude.{◌≡◌, ◌<◌, ℕ, List, length, map, is_some, if◌then◌else◌, false, Some, IfOk};
 ghost use Rattle.nim_types.specs.Types.{Ty, Facts};
 ghost use Rattle.arc_base.specs.Refusal.{Answers};
-ghost use Rattle.nim_core.specs.View.{expr_of};
+ghost use Rattle.nim_program.specs.View.{expr_of};
 ghost use Rattle.expr_rules.specs.Answers.{Valued};
 ghost use Rattle.expr_rules.specs.Env.{Parameter as Given};
 ghost use Rattle.expr_rules.specs.Calls.{arguments_for, called, fitting};
@@ -14,12 +14,12 @@ ghost use Rattle.expr_parts.specs.View.{DeclsWithin, Chooses, entry_of};
 
 use crate::arguments::arguments;
 use crate::decls::Decls;
-use crate::nodes_of_lists::called;
+use crate::nodes::called;
 use crate::scope::{Parameter, Procedure};
 use crate::settle::settles;
 use crate::value::Operand;
 use arc_base::{Place, Stop};
-use nim_core::Expr;
+use nim_program::Expr;
 use nim_types::TypeTable;
 use std::alloc::Global;
 
@@ -105,7 +105,7 @@ pub fn call_procedure(
     ensures number { IfOk result (λ e. number_of e ≡ callee.now.gives) }
 {
     match arguments(alloc, types, callee.params.as_slice(), operands) {
-        Ok(args) => Ok(called(number, at, callee.gives, callee.number, args)),
+        Ok(args) => Ok(called(alloc, number, at, callee.gives, callee.number, args)),
         Err(stop) => Err(stop),
     }
 }

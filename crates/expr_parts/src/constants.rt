@@ -4,20 +4,21 @@ ghost use Rattle.arc_base.specs.declared.place.Stop.TheVariants as Stop;
 ghost use Rattle.arc_base.specs.Refusal.{Answers};
 ghost use Rattle.nim_types.specs.Types.{Ty, Facts};
 ghost use Rattle.nim_types.specs.Table.{type_at, IsBelow};
-ghost use Rattle.nim_core.specs.Program.{Characters, Read, Variable};
-ghost use Rattle.nim_core.specs.View.{expr_of, literal_of, literals_of};
+ghost use Rattle.nim_program.specs.Program.{Characters, Read, Variable};
+ghost use Rattle.nim_program.specs.View.{expr_of, literal_of, literals_of};
 ghost use Rattle.expr_rules.specs.Answers.{node, typed_as};
 ghost use Rattle.expr_rules.specs.Names.{name_rule, named_value};
 ghost use Rattle.expr_rules.specs.Env.{Known, known_next};
-ghost use Rattle.expr_rules.specs.Literals.{constant_use};
+ghost use Rattle.nim_program.specs.Nodes as nodes;
 ghost use Rattle.expr_parts.specs.View.{number_of, env_of, entry_by, WhatWithin, DeclsWithin};
 
 use crate::names::{is_built_in, undeclared};
+use crate::nodes::constant;
 use crate::scope::{Scope, What};
 use crate::value::refusal;
 use arc_base::{Bytes, Code, Memory, Place, Stop};
 use indent_scanner::normal_form;
-use nim_core::{Expr, Literal, Node, Path};
+use nim_program::{Expr, Literal, Node, Path};
 use nim_types::TypeId;
 use std::alloc::Global;
 
@@ -29,6 +30,7 @@ pub fn copied(alloc: Global, literal: &Literal) -> Result<Literal, Memory>
     match literal {
         Literal::Ordinal(value) => Ok(Literal::Ordinal(*value)),
         Literal::Text(text) => text_copied(alloc, text),
+        Literal::Nil => Ok(Literal::Nil),
         Literal::Parts(all) => {
             let parts = all_copied(alloc, all.as_slice())?;
             Ok(Literal::Parts(parts))
@@ -59,28 +61,6 @@ fn all_copied(alloc: Global, all: &[Literal]) -> Result<Vec<Literal>, Memory>
     Ok(copies)
 }
 
-fn used(number: u32, at: Place, ty: TypeId, literal: Literal) -> Expr
-    ensures expr { (ts : List Ty) → expr_of ts result ≡ constant_use (node number at)
-        (type_at ts ty) (literal_of literal) }
-    ensures number { number_of result ≡ Some ty }
-{
-    let node = Node { number, at };
-    match literal {
-        Literal::Ordinal(value) => Expr::Ordinal { node, ty, value },
-        Literal::Text(bytes) => Expr::Text { node, ty, bytes },
-        Literal::Parts(all) => Expr::Constant {
-            node,
-            ty,
-            value: Literal::Parts(all),
-        },
-        Literal::Elements(all) => Expr::Constant {
-            node,
-            ty,
-            value: Literal::Elements(all),
-        },
-    }
-}
-
 /// A use of a constant: one node with its value.
 pub fn constant_use(
     alloc: Global,
@@ -89,13 +69,13 @@ pub fn constant_use(
     ty: TypeId,
     literal: &Literal,
 ) -> Result<Expr, Stop>
-    ensures expr { IfOk result (λ e. (ts : List Ty) → expr_of ts e ≡ constant_use (node number at)
+    ensures expr { IfOk result (λ e. (ts : List Ty) → expr_of ts e ≡ nodes.literal (node number at)
         (type_at ts ty) (literal_of literal.now)) }
     ensures number { IfOk result (λ e. number_of e ≡ Some ty) }
     ensures memory { IfErr result (λ stop. stop ≡ Stop.Memory) }
 {
     let literal = copied(alloc, literal)?;
-    Ok(used(number, at, ty, literal))
+    Ok(constant(number, at, ty, literal))
 }
 
 // A variable, or a use of a constant.

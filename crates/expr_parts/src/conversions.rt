@@ -5,7 +5,7 @@ ghost use Rattle.arc_base.specs.Refusal.{Answers};
 ghost use Rattle.nim_types.specs.Types.{Ty, Facts, fact_of, int};
 ghost use Rattle.nim_types.specs.Table.{fields_fact, fields_with};
 ghost use Rattle.nim_types.specs.Table.{type_at, meant, said_of, IsBelow, IsWithin};
-ghost use Rattle.nim_core.specs.View.{expr_of, if_type};
+ghost use Rattle.nim_program.specs.View.{expr_of, if_type};
 ghost use Rattle.expr_rules.specs.Constructions.{base_of, source_of, empty_object, convert_by};
 ghost use Rattle.expr_rules.specs.Constructions.{conversion_rule};
 ghost use Rattle.expr_rules.specs.Env.{Env};
@@ -17,10 +17,11 @@ ghost use Rattle.expr_rules.specs.Answers.{settled};
 ghost use Rattle.nim_types.specs.declared.types.TypeDef.TheVariants.{Int};
 
 use crate::kinds::{base_of, entry, is_same};
+use crate::nodes::{constructed, on_one};
 use crate::settle::{only_if, place_of_no_fit, settle, settles};
 use crate::value::{Operand, Value, refusal};
-use arc_base::{Code, Place, Stop};
-use nim_core::{Expr, Node};
+use arc_base::{Code, Items, Place, Stop};
+use nim_program::{Expr, Operand as Argument, Operation};
 use nim_types::{FieldName, TypeDef, TypeId, TypeTable};
 use std::alloc::Global;
 
@@ -100,11 +101,7 @@ pub fn empty_object(
     if !has_fields(entry(types, ty)) {
         return Err(refusal(Code::NotTyped, at));
     }
-    Ok(Expr::Construct {
-        node: Node { number, at },
-        ty,
-        parts: Vec::new(alloc),
-    })
+    Ok(constructed(number, at, ty, Items::new(alloc), Vec::new(alloc)))
 }
 
 // The operand as a value that is converted to a type.
@@ -182,11 +179,14 @@ pub fn convert(
 {
     let place = place_or_open(at, &operand);
     match source_value(alloc, types, ints, ty, operand) {
-        Some(value) => Ok(Expr::Convert {
-            node: Node { number, at },
-            ty,
-            operand: Box::new(alloc, value.expr)?,
-        }),
+        Some(value) => on_one(
+            alloc,
+            number,
+            at,
+            Some(ty),
+            Operation::Convert,
+            Argument::Value(value.expr),
+        ),
         None => Err(refusal(Code::NotTyped, place)),
     }
 }

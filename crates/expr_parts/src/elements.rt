@@ -3,8 +3,8 @@ ghost use Rattle.std.specs.Prelude.{◌≡◌, ◌<◌, ◌∷◌, List, length,
 ghost use Rattle.arc_base.specs.Refusal.{Answers};
 ghost use Rattle.nim_types.specs.Types.{Ty, Facts, sequence};
 ghost use Rattle.nim_types.specs.Table.{type_at, meant, IsBelow};
-ghost use Rattle.nim_core.specs.Program.{Sequence};
-ghost use Rattle.nim_core.specs.View.{expr_of, exprs_of, if_type};
+ghost use Rattle.nim_program.specs.Nodes as nodes;
+ghost use Rattle.nim_program.specs.View.{expr_of, operands_of, if_type};
 ghost use Rattle.expr_rules.specs.Answers.{node, Want};
 ghost use Rattle.expr_rules.specs.Constructions.{empty_rule, array_rule, sequence_rule};
 ghost use Rattle.expr_rules.specs.Env.{Env};
@@ -14,11 +14,12 @@ ghost use Rattle.expr_parts.specs.View.{Under, AllFormed, Grown, number_of, arra
 
 use crate::grow::add;
 use crate::kinds::{entry, is_sequence};
+use crate::nodes::applied;
 use crate::sizes::is_sized;
-use crate::value::{Value, exprs_in, refusal};
+use crate::value::{Value, operands_in, refusal};
 use arc_base::{Code, Place, Stop};
 use expr_rules::MOST_ELEMENTS;
-use nim_core::{Expr, Node};
+use nim_program::{Expr, Operand as Argument, Operation};
 use nim_types::{TypeDef, TypeId, TypeTable};
 use std::alloc::Global;
 
@@ -28,21 +29,17 @@ pub fn sequence(
     number: u32,
     at: Place,
     of: TypeId,
-    parts: Vec<Expr>,
+    parts: Vec<Argument>,
 ) -> Result<Expr, Stop>
     requires of { of < length types.old }
     ensures grown { Grown types.old types.new }
     ensures answers { (ts : List Ty) (facts : Facts) → Under types.new ts facts
-        → Answers (expr_of ts) (Ok (Sequence (node number at) (sequence (type_at ts of))
-        (exprs_of ts parts.items))) result }
+        → Answers (expr_of ts) (Ok (nodes.sequence (node number at) (sequence (type_at ts of))
+        (operands_of ts parts.items))) result }
     ensures within { IfOk result (λ e. IsBelow (length types.new) (number_of e)) }
 {
     let ty = add(types, TypeDef::Seq(of))?;
-    Ok(Expr::Sequence {
-        node: Node { number, at },
-        ty,
-        parts,
-    })
+    Ok(applied(number, at, Some(ty), Operation::Sequence, parts))
 }
 
 /// An array of elements of a type.
@@ -51,14 +48,14 @@ pub fn array(
     number: u32,
     at: Place,
     of: TypeId,
-    parts: Vec<Expr>,
+    parts: Vec<Argument>,
 ) -> Result<Expr, Stop>
     requires of { of < length types.old }
     requires formed { AllFormed types.old }
     ensures grown { Grown types.old types.new }
     ensures answers { (ts : List Ty) (facts : Facts) → Under types.new ts facts
         → Answers (expr_of ts) (array_by facts number at (length parts.items) (type_at ts of)
-        (exprs_of ts parts.items)) result }
+        (operands_of ts parts.items)) result }
     ensures within { IfOk result (λ e. IsBelow (length types.new) (number_of e)) }
 {
     let len = parts.len();
@@ -75,11 +72,7 @@ pub fn array(
     if !is_sized(types, ty) {
         return Err(refusal(Code::NotTyped, at));
     }
-    Ok(Expr::Make {
-        node: Node { number, at },
-        ty,
-        parts,
-    })
+    Ok(applied(number, at, Some(ty), Operation::Make, parts))
 }
 
 /// An array of values, which have the type of the first.
@@ -99,7 +92,7 @@ pub fn array_of(
         → Answers (expr_of ts) (array_rule env number at (map (valued_of ts) values.items)) result }
     ensures within { IfOk result (λ e. IsBelow (length types.new) (number_of e)) }
 {
-    let parts = exprs_in(alloc, values)?;
+    let parts = operands_in(alloc, values)?;
     array(types, number, at, of, parts)
 }
 
@@ -120,7 +113,7 @@ pub fn sequence_of(
         (map (valued_of ts) values.items)) result }
     ensures within { IfOk result (λ e. IsBelow (length types.new) (number_of e)) }
 {
-    let parts = exprs_in(alloc, values)?;
+    let parts = operands_in(alloc, values)?;
     sequence(types, number, at, of, parts)
 }
 
@@ -157,9 +150,5 @@ fn sequence_without(
     if !is_sequence(def) {
         return Err(refusal(Code::NotTyped, at));
     }
-    Ok(Expr::Sequence {
-        node: Node { number, at },
-        ty,
-        parts: Vec::new(alloc),
-    })
+    Ok(applied(number, at, Some(ty), Operation::Sequence, Vec::new(alloc)))
 }

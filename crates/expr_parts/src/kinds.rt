@@ -5,7 +5,8 @@ ghost use Rattle.nim_types.specs.Table.{type_at, meant, said_of, parts_of, AllBe
 ghost use Rattle.nim_types.specs.Table.{IsWithin};
 ghost use Rattle.expr_rules.specs.Builtins.{is_int, is_bool, is_text, is_ordinal, is_shown};
 ghost use Rattle.expr_rules.specs.Builtins.{has_length};
-ghost use Rattle.nim_core.specs.View.{if_type};
+ghost use Rattle.expr_rules.specs.Operators.{is_text_or_char};
+ghost use Rattle.nim_program.specs.View.{if_type};
 ghost use Rattle.expr_rules.specs.Answers.{open_as};
 ghost use Rattle.expr_rules.specs.Constructions.{base_of};
 ghost use Rattle.expr_parts.specs.View.{Under, is_sequence};
@@ -55,6 +56,13 @@ pub fn is_text(def: &TypeDef) -> bool
     ensures { (ts : List Ty) → is_text (meant ts def.now) ≡ result }
 {
     matches!(def, TypeDef::Text)
+}
+
+/// Whether it is joined to a text by `&`.
+pub fn is_text_or_char(def: &TypeDef) -> bool
+    ensures { (ts : List Ty) → is_text_or_char (meant ts def.now) ≡ result }
+{
+    matches!(def, TypeDef::Text | TypeDef::Char)
 }
 
 /// Whether it is an int, a bool, a char or an enum.

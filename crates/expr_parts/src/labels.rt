@@ -1,12 +1,12 @@
 // Labels of a `case`.
 ghost use Rattle.arc_base.specs.Refusal.{Answers};
-ghost use Rattle.nim_core.specs.Program.{Ordinals};
-ghost use Rattle.nim_core.specs.View.{label_of};
+ghost use Rattle.nim_program.specs.Program.{Ordinals};
+ghost use Rattle.nim_program.specs.View.{label_of};
 ghost use Rattle.expr_rules.specs.Choices.{range_of};
 
 use crate::value::refusal;
 use arc_base::{Code, Place, Stop};
-use nim_core::Label;
+use nim_program::Label;
 
 /// A label from one value to another that isn't below it.
 pub fn range_of(at: Place, low: Label, high: Label) -> Result<Label, Stop>

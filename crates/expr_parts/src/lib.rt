@@ -3,6 +3,7 @@
 
 pub mod arguments;
 pub mod borrowed;
+pub mod branches;
 pub mod branching;
 pub mod calls;
 pub mod constants;
@@ -15,8 +16,6 @@ pub mod labels;
 pub mod literals;
 pub mod names;
 pub mod nodes;
-pub mod nodes_of_lists;
-pub mod nodes_of_two;
 pub mod operations;
 pub mod operators;
 pub mod overlap;

@@ -4,18 +4,18 @@ ghost use Rattle.arc_base.specs.Refusal.{Answers};
 ghost use Rattle.nim_tree.specs.declared.expr.BinaryOp.{BinaryOp};
 ghost use Rattle.nim_types.specs.Types.{Ty, Facts};
 ghost use Rattle.nim_types.specs.Table.{type_at, IsBelow};
-ghost use Rattle.nim_core.specs.View.{expr_of};
+ghost use Rattle.nim_program.specs.View.{expr_of};
 ghost use Rattle.expr_rules.specs.Env.{Env};
 ghost use Rattle.expr_rules.specs.Operators.{binary_by};
 ghost use Rattle.expr_parts.specs.View.{Under, KindsIn, valued_of, number_of, meaning_in};
 ghost use Rattle.expr_parts.specs.View.{HasMeaning};
 
-use crate::nodes_of_two::{both, compared, computed, either, joined};
+use crate::nodes::{early, on_two};
 use crate::operators::Meaning;
 use crate::scope::Kinds;
 use crate::value::Value;
 use arc_base::{Place, Stop};
-use nim_core::Expr;
+use nim_program::{Expr, Operand as Argument, Operation};
 use nim_types::TypeTable;
 use std::alloc::Global;
 
@@ -40,14 +40,35 @@ pub fn operation(
     ensures within { IfOk result (λ e. IsBelow (length types.now) (number_of e)) }
 {
     match meaning {
-        Meaning::Computes(operator) => computed(
-            alloc, number, at, left.ty, operator, left.expr, right.expr,
+        Meaning::Computes(operator) => on_two(
+            alloc,
+            number,
+            at,
+            Some(left.ty),
+            Operation::Binary(operator),
+            Argument::Value(left.expr),
+            Argument::Value(right.expr),
         ),
-        Meaning::Both => both(alloc, number, at, kinds.bool, left.expr, right.expr),
-        Meaning::Either => either(alloc, number, at, kinds.bool, left.expr, right.expr),
-        Meaning::Joins => joined(alloc, number, at, kinds.text, left.expr, right.expr),
-        Meaning::Compares(comparison) => compared(
-            alloc, number, at, kinds.bool, comparison, left.expr, right.expr,
+        Meaning::StopsEarly(short) => early(
+            alloc, number, at, kinds.bool, short, left.expr, right.expr,
+        ),
+        Meaning::Joins => on_two(
+            alloc,
+            number,
+            at,
+            Some(kinds.text),
+            Operation::Join,
+            Argument::Value(left.expr),
+            Argument::Value(right.expr),
+        ),
+        Meaning::Compares(comparison) => on_two(
+            alloc,
+            number,
+            at,
+            Some(kinds.bool),
+            Operation::Compare(comparison),
+            Argument::Value(left.expr),
+            Argument::Value(right.expr),
         ),
         Meaning::Nothing => {
             drop(left);

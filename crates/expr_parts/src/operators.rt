@@ -3,15 +3,18 @@ ghost use Rattle.std.specs.Prelude.{◌≡◌, ◌<◌, List, length, IfOk};
 ghost use Rattle.arc_base.specs.Refusal.{Answers};
 ghost use Rattle.nim_types.specs.Types.{Ty, Facts, same};
 ghost use Rattle.nim_types.specs.Table.{meant, IsBelow};
-ghost use Rattle.nim_core.specs.View.{expr_of};
+ghost use Rattle.nim_program.specs.View.{expr_of};
 ghost use Rattle.expr_rules.specs.Operators.{unary_of, unary_rule, of_ints, of_bits, of_texts};
 ghost use Rattle.expr_rules.specs.Operators.{of_equals, meaning_of, is_comparison};
 ghost use Rattle.expr_parts.specs.View.{Under, valued_of, number_of, meaning_in};
 
-use crate::kinds::{entry, is_shown};
+use crate::kinds::{entry, is_shown, is_text_or_char};
+use crate::nodes::on_one;
 use crate::value::{Value, refusal};
 use arc_base::{Code, Place, Stop};
-use nim_core::{Comparison, Expr, Node, Operator, UnaryOperator};
+use nim_program::{
+    Comparison, Expr, Operand as Argument, Operation, Operator, Short, UnaryOperator,
+};
 use nim_tree::{BinaryOp, UnaryOp};
 use nim_types::{TypeDef, TypeTable};
 use std::alloc::Global;
@@ -43,12 +46,14 @@ pub fn unary(
     ensures within { IfOk result (λ e. IsBelow (length types.now) (number_of e)) }
 {
     match unary_operator(op, entry(types, value.ty)) {
-        Some(operator) => Ok(Expr::Unary {
-            node: Node { number, at },
-            ty: value.ty,
-            operator,
-            operand: Box::new(alloc, value.expr)?,
-        }),
+        Some(operator) => on_one(
+            alloc,
+            number,
+            at,
+            Some(value.ty),
+            Operation::Unary(operator),
+            Argument::Value(value.expr),
+        ),
         None => {
             drop(value);
             Err(refusal(Code::NotTyped, at))
@@ -61,8 +66,8 @@ pub fn unary(
 pub enum Meaning {
     /// An operation whose value has the type of the left operand.
     Computes(Operator),
-    Both,
-    Either,
+    /// `and` and `or` of bools.
+    StopsEarly(Short),
     Joins,
     Compares(Comparison),
     Nothing,
@@ -93,12 +98,10 @@ fn of_texts(left: &TypeDef, right: &TypeDef) -> Meaning
     ensures { (ts : List Ty) → of_texts (meant ts left.now) (meant ts right.now)
         ≡ meaning_in (meant ts left.now) result }
 {
-    match (left, right) {
-        (TypeDef::Text, TypeDef::Text)
-        | (TypeDef::Text, TypeDef::Char)
-        | (TypeDef::Char, TypeDef::Text)
-        | (TypeDef::Char, TypeDef::Char) => Meaning::Joins,
-        _ => Meaning::Nothing,
+    if is_text_or_char(left) && is_text_or_char(right) {
+        Meaning::Joins
+    } else {
+        Meaning::Nothing
     }
 }
 
@@ -128,8 +131,13 @@ pub fn meaning_on(op: BinaryOp, are_same: bool, left: &TypeDef, right: &TypeDef)
         BinaryOp::Mod => of_ints(Operator::Modulo, left, right),
         BinaryOp::Shl => of_ints(Operator::ShiftLeft, left, right),
         BinaryOp::Shr => of_ints(Operator::ShiftRight, left, right),
-        BinaryOp::And => of_bits(Operator::BitAnd, Meaning::Both, left, right),
-        BinaryOp::Or => of_bits(Operator::BitOr, Meaning::Either, left, right),
+        BinaryOp::And => of_bits(
+            Operator::BitAnd,
+            Meaning::StopsEarly(Short::And),
+            left,
+            right,
+        ),
+        BinaryOp::Or => of_bits(Operator::BitOr, Meaning::StopsEarly(Short::Or), left, right),
         BinaryOp::Xor => of_bits(
             Operator::BitXor,
             Meaning::Computes(Operator::BitXor),

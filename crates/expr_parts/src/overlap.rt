@@ -2,13 +2,13 @@
 ghost use Rattle.std.specs.Prelude.{◌≡◌, ◌++◌, List, [], map, IfOk, IfErr, OnOk};
 ghost use Rattle.arc_base.specs.declared.place.Stop.TheVariants as Stop;
 ghost use Rattle.nim_types.specs.Types.{Ty};
-ghost use Rattle.nim_core.specs.View.{path_of as path_in};
+ghost use Rattle.nim_program.specs.View.{path_of as path_in};
 ghost use Rattle.expr_rules.specs.Paths.{overlap, overlaps_any, same_root};
 ghost use Rattle.expr_parts.specs.View.{steps_in, are_other_fields, differ_in, paths_in, paths_of};
 
 use crate::paths::root_of;
 use arc_base::{Items, Stop};
-use nim_core::{Arg, Path};
+use nim_program::{Operand as Argument, Path};
 use std::alloc::Global;
 
 /// A step of a path behind its root.
@@ -24,6 +24,7 @@ fn push_steps(steps: &mut Items<Step>, path: &Path) -> Result<(), Stop>
 {
     match path {
         Path::Variable { .. } | Path::Fresh { .. } => Ok(()),
+        Path::Deref { base, .. } => push_steps(steps, base),
         Path::Field { base, field, .. } => {
             push_steps(steps, base)?;
             steps.push(Step::Field(*field))?;
@@ -92,7 +93,7 @@ pub fn overlap(alloc: Global, a: &Path, b: &Path) -> Result<bool, Stop>
 }
 
 /// Whether a path overlaps one of the arguments that are passed as `var`.
-pub fn overlaps_any(alloc: Global, path: &Path, args: &[Arg]) -> Result<bool, Stop>
+pub fn overlaps_any(alloc: Global, path: &Path, args: &[Argument]) -> Result<bool, Stop>
     ensures overlap { IfOk result (λ r. (ts : List Ty) →
         overlaps_any (path_in ts path.now) (map (path_in ts) (paths_in args.now)) ≡ r) }
     ensures memory { IfErr result (λ stop. stop ≡ Stop.Memory) }
@@ -106,13 +107,13 @@ pub fn overlaps_any(alloc: Global, path: &Path, args: &[Arg]) -> Result<bool, St
     overlaps_any(alloc, path, rest)
 }
 
-fn overlaps(alloc: Global, path: &Path, arg: &Arg) -> Result<bool, Stop>
+fn overlaps(alloc: Global, path: &Path, arg: &Argument) -> Result<bool, Stop>
     ensures overlap { IfOk result (λ r. (ts : List Ty) →
         overlaps_any (path_in ts path.now) (map (path_in ts) (paths_of arg.now)) ≡ r) }
     ensures memory { IfErr result (λ stop. stop ≡ Stop.Memory) }
 {
     match arg {
-        Arg::Var(other) => overlap(alloc, path, other),
-        Arg::Value(_) => Ok(false),
+        Argument::At(other) => overlap(alloc, path, other),
+        Argument::Value(_) => Ok(false),
     }
 }

@@ -9,13 +9,14 @@ ghost use Rattle.nim_types.specs.Types.{Ty, Key, Facts, char, same_text, fields_
 ghost use Rattle.nim_types.specs.Table.{type_at, types_at, meant, fields_with, fields_fact};
 ghost use Rattle.nim_types.specs.Table.{IsBelow, IsWithin};
 ghost use Rattle.nim_types.specs.Table.{said_of, parts_of, AllBelow};
-ghost use Rattle.nim_core.specs.Program.{Read, Field, Element};
-ghost use Rattle.nim_core.specs.View.{expr_of, path_of as path_in, if_type};
+ghost use Rattle.nim_program.specs.Program.{Read, Field, Element};
+ghost use Rattle.nim_program.specs.View.{expr_of, path_of as path_in, if_type};
 ghost use Rattle.expr_rules.specs.Answers.{node, typed_as};
 ghost use Rattle.expr_rules.specs.Paths.{path_of};
 ghost use Rattle.expr_parts.specs.View.{number_of, number_at, field_from, part_from};
 ghost use Rattle.expr_parts.specs.View.{found_of, valued_of, Under, env_of};
 ghost use Rattle.expr_rules.specs.Env.{Env};
+ghost use Rattle.expr_rules.specs.Constants.{index_number};
 ghost use Rattle.expr_rules.specs.Constructions.{element_of, element_type, field_among, part_among, field_named};
 
 use crate::kinds::entry;
@@ -25,7 +26,7 @@ use crate::scope::Scope;
 use crate::value::{Value, refusal};
 use arc_base::{Bytes, Code, Place, Stop};
 use indent_scanner::is_named;
-use nim_core::{Expr, Node, Path};
+use nim_program::{Expr, Node, Path};
 use nim_types::{FieldName, TypeDef, TypeId, TypeTable};
 use std::alloc::Global;
 
@@ -70,23 +71,24 @@ fn field_path(
     })
 }
 
-/// The element of a value at an index.
+/// The element of a value at an index, with the number of a constant one.
 pub fn read_element(
     alloc: Global,
     number: u32,
     at: Place,
     value: Expr,
     index: Expr,
+    constant: Option<i32>,
     ty: TypeId,
 ) -> Result<Expr, Stop>
     ensures expr { IfOk result (λ e. (ts : List Ty) → expr_of ts e ≡ Read (Element (node number at)
-        (type_at ts ty) (path_of (expr_of ts value)) (expr_of ts index))) }
+        (type_at ts ty) (path_of (expr_of ts value)) (expr_of ts index) constant)) }
     ensures number { IfOk result (λ e. number_of e ≡ Some ty) }
     ensures memory { IfErr result (λ stop. stop ≡ Stop.Memory) }
 {
     match path_of(alloc, value) {
         Ok(base) => {
-            let path = element_path(alloc, number, at, base, index, ty)?;
+            let path = element_path(alloc, number, at, base, index, constant, ty)?;
             Ok(Expr::Read { path })
         }
         Err(stop) => {
@@ -103,14 +105,17 @@ pub fn element_of(
     at: Place,
     value: Value,
     index: Value,
+    constant: Option<i32>,
     ty: Option<TypeId>,
 ) -> Result<Expr, Stop>
-    ensures answers { (ts : List Ty) (k : ℕ) → Answers (λ e. typed_as (expr_of ts e) k)
-        (element_of number k at (valued_of ts value) (valued_of ts index) (if_type ts ty)) result }
+    ensures answers { (ts : List Ty) (facts : Facts) (k : ℕ)
+        → index_number facts (expr_of ts index.expr) ≡ constant
+        → Answers (λ e. typed_as (expr_of ts e) k) (element_of facts number k at
+        (valued_of ts value) (valued_of ts index) (if_type ts ty)) result }
     ensures number { IfOk result (λ e. number_of e ≡ ty) }
 {
     match ty {
-        Some(ty) => read_element(alloc, number, at, value.expr, index.expr, ty),
+        Some(ty) => read_element(alloc, number, at, value.expr, index.expr, constant, ty),
         None => {
             drop(value);
             drop(index);
@@ -125,10 +130,11 @@ fn element_path(
     at: Place,
     base: Path,
     index: Expr,
+    constant: Option<i32>,
     ty: TypeId,
 ) -> Result<Path, Stop>
     ensures path { IfOk result (λ p. (ts : List Ty) → path_in ts p ≡ Element (node number at)
-        (type_at ts ty) (path_in ts base) (expr_of ts index)) }
+        (type_at ts ty) (path_in ts base) (expr_of ts index) constant) }
     ensures number { IfOk result (λ p. number_at p ≡ Some ty) }
     ensures memory { IfErr result (λ stop. stop ≡ Stop.Memory) }
 {
@@ -139,6 +145,7 @@ fn element_path(
         ty,
         base,
         index,
+        constant,
     })
 }
 

@@ -2,17 +2,16 @@
 ghost use Rattle.std.specs.Prelude.{◌≡◌, List, IfOk, IfErr};
 ghost use Rattle.arc_base.specs.declared.place.Stop.TheVariants as Stop;
 ghost use Rattle.nim_types.specs.Types.{Ty};
-ghost use Rattle.nim_core.specs.Program.{Fresh};
-ghost use Rattle.nim_core.specs.View.{expr_of, path_of as path_in};
+ghost use Rattle.nim_program.specs.Program.{Fresh};
+ghost use Rattle.nim_program.specs.View.{expr_of, path_of as path_in};
 ghost use Rattle.expr_rules.specs.Paths.{path_of, root_of};
 ghost use Rattle.arc_base.specs.Refusal.{Answers};
 ghost use Rattle.expr_rules.specs.Builtins.{written};
 ghost use Rattle.expr_parts.specs.View.{valued_of};
 
-use crate::nodes::node_of;
 use crate::value::{Value, refusal};
 use arc_base::{Code, Stop};
-use nim_core::{Expr, Path};
+use nim_program::{Expr, Path};
 use std::alloc::Global;
 
 /// An expression as the beginning of a path.
@@ -32,7 +31,7 @@ pub fn written(alloc: Global, value: Value) -> Result<Path, Stop>
 {
     let writable = value.writable;
     if !writable {
-        let at = node_of(&value.expr).at;
+        let at = value.expr.node().at;
         drop(value);
         return Err(refusal(Code::NotAssignable, at));
     }
@@ -54,6 +53,8 @@ pub fn root_of(path: &Path) -> Option<u32>
     match path {
         Path::Variable { place, .. } => Some(*place),
         Path::Fresh { .. } => None,
-        Path::Field { base, .. } | Path::Element { base, .. } => root_of(base),
+        Path::Field { base, .. } | Path::Element { base, .. } | Path::Deref { base, .. } => {
+            root_of(base)
+        }
     }
 }

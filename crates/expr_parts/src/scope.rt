@@ -9,7 +9,7 @@ ghost use Rattle.expr_parts.specs.ViewDecls.{last_of, declares, mended, procedur
 
 use crate::decls::Decls;
 use arc_base::{Bytes, Items, Memory};
-use nim_core::{Literal, Mode};
+use nim_program::{Literal, Mode};
 use nim_types::TypeId;
 use std::alloc::Global;
 

@@ -2,16 +2,18 @@
 ghost use Rattle.std.specs.Prelude.{◌≡◌, ◌<◌, false, List, length, is_some, option_map, IfSome};
 ghost use Rattle.nim_types.specs.Types.{Ty, Facts};
 ghost use Rattle.nim_types.specs.Table.{type_at, meant};
-ghost use Rattle.nim_core.specs.Program.{Sequence, NoExpr};
-ghost use Rattle.nim_core.specs.View.{expr_of};
+ghost use Rattle.nim_program.specs.Program.{NoArg};
+ghost use Rattle.nim_program.specs.Nodes.{sequence};
+ghost use Rattle.nim_program.specs.View.{expr_of};
 ghost use Rattle.expr_rules.specs.Answers.{node, settled, open_as, only_if};
 ghost use Rattle.expr_parts.specs.View.{Under, OperandWithin, operand_of, valued_of};
 ghost use Rattle.expr_parts.specs.View.{no_fit_at};
 
 use crate::kinds::{entry, is_same, is_sequence};
+use crate::nodes::applied;
 use crate::value::{Operand, Value};
 use arc_base::Place;
-use nim_core::{Expr, Node};
+use nim_program::Operation;
 use nim_types::{TypeDef, TypeId, TypeTable};
 use std::alloc::Global;
 
@@ -54,16 +56,12 @@ fn open_as(alloc: Global, def: &TypeDef, ty: TypeId, at: Place, number: u32) -> 
 
 fn no_elements(alloc: Global, ty: TypeId, at: Place, number: u32) -> Value
     ensures expr { (ts : List Ty) →
-        expr_of ts result.expr ≡ Sequence (node number at) (type_at ts ty) NoExpr }
+        expr_of ts result.expr ≡ sequence (node number at) (type_at ts ty) NoArg }
     ensures ty { result.ty ≡ ty }
     ensures writable { result.writable ≡ false }
 {
     Value {
-        expr: Expr::Sequence {
-            node: Node { number, at },
-            ty,
-            parts: Vec::new(alloc),
-        },
+        expr: applied(number, at, Some(ty), Operation::Sequence, Vec::new(alloc)),
         ty,
         writable: false,
     }

@@ -4,11 +4,10 @@ ghost use Rattle.arc_base.specs.declared.place.Stop.TheVariants as Stop;
 ghost use Rattle.arc_base.specs.Refusal.{Answers};
 ghost use Rattle.nim_types.specs.Types.{Ty};
 ghost use Rattle.expr_rules.specs.Typed.{accepted_by};
-ghost use Rattle.expr_parts.specs.View.{valued_of, if_allowed};
+ghost use Rattle.expr_parts.specs.View.{valued_of, if_allowed, handed_on};
 
-use crate::nodes::node_of;
 use arc_base::{Code, Place, Stop};
-use nim_core::{Expr, Node};
+use nim_program::{Expr, Operand as Argument};
 use nim_types::TypeId;
 use std::alloc::Global;
 
@@ -72,21 +71,21 @@ pub fn accepted_by(accepts: bool, value: Value) -> Result<Value, Stop>
     ensures same { IfOk result (λ v. v ≡ value) }
 {
     if !accepts {
-        let at = node_of(&value.expr).at;
+        let at = value.expr.node().at;
         drop(value);
         return Err(refusal(Code::NotTyped, at));
     }
     Ok(value)
 }
 
-/// The expressions of values, in order.
-pub fn exprs_in(alloc: Global, values: Vec<Value>) -> Result<Vec<Expr>, Stop>
-    ensures exprs { IfOk result (λ es. es.items ≡ map (λ v. v.expr) values.items) }
+/// Values as operands of a node, in order.
+pub fn operands_in(alloc: Global, values: Vec<Value>) -> Result<Vec<Argument>, Stop>
+    ensures operands { IfOk result (λ os. os.items ≡ map handed_on values.items) }
     ensures memory { IfErr result (λ stop. stop ≡ Stop.Memory) }
 {
-    let mut exprs = Vec::new(alloc);
+    let mut operands = Vec::new(alloc);
     for value in values {
-        exprs.push(value.expr)?;
+        operands.push(Argument::Value(value.expr))?;
     }
-    Ok(exprs)
+    Ok(operands)
 }

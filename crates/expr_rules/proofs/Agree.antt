@@ -1,14 +1,11 @@
 -- What is said in words of the subject is what is computed.
-use Rattle.std.proofs.Common.{◌≡◌, ℕ, zero, suc, Bool, true, false, arith, refl, ap, ◌∙◌}
+use Rattle.std.proofs.Common.{◌≡◌, Bool, true, false, arith, refl}
 use Rattle.std.specs.Prelude.{ℤ, int_le}
-use Rattle.nim_types.specs.Forms.{Form, plain, reference, block, elements, row, parts, resource, wrapped, Forms, no_forms, forms, form_of}
-use Rattle.nim_core.specs.Program.{Literal, Ordinals}
-use Rattle.nim_core.specs.Values.{Parts, More, blank, blanks, repeated, literal_value, literal_values}
-use Rattle.expr_rules.specs.Literals.{times, blank_literal, blank_literals}
+use Rattle.nim_program.specs.Program.{Ordinals}
 use Rattle.expr_rules.specs.Choices.{has_value}
 use Rattle.expr_rules.specs.Covered.{Meets, ordinals_meet}
 use Rattle.expr_rules.specs.Laws.{CallsComputed, NoCallsComputed, OverlapComputed, WritingComputed, TwiceComputed, EnoughComputed, UnknownComputed}
-use Rattle.expr_rules.specs.Laws.{MeetingSo, DefaultsAgree}
+use Rattle.expr_rules.specs.Laws.{MeetingSo}
 use Rattle.expr_rules.proofs.Means.{means_ok, means_err}
 use Rattle.expr_rules.proofs.Chosen.{overlap_so, overlap_back, writable_so, writable_back}
 use Rattle.expr_rules.proofs.OperationRows.{unknown_so, unknown_back}
@@ -65,27 +62,3 @@ enough facts ty gives labels = (λ h. enough_true h, λ e. enough_so facts ty gi
 
 pub unknown : UnknownComputed
 unknown env x = (λ h. unknown_back h, λ e. unknown_so env x e)
-
--- ---- constants
-
-times_same : (n : ℕ) (l : Literal) → literal_values (times n l) ≡ repeated n (literal_value l)
-times_same zero l = refl
-times_same (suc n) l = ap (λ vs. More (literal_value l) vs) (times_same n l)
-
-mutual
-  blank_same : (f : Form) → literal_value (blank_literal f) ≡ blank f
-  blank_same plain = refl
-  blank_same reference = refl
-  blank_same block = refl
-  blank_same (elements f) = refl
-  blank_same (row n f) = ap Parts (times_same n (blank_literal f) ∙ ap (λ v. repeated n v) (blank_same f))
-  blank_same (parts fs) = ap Parts (blanks_same fs)
-  blank_same (resource fs) = ap Parts (blanks_same fs)
-  blank_same (wrapped f) = blank_same f
-
-  blanks_same : (fs : Forms) → literal_values (blank_literals fs) ≡ blanks fs
-  blanks_same no_forms = refl
-  blanks_same (forms f fs) = ap (λ v. More v (literal_values (blank_literals fs))) (blank_same f) ∙ ap (λ vs. More (blank f) vs) (blanks_same fs)
-
-pub defaults : DefaultsAgree
-defaults facts ty = blank_same (form_of facts ty)

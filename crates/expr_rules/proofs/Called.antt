@@ -7,8 +7,9 @@ use Rattle.arc_base.specs.declared.place.Code.TheVariants.{NotTyped, Ambiguous}
 use Rattle.arc_base.specs.Refusal.{refused, IsRefusal}
 use Rattle.nim_types.specs.Types as type
 use Rattle.nim_types.specs.Types.{Ty, Field, Fact, fact_of, same}
-use Rattle.nim_core.specs.declared.expr.Comparison.{Comparison}
-use Rattle.nim_core.specs.Program.{Expr, Convert, Construct, NoInit}
+use Rattle.nim_program.specs.declared.operation.Comparison.{Comparison}
+use Rattle.nim_program.specs.Program.{Expr, NoArg}
+use Rattle.nim_program.specs.Nodes.{convert, construct}
 use Rattle.expr_rules.specs.Env as env_of
 use Rattle.expr_rules.specs.Env.{Env, Known, callable, known_as, Parameter, Procedure}
 use Rattle.expr_rules.specs.Answers.{Answer, Valued, Operand, value, open_sequence, a_type, the_input, settled, only_if, node, no_fit}
@@ -35,7 +36,7 @@ use Rattle.expr_rules.proofs.OperationRows.{unfit_means, unfit_complete, operati
 -- ---- conversions
 
 Converted : Env → ℕ → Place → Ty → Operand → Option Valued → Type 0
-Converted env n at ty o a = (v : Valued) → a ≡ Some v → IsConversion env n at ty (o ∷ []) (Convert (node n at) ty v.expr)
+Converted env n at ty o a = (v : Valued) → a ≡ Some v → IsConversion env n at ty (o ∷ []) (convert (node n at) ty v.expr)
 
 from_source_so : (env : Env) (n : ℕ) (at : Place) (ty : Ty) (o : Operand) → Converted env n at ty o (settled_as (source_of env.facts ty) o)
 unfolding Converted
@@ -51,7 +52,7 @@ from_wrapper_so env n at ty (value w) = by_base (base_of env.facts w.of) refl
   where
     by_test : (b : Bool) (t : Ty) → base_of env.facts w.of ≡ Some t → same t ty ≡ b → Converted env n at ty (value w) (only_if b w)
     by_test true t h s v e =
-        subst (λ (v : Valued). IsConversion env n at ty (value w ∷ []) (Convert (node n at) ty v.expr)) (some_one e) (M.from_wrapper h s)
+        subst (λ (v : Valued). IsConversion env n at ty (value w ∷ []) (convert (node n at) ty v.expr)) (some_one e) (M.from_wrapper h s)
     by_test false t h s v e = none_some e
 
     by_base : (b : Option Ty) → base_of env.facts w.of ≡ b → Converted env n at ty (value w) (only_if (is_some_type b ty) w)
@@ -74,7 +75,7 @@ conversion_so env n at ty o =
     (from_wrapper_so env n at ty o)
 
 empty_back : {n : ℕ} {at : Place} {ty : Ty} (f : Option Fact) {all : List Field} {resource : Bool} → f ≡ Some (type.fields all resource)
-    → empty_object n at ty f ≡ Ok (Construct (node n at) ty NoInit)
+    → empty_object n at ty f ≡ Ok (construct (node n at) ty [] NoArg)
 empty_back {n} {at} {ty} f e = ap (λ f. empty_object n at ty f) e
 
 -- a value of the operand converts to what the operand does
@@ -101,7 +102,7 @@ conversion_back {env} {n} {at} {ty} (M.from_wrapper {v = v} b s) = by_source (se
     source_same (Some t) w e = value_of_settled t e
 
     by_source : (a : Option Valued) → ((w : Valued) → a ≡ Some w → w ≡ v)
-        → convert_by n at ty (value v) (or_from a (from_distinct env.facts ty (value v))) ≡ Ok (Convert (node n at) ty v.expr)
+        → convert_by n at ty (value v) (or_from a (from_distinct env.facts ty (value v))) ≡ Ok (convert (node n at) ty v.expr)
     by_source (Some w) f = ap (λ (w : Valued). convert_by n at ty (value v) (Some w)) (f w refl)
     by_source None f = ap (λ a. convert_by n at ty (value v) a) wrapped
 

@@ -9,7 +9,7 @@ use Rattle.nim_tree.specs.declared.expr.UnaryOp.{UnaryOp}
 use Rattle.nim_tree.specs.Terms as term
 use Rattle.nim_tree.specs.Terms.{Term, Parts, no_parts, part, Choices, no_choices, choice, place_of}
 use Rattle.nim_types.specs.Types.{Ty}
-use Rattle.nim_core.specs.Program.{Expr, Label}
+use Rattle.nim_program.specs.Program.{Expr, Label}
 use Rattle.expr_rules.specs.Env.{Env}
 use Rattle.expr_rules.specs.Builtins.{is_built_in}
 use Rattle.expr_rules.specs.Answers.{Answer, Typed, typed_as, Valued, Want, nothing, Operand, value}
@@ -19,7 +19,6 @@ use Rattle.expr_rules.specs.Choices.{Chosen, Picked}
 use Rattle.expr_rules.specs.Names.{name_rule, type_rule, is_array, formed_type, is_single, call_rule, field_of, field_or_call, default_of_value, method_by}
 use Rattle.expr_rules.specs.Names.{method_rule, field_rule, is_shown_by_call}
 use Rattle.expr_rules.specs.Operators.{unary_rule}
-use Rattle.expr_rules.specs.Constructions.{constructed}
 use Rattle.expr_rules.specs.Meant.{IsUnknown}
 use Rattle.expr_rules.specs.Typed.{Value, as_value, value_by, is_callee, is_dollar, unary_call, is_type_term, is_pair}
 use Rattle.expr_rules.specs.Typed.{is_range, shown_by, part_by, operand_by, label_from, typed, values, operands, conditions, picks, labels, read_type}
@@ -128,8 +127,8 @@ mutual
   typed_complete (t_tuple h r) = bind_ok _ (values_complete h) (bind_ok _ r refl)
   typed_complete (t_array h r) = bind_ok _ (values_complete h) (bind_ok _ r refl)
   typed_complete (t_sequence h r) = bind_ok _ (values_complete h) (bind_ok _ r refl)
-  typed_complete {env} {n = n} (t_construct {at = at} {x = x} {ty = ty} o f h r) =
-      bind_ok _ (plan_back env at x o f) (bind_ok _ (values_complete h) (bind_ok _ (ap (λ a. constructed n at ty a) r) refl))
+  typed_complete {env} {n = n} (t_construct {at = at} {x = x} {ty = ty} o f h) =
+      bind_ok _ (plan_back env at x o f) (bind_ok _ (values_complete h) refl)
   typed_complete {env} {n = n} (t_field {at = at} {x = x} {o = o} h f) =
       bind_ok _ (operand_complete h) (bind_ok _ (ap (λ f. field_or_call env n at (normal x) o f) f) refl)
   typed_complete {env} {n = n} (t_dot {at = at} {x = x} {o = o} h f k d r) =

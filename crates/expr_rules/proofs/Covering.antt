@@ -1,7 +1,7 @@
 -- What labels cover.
 use Rattle.std.proofs.Common.{◌≡◌, ℕ, zero, suc, ◌+◌, ◌≤◌, ◌<◌, Bool, true, false, List, [], ◌∷◌, length, refl, sym, subst, arith, ap}
 use Rattle.std.specs.Prelude.{ℤ, pos, ◌+ℤ◌, ◌||◌, ◌&&◌, int_le, int_lt, Option, Some, None}
-use Rattle.nim_core.specs.Program.{Label, Ordinals, Exactly}
+use Rattle.nim_program.specs.Program.{Label, Ordinals, Exactly}
 use Rattle.expr_rules.specs.Choices.{has_value, has_any, or_last, last_with, goes_on, are_covered}
 use Rattle.expr_rules.specs.Laws.{IsCovered, Covering}
 

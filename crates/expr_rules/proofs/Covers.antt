@@ -6,7 +6,7 @@ use Rattle.arc_base.specs.declared.place.Code.TheVariants.{CaseCover}
 use Rattle.arc_base.specs.Refusal.{refused, IsRefusal}
 use Rattle.nim_types.specs.Types as type
 use Rattle.nim_types.specs.Types.{Ty, Facts, same_text}
-use Rattle.nim_core.specs.Program.{Label, Ordinals, Exactly}
+use Rattle.nim_program.specs.Program.{Label, Ordinals, Exactly}
 use Rattle.expr_rules.specs.Answers.{Answer}
 use Rattle.expr_rules.specs.Builtins.{is_text}
 use Rattle.expr_rules.specs.Choices.{clash, clashes, new_label, has_any, Span, span_of, covers, is_enough, cover_by, cover_rule}

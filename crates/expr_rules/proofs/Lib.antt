@@ -5,6 +5,7 @@ mod Complete
 mod RefusalsComplete
 mod Once
 mod Covering
+mod Listed
 mod Numbers
 mod Numbered
 mod Chosen

@@ -1,5 +1,5 @@
 -- The nodes of what stands for a term are numbered one by one.
-use Rattle.std.proofs.Common.{◌≡◌, ℕ, suc, Bool, true, false, List, [], ◌∷◌, refl, sym, ap, subst, ◌∙◌}
+use Rattle.std.proofs.Common.{◌≡◌, ℕ, suc, Bool, true, false, List, [], ◌∷◌, refl, sym, ap, subst, ◌∙◌, append-nil}
 use Rattle.std.specs.Prelude.{codes, Option, Some, None, Ok}
 use Rattle.arc_base.specs.declared.place.Place.{Place}
 use Rattle.indent_scanner.specs.Words.{normal}
@@ -7,19 +7,19 @@ use Rattle.indent_scanner.specs.Meaning.{inner as inside_of}
 use Rattle.nim_tree.specs.Terms.{Term, Parts, Choices}
 use Rattle.nim_types.specs.Types as type
 use Rattle.nim_types.specs.Types.{Ty}
-use Rattle.nim_core.specs.declared.expr.Node.{Node}
-use Rattle.nim_core.specs.Program.{Expr, Construct, Inits, Literal, Number, Characters, PartsOf, ElementsOf, Label, type_of}
+use Rattle.nim_program.specs.Program as P
+use Rattle.nim_program.specs.Program.{Expr, Args, NoArg, ByValue, ByPath, Label, type_of}
+use Rattle.nim_program.specs.Folds.{nodes}
+use Rattle.nim_program.specs.Nodes.{one_value, followed_by, selecting}
 use Rattle.expr_rules.specs.Env.{Env, callable, known_as}
 use Rattle.expr_rules.specs.Answers.{Answer, Typed, typed_as, place_in, Valued, valued_by, Want, Operand, value}
-use Rattle.expr_rules.specs.Answers.{types_of, wanted, node}
+use Rattle.expr_rules.specs.Answers.{types_of, wanted}
 use Rattle.expr_rules.specs.Paths.{can_be_written}
 use Rattle.expr_rules.specs.Demands.{Asks, accepts, Demand}
-use Rattle.expr_rules.specs.Constructions.{Found, part_names, are_names, tuple_type, tuple_rule, array_rule, empty_rule, sequence_rule}
-use Rattle.expr_rules.specs.Constructions.{init_before}
-use Rattle.expr_rules.specs.Constructions.{inits_of}
+use Rattle.expr_rules.specs.Constructions.{part_names, are_names, tuple_type, tuple_rule, array_rule, empty_rule, sequence_rule}
+use Rattle.expr_rules.specs.Constructions.{construct_rule}
 use Rattle.expr_rules.specs.Choices.{Branching, Chosen, Picked, if_rule, case_else_rule, branch_value, agrees, if_agrees, case_node}
 use Rattle.expr_rules.specs.Names.{own_dollars, dollar_call}
-use Rattle.expr_rules.specs.Literals.{constant_use}
 use Rattle.expr_rules.specs.Sizes.{is_sized}
 use Rattle.expr_rules.specs.Typed.{accepted, accepted_by}
 use Rattle.expr_rules.specs.Rules.{IsTyped, t_int, t_char, t_text, t_variable, t_constant, t_paren, t_named, t_tuple, t_array, t_sequence, t_construct}
@@ -27,20 +27,15 @@ use Rattle.expr_rules.specs.Rules.{t_field, t_dot, t_index, t_call, t_quoted_cal
 use Rattle.expr_rules.specs.Rules.{t_case_else}
 use Rattle.expr_rules.specs.Rules.{IsValue, v_value, AreValues, v_none, v_more, IsOperand, o_value}
 use Rattle.expr_rules.specs.Rules.{o_shown, o_open, o_type, o_input, AreOperands, o_none, o_more, AreConditions, c_none, c_more, ArePicks, k_none, k_more}
-use Rattle.expr_rules.specs.Numbers.{numbers, init_numbers, choice_numbers, pick_numbers, Run, run_over, run_on, Leads}
+use Rattle.expr_rules.specs.Numbers.{Run, run_over, run_on}
 use Rattle.expr_rules.specs.Laws.{NumberedSo}
-use Rattle.expr_rules.proofs.Numbers.{Sure, s_ok, s_err, sure_ok, sure_then, sure_if, some_one, operand_numbers, all_numbers, value_numbers, Node_of}
+use Rattle.expr_rules.proofs.Numbers.{Sure, s_ok, s_err, sure_ok, sure_then, sure_if, operand_numbers, all_numbers, value_numbers, Node_of}
+use Rattle.expr_rules.proofs.Listed.{numbers, path_numbers, args_numbers, numbers_are, Leads}
 use Rattle.expr_rules.proofs.Numbers.{parts_same, sequence_made}
 use Rattle.expr_rules.proofs.Numbers.{unary_node, one_node, all_fit, binary_node, TypedRuns, leads_node, call_node, field_node, index_runs}
 use Rattle.expr_rules.proofs.Called.{call_complete}
 
 -- ---- rules
-
-use_number : (k : Node) (ty : Ty) (l : Literal) (rest : List ℕ) → numbers (constant_use k ty l) rest ≡ k.number ∷ rest
-use_number k ty (Number z) rest = refl
-use_number k ty (Characters bytes) rest = refl
-use_number k ty (PartsOf all) rest = refl
-use_number k ty (ElementsOf all) rest = refl
 
 tuple_node : (env : Env) (want : Want) (n : ℕ) (at : Place) (names : List (List ℕ)) (vs : List Valued)
     → Sure (Node_of n (value_numbers vs)) (tuple_rule env want n at names vs)
@@ -60,17 +55,17 @@ sequence_node want n at [] = by_type (wanted want)
     by_type _ = s_err
 sequence_node want n at (v ∷ vs) = s_ok (λ rest. ap (λ ns. n ∷ ns) (parts_same (v ∷ vs) rest))
 
-init_before_same : (f : Found) (v : Valued) (more : Option Inits) (vs : List Valued) (is : Inits)
-    → ((js : Inits) → more ≡ Some js → (rest : List ℕ) → init_numbers js rest ≡ value_numbers vs rest) → init_before f v more ≡ Some is
-    → (rest : List ℕ) → init_numbers is rest ≡ value_numbers (v ∷ vs) rest
-init_before_same f v (Some js) vs is h e rest = ap (λ is. init_numbers is rest) (sym (some_one e)) ∙ ap (numbers v.expr) (h js refl rest)
-init_before_same f v None vs is h e rest = cc
+-- ---- branches
 
-inits_same : (fs : List Found) (vs : List Valued) (is : Inits) → inits_of fs vs ≡ Some is → (rest : List ℕ) → init_numbers is rest ≡ value_numbers vs rest
-inits_same [] [] is e rest = ap (λ is. init_numbers is rest) (sym (some_one e))
-inits_same (f ∷ fs) (v ∷ vs) is e rest = init_before_same f v (inits_of fs vs) vs is (λ js h. inits_same fs vs js h) e rest
-inits_same [] (v ∷ vs) is e rest = cc
-inits_same (f ∷ fs) [] is e rest = cc
+-- `else` behind them
+else_last : (parts : Args) (e : Expr) (rest : List ℕ) → args_numbers (followed_by parts (one_value e)) rest ≡ args_numbers parts (numbers e rest)
+else_last NoArg e rest = refl
+else_last (ByValue x more) e rest = ap (numbers x) (else_last more e rest)
+else_last (ByPath path more) e rest = ap (path_numbers path) (else_last more e rest)
+
+selector_first : (e : Expr) (parts : Args) (rest : List ℕ) → args_numbers (selecting e parts) rest ≡ numbers e (args_numbers parts rest)
+selector_first (P.Read path) parts rest = refl
+selector_first e parts rest = refl
 
 -- ---- values that rules hand on
 
@@ -120,7 +115,7 @@ mutual
   typed_run t_char = λ rest k r. run_on r
   typed_run t_text = λ rest k r. run_on r
   typed_run (t_variable e) = λ rest k r. run_on r
-  typed_run {n = n} (t_constant {at = at} {of = of} {value = l} e) = λ rest k r. subst (λ ns. Run n ns k) (sym (use_number (node n at) of l rest)) (run_on r)
+  typed_run (t_constant e) = λ rest k r. run_on r
   typed_run (t_paren h) = typed_run h
   typed_run (t_named h) = typed_run h
   typed_run {env} {want} {n} {m} (t_tuple {at = at} {inside = inside} {vs = vs} {e = e} h r) =
@@ -129,8 +124,8 @@ mutual
       lead_node (value_numbers vs) e (values_run h) (sure_ok (array_node env n at vs) r)
   typed_run {env} {want} {n} {m} (t_sequence {at = at} {vs = vs} {e = e} h r) =
       lead_node (value_numbers vs) e (values_run h) (sure_ok (sequence_node want n at vs) r)
-  typed_run {env} {want} {n} {m} (t_construct {at = at} {ty = ty} {chosen = chosen} {vs = vs} {given = given} o f h r) =
-      lead_node (value_numbers vs) (Construct (node n at) ty given) (values_run h) (λ rest. ap (λ ns. n ∷ ns) (inits_same chosen vs given r rest))
+  typed_run {env} {want} {n} {m} (t_construct {at = at} {ty = ty} {chosen = chosen} {vs = vs} o f h) =
+      lead_node (value_numbers vs) (construct_rule n at ty chosen vs) (values_run h) (λ rest. ap (λ ns. n ∷ ns) (parts_same vs rest))
   typed_run {env} {want} {n} (t_field {at = at} {x = x} {o = o} {e = e} h f) =
       lead_node (all_numbers (o ∷ [])) e (operand_run h) (field_node env n at (normal x) o e f)
   typed_run {env} {want} {n} (t_dot {at = at} {x = x} {o = o} {e = e} h f k d r) =
@@ -154,16 +149,18 @@ mutual
       lead_node (λ rest. operand_numbers o (operand_numbers q rest)) e (lead_both (operand_numbers o) (operand_numbers q) (operand_run h) (operand_run g))
       (sure_ok (binary_node env n at op o q) r)
   typed_run {env} {want} {n} {m} (t_if {at = at} {c = b} {x = x} {e = e} h g r) =
-      lead_node (λ rest. choice_numbers b.choices (numbers e rest)) (if_rule n at b e) (lead_both (choice_numbers b.choices) (numbers e) (conditions_run h)
-      (lead_as (numbers x) (numbers e) (same_expr (sure_ok (branch_same b.values x) r)) (typed_run g))) (λ rest. refl)
+      lead_node (λ rest. args_numbers b.parts (numbers e rest)) (if_rule n at b e) (lead_both (args_numbers b.parts) (numbers e) (conditions_run h)
+      (lead_as (numbers x) (numbers e) (same_expr (sure_ok (branch_same b.values x) r)) (typed_run g)))
+      (λ rest. ap (λ ns. n ∷ ns) (else_last b.parts e rest))
   typed_run {env} {want} {n} (t_case {at = at} {v = v} {p = p} h k r) =
-      lead_node (λ rest. numbers v.expr (pick_numbers p.picks rest)) (case_node n at v p)
-      (lead_both (numbers v.expr) (pick_numbers p.picks) (value_run h) (picks_run k)) (λ rest. refl)
+      lead_node (λ rest. numbers v.expr (args_numbers p.parts rest)) (case_node n at v p)
+      (lead_both (numbers v.expr) (args_numbers p.parts) (value_run h) (picks_run k)) (λ rest. ap (λ ns. n ∷ ns) (selector_first v.expr p.parts rest))
   typed_run {env} {want} {n} (t_case_else {m = m} {at = at} {v = v} {p = p} {x = x} {e = e} h k i r) =
-      lead_node (λ rest. numbers v.expr (pick_numbers p.picks (numbers e rest))) (case_else_rule n at v p e)
-      (lead_both (numbers v.expr) (λ rest. pick_numbers p.picks (numbers e rest))
-      (value_run h) (lead_both (pick_numbers p.picks) (numbers e) (picks_run k)
-      (lead_as (numbers x) (numbers e) (same_expr (sure_ok (branch_same p.values x) r)) (typed_run i)))) (λ rest. refl)
+      lead_node (λ rest. numbers v.expr (args_numbers p.parts (numbers e rest))) (case_else_rule n at v p e)
+      (lead_both (numbers v.expr) (λ rest. args_numbers p.parts (numbers e rest))
+      (value_run h) (lead_both (args_numbers p.parts) (numbers e) (picks_run k)
+      (lead_as (numbers x) (numbers e) (same_expr (sure_ok (branch_same p.values x) r)) (typed_run i))))
+      (λ rest. ap (λ ns. n ∷ ns) (selector_first v.expr (followed_by p.parts (one_value e)) rest ∙ ap (numbers v.expr) (else_last p.parts e rest)))
 
   value_run : {env : Env} {g : Asks} {n m : ℕ} {t : Term} {v : Valued} → IsValue env g n t v m → Leads n m (numbers v.expr)
   value_run {env} {g} {t = t} (v_value {e = e} {v = v} h a) =
@@ -186,19 +183,19 @@ mutual
   operands_run (o_more {o = o} {os = os} h k) = lead_both (operand_numbers o) (all_numbers os) (operand_run h) (operands_run k)
 
   conditions_run : {env : Env} {b : Branching} {n : ℕ} {ts : Choices} {all : Chosen} → AreConditions env b n ts all
-      → Leads n all.next (choice_numbers all.choices)
+      → Leads n all.next (args_numbers all.parts)
   conditions_run c_none = λ rest k r. r
   conditions_run {b = b} (c_more {at = at} {c = v} {x = x} {e = e} {more = more} g h r k) =
-      lead_both (numbers v.expr) (λ rest. numbers e (choice_numbers more.choices rest)) (value_run g)
-      (lead_both (numbers e) (choice_numbers more.choices)
+      lead_both (numbers v.expr) (λ rest. numbers e (args_numbers more.parts rest)) (value_run g)
+      (lead_both (numbers e) (args_numbers more.parts)
       (lead_as (numbers x) (numbers e) (same_expr (sure_ok (branch_same b x) r)) (typed_run h)) (conditions_run k))
 
   picks_run : {env : Env} {ty : Ty} {before : List Label} {b : Branching} {n : ℕ} {ts : Choices} {all : Picked}
-      → ArePicks env ty before b n ts all → Leads n all.next (pick_numbers all.picks)
+      → ArePicks env ty before b n ts all → Leads n all.next (args_numbers all.parts)
   picks_run k_none = λ rest k r. r
   picks_run {b = b} (k_more {x = x} {e = e} {more = more} g h r k) =
-      lead_both (numbers e) (pick_numbers more.picks) (lead_as (numbers x) (numbers e) (same_expr (sure_ok (branch_same b x) r)) (typed_run h))
+      lead_both (numbers e) (args_numbers more.parts) (lead_as (numbers x) (numbers e) (same_expr (sure_ok (branch_same b x) r)) (typed_run h))
       (picks_run k)
 
 pub numbered : NumberedSo
-numbered env want n m t e h = typed_run h [] m run_over
+numbered env want n m t e h = subst (λ ns. Run n ns m) (numbers_are e [] ∙ append-nil (nodes e)) (typed_run h [] m run_over)

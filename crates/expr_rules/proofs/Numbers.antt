@@ -5,9 +5,9 @@ use Rattle.arc_base.specs.declared.place.Place.{Place}
 use Rattle.arc_base.specs.Refusal.{Refusal, and_then}
 use Rattle.nim_types.specs.Types as type
 use Rattle.nim_types.specs.Types.{Ty, Tys, Fact, Facts, fact_of, same}
-use Rattle.nim_core.specs.declared.expr.Node.{Node}
-use Rattle.nim_core.specs.Program as P
-use Rattle.nim_core.specs.Program.{Expr, Literal, Number, Exprs, Path, Args}
+use Rattle.nim_program.specs.declared.expr.Node.{Node}
+use Rattle.nim_program.specs.Program as P
+use Rattle.nim_program.specs.Program.{Expr, Literal, Number, Path, Args}
 use Rattle.expr_rules.specs.Env as env_of
 use Rattle.expr_rules.specs.Env.{Env, Known, Parameter, Procedure, callable, known_as}
 use Rattle.expr_rules.specs.Answers.{Answer, Typed, place_in, Valued, node, Operand, value, open_sequence, a_type, the_input, settled, open_as}
@@ -16,26 +16,25 @@ use Rattle.expr_rules.specs.Answers.{exprs_of, gives, no_fit}
 use Rattle.expr_rules.specs.Paths.{path_of, overlaps_any}
 use Rattle.nim_tree.specs.declared.expr.UnaryOp.{UnaryOp}
 use Rattle.nim_tree.specs.declared.expr.BinaryOp.{BinaryOp}
-use Rattle.nim_core.specs.declared.expr.UnaryOperator.{UnaryOperator}
-use Rattle.nim_core.specs.declared.expr.Comparison.{Comparison}
-use Rattle.nim_core.specs.declared.program.Mode.{Mode}
-use Rattle.nim_core.specs.declared.program.Mode.TheVariants.{Plain, Sink, Var}
+use Rattle.nim_program.specs.declared.operation.UnaryOperator.{UnaryOperator}
+use Rattle.nim_program.specs.declared.operation.Comparison.{Comparison}
+use Rattle.nim_program.specs.declared.program.Mode.{Mode}
+use Rattle.nim_program.specs.declared.program.Mode.TheVariants.{Plain, Sink, Var}
 use Rattle.expr_rules.specs.Calls.{Fit, onto, arguments_for, if_fits, fitting, no_overlap, var_argument, Argument, argument_by, argument_before, paths_with}
 use Rattle.expr_rules.specs.Calls.{arguments_by, comparisons, comparison_named, borrowed_call, called, one_of}
-use Rattle.expr_rules.specs.Constants.{constant_at}
+use Rattle.expr_rules.specs.Constants.{constant_at, index_number}
 use Rattle.expr_rules.specs.Constructions.{settled_as, from_distinct, is_some_type, base_of, source_of, or_from, convert_by, empty_object, conversion_rule}
 use Rattle.expr_rules.specs.Constructions.{field_named, Found, read_part, nth_type, numbered_part, element_type, element_of, indexed, index_rule}
 use Rattle.expr_rules.specs.Names.{unless_type, call_named, made_by, new_sequence_rule, can_show, shown_before, all_shown, echo_by, echo_rule, call_rule}
 use Rattle.expr_rules.specs.Names.{if_field, field_of}
-use Rattle.nim_core.specs.declared.expr.Operator.{Operator}
-use Rattle.nim_types.specs.Types.{same_text}
-use Rattle.expr_rules.specs.Builtins.{Operation, on_nothing, on_value, on_place, on_place_and_value, on_places, on_elements, on_type, on_input}
-use Rattle.expr_rules.specs.Builtins.{on_input_and_place, stepping, operations, if_operation, operations_in, operations_named, Done, first_settled, settled_in}
-use Rattle.expr_rules.specs.Builtins.{is_int, is_echo, is_default, with_value, popping, on_operands, or_later, first_row, writes_rule, operation_by}
+use Rattle.expr_rules.specs.Builtins.{Hand, as_value, in_place, to_write, handed, BuiltIn, on_nothing, on_one, on_place_and_value, on_places, on_type}
+use Rattle.expr_rules.specs.Builtins.{on_input, on_input_and_place, operations_named, Done, first_settled, settled_in, with_type}
+use Rattle.expr_rules.specs.Builtins.{is_int, is_echo, is_default, with_value, on_operands, or_later, first_row, writes_rule, operation_by}
 use Rattle.expr_rules.specs.Builtins.{operation_rule}
-use Rattle.expr_rules.specs.Operators.{unary_of, unary_by, unary_rule, Meaning, computes, both, either, joins, compares, means_nothing, meaning_of}
+use Rattle.expr_rules.specs.Operators.{unary_of, unary_by, unary_rule, Meaning, does, stops_early, means_nothing, meaning_of}
 use Rattle.expr_rules.specs.Operators.{borrowed_name, borrowed_by, binary_by, other_settled, binary_rule}
-use Rattle.expr_rules.specs.Numbers.{numbers, path_numbers, part_numbers, argument_numbers, Run, run_on, Leads}
+use Rattle.expr_rules.specs.Numbers.{Run, run_on}
+use Rattle.expr_rules.proofs.Listed.{numbers, path_numbers, args_numbers, Leads}
 
 -- ---- answers whose value has a property
 
@@ -91,7 +90,7 @@ path_same : (e : Expr) (rest : List ℕ) → path_numbers (path_of e) rest ≡ n
 path_same (P.Read path) rest = refl
 path_same e rest = refl
 
-pub parts_same : (vs : List Valued) (rest : List ℕ) → part_numbers (exprs_of vs) rest ≡ value_numbers vs rest
+pub parts_same : (vs : List Valued) (rest : List ℕ) → args_numbers (exprs_of vs) rest ≡ value_numbers vs rest
 parts_same [] rest = refl
 parts_same (v ∷ vs) rest = ap (numbers v.expr) (parts_same vs rest)
 
@@ -168,18 +167,18 @@ var_path before v = by_tests v.writable (overlaps_any (path_of v.expr) before)
 
 -- the argument has the nodes of its value
 Carries : Valued → Argument → Type 0
-Carries v a = (more : Args) (rest : List ℕ) → argument_numbers (argument_before a more) rest ≡ numbers v.expr (argument_numbers more rest)
+Carries v a = (more : Args) (rest : List ℕ) → args_numbers (argument_before a more) rest ≡ numbers v.expr (args_numbers more rest)
 
 argument_carries : (before : List Path) (mode : Mode) (v : Valued) → Sure (Carries v) (argument_by before mode v)
 unfolding Carries
 argument_carries before Var v =
     sure_then (var_path before v)
-    (λ path e. s_ok (λ more rest. ap (λ p. path_numbers p (argument_numbers more rest)) e ∙ path_same v.expr (argument_numbers more rest)))
+    (λ path e. s_ok (λ more rest. ap (λ p. path_numbers p (args_numbers more rest)) e ∙ path_same v.expr (args_numbers more rest)))
 argument_carries before Sink v = s_ok (λ more rest. refl)
 argument_carries before Plain v = s_ok (λ more rest. refl)
 
 arguments_carry : (before : List Path) (xs : List (Parameter × Valued))
-    → Sure (λ args. (rest : List ℕ) → argument_numbers args rest ≡ argument_values xs rest) (arguments_by before xs)
+    → Sure (λ args. (rest : List ℕ) → args_numbers args rest ≡ argument_values xs rest) (arguments_by before xs)
 unfolding Carries
 arguments_carry before [] = s_ok (λ rest. refl)
 arguments_carry before (a ∷ xs) =
@@ -210,11 +209,8 @@ one_node n at x (fit ∷ other ∷ rest) os otherwise h f = s_err
 
 binary_node_by : (env : Env) (n : ℕ) (at : Place) (op : BinaryOp) (m : Meaning) (v w : Valued)
     → Sure (Node_of n (λ rest. numbers v.expr (numbers w.expr rest))) (binary_by env n at op m v w)
-binary_node_by env n at op (computes o t) v w = s_ok (λ rest. refl)
-binary_node_by env n at op both v w = s_ok (λ rest. refl)
-binary_node_by env n at op either v w = s_ok (λ rest. refl)
-binary_node_by env n at op joins v w = s_ok (λ rest. refl)
-binary_node_by env n at op (compares c) v w = s_ok (λ rest. refl)
+binary_node_by env n at op (does o t) v w = s_ok (λ rest. refl)
+binary_node_by env n at op (stops_early s) v w = s_ok (λ rest. refl)
 binary_node_by env n at op means_nothing v w = by_name (borrowed_name op)
   where
     by_name : (x : Option (List ℕ)) → Sure (Node_of n (λ rest. numbers v.expr (numbers w.expr rest))) (borrowed_by env n at x v w)
@@ -249,61 +245,6 @@ abbrev IfDone : (Expr → Type 0) → Option Done → Type 0
 IfDone P None = Unit {0}
 IfDone P (Some d) = P d.expr
 
--- the node that a row gives comes before its operands, in order
-abbrev Counts : Operation → Type 0
-Counts (on_nothing makes) = (k : Node) (rest : List ℕ) → numbers (makes k) rest ≡ k.number ∷ rest
-Counts (on_value test makes) = (k : Node) (v : Valued) (rest : List ℕ) → numbers (makes k v) rest ≡ k.number ∷ numbers v.expr rest
-Counts (on_place test makes) = (k : Node) (t : Ty) (path : Path) (rest : List ℕ) → numbers (makes k t path) rest ≡ k.number ∷ path_numbers path rest
-Counts (on_place_and_value goes makes) =
-    (k : Node) (path : Path) (e : Expr) (rest : List ℕ) → numbers (makes k path e) rest ≡ k.number ∷ path_numbers path (numbers e rest)
-Counts (on_places makes) =
-    (k : Node) (a b : Path) (rest : List ℕ) → numbers (makes k a b) rest ≡ k.number ∷ path_numbers a (path_numbers b rest)
-Counts (on_elements goes makes) = (k : Node) (t : Ty) (path : Path) (rest : List ℕ) → numbers (makes k t path) rest ≡ k.number ∷ path_numbers path rest
-Counts (on_type test makes) = (k : Node) (t : Ty) (rest : List ℕ) → numbers (makes k t) rest ≡ k.number ∷ rest
-Counts (on_input makes) = (k : Node) (rest : List ℕ) → numbers (makes k) rest ≡ k.number ∷ rest
-Counts (on_input_and_place test makes) = (k : Node) (path : Path) (rest : List ℕ) → numbers (makes k path) rest ≡ k.number ∷ path_numbers path rest
-
-data AllCount : List Operation → Type 0 where
-  c_none : AllCount []
-  c_row : {row : Operation} {rest : List Operation} → Counts row → AllCount rest → AllCount (row ∷ rest)
-
-data TableCounts : List (List ℕ × List Operation) → Type 0 where
-  t_none : TableCounts []
-  t_rows : {row : List ℕ × List Operation} {rest : List (List ℕ × List Operation)} → AllCount row.1 → TableCounts rest → TableCounts (row ∷ rest)
-
-one_counts : {row : Operation} → Counts row → AllCount (row ∷ [])
-one_counts c = c_row c c_none
-
-steps_count : (o : Operator) → AllCount (stepping o)
-steps_count o = c_row (λ k t path rest. refl) (one_counts (λ k path e rest. refl))
-
-all_count : TableCounts operations
-all_count =
-    t_rows (one_counts (λ k v rest. ap (λ ns. k.number ∷ ns) (path_same v.expr rest)))
-    (t_rows (c_row (λ k v rest. ap (λ ns. k.number ∷ ns) (path_same v.expr rest)) (one_counts (λ k t rest. refl)))
-    (t_rows (one_counts (λ k t rest. refl))
-    (t_rows (one_counts (λ k v rest. refl))
-    (t_rows (one_counts (λ k v rest. refl))
-    (t_rows (one_counts (λ k v rest. refl))
-    (t_rows (steps_count _)
-    (t_rows (steps_count _)
-    (t_rows (one_counts (λ k path e rest. refl))
-    (t_rows (one_counts (λ k path e rest. refl))
-    (t_rows (one_counts (λ k t path rest. refl))
-    (t_rows (one_counts (λ k t rest. refl))
-    (t_rows (one_counts (λ k t path rest. refl))
-    (t_rows (one_counts (λ k a b rest. refl))
-    (t_rows (c_row (λ k rest. refl) (one_counts (λ k v rest. refl)))
-    (t_rows (c_row (λ k rest. refl) (one_counts (λ k path rest. refl))) t_none)))))))))))))))
-
-rows_count : {table : List (List ℕ × List Operation)} (x : List ℕ) → TableCounts table → AllCount (operations_in x table)
-rows_count x t_none = c_none
-rows_count x (t_rows {row = row} {rest = rest} h k) = by_name (same_text x row.0) h (rows_count x k)
-  where
-    by_name : (b : Bool) → AllCount row.1 → AllCount (operations_in x rest) → AllCount (if_operation b row.1 (operations_in x rest))
-    by_name true h k = h
-    by_name false h k = k
-
 if_only : (P : Expr → Type 0) (d : Done) (b : Bool) → P d.expr → IfDone P (only_if b d)
 if_only P d true h = h
 if_only P d false h = tt
@@ -322,31 +263,33 @@ settled_in_same (t ∷ ts) o v e rest = by_first (settled t o) refl (λ e. settl
     by_first (Some w) e more h = settled_same t o v (e ∙ h) rest
     by_first None e more h = more h
 
-on_row : (k : Node) (row : Operation) → Counts row → (os : List Operand) → IfDone (Node_of k.number (all_numbers os)) (on_operands k row os)
-on_row k (on_nothing makes) c [] = λ rest. c k rest
-on_row k (on_value test makes) c (value v ∷ []) = if_only _ _ (test v.of) (λ rest. c k v rest)
-on_row k (on_place test makes) c (value v ∷ []) =
-    if_only _ _ (test v.of) (λ rest. c k v.of (path_of v.expr) rest ∙ ap (λ ns. k.number ∷ ns) (path_same v.expr rest))
-on_row k (on_place_and_value goes makes) c (value v ∷ o ∷ []) =
-    if_value _ (settled_in (goes v.of) o) (settled_in (goes v.of) o) _ refl (λ w h rest. c k (path_of v.expr) w.expr rest
-    ∙ ap (λ ns. k.number ∷ ns) (path_same v.expr (numbers w.expr rest) ∙ ap (numbers v.expr) (settled_in_same (goes v.of) o w h rest)))
-on_row k (on_places makes) c (value v ∷ value w ∷ []) =
-    if_only _ _ (same v.of w.of) (λ rest. c k (path_of v.expr) (path_of w.expr) rest
-    ∙ ap (λ ns. k.number ∷ ns) (path_same v.expr (path_numbers (path_of w.expr) rest) ∙ ap (numbers v.expr) (path_same w.expr rest)))
-on_row k (on_elements goes makes) c (value v ∷ []) = by_types (goes v.of)
-  where
-    by_types : (ts : List Ty) → IfDone (Node_of k.number (all_numbers (value v ∷ []))) (popping k makes ts v)
-    by_types [] = tt
-    by_types (t ∷ ts) = λ rest. c k t (path_of v.expr) rest ∙ ap (λ ns. k.number ∷ ns) (path_same v.expr rest)
-on_row k (on_type test makes) c (a_type t ∷ []) = if_only _ _ (test t) (λ rest. c k t rest)
-on_row k (on_input makes) c (the_input ∷ []) = λ rest. c k rest
-on_row k (on_input_and_place test makes) c (the_input ∷ value v ∷ []) =
-    if_only _ _ (test v.of) (λ rest. c k (path_of v.expr) rest ∙ ap (λ ns. k.number ∷ ns) (path_same v.expr rest))
-on_row k row c os = tt
+if_type : (P : Expr → Type 0) (a : Option (Option Ty)) (go : Option Ty → Done) → ((ty : Option Ty) → P (go ty).expr) → IfDone P (with_type a go)
+if_type P None go h = tt
+if_type P (Some ty) go h = h ty
 
-first_node : (k : Node) (rows : List Operation) (os : List Operand) → AllCount rows → IfDone (Node_of k.number (all_numbers os)) (first_row k rows os)
-first_node k [] os h = tt
-first_node k (row ∷ rest) os (c_row c h) = by_answer (on_operands k row os) (on_row k row c os) (first_node k rest os h)
+handed_same : (hand : Hand) (v : Valued) (rest : List ℕ) → args_numbers (handed hand v) rest ≡ numbers v.expr rest
+handed_same as_value v rest = refl
+handed_same in_place v rest = path_same v.expr rest
+handed_same to_write v rest = path_same v.expr rest
+
+on_row : (k : Node) (row : BuiltIn) (os : List Operand) → IfDone (Node_of k.number (all_numbers os)) (on_operands k row os)
+on_row k (on_nothing o) [] = λ rest. refl
+on_row k (on_one hand gives o) (value v ∷ []) = if_type _ (gives v.of) _ (λ ty rest. ap (λ ns. k.number ∷ ns) (handed_same hand v rest))
+on_row k (on_place_and_value goes o) (value v ∷ q ∷ []) =
+    if_value _ (settled_in (goes v.of) q) (settled_in (goes v.of) q) _ refl (λ w h rest.
+    ap (λ ns. k.number ∷ ns) (path_same v.expr (numbers w.expr rest) ∙ ap (numbers v.expr) (settled_in_same (goes v.of) q w h rest)))
+on_row k (on_places o) (value v ∷ value w ∷ []) =
+    if_only _ _ (same v.of w.of) (λ rest.
+    ap (λ ns. k.number ∷ ns) (path_same v.expr (path_numbers (path_of w.expr) rest) ∙ ap (numbers v.expr) (path_same w.expr rest)))
+on_row k (on_type gives act) (a_type t ∷ []) = if_type _ (gives t) _ (λ ty rest. refl)
+on_row k (on_input ty o) (the_input ∷ []) = λ rest. refl
+on_row k (on_input_and_place test ty o) (the_input ∷ value v ∷ []) =
+    if_only _ _ (test v.of) (λ rest. ap (λ ns. k.number ∷ ns) (path_same v.expr rest))
+on_row k row os = tt
+
+first_node : (k : Node) (rows : List BuiltIn) (os : List Operand) → IfDone (Node_of k.number (all_numbers os)) (first_row k rows os)
+first_node k [] os = tt
+first_node k (row ∷ rest) os = by_answer (on_operands k row os) (on_row k row os) (first_node k rest os)
   where
     by_answer : (a : Option Done) → IfDone (Node_of k.number (all_numbers os)) a → IfDone (Node_of k.number (all_numbers os)) (first_row k rest os)
         → IfDone (Node_of k.number (all_numbers os)) (or_later a (first_row k rest os))
@@ -406,7 +349,7 @@ conversion_node env n at ty (o ∷ []) =
 conversion_node env n at ty (o ∷ q ∷ rest) = fit_none _ at (o ∷ q ∷ rest)
 
 operation_node : (k : Node) (x : List ℕ) (os : List Operand) → Sure (Node_of k.number (all_numbers os)) (operation_rule k x os)
-operation_node k x os = by_row (first_row k (operations_named x) os) (first_node k (operations_named x) os (rows_count x all_count))
+operation_node k x os = by_row (first_row k (operations_named x) os) (first_node k (operations_named x) os)
   where
     by_row : (a : Option Done) → IfDone (Node_of k.number (all_numbers os)) a → Sure (Node_of k.number (all_numbers os)) (operation_by k.at os a)
     by_row None h = fit_none _ k.at os
@@ -484,12 +427,12 @@ field_node env n at x (open_sequence p k) e f = λ rest. cc
 field_node env n at x (a_type t) e f = λ rest. cc
 field_node env n at x the_input e f = λ rest. cc
 
-element_runs : (n m k : ℕ) (at : Place) (v i : Valued) (t : Option Ty) → Leads (suc n) m (numbers v.expr) → Leads m k (numbers i.expr)
-    → Sure (TypedRuns n) (element_of n k at v i t)
-element_runs n m k at v i (Some t) h g =
-    s_ok (leads_node n k (λ rest. numbers v.expr (numbers i.expr rest)) (P.Read (P.Element (node n at) t (path_of v.expr) i.expr))
+element_runs : (facts : Facts) (n m k : ℕ) (at : Place) (v i : Valued) (t : Option Ty) → Leads (suc n) m (numbers v.expr) → Leads m k (numbers i.expr)
+    → Sure (TypedRuns n) (element_of facts n k at v i t)
+element_runs facts n m k at v i (Some t) h g =
+    s_ok (leads_node n k (λ rest. numbers v.expr (numbers i.expr rest)) (P.Read (P.Element (node n at) t (path_of v.expr) i.expr (index_number facts i.expr)))
     (λ rest l r. h (numbers i.expr rest) l (g rest l r)) (λ rest. ap (λ ns. n ∷ ns) (path_same v.expr (numbers i.expr rest))))
-element_runs n m k at v i None h g = s_err
+element_runs facts n m k at v i None h g = s_err
 
 part_node : (n : ℕ) (at : Place) (v : Valued) (ts : Tys) (l : Literal) → Sure (Node_of n (numbers v.expr)) (numbered_part n at v ts l)
 part_node n at v ts (Number (pos i)) = by_type (nth_type i ts)
@@ -503,7 +446,7 @@ indexed_runs : (env : Env) (n m k : ℕ) (at : Place) (v : Valued) (t : Ty) (i :
     → Sure (TypedRuns n) (indexed env n m k at v t i)
 indexed_runs env n m k at v (type.tuple names ts) i h g =
     gives_runs h (sure_then (sure_any (constant_at env.facts at i)) (λ l u. part_node n at v ts l))
-indexed_runs env n m k at v t i h g = element_runs n m k at v i (element_type t) h g
+indexed_runs env n m k at v t i h g = element_runs env.facts n m k at v i (element_type t) h g
 
 pub index_runs : (env : Env) (n m k : ℕ) (at : Place) (v i : Valued) → Leads (suc n) m (numbers v.expr) → Leads m k (numbers i.expr)
     → Sure (TypedRuns n) (index_rule env n m k at v i)

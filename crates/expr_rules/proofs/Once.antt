@@ -5,7 +5,7 @@ use Rattle.arc_base.specs.declared.place.Place.{Place}
 use Rattle.arc_base.specs.declared.place.Code.{Code}
 use Rattle.arc_base.specs.Refusal.{Refusal}
 use Rattle.nim_tree.specs.Terms.{Term}
-use Rattle.nim_core.specs.Program.{Expr}
+use Rattle.nim_program.specs.Program.{Expr}
 use Rattle.expr_rules.specs.Env.{Env}
 use Rattle.expr_rules.specs.Answers.{Answer, Typed, typed_as, Want}
 use Rattle.expr_rules.specs.Laws.{HasNode, HasRefusal, EachTerm, OneNode, OneRefusal, NotBoth, NodesComputed, RefusalsComputed}

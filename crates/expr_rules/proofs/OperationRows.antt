@@ -6,14 +6,15 @@ use Rattle.arc_base.specs.declared.place.Code.{Code}
 use Rattle.arc_base.specs.declared.place.Code.TheVariants.{UnknownName, NotTyped, NotAssignable}
 use Rattle.arc_base.specs.Refusal.{refused, and_then, IsRefusal}
 use Rattle.nim_types.specs.Types.{Ty, same}
-use Rattle.nim_core.specs.declared.expr.Node.{Node}
-use Rattle.nim_core.specs.Program.{Expr}
+use Rattle.nim_program.specs.declared.expr.Node.{Node}
+use Rattle.nim_program.specs.Program.{Expr, Apply, Doing, NoArg}
+use Rattle.nim_program.specs.Nodes.{path_and_value, acting}
 use Rattle.expr_rules.specs.Env as env_of
 use Rattle.expr_rules.specs.Env.{Env, Known, callable, known_as, Parameter, Procedure}
 use Rattle.expr_rules.specs.Answers.{Valued, Operand, value, open_sequence, a_type, the_input, settled, only_if, place_in, node, no_fit}
 use Rattle.expr_rules.specs.Paths.{path_of}
-use Rattle.expr_rules.specs.Builtins.{Operation, on_nothing, on_value, on_place, on_place_and_value, on_places, on_elements, on_type, on_input}
-use Rattle.expr_rules.specs.Builtins.{on_input_and_place, Done, done, first_settled, settled_in, with_value, popping, on_operands, or_later, first_row}
+use Rattle.expr_rules.specs.Builtins.{written_by, handed, BuiltIn, on_nothing, on_one, on_place_and_value, on_places, on_type, on_input}
+use Rattle.expr_rules.specs.Builtins.{on_input_and_place, Done, done, first_settled, settled_in, with_value, with_type, on_operands, or_later, first_row}
 use Rattle.expr_rules.specs.Builtins.{write_by, write_rule, writes_rule, operation_by, operation_rule, operations_named, is_built_in}
 use Rattle.expr_rules.specs.Names.{is_unknown, is_nothing, callee_rule}
 use Rattle.expr_rules.specs.Overloads.{IsSettled}
@@ -140,58 +141,64 @@ only_given d e = ap (λ b. only_if b d) e
 value_given : {a : Option Valued} {w : Valued} (go : Valued → Done) → a ≡ Some w → with_value a go ≡ Some (go w)
 value_given go e = ap (λ a. with_value a go) e
 
-pub row_back : {at : Node} {row : Operation} {os : List Operand} {vs : List Valued} {e : Expr} → RowFits at row os vs e
+type_given : {a : Option (Option Ty)} {ty : Option Ty} (go : Option Ty → Done) → a ≡ Some ty → with_type a go ≡ Some (go ty)
+type_given go e = ap (λ a. with_type a go) e
+
+pub row_back : {at : Node} {row : BuiltIn} {os : List Operand} {vs : List Valued} {e : Expr} → RowFits at row os vs e
     → on_operands at row os ≡ Some (done vs e)
 row_back M.row_nothing = refl
-row_back (M.row_value t) = only_given _ t
-row_back (M.row_place t) = only_given _ t
+row_back (M.row_one g) = type_given _ g
 row_back (M.row_place_and_value h) = value_given _ (settled_in_back h)
 row_back (M.row_places t) = only_given _ t
-row_back {at} (M.row_elements {makes = makes} {v = v} h) = ap (λ ts. popping at makes ts v) h
-row_back (M.row_type t) = only_given _ t
+row_back (M.row_type g) = type_given _ g
 row_back M.row_input = refl
 row_back (M.row_input_and_place t) = only_given _ t
 
 -- a row that is computed fits
-RowSo : Node → Operation → List Operand → Option Done → Type 0
+RowSo : Node → BuiltIn → List Operand → Option Done → Type 0
 RowSo at row os a = (d : Done) → a ≡ Some d → RowFits at row os d.writes d.expr
 
-only_so : {at : Node} {row : Operation} {os : List Operand} (b : Bool) (d : Done) → (b ≡ true → RowFits at row os d.writes d.expr)
+only_so : {at : Node} {row : BuiltIn} {os : List Operand} (b : Bool) (d : Done) → (b ≡ true → RowFits at row os d.writes d.expr)
     → RowSo at row os (only_if b d)
 unfolding RowSo
 only_so {at} {row} {os} true d f x e = subst (λ (d : Done). RowFits at row os d.writes d.expr) (some_one e) (f refl)
 only_so false d f x e = none_some e
 
-given_so : {at : Node} {row : Operation} {os : List Operand} (d : Done) → RowFits at row os d.writes d.expr → RowSo at row os (Some d)
+given_so : {at : Node} {row : BuiltIn} {os : List Operand} (d : Done) → RowFits at row os d.writes d.expr → RowSo at row os (Some d)
 unfolding RowSo
 given_so {at} {row} {os} d h x e = subst (λ (d : Done). RowFits at row os d.writes d.expr) (some_one e) h
 
-none_given : (at : Node) (row : Operation) (os : List Operand) → RowSo at row os None
+none_given : (at : Node) (row : BuiltIn) (os : List Operand) → RowSo at row os None
 unfolding RowSo
 none_given at row os x e = none_some e
 
-row_so : (at : Node) (row : Operation) (os : List Operand) → RowSo at row os (on_operands at row os)
-row_so at (on_nothing makes) [] = given_so _ M.row_nothing
-row_so at (on_value test makes) (value v ∷ []) = only_so (test v.of) _ (λ t. M.row_value t)
-row_so at (on_place test makes) (value v ∷ []) = only_so (test v.of) _ (λ t. M.row_place t)
-row_so at (on_place_and_value goes makes) (value v ∷ o ∷ []) = by_value (settled_in (goes v.of) o) refl
+row_so : (at : Node) (row : BuiltIn) (os : List Operand) → RowSo at row os (on_operands at row os)
+row_so at (on_nothing o) [] = given_so _ M.row_nothing
+row_so at (on_one hand gives o) (value v ∷ []) = by_type (gives v.of) refl
   where
-    by_value : (a : Option Valued) → settled_in (goes v.of) o ≡ a
-        → RowSo at (on_place_and_value goes makes) (value v ∷ o ∷ []) (with_value a (λ w. done (v ∷ []) (makes at (path_of v.expr) w.expr)))
+    by_type : (a : Option (Option Ty)) → gives v.of ≡ a
+        → RowSo at (on_one hand gives o) (value v ∷ []) (with_type a (λ ty. done (written_by hand v) (Apply at ty (Doing o) (handed hand v))))
+    by_type None g = none_given _ _ _
+    by_type (Some ty) g = given_so _ (M.row_one g)
+row_so at (on_place_and_value goes o) (value v ∷ q ∷ []) = by_value (settled_in (goes v.of) q) refl
+  where
+    by_value : (a : Option Valued) → settled_in (goes v.of) q ≡ a
+        → RowSo at (on_place_and_value goes o) (value v ∷ q ∷ [])
+        (with_value a (λ w. done (v ∷ []) (acting at o (path_and_value (path_of v.expr) w.expr))))
     by_value None s = none_given _ _ _
-    by_value (Some w) s = given_so _ (M.row_place_and_value (settled_in_so (goes v.of) o w s))
-row_so at (on_places makes) (value v ∷ value w ∷ []) = only_so (same v.of w.of) _ (λ t. M.row_places t)
-row_so at (on_elements goes makes) (value v ∷ []) = by_types (goes v.of) refl
+    by_value (Some w) s = given_so _ (M.row_place_and_value (settled_in_so (goes v.of) q w s))
+row_so at (on_places o) (value v ∷ value w ∷ []) = only_so (same v.of w.of) _ (λ t. M.row_places t)
+row_so at (on_type gives act) (a_type t ∷ []) = by_type (gives t) refl
   where
-    by_types : (ts : List Ty) → goes v.of ≡ ts → RowSo at (on_elements goes makes) (value v ∷ []) (popping at makes ts v)
-    by_types [] g = none_given _ _ _
-    by_types (t ∷ ts) g = given_so _ (M.row_elements g)
-row_so at (on_type test makes) (a_type t ∷ []) = only_so (test t) _ (λ e. M.row_type e)
-row_so at (on_input makes) (the_input ∷ []) = given_so _ M.row_input
-row_so at (on_input_and_place test makes) (the_input ∷ value v ∷ []) = only_so (test v.of) _ (λ t. M.row_input_and_place t)
+    by_type : (a : Option (Option Ty)) → gives t ≡ a
+        → RowSo at (on_type gives act) (a_type t ∷ []) (with_type a (λ ty. done [] (Apply at ty act NoArg)))
+    by_type None g = none_given _ _ _
+    by_type (Some ty) g = given_so _ (M.row_type g)
+row_so at (on_input ty o) (the_input ∷ []) = given_so _ M.row_input
+row_so at (on_input_and_place test ty o) (the_input ∷ value v ∷ []) = only_so (test v.of) _ (λ t. M.row_input_and_place t)
 row_so at row os = none_given at row os
 
-row_not_back : (at : Node) (row : Operation) (os : List Operand) → RowFitsNot at row os → on_operands at row os ≡ None
+row_not_back : (at : Node) (row : BuiltIn) (os : List Operand) → RowFitsNot at row os → on_operands at row os ≡ None
 unfolding RowSo
 row_not_back at row os f = by_answer (on_operands at row os) refl
   where
@@ -199,7 +206,7 @@ row_not_back at row os f = by_answer (on_operands at row os) refl
     by_answer None e = refl
     by_answer (Some d) e = absurd (f d.writes d.expr (row_so at row os d e))
 
-rows_so : (at : Node) (rows : List Operation) (os : List Operand) (d : Done) → first_row at rows os ≡ Some d → FirstRow at rows os d.writes d.expr
+rows_so : (at : Node) (rows : List BuiltIn) (os : List Operand) (d : Done) → first_row at rows os ≡ Some d → FirstRow at rows os d.writes d.expr
 unfolding RowSo
 rows_so at [] os d e = none_some e
 rows_so at (row ∷ rest) os d e = by_answer (on_operands at row os) refl e (λ h. rows_so at rest os d h)
@@ -209,7 +216,7 @@ rows_so at (row ∷ rest) os d e = by_answer (on_operands at row os) refl e (λ 
     by_answer (Some c) s e f = this_row (row_so at row os d (s ∙ e))
     by_answer None s e f = later_row (λ vs x h. some_none (sym (row_back h) ∙ s)) (f e)
 
-no_rows_so : (at : Node) (rows : List Operation) (os : List Operand) → first_row at rows os ≡ None → NoRow at rows os
+no_rows_so : (at : Node) (rows : List BuiltIn) (os : List Operand) → first_row at rows os ≡ None → NoRow at rows os
 no_rows_so at [] os e = no_more_rows
 no_rows_so at (row ∷ rest) os e = by_answer (on_operands at row os) refl e (λ h. no_rows_so at rest os h)
   where
@@ -218,13 +225,13 @@ no_rows_so at (row ∷ rest) os e = by_answer (on_operands at row os) refl e (λ
     by_answer (Some c) s e f = some_none e
     by_answer None s e f = not_this_row (λ vs x h. some_none (sym (row_back h) ∙ s)) (f e)
 
-rows_back : {at : Node} {rows : List Operation} {os : List Operand} {vs : List Valued} {e : Expr} → FirstRow at rows os vs e
+rows_back : {at : Node} {rows : List BuiltIn} {os : List Operand} {vs : List Valued} {e : Expr} → FirstRow at rows os vs e
     → first_row at rows os ≡ Some (done vs e)
 rows_back {at} {os = os} (this_row {rest = rest} h) = ap (λ a. or_later a (first_row at rest os)) (row_back h)
 rows_back {at} {os = os} (later_row {row = row} {rest = rest} f h) =
     ap (λ a. or_later a (first_row at rest os)) (row_not_back at row os f) ∙ rows_back h
 
-no_rows_back : {at : Node} {rows : List Operation} {os : List Operand} → NoRow at rows os → first_row at rows os ≡ None
+no_rows_back : {at : Node} {rows : List BuiltIn} {os : List Operand} → NoRow at rows os → first_row at rows os ≡ None
 no_rows_back no_more_rows = refl
 no_rows_back {at} {os = os} (not_this_row {row = row} {rest = rest} f h) =
     ap (λ a. or_later a (first_row at rest os)) (row_not_back at row os f) ∙ no_rows_back h

@@ -6,21 +6,14 @@ use Rattle.arc_base.specs.declared.place.Code.{Code}
 use Rattle.arc_base.specs.declared.place.Code.TheVariants.{UnknownName, NotTyped}
 use Rattle.arc_base.specs.Refusal.{and_then, IsRefusal}
 use Rattle.indent_scanner.specs.Words.{normal}
-use Rattle.nim_tree.specs.Terms as term
-use Rattle.nim_tree.specs.Terms.{Term, Parts, no_parts, part}
-use Rattle.nim_core.specs.Program.{Expr, Inits, type_of}
 use Rattle.nim_types.specs.Types.{Ty}
 use Rattle.expr_rules.specs.Env as env_of
 use Rattle.expr_rules.specs.Env.{Env, Known, known}
-use Rattle.expr_rules.specs.Answers.{Answer, not_typed, Valued, valued_by}
-use Rattle.expr_rules.specs.Paths.{can_be_written}
-use Rattle.expr_rules.specs.Demands.{fields, accepts}
-use Rattle.expr_rules.specs.Typed.{accepted, accepted_by}
-use Rattle.expr_rules.specs.Rules.{v_value, AreValues, v_none, v_more}
+use Rattle.expr_rules.specs.Answers.{Answer, not_typed}
 use Rattle.expr_rules.specs.Builtins.{is_built_in, unless_built_in}
 use Rattle.expr_rules.specs.Constructions.{Found, Plan, plan, field_named, is_number_among, with_field, field_or_unknown, fields_for, object_of, plan_with}
 use Rattle.expr_rules.specs.Constructions.{plan_as}
-use Rattle.expr_rules.specs.Constructions.{plan_for, part_names, types_in, init_before, inits_of}
+use Rattle.expr_rules.specs.Constructions.{plan_for}
 use Rattle.expr_rules.specs.FieldsGiven.{AreFields, no_part, a_field, AreNoFields, unknown_field, later_field, field_twice}
 use Rattle.expr_rules.specs.Meant.{IsUnknown, no_declaration}
 use Rattle.expr_rules.proofs.Means.{Means, m_ok, m_err, means_then, means_map, bind_ok, bind_err}
@@ -154,31 +147,3 @@ no_object_refused env at x names f o = by_known (known env x) refl o
     by_known (env_of.procedures all) k o = refl
     by_known env_of.a_pending_type k o = refl
     by_known env_of.the_input k o = refl
-
--- ---- a value for each field
-
-pub data HasInits : Option Inits → Type 0 where
-  has_inits : {given : Inits} → HasInits (Some given)
-
--- where no field is left no value is taken
-none_taken : {C : Type 0} (writable : Bool) (e : Expr) (v : Valued) → accepted (fields []) writable e ≡ Ok v → C
-none_taken writable e v h = by_type (type_of e) h
-  where
-    by_type : {C : Type 0} (t : Option Ty)
-        → and_then (valued_by e t) (λ v. accepted_by (accepts (fields []) v.of) (record v { writable = writable })) ≡ Ok v → C
-    by_type None h = cc
-    by_type (Some t) h = cc
-
-unnamed : {C : Type 0} {env : Env} {ty : Ty} {chosen : List Found} {n m : ℕ} {a : Term} {rest : Parts} {vs : List Valued} → AreFields env ty [] chosen
-    → AreValues env (fields (types_in chosen)) n (part a rest) vs m → C
-unnamed {env = env} no_part (v_more {a = t} (v_value {e = e} {v = v} h a) k) = none_taken (can_be_written env t e) e v a
-
-one_more : (f : Found) (v : Valued) (a : Option Inits) → HasInits a → HasInits (init_before f v a)
-one_more f v (Some given) h = has_inits
-one_more f v None h = elim h [ ]
-
-pub inits_given : {env : Env} {ty : Ty} {chosen : List Found} {n m : ℕ} {vs : List Valued} (inside : Parts) → AreFields env ty (part_names inside) chosen
-    → AreValues env (fields (types_in chosen)) n inside vs m → HasInits (inits_of chosen vs)
-inits_given no_parts no_part v_none = has_inits
-inits_given (part (term.named at x a) rest) (a_field {f = f} e h t) (v_more {v = v} g k) = one_more f v _ (inits_given rest h k)
-inits_given (part a rest) f h = unnamed f h

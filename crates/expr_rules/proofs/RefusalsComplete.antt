@@ -7,7 +7,7 @@ use Rattle.indent_scanner.specs.Words.{normal}
 use Rattle.arc_base.specs.Refusal.{IsRefusal}
 use Rattle.nim_tree.specs.Terms.{Term, Parts, Choices, place_of}
 use Rattle.nim_types.specs.Types.{Ty}
-use Rattle.nim_core.specs.Program.{Label}
+use Rattle.nim_program.specs.Program.{Label}
 use Rattle.expr_rules.specs.Env as env_of
 use Rattle.expr_rules.specs.Env.{Env, Known, known, known_as}
 use Rattle.expr_rules.specs.Builtins.{is_built_in, unless_built_in}

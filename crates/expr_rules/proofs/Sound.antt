@@ -8,7 +8,7 @@ use Rattle.nim_tree.specs.Terms as term
 use Rattle.nim_tree.specs.Terms.{Term, Parts, no_parts, part, Choices, no_choices, choice, place_of}
 use Rattle.nim_types.specs.Types as type
 use Rattle.nim_types.specs.Types.{Ty}
-use Rattle.nim_core.specs.Program.{Label, type_of}
+use Rattle.nim_program.specs.Program.{Label, type_of}
 use Rattle.expr_rules.specs.Env.{Env, known}
 use Rattle.expr_rules.specs.Answers.{Want, nothing, wanted, within}
 use Rattle.expr_rules.specs.Demands.{Asks, anything, exactly, selector, parts, fields, elements, want_in, asks_behind, Demand, arguments, demand_behind}

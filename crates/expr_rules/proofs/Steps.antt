@@ -10,15 +10,14 @@ use Rattle.nim_tree.specs.declared.expr.UnaryOp.{UnaryOp}
 use Rattle.nim_tree.specs.Terms as term
 use Rattle.nim_tree.specs.Terms.{Term, Parts, no_parts, part, Choices, no_choices, choice, place_of}
 use Rattle.nim_types.specs.Types.{Ty}
-use Rattle.nim_core.specs.Program.{Expr, Inits, Label}
+use Rattle.nim_program.specs.Program.{Expr, Label}
 use Rattle.expr_rules.specs.Env as env_of
 use Rattle.expr_rules.specs.Env.{Env, Known, known}
 use Rattle.expr_rules.specs.Builtins.{is_built_in, unless_built_in}
 use Rattle.expr_rules.specs.Answers.{Answer, gives, Typed, Valued, Want, nothing, within, Operand, value}
 use Rattle.expr_rules.specs.Demands.{Asks, anything, selector, fields, want_in, Demand}
 use Rattle.expr_rules.specs.Demands.{receiver_demand, Special, special, ordinary, is_open, is_type, is_stdin, is_a_type, bare}
-use Rattle.expr_rules.specs.Constructions.{part_names, types_in, Plan, inits_of, constructed}
-use Rattle.expr_rules.specs.Constructions.{construct_rule}
+use Rattle.expr_rules.specs.Constructions.{part_names, types_in, Plan, construct_rule}
 use Rattle.expr_rules.specs.Choices.{Branching, undecided}
 use Rattle.expr_rules.specs.Choices.{Chosen, Picked, gives_in, case_node, case_rule, range_of, new_label}
 use Rattle.expr_rules.specs.Names.{is_unknown, is_value_name, name_rule, type_rule, call_rule, field_of, field_or_call, default_of_value, method_by}
@@ -40,7 +39,7 @@ use Rattle.expr_rules.specs.Refusals.{SpellsNothing, SpellsNoTypes}
 use Rattle.expr_rules.proofs.Means.{Means, m_ok, m_err, means_then, means_map, means_last, itself}
 use Rattle.expr_rules.proofs.Chosen.{true_false}
 use Rattle.expr_rules.proofs.OperationRows.{unknown_built, unknown_known, callee_sound}
-use Rattle.expr_rules.proofs.Planned.{HasInits, inits_given, IsPlan, is_plan, NoPlan, no_name, no_object, no_fields}
+use Rattle.expr_rules.proofs.Planned.{IsPlan, is_plan, NoPlan, no_name, no_object, no_fields}
 use Rattle.expr_rules.proofs.Called.{call_sound}
 use Rattle.expr_rules.proofs.Covers.{IsNew, is_new, is_again, label_so, enough_sound}
 
@@ -267,14 +266,8 @@ range_again {env} {ty} {before} {at} {p} {a} {b} {rest} g h e r =
 
 pub construct_made : {env : Env} {want : Want} {n m : ℕ} {at : Place} {x : List ℕ} {inside : Parts} {p : Plan} {vs : List Valued}
     → IsPlan env x (part_names inside) p → AreValues env (fields (types_in p.chosen)) (suc n) inside vs m
-    → TypedSo env want n (term.construct at x inside) (and_then (construct_rule n at p vs) (λ e. gives e m))
-construct_made {env} {want} {n} {m} {at} {x} {inside} {vs = vs} (is_plan {ty = ty} {chosen = chosen} o f) h =
-    by_inits (inits_of chosen vs) refl (inits_given inside f h)
-  where
-    by_inits : (a : Option Inits) → inits_of chosen vs ≡ a → HasInits a
-        → TypedSo env want n (term.construct at x inside) (and_then (constructed n at ty a) (λ e. gives e m))
-    by_inits (Some given) e k = m_ok (t_construct o f h e)
-    by_inits None e k = elim k [ ]
+    → TypedSo env want n (term.construct at x inside) (gives (construct_rule n at p.of p.chosen vs) m)
+construct_made (is_plan o f) h = m_ok (t_construct o f h)
 
 pub fields_refused : {env : Env} {want : Want} {n : ℕ} {at p : Place} {x : List ℕ} {inside : Parts} {plan : Plan} {c : Code}
     → IsPlan env x (part_names inside) plan → AreNoValues env (fields (types_in plan.chosen)) (suc n) inside c p

@@ -5,8 +5,9 @@ use Rattle.arc_base.specs.declared.place.Code.TheVariants.{NotTyped}
 use Rattle.arc_base.specs.Refusal.{Refusal, refused}
 use Rattle.nim_types.specs.Types as type
 use Rattle.nim_types.specs.Types.{Ty, Tys, same}
-use Rattle.nim_core.specs.declared.expr.Node.{Node}
-use Rattle.nim_core.specs.Program.{Expr, Sequence, Exprs, NoExpr, AnExpr, type_of, node_of}
+use Rattle.nim_program.specs.declared.expr.Node.{Node}
+use Rattle.nim_program.specs.Program.{Expr, Args, NoArg, ByValue, type_of, node_of}
+use Rattle.nim_program.specs.Nodes.{sequence}
 
 -- An answer of the rules: what was asked for, or the first refusal in order of text, operands before their operation.
 abbrev pub Answer : Type 0 → Type 0
@@ -84,7 +85,7 @@ pub data Operand : Type 0 where
   the_input : Operand
 
 abbrev pub no_elements : Place → ℕ → Ty → Valued
-no_elements at n of = valued (Sequence (node n at) (type.sequence of) NoExpr) (type.sequence of)
+no_elements at n of = valued (sequence (node n at) (type.sequence of) NoArg) (type.sequence of)
 
 abbrev pub only_if : {A : Type 0} → Bool → A → Option A
 only_if true x = Some x
@@ -101,9 +102,10 @@ settled ty (value v) = only_if (same ty v.of) v
 settled ty (open_sequence at n) = open_as ty at n
 settled ty _ = None
 
-abbrev pub exprs_of : List Valued → Exprs
-exprs_of [] = NoExpr
-exprs_of (v ∷ rest) = AnExpr v.expr (exprs_of rest)
+-- values as operands of a node
+abbrev pub exprs_of : List Valued → Args
+exprs_of [] = NoArg
+exprs_of (v ∷ rest) = ByValue v.expr (exprs_of rest)
 
 abbrev pub types_of : List Valued → Tys
 types_of [] = type.no_types

@@ -5,21 +5,19 @@ use Rattle.arc_base.specs.declared.place.Code.TheVariants.{NotAssignable, Unknow
 use Rattle.arc_base.specs.Refusal.{and_then, refused}
 use Rattle.nim_types.specs.Types as type
 use Rattle.nim_types.specs.Types.{Ty, same, same_text}
-use Rattle.nim_core.specs.declared.expr.Node.{Node}
-use Rattle.nim_core.specs.declared.expr.Operator.{Operator}
-use Rattle.nim_core.specs.declared.expr.Operator.TheVariants as operator
-use Rattle.nim_core.specs.declared.expr.Measure.TheVariants as measure
-use Rattle.nim_core.specs.Program.{Expr, Ordinal, Default, Measured, Convert, Show, Pop, Move, ReadLine, ReadLineInto, QuitZero, Quit, StepOne}
-use Rattle.nim_core.specs.Program.{Step}
-use Rattle.nim_core.specs.Program.{Add, SetLen, Swap, Path}
-use Rattle.nim_core.specs.Ints.{low, high}
+use Rattle.nim_program.specs.declared.expr.Node.{Node}
+use Rattle.nim_program.specs.declared.operation.Operation.{Operation}
+use Rattle.nim_program.specs.declared.operation.Operation.TheVariants as operation
+use Rattle.nim_program.specs.declared.operation.Operator.{Operator}
+use Rattle.nim_program.specs.declared.operation.Operator.TheVariants as operator
+use Rattle.nim_program.specs.declared.operation.Measure.TheVariants as measure
+use Rattle.nim_program.specs.Program.{Number, Act, Doing, Giving, Expr, Apply, Path, Args, NoArg, ByPath}
+use Rattle.nim_program.specs.Nodes.{one_value, one_path, path_and_value, doing, acting}
+use Rattle.nim_program.specs.Ints.{low, high}
 use Rattle.expr_rules.specs.Answers.{Answer, not_typed, place_in, Valued, Operand, value, a_type, the_input, settled, only_if, no_fit}
 use Rattle.expr_rules.specs.Paths.{path_of}
 
 -- ---- kinds of types
-
-abbrev pub any : Ty → Bool
-any t = true
 
 abbrev pub is_int : Ty → Bool
 is_int t = same type.int t
@@ -49,15 +47,14 @@ has_length (type.sequence t) = true
 has_length (type.array n t) = true
 has_length _ = false
 
--- the type of the elements that can be added and taken away
-abbrev pub added_to : Ty → List Ty
-added_to type.text = type.text ∷ type.char ∷ []
-added_to (type.sequence t) = t ∷ []
-added_to _ = []
+-- what a text is made longer by
+abbrev pub joined_to : Ty → List Ty
+joined_to type.text = type.text ∷ type.char ∷ []
+joined_to _ = []
 
-abbrev pub popped_from : Ty → List Ty
-popped_from (type.sequence t) = t ∷ []
-popped_from _ = []
+abbrev pub elements_of : Ty → List Ty
+elements_of (type.sequence t) = t ∷ []
+elements_of _ = []
 
 -- ints go with ints
 abbrev pub stepped_by : Ty → List Ty
@@ -70,62 +67,72 @@ resized_by type.text = type.int ∷ []
 resized_by (type.sequence t) = type.int ∷ []
 resized_by _ = []
 
--- ---- operations, with what they take and the node that they give
+-- ---- what is given for an operand of a type: None where the operation doesn't fit, Some None where it gives no value
 
-pub data Operation : Type 0 where
-  on_nothing : (Node → Expr) → Operation
-  -- a value of such a type
-  on_value : (Ty → Bool) → (Node → Valued → Expr) → Operation
-  -- a path that can be written, of such a type; and with a value of one of the types that go with it, or another path of the type
-  on_place : (Ty → Bool) → (Node → Ty → Path → Expr) → Operation
-  on_place_and_value : (Ty → List Ty) → (Node → Path → Expr → Expr) → Operation
-  on_places : (Node → Path → Path → Expr) → Operation
-  -- one that takes an element away
-  on_elements : (Ty → List Ty) → (Node → Ty → Path → Expr) → Operation
-  on_type : (Ty → Bool) → (Node → Ty → Expr) → Operation
-  on_input : (Node → Expr) → Operation
-  on_input_and_place : (Ty → Bool) → (Node → Path → Expr) → Operation
+abbrev pub if_kind : (Ty → Bool) → Option Ty → Ty → Option (Option Ty)
+if_kind test given t = only_if (test t) given
 
-abbrev pub stepping : Operator → List Operation
-stepping o = on_place is_int (λ node ty path. StepOne node o path) ∷ on_place_and_value stepped_by (λ node path e. Step node o path e) ∷ []
+-- the type itself
+abbrev pub likewise : Ty → Option (Option Ty)
+likewise t = Some (Some t)
 
-abbrev pub operations : List (List ℕ × List Operation)
+-- the type of the element that is taken away
+abbrev pub popped : Ty → Option (Option Ty)
+popped (type.sequence t) = Some (Some t)
+popped _ = None
+
+-- ---- operations, with what they take, what they give and what they do
+
+-- how an operand is handed on: its value; its path, which is read in place; or its path, which is written
+pub data Hand : Type 0 where
+  as_value in_place to_write : Hand
+
+pub data BuiltIn : Type 0 where
+  on_nothing : Operation → BuiltIn
+  on_one : Hand → (gives : Ty → Option (Option Ty)) → Operation → BuiltIn
+  -- a path that is written, with a value of one of the types that go with it, or with another path of the type; neither gives a value
+  on_place_and_value : (goes : Ty → List Ty) → Operation → BuiltIn
+  on_places : Operation → BuiltIn
+  on_type : (gives : Ty → Option (Option Ty)) → Act → BuiltIn
+  on_input : (gives : Ty) → Operation → BuiltIn
+  on_input_and_place : (Ty → Bool) → (gives : Ty) → Operation → BuiltIn
+
+abbrev pub stepping : Operator → List BuiltIn
+stepping o = on_one to_write (if_kind is_int None) (operation.Update o) ∷ on_place_and_value stepped_by (operation.Update o) ∷ []
+
+abbrev pub operations : List (List ℕ × List BuiltIn)
 operations =
-    (codes "len", on_value has_length (λ node v. Measured node type.int measure.Len (path_of v.expr)) ∷ [])
+    (codes "len", on_one in_place (if_kind has_length (Some type.int)) (operation.Measure measure.Len) ∷ [])
     ∷ (
       codes "high",
-      on_value has_length (λ node v. Measured node type.int measure.High (path_of v.expr))
-          ∷ on_type is_int (λ node ty. Ordinal node type.int high) ∷ [],
+      on_one in_place (if_kind has_length (Some type.int)) (operation.Measure measure.High)
+          ∷ on_type (if_kind is_int (Some type.int)) (Giving (Number high)) ∷ [],
     )
-    ∷ (codes "low", on_type is_int (λ node ty. Ordinal node type.int low) ∷ [])
-    ∷ (codes "ord", on_value is_ordinal (λ node v. Convert node type.int v.expr) ∷ [])
-    ∷ (codes "chr", on_value is_int (λ node v. Convert node type.char v.expr) ∷ [])
-    ∷ (codes "$", on_value is_shown (λ node v. Show node type.text v.expr) ∷ [])
+    ∷ (codes "low", on_type (if_kind is_int (Some type.int)) (Giving (Number low)) ∷ [])
+    ∷ (codes "ord", on_one as_value (if_kind is_ordinal (Some type.int)) operation.Convert ∷ [])
+    ∷ (codes "chr", on_one as_value (if_kind is_int (Some type.char)) operation.Convert ∷ [])
+    ∷ (codes "$", on_one as_value (if_kind is_shown (Some type.text)) operation.Show ∷ [])
     ∷ (codes "inc", stepping operator.Add)
     ∷ (codes "dec", stepping operator.Subtract)
-    ∷ (codes "add", on_place_and_value added_to (λ node path e. Add node path e) ∷ [])
-    ∷ (codes "setlen", on_place_and_value resized_by (λ node path e. SetLen node path e) ∷ [])
-    ∷ (codes "pop", on_elements popped_from (λ node ty path. Pop node ty path) ∷ [])
-    ∷ (codes "default", on_type any (λ node ty. Default node ty) ∷ [])
-    ∷ (codes "move", on_place any (λ node ty path. Move node ty path) ∷ [])
-    ∷ (codes "swap", on_places (λ node a b. Swap node a b) ∷ [])
-    ∷ (codes "quit", on_nothing (λ node. QuitZero node) ∷ on_value is_int (λ node v. Quit node v.expr) ∷ [])
-    ∷ (
-      codes "readline",
-      on_input (λ node. ReadLine node type.text)
-          ∷ on_input_and_place is_text (λ node path. ReadLineInto node type.bool path) ∷ [],
-    )
+    ∷ (codes "add", on_place_and_value joined_to operation.Append ∷ on_place_and_value elements_of operation.Add ∷ [])
+    ∷ (codes "setlen", on_place_and_value resized_by operation.SetLength ∷ [])
+    ∷ (codes "pop", on_one to_write popped operation.Pop ∷ [])
+    ∷ (codes "default", on_type likewise (Doing operation.Default) ∷ [])
+    ∷ (codes "move", on_one to_write likewise operation.Move ∷ [])
+    ∷ (codes "swap", on_places operation.Swap ∷ [])
+    ∷ (codes "quit", on_nothing operation.Quit ∷ on_one as_value (if_kind is_int None) operation.Quit ∷ [])
+    ∷ (codes "readline", on_input type.text operation.ReadLine ∷ on_input_and_place is_text type.bool operation.ReadLineInto ∷ [])
     ∷ []
 
-abbrev pub if_operation : Bool → List Operation → List Operation → List Operation
+abbrev pub if_operation : Bool → List BuiltIn → List BuiltIn → List BuiltIn
 if_operation true rows rest = rows
 if_operation false rows rest = rest
 
-abbrev pub operations_in : List ℕ → List (List ℕ × List Operation) → List Operation
+abbrev pub operations_in : List ℕ → List (List ℕ × List BuiltIn) → List BuiltIn
 operations_in x [] = []
 operations_in x (row ∷ rest) = if_operation (same_text x row.0) row.1 (operations_in x rest)
 
-abbrev pub operations_named : List ℕ → List Operation
+abbrev pub operations_named : List ℕ → List BuiltIn
 operations_named x = operations_in x operations
 
 -- ---- names
@@ -141,7 +148,7 @@ is_default x = same_text x (codes "default")
 abbrev pub is_new_sequence : List ℕ → Bool
 is_new_sequence x = same_text x (codes "newseq")
 
-abbrev pub is_there : List Operation → Bool
+abbrev pub is_there : List BuiltIn → Bool
 is_there [] = false
 is_there (_ ∷ _) = true
 
@@ -176,22 +183,31 @@ abbrev pub with_value : Option Valued → (Valued → Done) → Option Done
 with_value None go = None
 with_value (Some v) go = Some (go v)
 
-abbrev pub popping : Node → (Node → Ty → Path → Expr) → List Ty → Valued → Option Done
-popping at makes [] v = None
-popping at makes (t ∷ _) v = Some (done (v ∷ []) (makes at t (path_of v.expr)))
+abbrev pub with_type : Option (Option Ty) → (Option Ty → Done) → Option Done
+with_type None go = None
+with_type (Some ty) go = Some (go ty)
 
-abbrev pub on_operands : Node → Operation → List Operand → Option Done
-on_operands at (on_nothing makes) [] = Some (done [] (makes at))
-on_operands at (on_value test makes) (value v ∷ []) = only_if (test v.of) (done [] (makes at v))
-on_operands at (on_place test makes) (value v ∷ []) = only_if (test v.of) (done (v ∷ []) (makes at v.of (path_of v.expr)))
-on_operands at (on_place_and_value goes makes) (value v ∷ o ∷ []) =
-    with_value (settled_in (goes v.of) o) (λ w. done (v ∷ []) (makes at (path_of v.expr) w.expr))
-on_operands at (on_places makes) (value v ∷ value w ∷ []) =
-    only_if (same v.of w.of) (done (v ∷ w ∷ []) (makes at (path_of v.expr) (path_of w.expr)))
-on_operands at (on_elements goes makes) (value v ∷ []) = popping at makes (goes v.of) v
-on_operands at (on_type test makes) (a_type t ∷ []) = only_if (test t) (done [] (makes at t))
-on_operands at (on_input makes) (the_input ∷ []) = Some (done [] (makes at))
-on_operands at (on_input_and_place test makes) (the_input ∷ value v ∷ []) = only_if (test v.of) (done (v ∷ []) (makes at (path_of v.expr)))
+-- what is written, and the operand of the node
+abbrev pub written_by : Hand → Valued → List Valued
+written_by to_write v = v ∷ []
+written_by _ v = []
+
+abbrev pub handed : Hand → Valued → Args
+handed as_value v = one_value v.expr
+handed _ v = one_path (path_of v.expr)
+
+abbrev pub on_operands : Node → BuiltIn → List Operand → Option Done
+on_operands at (on_nothing o) [] = Some (done [] (acting at o NoArg))
+on_operands at (on_one hand gives o) (value v ∷ []) =
+    with_type (gives v.of) (λ ty. done (written_by hand v) (Apply at ty (Doing o) (handed hand v)))
+on_operands at (on_place_and_value goes o) (value v ∷ w ∷ []) =
+    with_value (settled_in (goes v.of) w) (λ w. done (v ∷ []) (acting at o (path_and_value (path_of v.expr) w.expr)))
+on_operands at (on_places o) (value v ∷ value w ∷ []) =
+    only_if (same v.of w.of) (done (v ∷ w ∷ []) (acting at o (ByPath (path_of v.expr) (one_path (path_of w.expr)))))
+on_operands at (on_type gives act) (a_type t ∷ []) = with_type (gives t) (λ ty. done [] (Apply at ty act NoArg))
+on_operands at (on_input ty o) (the_input ∷ []) = Some (done [] (doing at ty o NoArg))
+on_operands at (on_input_and_place test ty o) (the_input ∷ value v ∷ []) =
+    only_if (test v.of) (done (v ∷ []) (doing at ty o (one_path (path_of v.expr))))
 on_operands at _ _ = None
 
 abbrev pub or_later : Option Done → Option Done → Option Done
@@ -199,7 +215,7 @@ or_later (Some d) later = Some d
 or_later None later = later
 
 -- the first that fits
-abbrev pub first_row : Node → List Operation → List Operand → Option Done
+abbrev pub first_row : Node → List BuiltIn → List Operand → Option Done
 first_row at [] operands = None
 first_row at (row ∷ rest) operands = or_later (on_operands at row operands) (first_row at rest operands)
 

@@ -5,11 +5,12 @@ use Rattle.arc_base.specs.declared.place.Code.TheVariants.{NotAssignable, VarOve
 use Rattle.arc_base.specs.Refusal.{and_then, refused}
 use Rattle.nim_types.specs.Types as type
 use Rattle.nim_types.specs.Types.{Ty, same_text}
-use Rattle.nim_core.specs.declared.expr.Comparison.{Comparison}
-use Rattle.nim_core.specs.declared.expr.Comparison.TheVariants as comparison
-use Rattle.nim_core.specs.declared.program.Mode.{Mode}
-use Rattle.nim_core.specs.declared.program.Mode.TheVariants.{Plain, Sink, Var}
-use Rattle.nim_core.specs.Program.{Expr, Call, Compare, Show, Path, Args, NoArg, ByValue, ByVar}
+use Rattle.nim_program.specs.declared.operation.Comparison.{Comparison}
+use Rattle.nim_program.specs.declared.operation.Comparison.TheVariants as comparison
+use Rattle.nim_program.specs.declared.program.Mode.{Mode}
+use Rattle.nim_program.specs.declared.program.Mode.TheVariants.{Plain, Sink, Var}
+use Rattle.nim_program.specs.Program.{Expr, Path, Args, NoArg, ByValue, ByPath}
+use Rattle.nim_program.specs.Nodes.{call, compare, show}
 use Rattle.expr_rules.specs.Env.{Parameter, Procedure}
 use Rattle.expr_rules.specs.Answers.{Answer, not_typed, node, place_in, Valued, Operand, settled}
 use Rattle.expr_rules.specs.Paths.{path_of, overlaps_any}
@@ -62,7 +63,7 @@ paths_with before (by_var path) = before ++ path ∷ []
 
 abbrev pub argument_before : Argument → Args → Args
 argument_before (by_value e) rest = ByValue e rest
-argument_before (by_var path) rest = ByVar path rest
+argument_before (by_var path) rest = ByPath path rest
 
 abbrev pub arguments_by : List Path → List (Parameter × Valued) → Answer Args
 arguments_by before [] = Ok NoArg
@@ -87,14 +88,14 @@ comparison_named x [] = None
 comparison_named x (row ∷ rest) = if_named (same_text x row.0) row.1 (comparison_named x rest)
 
 abbrev pub borrowed_call : ℕ → Place → Option Comparison → List (Parameter × Valued) → Answer Expr
-borrowed_call n at (Some c) (a ∷ b ∷ []) = Ok (Compare (node n at) type.bool c a.1.expr b.1.expr)
-borrowed_call n at None (a ∷ []) = Ok (Show (node n at) type.text a.1.expr)
+borrowed_call n at (Some c) (a ∷ b ∷ []) = Ok (compare (node n at) type.bool c a.1.expr b.1.expr)
+borrowed_call n at None (a ∷ []) = Ok (show (node n at) type.text a.1.expr)
 borrowed_call n at _ _ = not_typed at
 
 abbrev pub called : ℕ → Place → (borrowed : Bool) → List ℕ → Fit → Answer Expr
 called n at true x fit = borrowed_call n at (comparison_named x comparisons) fit.arguments
 called n at false x fit =
-    and_then (arguments_by [] fit.arguments) (λ args. Ok (Call (node n at) fit.callee.gives fit.callee.number args))
+    and_then (arguments_by [] fit.arguments) (λ args. Ok (call (node n at) fit.callee.gives fit.callee.number args))
 
 -- the one that fits is called; where none fits, something else is meant
 abbrev pub one_of : ℕ → Place → List ℕ → List Fit → (otherwise : Answer Expr) → Answer Expr

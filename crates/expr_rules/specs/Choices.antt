@@ -6,9 +6,9 @@ use Rattle.arc_base.specs.declared.place.Code.TheVariants.{CaseCover}
 use Rattle.arc_base.specs.Refusal.{and_then, refused}
 use Rattle.nim_types.specs.Types as type
 use Rattle.nim_types.specs.Types.{Ty, Facts, fact_of, members_in, same, same_text}
-use Rattle.nim_core.specs.Program as P
-use Rattle.nim_core.specs.Program.{Expr, Literal, Number, Characters, Label, Ordinals, Exactly, Choices, NoChoice, AChoice, Picks, NoPick, APick, type_of}
-use Rattle.nim_core.specs.Ints.{low, high}
+use Rattle.nim_program.specs.Program.{Expr, Choose, Args, Literal, Number, Characters, Label, Ordinals, Exactly, ByConditions, ByLabels, type_of}
+use Rattle.nim_program.specs.Nodes.{one_value, followed_by, selecting}
+use Rattle.nim_program.specs.Ints.{low, high}
 use Rattle.expr_rules.specs.Env.{Env}
 use Rattle.expr_rules.specs.Answers.{Answer, not_typed, node, place_in, Valued, Want, nothing, inner_by}
 use Rattle.expr_rules.specs.Constants.{constant_rule}
@@ -138,15 +138,16 @@ cover_rule facts at ty gives labels = cover_by (is_enough facts ty gives labels)
 
 -- ---- the nodes
 
--- a branch of an `if`, and of a `case`
+-- branches of an `if`, each condition before its value; and of a `case`: labels by branch, all labels with those before, and values
 pub record Chosen : Type 0 where
-  pub choices : Choices
+  pub parts : Args
   pub values : Branching
   pub next : ℕ
 
 pub record Picked : Type 0 where
-  pub picks : Picks
+  pub rows : List (List Label)
   pub labels : List Label
+  pub parts : Args
   pub values : Branching
   pub next : ℕ
 
@@ -155,13 +156,14 @@ gives_in (undecided want) = None
 gives_in (decided want ty) = ty
 
 abbrev pub if_rule : ℕ → Place → Chosen → Expr → Expr
-if_rule n at c otherwise = P.If (node n at) (type_of otherwise) c.choices otherwise
+if_rule n at c otherwise = Choose (node n at) (type_of otherwise) ByConditions (followed_by c.parts (one_value otherwise))
 
 abbrev pub case_else_rule : ℕ → Place → Valued → Picked → Expr → Expr
-case_else_rule n at v p otherwise = P.CaseElse (node n at) (type_of otherwise) v.expr p.picks otherwise
+case_else_rule n at v p otherwise =
+    Choose (node n at) (type_of otherwise) (ByLabels p.rows) (selecting v.expr (followed_by p.parts (one_value otherwise)))
 
 abbrev pub case_node : ℕ → Place → Valued → Picked → Expr
-case_node n at v p = P.Case (node n at) (gives_in p.values) v.expr p.picks
+case_node n at v p = Choose (node n at) (gives_in p.values) (ByLabels p.rows) (selecting v.expr p.parts)
 
 abbrev pub case_rule : Env → ℕ → Place → Valued → Picked → Answer Expr
 case_rule env n at v p = and_then (cover_rule env.facts at v.of (gives_in p.values) p.labels) (λ _. Ok (case_node n at v p))

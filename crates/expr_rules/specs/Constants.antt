@@ -1,20 +1,25 @@
 -- Constants: which expressions have a value that is known before any run, and which one.
 use Rattle.std.specs.Prelude.{ℕ, suc, ℤ, pos, negsuc, nat_eq, nat_lt, nat_le, if◌then◌else◌, List, [], ◌∷◌, ◌++◌, length}
-use Rattle.std.specs.Prelude.{unsigned_abs, Option, Some, Ok}
+use Rattle.std.specs.Prelude.{unsigned_abs, Option, Some, None, Ok}
 use Rattle.arc_base.specs.declared.place.Place.{Place}
 use Rattle.nim_types.specs.Types as type
 use Rattle.nim_types.specs.Types.{Ty, Field, Facts, fact_of, members_in, fields_in}
-use Rattle.nim_core.specs.declared.expr.Operator.{Operator}
-use Rattle.nim_core.specs.declared.expr.UnaryOperator.{UnaryOperator}
-use Rattle.nim_core.specs.declared.expr.Comparison.{Comparison}
-use Rattle.nim_core.specs.declared.expr.Measure.{Measure}
-use Rattle.nim_core.specs.declared.expr.Measure.TheVariants.{Len, High}
-use Rattle.nim_core.specs.Program as P
-use Rattle.nim_core.specs.Program.{Expr, Exprs, Path, Inits, Literal, Number, Characters, PartsOf, ElementsOf, Literals, NoLiteral, ALiteral}
-use Rattle.nim_core.specs.Ints.{Checked, Fine, Trapped, applied, applied_to, compared, truth, is_true, within}
-use Rattle.nim_core.specs.Texts.{plain_text, below_distinct}
+use Rattle.nim_program.specs.declared.operation.Operation.{Operation}
+use Rattle.nim_program.specs.declared.operation.Operation.TheVariants as operation
+use Rattle.nim_program.specs.declared.operation.Operator.{Operator}
+use Rattle.nim_program.specs.declared.operation.UnaryOperator.{UnaryOperator}
+use Rattle.nim_program.specs.declared.operation.Comparison.{Comparison}
+use Rattle.nim_program.specs.declared.operation.Measure.{Measure}
+use Rattle.nim_program.specs.declared.operation.Measure.TheVariants.{Len, High}
+use Rattle.nim_program.specs.declared.operation.Short.{Short}
+use Rattle.nim_program.specs.declared.operation.Short.TheVariants.{And, Or}
+use Rattle.nim_program.specs.Program.{Literal, Number, Characters, PartsOf, ElementsOf, Literals, NoLiteral, ALiteral, Act, Doing, Building, Giving, Calling}
+use Rattle.nim_program.specs.Program.{Expr, Apply, Read, Early, Choose, Path, Fresh, Args, NoArg, ByValue, ByPath, types_in}
+use Rattle.nim_program.specs.Ints.{Checked, Fine, Trapped, applied, applied_to, compared, truth, is_true, within}
+use Rattle.nim_program.specs.Texts.{plain_text, below_distinct}
+use Rattle.nim_program.specs.Defaults.{default_literal}
 use Rattle.expr_rules.specs.declared.limits.TheConstants.{MOST_TYPE_BYTES}
-use Rattle.expr_rules.specs.Literals.{default_literal, literal_bytes}
+use Rattle.expr_rules.specs.Literals.{literal_bytes}
 use Rattle.expr_rules.specs.Answers.{Answer, not_typed, place_in, Valued}
 
 -- ---- evaluation
@@ -104,7 +109,7 @@ abbrev pub measure_of : Measure → Literal → Evaluated Literal
 measure_of m (Characters bytes) = comes_to (Number (measured m (length bytes)))
 measure_of m (PartsOf all) = comes_to (Number (measured m (count all)))
 measure_of m (ElementsOf all) = comes_to (Number (measured m (count all)))
-measure_of m (Number z) = varies
+measure_of m _ = varies
 
 -- an ordinal, where it is one of so many
 abbrev pub among : ℕ → Literal → Evaluated Literal
@@ -112,9 +117,9 @@ among values (Number x) = if_fine (within values x)
 among values _ = varies
 
 -- a value of another type, where it has one
-abbrev pub converted : Facts → Ty → Literal → Evaluated Literal
-converted facts type.char l = among 256 l
-converted facts (type.enum key) l = among (length (members_in (fact_of facts (type.enum key)))) l
+abbrev pub converted : Facts → Option Ty → Literal → Evaluated Literal
+converted facts (Some type.char) l = among 256 l
+converted facts (Some (type.enum key)) l = among (length (members_in (fact_of facts (type.enum key)))) l
 converted facts ty l = comes_to l
 
 -- what `$` gives of a value of the type
@@ -133,41 +138,90 @@ abbrev pub field_literals : Facts → ℕ → List Field → List (ℕ × Litera
 field_literals facts i [] given = NoLiteral
 field_literals facts i (f ∷ rest) given = ALiteral (given_or i given (default_literal facts f.of)) (field_literals facts (suc i) rest given)
 
-abbrev pub object_of : Facts → Ty → List (ℕ × Literal) → Evaluated Literal
-object_of facts ty given = limited (PartsOf (field_literals facts 0 (fields_in (fact_of facts ty)) given))
+abbrev pub fields_of : Facts → Option Ty → List Field
+fields_of facts None = []
+fields_of facts (Some ty) = fields_in (fact_of facts ty)
+
+abbrev pub object_of : Facts → Option Ty → List (ℕ × Literal) → Evaluated Literal
+object_of facts ty given = limited (PartsOf (field_literals facts 0 (fields_of facts ty) given))
+
+-- of a literal; a text has a limit
+abbrev pub of_literal : Literal → Evaluated Literal
+of_literal (Characters bytes) = limited (Characters bytes)
+of_literal value = comes_to value
+
+abbrev pub alone : (Literal → Evaluated Literal) → Literals → Evaluated Literal
+alone go (ALiteral a NoLiteral) = go a
+alone go _ = varies
+
+abbrev pub in_pair : (Literal → Literal → Evaluated Literal) → Literals → Evaluated Literal
+in_pair go (ALiteral a (ALiteral b NoLiteral)) = go a b
+in_pair go _ = varies
+
+abbrev pub first_type : List (Option Ty) → Option Ty
+first_type [] = None
+first_type (ty ∷ rest) = ty
+
+-- What an operation that gives a value of a type does with the values of operands of these types; None of one that is never constant.
+abbrev pub computing : Facts → Option Ty → List (Option Ty) → Operation → Option (Literals → Evaluated Literal)
+computing facts ty types (operation.Unary o) = Some (alone (unary_of o))
+computing facts ty types (operation.Binary o) = Some (in_pair (binary_of o))
+computing facts ty types (operation.Compare c) = Some (in_pair (compare_of c))
+computing facts ty types operation.Convert = Some (alone (converted facts ty))
+computing facts ty types operation.Join = Some (in_pair join_of)
+computing facts ty types operation.Show = Some (alone (shown facts (first_type types)))
+computing facts ty types (operation.Measure m) = Some (alone (measure_of m))
+computing facts ty types operation.Make = Some (λ all. limited (PartsOf all))
+computing facts ty types operation.Sequence = Some (λ all. limited (ElementsOf all))
+computing facts ty types _ = None
+
+abbrev pub if_computed : Option (Literals → Evaluated Literal) → Evaluated Literals → Evaluated Literal
+if_computed None all = varies
+if_computed (Some go) all = on_one go all
+
+abbrev pub with_values : List ℕ → Literals → List (ℕ × Literal)
+with_values (field ∷ fields) (ALiteral l all) = (field, l) ∷ with_values fields all
+with_values _ _ = []
+
+-- of an act on operands of these types, which come to these values
+abbrev pub act_value : Facts → Option Ty → List (Option Ty) → Act → Evaluated Literals → Evaluated Literal
+act_value facts ty types (Doing o) all = if_computed (computing facts ty types o) all
+act_value facts ty types (Building fields) all = on_one (λ ls. object_of facts ty (with_values fields ls)) all
+act_value facts ty types (Giving l) all = of_literal l
+act_value facts ty types (Calling proc arguments) all = varies
+
+-- `and` and `or`
+abbrev pub short_of : Short → Evaluated Literal → Evaluated Literal → Evaluated Literal
+short_of And a b = both_of a b
+short_of Or a b = either_of a b
 
 abbrev mutual
   -- Literals, constants, operators, `$`, `ord`, `chr`, `len`, `high`, conversions, and what is built of such.
   pub value_in : Facts → Expr → Evaluated Literal
-  value_in facts (P.Ordinal at ty z) = comes_to (Number z)
-  value_in facts (P.Text at ty bytes) = limited (Characters bytes)
-  value_in facts (P.Constant at ty value) = comes_to value
-  value_in facts (P.Unary at ty o a) = on_one (unary_of o) (value_in facts a)
-  value_in facts (P.Binary at ty o a b) = on_two (binary_of o) (value_in facts a) (value_in facts b)
-  value_in facts (P.Compare at ty c a b) = on_two (compare_of c) (value_in facts a) (value_in facts b)
-  value_in facts (P.Both at ty a b) = both_of (value_in facts a) (value_in facts b)
-  value_in facts (P.Either at ty a b) = either_of (value_in facts a) (value_in facts b)
-  value_in facts (P.Convert at ty a) = on_one (converted facts ty) (value_in facts a)
-  value_in facts (P.Join at ty a b) = on_two join_of (value_in facts a) (value_in facts b)
-  value_in facts (P.Show at ty a) = on_one (shown facts (P.type_of a)) (value_in facts a)
-  value_in facts (P.Measured at ty m path) = on_one (measure_of m) (value_at facts path)
-  value_in facts (P.Make at ty parts) = on_one (λ all. limited (PartsOf all)) (values_in facts parts)
-  value_in facts (P.Sequence at ty parts) = on_one (λ all. limited (ElementsOf all)) (values_in facts parts)
-  value_in facts (P.Construct at ty parts) = on_one (object_of facts ty) (fields_given facts parts)
-  value_in facts _ = varies
+  value_in facts (Apply node ty act operands) = act_value facts ty (types_in operands) act (values_in facts operands)
+  value_in facts (Read path) = varies
+  value_in facts (Early node ty short left right) = short_of short (value_in facts left) (value_in facts right)
+  value_in facts (Choose node ty chooser parts) = varies
 
-  -- a fresh value alone
+  -- of operands; a path is one where it is a fresh value alone
+  pub values_in : Facts → Args → Evaluated Literals
+  values_in facts NoArg = comes_to NoLiteral
+  values_in facts (ByValue e rest) = on_two (λ l all. comes_to (ALiteral l all)) (value_in facts e) (values_in facts rest)
+  values_in facts (ByPath path rest) = on_two (λ l all. comes_to (ALiteral l all)) (value_at facts path) (values_in facts rest)
+
   pub value_at : Facts → Path → Evaluated Literal
-  value_at facts (P.Fresh e) = value_in facts e
+  value_at facts (Fresh e) = value_in facts e
   value_at facts _ = varies
 
-  pub values_in : Facts → Exprs → Evaluated Literals
-  values_in facts P.NoExpr = comes_to NoLiteral
-  values_in facts (P.AnExpr e rest) = on_two (λ l all. comes_to (ALiteral l all)) (value_in facts e) (values_in facts rest)
+-- ---- an index
 
-  pub fields_given : Facts → Inits → Evaluated (List (ℕ × Literal))
-  fields_given facts P.NoInit = comes_to []
-  fields_given facts (P.AnInit field e rest) = on_two (λ l all. comes_to ((field, l) ∷ all)) (value_in facts e) (fields_given facts rest)
+abbrev pub number_in : Evaluated Literal → Option ℤ
+number_in (comes_to (Number z)) = Some z
+number_in _ = None
+
+-- the number of a constant index
+abbrev pub index_number : Facts → Expr → Option ℤ
+index_number facts index = number_in (value_in facts index)
 
 -- ---- where a constant is needed
 

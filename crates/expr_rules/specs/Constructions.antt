@@ -9,14 +9,15 @@ use Rattle.nim_tree.specs.Terms as term
 use Rattle.nim_tree.specs.Terms.{Parts, no_parts, part}
 use Rattle.nim_types.specs.Types as type
 use Rattle.nim_types.specs.Types.{Ty, Tys, Key, Field, Fact, Facts, fact_of, fields_in, base_in, same, same_all, same_text, no_types, types}
-use Rattle.nim_core.specs.Program.{Expr, Literal, Number, Read, Make, Sequence, Construct, Convert, Inits, NoInit, AnInit, Element, Exprs, NoExpr}
-use Rattle.nim_core.specs.Program as P
+use Rattle.nim_program.specs.Program.{Expr, Literal, Number, Read, Element, NoArg}
+use Rattle.nim_program.specs.Program as P
+use Rattle.nim_program.specs.Nodes.{make, sequence, construct, convert}
 use Rattle.expr_rules.specs.declared.limits.TheConstants.{MOST_ELEMENTS}
 use Rattle.expr_rules.specs.Env.{Env, Known, a_type, known, is_visible}
 use Rattle.expr_rules.specs.Answers.{Answer, not_typed, node, Typed, gives, Valued, Want, nothing, whole, inner, wanted, Operand, value, settled, only_if}
 use Rattle.expr_rules.specs.Answers.{no_fit, exprs_of, types_of}
 use Rattle.expr_rules.specs.Paths.{path_of}
-use Rattle.expr_rules.specs.Constants.{constant_at}
+use Rattle.expr_rules.specs.Constants.{constant_at, index_number}
 use Rattle.expr_rules.specs.Sizes.{is_sized}
 use Rattle.expr_rules.specs.Builtins.{is_int, is_built_in, unless_built_in}
 
@@ -62,7 +63,7 @@ are_names [] vs = true
 are_names names vs = nat_eq (length names) (length vs) && not (has_twice names)
 
 abbrev pub make_tuple : Env → ℕ → Place → Ty → List Valued → Answer Expr
-make_tuple env n at ty vs = if_sized env at ty (Make (node n at) ty (exprs_of vs))
+make_tuple env n at ty vs = if_sized env at ty (make (node n at) ty (exprs_of vs))
 
 abbrev pub tuple_rule : Env → Want → ℕ → Place → List (List ℕ) → List Valued → Answer Expr
 tuple_rule env want n at names vs = if are_names names vs then make_tuple env n at (tuple_type names want (types_of vs)) vs else not_typed at
@@ -82,16 +83,16 @@ abbrev pub array_rule : Env → ℕ → Place → List Valued → Answer Expr
 array_rule env n at [] = not_typed at
 array_rule env n at (v ∷ vs) =
     if nat_le (suc (length vs)) MOST_ELEMENTS
-    then if_sized env at (type.array (suc (length vs)) v.of) (Make (node n at) (type.array (suc (length vs)) v.of) (exprs_of (v ∷ vs)))
+    then if_sized env at (type.array (suc (length vs)) v.of) (make (node n at) (type.array (suc (length vs)) v.of) (exprs_of (v ∷ vs)))
     else not_typed at
 
 abbrev pub empty_rule : ℕ → Place → Option Ty → Answer Expr
-empty_rule n at (Some (type.sequence t)) = Ok (Sequence (node n at) (type.sequence t) NoExpr)
+empty_rule n at (Some (type.sequence t)) = Ok (sequence (node n at) (type.sequence t) NoArg)
 empty_rule n at _ = not_typed at
 
 abbrev pub sequence_rule : Want → ℕ → Place → List Valued → Answer Expr
 sequence_rule want n at [] = empty_rule n at (wanted want)
-sequence_rule want n at (v ∷ vs) = Ok (Sequence (node n at) (type.sequence v.of) (exprs_of (v ∷ vs)))
+sequence_rule want n at (v ∷ vs) = Ok (sequence (node n at) (type.sequence v.of) (exprs_of (v ∷ vs)))
 
 -- ---- fields
 
@@ -144,15 +145,15 @@ element_type (type.sequence t) = Some t
 element_type (type.array l t) = Some t
 element_type _ = None
 
-abbrev pub element_of : ℕ → ℕ → Place → Valued → Valued → Option Ty → Answer Typed
-element_of n k at v i (Some t) = gives (Read (Element (node n at) t (path_of v.expr) i.expr)) k
-element_of n k at v i None = not_typed at
+abbrev pub element_of : Facts → ℕ → ℕ → Place → Valued → Valued → Option Ty → Answer Typed
+element_of facts n k at v i (Some t) = gives (Read (Element (node n at) t (path_of v.expr) i.expr (index_number facts i.expr))) k
+element_of facts n k at v i None = not_typed at
 
 -- An element, with the index's nodes up to k; or a part of a tuple, whose index is no node, so that its nodes end with those
 -- of the tuple, at m.
 abbrev pub indexed : Env → ℕ → ℕ → ℕ → Place → Valued → Ty → Valued → Answer Typed
 indexed env n m k at v (type.tuple names ts) i = and_then (and_then (constant_at env.facts at i) (numbered_part n at v ts)) (λ e. gives e m)
-indexed env n m k at v ty i = element_of n k at v i (element_type ty)
+indexed env n m k at v ty i = element_of env.facts n k at v i (element_type ty)
 
 abbrev pub index_rule : Env → ℕ → ℕ → ℕ → Place → Valued → Valued → Answer Typed
 index_rule env n m k at v i = if is_int i.of then indexed env n m k at v v.of i else not_typed at
@@ -211,23 +212,13 @@ plan_as env at built k names = plan_with env at (object_of env k) names
 abbrev pub plan_for : Env → Place → List ℕ → List (List ℕ) → Answer Plan
 plan_for env at x names = plan_as env at (is_built_in (normal x)) (known env x) names
 
-abbrev pub init_before : Found → Valued → Option Inits → Option Inits
-init_before f v None = None
-init_before f v (Some rest) = Some (AnInit f.number v.expr rest)
+abbrev pub numbers_of : List Found → List ℕ
+numbers_of [] = []
+numbers_of (f ∷ rest) = f.number ∷ numbers_of rest
 
--- a value for each field, in order
-abbrev pub inits_of : List Found → List Valued → Option Inits
-inits_of [] [] = Some NoInit
-inits_of (f ∷ chosen) (v ∷ vs) = init_before f v (inits_of chosen vs)
-inits_of _ _ = None
-
-abbrev pub constructed : ℕ → Place → Ty → Option Inits → Answer Expr
-constructed n at ty (Some inits) = Ok (Construct (node n at) ty inits)
-constructed n at ty None = not_typed at
-
--- each part has the name of a field
-abbrev pub construct_rule : ℕ → Place → Plan → List Valued → Answer Expr
-construct_rule n at plan vs = constructed n at plan.of (inits_of plan.chosen vs)
+-- each part has the name of a field, so there are as many values as fields
+abbrev pub construct_rule : ℕ → Place → Ty → List Found → List Valued → Expr
+construct_rule n at ty chosen vs = construct (node n at) ty (numbers_of chosen) (exprs_of vs)
 
 -- ---- values of another type
 
@@ -261,12 +252,12 @@ or_from (Some v) other = Some v
 or_from None other = other
 
 abbrev pub convert_by : ℕ → Place → Ty → Operand → Option Valued → Answer Expr
-convert_by n at ty o (Some v) = Ok (Convert (node n at) ty v.expr)
+convert_by n at ty o (Some v) = Ok (convert (node n at) ty v.expr)
 convert_by n at ty o None = no_fit at (o ∷ [])
 
 -- of an object whose fields are known
 abbrev pub empty_object : ℕ → Place → Ty → Option Fact → Answer Expr
-empty_object n at ty (Some (type.fields all resource)) = Ok (Construct (node n at) ty NoInit)
+empty_object n at ty (Some (type.fields all resource)) = Ok (construct (node n at) ty [] NoArg)
 empty_object n at ty _ = not_typed at
 
 -- a type called like a procedure: of an object without fields, or of a value

@@ -2,7 +2,7 @@
 use Rattle.std.specs.Prelude.{◌≡◌, ℕ, ℤ, int_le, true, false, List, ◌∷◌, Option, Some, None}
 use Rattle.nim_types.specs.Types as type
 use Rattle.nim_types.specs.Types.{Ty, Facts, same_text}
-use Rattle.nim_core.specs.Program.{Label, Ordinals, Exactly}
+use Rattle.nim_program.specs.Program.{Label, Ordinals, Exactly}
 use Rattle.expr_rules.specs.Builtins.{is_text}
 use Rattle.expr_rules.specs.Choices.{Span, span_of, has_any}
 

@@ -7,7 +7,7 @@ use Rattle.nim_tree.specs.Terms.{int, text, name, quoted, paren, sequence, const
 use Rattle.nim_tree.specs.Terms.{no_choices, choice}
 use Rattle.nim_types.specs.Types as type
 use Rattle.nim_types.specs.Types.{Ty}
-use Rattle.nim_core.specs.Program.{Number, Characters, PartsOf, NoLiteral, ALiteral}
+use Rattle.nim_program.specs.Program.{Number, Characters, PartsOf, NoLiteral, ALiteral}
 use Rattle.expr_rules.specs.Env.{Env, variable, constant, named}
 use Rattle.expr_rules.specs.Answers.{nothing}
 use Rattle.expr_rules.specs.Examples.{Row, row, has, stops, at, key, field_of, scene, point, metre, feet}

@@ -3,8 +3,8 @@ use Rattle.std.specs.Prelude.{ℕ, pos, Bool, ◌||◌, nat_eq, if◌then◌else
 use Rattle.indent_scanner.specs.Words.{normal}
 use Rattle.nim_types.specs.Types as type
 use Rattle.nim_types.specs.Types.{Ty, Key, Field, Facts, same_text}
-use Rattle.nim_core.specs.declared.program.Mode.{Mode}
-use Rattle.nim_core.specs.Program.{Literal, Number}
+use Rattle.nim_program.specs.declared.program.Mode.{Mode}
+use Rattle.nim_program.specs.Program.{Literal, Number}
 
 pub record Parameter : Type 0 where
   pub mode : Mode

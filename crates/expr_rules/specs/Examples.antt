@@ -5,9 +5,9 @@ use Rattle.arc_base.specs.declared.place.Code.{Code}
 use Rattle.nim_tree.specs.Terms.{Term}
 use Rattle.nim_types.specs.Types as type
 use Rattle.nim_types.specs.Types.{Ty, Key, Field, Declared}
-use Rattle.nim_core.specs.declared.program.Mode.{Mode}
-use Rattle.nim_core.specs.declared.program.Mode.TheVariants.{Plain, Sink, Var}
-use Rattle.nim_core.specs.Program.{Number, type_of}
+use Rattle.nim_program.specs.declared.program.Mode.{Mode}
+use Rattle.nim_program.specs.declared.program.Mode.TheVariants.{Plain, Sink, Var}
+use Rattle.nim_program.specs.Program.{Number, type_of}
 use Rattle.expr_rules.specs.Env.{Env, Entry, variable, constant, named, procedure, Parameter, outermost}
 use Rattle.expr_rules.specs.Answers.{Answer, Typed, Want}
 use Rattle.expr_rules.specs.Typed.{typed}

@@ -1,16 +1,15 @@
 -- Statements of the laws of the typing rules.
-use Rattle.std.specs.Prelude.{◌≡◌, ◌↔◌, ◌⊎◌, ℕ, suc, ℤ, int_le, true, List, [], length, Option, Ok}
+use Rattle.std.specs.Prelude.{◌≡◌, ◌↔◌, ◌⊎◌, ℕ, suc, ℤ, int_le, true, List, length, Option, Ok}
 use Rattle.arc_base.specs.declared.place.Place.{Place}
 use Rattle.arc_base.specs.declared.place.Code.{Code}
 use Rattle.arc_base.specs.Refusal.{IsRefusal}
 use Rattle.nim_tree.specs.Terms.{Term}
 use Rattle.nim_types.specs.Types.{Ty, Facts}
-use Rattle.nim_core.specs.Program.{Expr, Path, Label, Ordinals}
-use Rattle.nim_core.specs.Values.{literal_value, default_of}
+use Rattle.nim_program.specs.Program.{Expr, Path, Label, Ordinals}
+use Rattle.nim_program.specs.Folds.{nodes}
 use Rattle.expr_rules.specs.Env.{Env}
 use Rattle.expr_rules.specs.Answers.{Want, typed_as, Operand}
 use Rattle.expr_rules.specs.Paths.{can_be_written, overlap}
-use Rattle.expr_rules.specs.Literals.{default_literal}
 use Rattle.expr_rules.specs.Names.{is_nothing, call_rule}
 use Rattle.expr_rules.specs.Overloads.{Overlap, CanBeWritten}
 use Rattle.expr_rules.specs.Meant.{IsUnknown, IsCall, IsNoCall}
@@ -19,7 +18,7 @@ use Rattle.expr_rules.specs.Choices.{has_value, has_any, are_covered, clashes, i
 use Rattle.expr_rules.specs.Rules.{IsTyped}
 use Rattle.expr_rules.specs.Refusals.{IsRefused}
 use Rattle.expr_rules.specs.Typed.{typed}
-use Rattle.expr_rules.specs.Numbers.{numbers, Run}
+use Rattle.expr_rules.specs.Numbers.{Run}
 
 -- some node stands for it
 abbrev pub HasNode : Env → Want → ℕ → Term → Type 0
@@ -62,7 +61,7 @@ Covering = (from to : ℤ) (labels : List Label) → (are_covered (suc (length l
 
 -- the nodes of what stands for a term have the numbers from n up to m, in order of text
 abbrev pub NumberedSo : Type 0
-NumberedSo = (env : Env) (want : Want) (n m : ℕ) (t : Term) (e : Expr) → IsTyped env want n t e m → Run n (numbers e []) m
+NumberedSo = (env : Env) (want : Want) (n m : ℕ) (t : Term) (e : Expr) → IsTyped env want n t e m → Run n (nodes e) m
 
 -- ---- what the rules say of calls, arguments and labels
 
@@ -94,9 +93,3 @@ EnoughComputed = (facts : Facts) (ty : Ty) (gives : Option Ty) (labels : List La
 
 abbrev pub UnknownComputed : Type 0
 UnknownComputed = (env : Env) (x : List ℕ) → IsUnknown env x ↔ (is_nothing env x ≡ true)
-
--- ---- constants
-
--- what a constant's field starts at is what a place of its type starts at
-abbrev pub DefaultsAgree : Type 0
-DefaultsAgree = (facts : Facts) (ty : Ty) → literal_value (default_literal facts ty) ≡ default_of facts ty

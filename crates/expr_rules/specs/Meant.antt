@@ -6,15 +6,17 @@ use Rattle.arc_base.specs.declared.place.Code.{Code}
 use Rattle.arc_base.specs.declared.place.Code.TheVariants.{NotTyped, Ambiguous, NotAssignable}
 use Rattle.nim_types.specs.Types as type
 use Rattle.nim_types.specs.Types.{Ty, Field, same, fact_of}
-use Rattle.nim_core.specs.declared.expr.Node.{Node}
-use Rattle.nim_core.specs.declared.expr.Comparison.{Comparison}
-use Rattle.nim_core.specs.Program.{Expr, Path, Args, Call, Compare, Show, Convert, Construct, NoInit, Echo}
+use Rattle.nim_program.specs.declared.expr.Node.{Node}
+use Rattle.nim_program.specs.declared.operation.Comparison.{Comparison}
+use Rattle.nim_program.specs.declared.operation.Operation.{Operation}
+use Rattle.nim_program.specs.Program.{Expr, Apply, Act, Doing, Args, NoArg, ByPath}
+use Rattle.nim_program.specs.Nodes.{one_path, path_and_value, doing, acting, call, compare, show, convert, construct, echo}
 use Rattle.expr_rules.specs.Env.{Env, unknown, a_type, callable, known_as, Parameter, Procedure}
 use Rattle.expr_rules.specs.Answers.{node, place_in, Valued, Operand, value, open_sequence, the_input, exprs_of}
 use Rattle.expr_rules.specs.Answers as operand
 use Rattle.expr_rules.specs.Paths.{path_of}
 use Rattle.expr_rules.specs.Calls.{comparisons, comparison_named}
-use Rattle.expr_rules.specs.Builtins.{Operation, on_nothing, on_value, on_place, on_place_and_value, on_places, on_elements, on_type, on_input}
+use Rattle.expr_rules.specs.Builtins.{Hand, written_by, handed, BuiltIn, on_nothing, on_one, on_place_and_value, on_places, on_type, on_input}
 use Rattle.expr_rules.specs.Builtins.{on_input_and_place, operations_named, is_built_in, is_echo, is_default, is_shown}
 use Rattle.expr_rules.specs.Constructions.{base_of, source_of}
 use Rattle.expr_rules.specs.Demands.{is_a_type}
@@ -51,37 +53,33 @@ pub data IsSettledIn : List Ty → Operand → Valued → Type 0 where
   later_type : {ty : Ty} {rest : List Ty} {o : Operand} {v : Valued} → ((w : Valued) → IsSettled ty o w → ⊥) → IsSettledIn rest o v
       → IsSettledIn (ty ∷ rest) o v
 
-pub data RowFits (at : Node) : Operation → List Operand → List Valued → Expr → Type 0 where
-  row_nothing : {makes : Node → Expr} → RowFits at (on_nothing makes) [] [] (makes at)
-  row_value : {test : Ty → Bool} {makes : Node → Valued → Expr} {v : Valued} → test v.of ≡ true
-      → RowFits at (on_value test makes) (value v ∷ []) [] (makes at v)
-  row_place : {test : Ty → Bool} {makes : Node → Ty → Path → Expr} {v : Valued} → test v.of ≡ true
-      → RowFits at (on_place test makes) (value v ∷ []) (v ∷ []) (makes at v.of (path_of v.expr))
-  row_place_and_value : {goes : Ty → List Ty} {makes : Node → Path → Expr → Expr} {v w : Valued} {o : Operand} → IsSettledIn (goes v.of) o w
-      → RowFits at (on_place_and_value goes makes) (value v ∷ o ∷ []) (v ∷ []) (makes at (path_of v.expr) w.expr)
-  row_places : {makes : Node → Path → Path → Expr} {v w : Valued} → same v.of w.of ≡ true
-      → RowFits at (on_places makes) (value v ∷ value w ∷ []) (v ∷ w ∷ []) (makes at (path_of v.expr) (path_of w.expr))
-  row_elements : {goes : Ty → List Ty} {makes : Node → Ty → Path → Expr} {v : Valued} {t : Ty} {ts : List Ty} → goes v.of ≡ t ∷ ts
-      → RowFits at (on_elements goes makes) (value v ∷ []) (v ∷ []) (makes at t (path_of v.expr))
-  row_type : {test : Ty → Bool} {makes : Node → Ty → Expr} {t : Ty} → test t ≡ true
-      → RowFits at (on_type test makes) (operand.a_type t ∷ []) [] (makes at t)
-  row_input : {makes : Node → Expr} → RowFits at (on_input makes) (the_input ∷ []) [] (makes at)
-  row_input_and_place : {test : Ty → Bool} {makes : Node → Path → Expr} {v : Valued} → test v.of ≡ true
-      → RowFits at (on_input_and_place test makes) (the_input ∷ value v ∷ []) (v ∷ []) (makes at (path_of v.expr))
+pub data RowFits (at : Node) : BuiltIn → List Operand → List Valued → Expr → Type 0 where
+  row_nothing : {o : Operation} → RowFits at (on_nothing o) [] [] (acting at o NoArg)
+  row_one : {hand : Hand} {gives : Ty → Option (Option Ty)} {o : Operation} {v : Valued} {ty : Option Ty} → gives v.of ≡ Some ty
+      → RowFits at (on_one hand gives o) (value v ∷ []) (written_by hand v) (Apply at ty (Doing o) (handed hand v))
+  row_place_and_value : {goes : Ty → List Ty} {o : Operation} {v w : Valued} {given : Operand} → IsSettledIn (goes v.of) given w
+      → RowFits at (on_place_and_value goes o) (value v ∷ given ∷ []) (v ∷ []) (acting at o (path_and_value (path_of v.expr) w.expr))
+  row_places : {o : Operation} {v w : Valued} → same v.of w.of ≡ true
+      → RowFits at (on_places o) (value v ∷ value w ∷ []) (v ∷ w ∷ []) (acting at o (ByPath (path_of v.expr) (one_path (path_of w.expr))))
+  row_type : {gives : Ty → Option (Option Ty)} {act : Act} {t : Ty} {ty : Option Ty} → gives t ≡ Some ty
+      → RowFits at (on_type gives act) (operand.a_type t ∷ []) [] (Apply at ty act NoArg)
+  row_input : {ty : Ty} {o : Operation} → RowFits at (on_input ty o) (the_input ∷ []) [] (doing at ty o NoArg)
+  row_input_and_place : {test : Ty → Bool} {ty : Ty} {o : Operation} {v : Valued} → test v.of ≡ true
+      → RowFits at (on_input_and_place test ty o) (the_input ∷ value v ∷ []) (v ∷ []) (doing at ty o (one_path (path_of v.expr)))
 
-abbrev pub RowFitsNot : Node → Operation → List Operand → Type 0
+abbrev pub RowFitsNot : Node → BuiltIn → List Operand → Type 0
 RowFitsNot at row os = (vs : List Valued) (e : Expr) → RowFits at row os vs e → ⊥
 
 -- the first row that fits
-pub data FirstRow (at : Node) : List Operation → List Operand → List Valued → Expr → Type 0 where
-  this_row : {row : Operation} {rest : List Operation} {os : List Operand} {vs : List Valued} {e : Expr} → RowFits at row os vs e
+pub data FirstRow (at : Node) : List BuiltIn → List Operand → List Valued → Expr → Type 0 where
+  this_row : {row : BuiltIn} {rest : List BuiltIn} {os : List Operand} {vs : List Valued} {e : Expr} → RowFits at row os vs e
       → FirstRow at (row ∷ rest) os vs e
-  later_row : {row : Operation} {rest : List Operation} {os : List Operand} {vs : List Valued} {e : Expr} → RowFitsNot at row os
+  later_row : {row : BuiltIn} {rest : List BuiltIn} {os : List Operand} {vs : List Valued} {e : Expr} → RowFitsNot at row os
       → FirstRow at rest os vs e → FirstRow at (row ∷ rest) os vs e
 
-pub data NoRow (at : Node) : List Operation → List Operand → Type 0 where
+pub data NoRow (at : Node) : List BuiltIn → List Operand → Type 0 where
   no_more_rows : {os : List Operand} → NoRow at [] os
-  not_this_row : {row : Operation} {rest : List Operation} {os : List Operand} → RowFitsNot at row os → NoRow at rest os → NoRow at (row ∷ rest) os
+  not_this_row : {row : BuiltIn} {rest : List BuiltIn} {os : List Operand} → RowFitsNot at row os → NoRow at rest os → NoRow at (row ∷ rest) os
 
 pub data AllWritable : List Valued → Type 0 where
   all_written : AllWritable []
@@ -95,13 +93,13 @@ pub data FirstUnwritable : List Valued → Place → Type 0 where
 
 pub data IsConversion (env : Env) (n : ℕ) (at : Place) (ty : Ty) : List Operand → Expr → Type 0 where
   empty_object : {all : List Field} {resource : Bool} → fact_of env.facts ty ≡ Some (type.fields all resource)
-      → IsConversion env n at ty [] (Construct (node n at) ty NoInit)
+      → IsConversion env n at ty [] (construct (node n at) ty [] NoArg)
   -- an enum from an int, a distinct type from its base
   from_source : {o : Operand} {s : Ty} {v : Valued} → source_of env.facts ty ≡ Some s → IsSettled s o v
-      → IsConversion env n at ty (o ∷ []) (Convert (node n at) ty v.expr)
+      → IsConversion env n at ty (o ∷ []) (convert (node n at) ty v.expr)
   -- a base from a distinct type
   from_wrapper : {v : Valued} {b : Ty} → base_of env.facts v.of ≡ Some b → same b ty ≡ true
-      → IsConversion env n at ty (value v ∷ []) (Convert (node n at) ty v.expr)
+      → IsConversion env n at ty (value v ∷ []) (convert (node n at) ty v.expr)
 
 abbrev pub ConvertsNot : Env → ℕ → Place → Ty → List Operand → Type 0
 ConvertsNot env n at ty os = (e : Expr) → IsConversion env n at ty os e → ⊥
@@ -123,8 +121,8 @@ ShowNot env os = (vs : List Valued) → AllShow env os vs → ⊥
 
 pub data IsBorrowed (n : ℕ) (at : Place) : Option Comparison → List (Parameter × Valued) → Expr → Type 0 where
   borrowed_comparison : {c : Comparison} {a b : Parameter × Valued}
-      → IsBorrowed n at (Some c) (a ∷ b ∷ []) (Compare (node n at) type.bool c a.1.expr b.1.expr)
-  borrowed_dollar : {a : Parameter × Valued} → IsBorrowed n at None (a ∷ []) (Show (node n at) type.text a.1.expr)
+      → IsBorrowed n at (Some c) (a ∷ b ∷ []) (compare (node n at) type.bool c a.1.expr b.1.expr)
+  borrowed_dollar : {a : Parameter × Valued} → IsBorrowed n at None (a ∷ []) (show (node n at) type.text a.1.expr)
 
 abbrev pub BorrowsNot : ℕ → Place → Option Comparison → List (Parameter × Valued) → Type 0
 BorrowsNot n at c given = (e : Expr) → IsBorrowed n at c given e → ⊥
@@ -148,7 +146,7 @@ pub data IsOperation (env : Env) : List ℕ → List Operand → Type 0 where
 pub data IsCall (env : Env) (n : ℕ) (at : Place) : List ℕ → List Operand → Expr → Type 0 where
   a_procedure : {x : List ℕ} {os : List Operand} {p : Procedure} {given : List (Parameter × Valued)} {args : Args} → IsChosen x
       → OneFits (overloads env x) os p given → p.borrowed ≡ false → AreArguments [] given args
-      → IsCall env n at x os (Call (node n at) p.gives p.number args)
+      → IsCall env n at x os (call (node n at) p.gives p.number args)
   a_borrowed_one : {x : List ℕ} {os : List Operand} {p : Procedure} {given : List (Parameter × Valued)} {e : Expr} → IsChosen x
       → OneFits (overloads env x) os p given → p.borrowed ≡ true → IsBorrowed n at (comparison_named x comparisons) given e
       → IsCall env n at x os e
@@ -157,7 +155,7 @@ pub data IsCall (env : Env) (n : ℕ) (at : Place) : List ℕ → List Operand �
   an_operation : {x : List ℕ} {os : List Operand} {vs : List Valued} {e : Expr} → IsOperation env x os
       → FirstRow (node n at) (operations_named x) os vs e → AllWritable vs → IsCall env n at x os e
   an_echo : {x : List ℕ} {os : List Operand} {vs : List Valued} → is_echo x ≡ true → AllShow env os vs
-      → IsCall env n at x os (Echo (node n at) (exprs_of vs))
+      → IsCall env n at x os (echo (node n at) (exprs_of vs))
 
 pub data IsNoCall (env : Env) (n : ℕ) (at : Place) : List ℕ → List Operand → Code → Place → Type 0 where
   several_fit : {x : List ℕ} {os : List Operand} → IsChosen x → SeveralFit (overloads env x) os → IsNoCall env n at x os Ambiguous at

@@ -7,7 +7,8 @@ use Rattle.indent_scanner.specs.Words.{normal}
 use Rattle.nim_tree.specs.Terms.{Parts, no_parts, part}
 use Rattle.nim_types.specs.Types as type
 use Rattle.nim_types.specs.Types.{Ty, Facts, same_text}
-use Rattle.nim_core.specs.Program.{Expr, Literal, Number, Read, Variable, Echo, NewSequence}
+use Rattle.nim_program.specs.Program.{Expr, Literal, Number, Read, Variable}
+use Rattle.nim_program.specs.Nodes.{literal, new_sequence, echo}
 use Rattle.expr_rules.specs.declared.limits.TheConstants.{MOST_ELEMENTS}
 use Rattle.expr_rules.specs.Env.{Env, Known, unknown, a_variable, a_constant, procedures, callable, known, known_as}
 use Rattle.expr_rules.specs.Env as env_of
@@ -17,7 +18,6 @@ use Rattle.expr_rules.specs.Answers.{exprs_of}
 use Rattle.expr_rules.specs.Builtins.{is_built_in, unless_built_in, is_echo, is_default, is_new_sequence, is_shown, is_int, operation_rule}
 use Rattle.expr_rules.specs.Calls.{Fit, fitting, one_of}
 use Rattle.expr_rules.specs.Constants.{constant_rule}
-use Rattle.expr_rules.specs.Literals.{constant_use}
 use Rattle.expr_rules.specs.Constructions.{conversion_rule, field_named, read_field, Found}
 use Rattle.expr_rules.specs.Demands.{Demand, echoed, receiver, Former, of_sequences, of_arrays, former_of}
 use Rattle.expr_rules.specs.Sizes.{is_sized}
@@ -36,7 +36,7 @@ is_nothing env x = if is_built_in x then false else is_unknown (known_as env x)
 abbrev pub name_rule : ℕ → Place → Bool → Known → Answer Typed
 name_rule n at built unknown = unless_built_in at built
 name_rule n at built (a_variable place of writable global) = gives (Read (Variable (node n at) of place global)) (suc n)
-name_rule n at built (a_constant ty l) = gives (constant_use (node n at) ty l) (suc n)
+name_rule n at built (a_constant ty l) = gives (literal (node n at) ty l) (suc n)
 name_rule n at built _ = not_typed at
 
 -- a variable or a constant
@@ -82,7 +82,7 @@ call_named env n at x operands =
 
 -- `newSeq` with a type in brackets, and an int
 abbrev pub made_by : ℕ → Place → Ty → List Operand → Option Valued → Answer Expr
-made_by n at t operands (Some v) = Ok (NewSequence (node n at) (type.sequence t) v.expr)
+made_by n at t operands (Some v) = Ok (new_sequence (node n at) (type.sequence t) v.expr)
 made_by n at t operands None = no_fit at operands
 
 abbrev pub new_sequence_rule : ℕ → Place → Ty → List Operand → Answer Expr
@@ -139,7 +139,7 @@ all_shown env (value v ∷ rest) = shown_before (can_show env v) v (all_shown en
 all_shown env (_ ∷ rest) = None
 
 abbrev pub echo_by : ℕ → Place → List Operand → Option (List Valued) → Answer Expr
-echo_by n at operands (Some vs) = Ok (Echo (node n at) (exprs_of vs))
+echo_by n at operands (Some vs) = Ok (echo (node n at) (exprs_of vs))
 echo_by n at operands None = no_fit at operands
 
 abbrev pub echo_rule : Env → ℕ → Place → List Operand → Answer Expr

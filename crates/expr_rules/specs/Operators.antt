@@ -8,13 +8,18 @@ use Rattle.nim_tree.specs.declared.expr.UnaryOp.{UnaryOp}
 use Rattle.nim_tree.specs.declared.expr.UnaryOp.TheVariants as unary_sign
 use Rattle.nim_tree.specs.declared.expr.BinaryOp.{BinaryOp}
 use Rattle.nim_tree.specs.declared.expr.BinaryOp.TheVariants as sign
-use Rattle.nim_core.specs.declared.expr.UnaryOperator.{UnaryOperator}
-use Rattle.nim_core.specs.declared.expr.UnaryOperator.TheVariants.{Plus, Negate, Complement, Not}
-use Rattle.nim_core.specs.declared.expr.Operator.{Operator}
-use Rattle.nim_core.specs.declared.expr.Operator.TheVariants as operator
-use Rattle.nim_core.specs.declared.expr.Comparison.{Comparison}
-use Rattle.nim_core.specs.declared.expr.Comparison.TheVariants as comparison
-use Rattle.nim_core.specs.Program.{Expr, Unary, Binary, Compare, Both, Either, Join}
+use Rattle.nim_program.specs.declared.operation.UnaryOperator.{UnaryOperator}
+use Rattle.nim_program.specs.declared.operation.UnaryOperator.TheVariants.{Plus, Negate, Complement, Not}
+use Rattle.nim_program.specs.declared.operation.Operator.{Operator}
+use Rattle.nim_program.specs.declared.operation.Operator.TheVariants as operator
+use Rattle.nim_program.specs.declared.operation.Comparison.{Comparison}
+use Rattle.nim_program.specs.declared.operation.Comparison.TheVariants as comparison
+use Rattle.nim_program.specs.declared.operation.Short.{Short}
+use Rattle.nim_program.specs.declared.operation.Short.TheVariants as short
+use Rattle.nim_program.specs.declared.operation.Operation.{Operation}
+use Rattle.nim_program.specs.declared.operation.Operation.TheVariants as operation
+use Rattle.nim_program.specs.Program.{Expr, Early}
+use Rattle.nim_program.specs.Nodes.{doing, unary, two_values}
 use Rattle.expr_rules.specs.Env.{Env, callable, known_as}
 use Rattle.expr_rules.specs.Answers.{Answer, not_typed, node, Valued, Operand, value, open_sequence, open_as}
 use Rattle.expr_rules.specs.Builtins.{is_shown}
@@ -31,7 +36,7 @@ unary_of unary_sign.Not type.bool = Some Not
 unary_of _ _ = None
 
 abbrev pub unary_by : ℕ → Place → Option UnaryOperator → Valued → Answer Expr
-unary_by n at (Some o) v = Ok (Unary (node n at) v.of o v.expr)
+unary_by n at (Some o) v = Ok (unary (node n at) v.of o v.expr)
 unary_by n at None v = not_typed at
 
 abbrev pub unary_rule : ℕ → Place → UnaryOp → Valued → Answer Expr
@@ -41,12 +46,14 @@ unary_rule n at op v = unary_by n at (unary_of op v.of) v
 
 -- what an operator means on operands of two types
 pub data Meaning : Type 0 where
-  computes : Operator → Ty → Meaning
-  both : Meaning
-  either : Meaning
-  joins : Meaning
-  compares : Comparison → Meaning
+  -- an operation that gives a value of the type
+  does : Operation → Ty → Meaning
+  -- one that stops early
+  stops_early : Short → Meaning
   means_nothing : Meaning
+
+abbrev pub computes : Operator → Ty → Meaning
+computes o ty = does (operation.Binary o) ty
 
 abbrev pub of_ints : Operator → Ty → Ty → Meaning
 of_ints o type.int type.int = computes o type.int
@@ -58,16 +65,18 @@ of_bits o logic type.int type.int = computes o type.int
 of_bits o logic type.bool type.bool = logic
 of_bits o logic _ _ = means_nothing
 
+-- what is joined to a text
+abbrev pub is_text_or_char : Ty → Bool
+is_text_or_char type.text = true
+is_text_or_char type.char = true
+is_text_or_char _ = false
+
 abbrev pub of_texts : Ty → Ty → Meaning
-of_texts type.text type.text = joins
-of_texts type.text type.char = joins
-of_texts type.char type.text = joins
-of_texts type.char type.char = joins
-of_texts _ _ = means_nothing
+of_texts s t = if is_text_or_char s && is_text_or_char t then does operation.Join type.text else means_nothing
 
 -- of two ints, bools, chars, texts, or members of one enum
 abbrev pub of_equals : Comparison → Ty → Ty → Meaning
-of_equals c s t = if same s t && is_shown s then compares c else means_nothing
+of_equals c s t = if same s t && is_shown s then does (operation.Compare c) type.bool else means_nothing
 
 abbrev pub meaning_of : BinaryOp → Ty → Ty → Meaning
 meaning_of sign.Plus s t = of_ints operator.Add s t
@@ -77,8 +86,8 @@ meaning_of sign.Div s t = of_ints operator.Divide s t
 meaning_of sign.Mod s t = of_ints operator.Modulo s t
 meaning_of sign.Shl s t = of_ints operator.ShiftLeft s t
 meaning_of sign.Shr s t = of_ints operator.ShiftRight s t
-meaning_of sign.And s t = of_bits operator.BitAnd both s t
-meaning_of sign.Or s t = of_bits operator.BitOr either s t
+meaning_of sign.And s t = of_bits operator.BitAnd (stops_early short.And) s t
+meaning_of sign.Or s t = of_bits operator.BitOr (stops_early short.Or) s t
 meaning_of sign.Xor s t = of_bits operator.BitXor (computes operator.BitXor type.bool) s t
 meaning_of sign.Join s t = of_texts s t
 meaning_of sign.Equal s t = of_equals comparison.Equal s t
@@ -113,11 +122,8 @@ borrowed_by env n at (Some x) v w = one_of n at x (fitting (callable (known_as e
 
 -- what isn't built in may be borrowed
 abbrev pub binary_by : Env → ℕ → Place → BinaryOp → Meaning → Valued → Valued → Answer Expr
-binary_by env n at op (computes o t) v w = Ok (Binary (node n at) t o v.expr w.expr)
-binary_by env n at op both v w = Ok (Both (node n at) type.bool v.expr w.expr)
-binary_by env n at op either v w = Ok (Either (node n at) type.bool v.expr w.expr)
-binary_by env n at op joins v w = Ok (Join (node n at) type.text v.expr w.expr)
-binary_by env n at op (compares c) v w = Ok (Compare (node n at) type.bool c v.expr w.expr)
+binary_by env n at op (does o t) v w = Ok (doing (node n at) t o (two_values v.expr w.expr))
+binary_by env n at op (stops_early s) v w = Ok (Early (node n at) type.bool s v.expr w.expr)
 binary_by env n at op means_nothing v w = borrowed_by env n at (borrowed_name op) v w
 
 -- what is open has the type of the other operand

@@ -5,9 +5,9 @@ use Rattle.arc_base.specs.declared.place.Code.{Code}
 use Rattle.arc_base.specs.declared.place.Code.TheVariants.{NotAssignable, VarOverlap}
 use Rattle.nim_types.specs.Types as type
 use Rattle.nim_types.specs.Types.{Ty, same}
-use Rattle.nim_core.specs.declared.program.Mode.{Mode}
-use Rattle.nim_core.specs.declared.program.Mode.TheVariants.{Var}
-use Rattle.nim_core.specs.Program.{Expr, Path, Args, NoArg, ByValue, ByVar}
+use Rattle.nim_program.specs.declared.program.Mode.{Mode}
+use Rattle.nim_program.specs.declared.program.Mode.TheVariants.{Var}
+use Rattle.nim_program.specs.Program.{Expr, Path, Args, NoArg, ByValue, ByPath}
 use Rattle.nim_tree.specs.Terms as term
 use Rattle.nim_tree.specs.Terms.{Term, Parts}
 use Rattle.expr_rules.specs.Env.{Env, a_variable, known, Parameter, Procedure}
@@ -96,7 +96,7 @@ pub data AreArguments : List Path → List (Parameter × Valued) → Args → Ty
       → AreArguments before rest args → AreArguments before (a ∷ rest) (ByValue a.1.expr args)
   args_var : {before : List Path} {a : Parameter × Valued} {rest : List (Parameter × Valued)} {args : Args} → is_var a.0.mode ≡ true
       → a.1.writable ≡ true → OverlapsNone (path_of a.1.expr) before → AreArguments (before ++ path_of a.1.expr ∷ []) rest args
-      → AreArguments before (a ∷ rest) (ByVar (path_of a.1.expr) args)
+      → AreArguments before (a ∷ rest) (ByPath (path_of a.1.expr) args)
 
 pub data AreNoArguments : List Path → List (Parameter × Valued) → Code → Place → Type 0 where
   not_writable : {before : List Path} {a : Parameter × Valued} {rest : List (Parameter × Valued)} → is_var a.0.mode ≡ true

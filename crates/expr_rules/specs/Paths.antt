@@ -2,7 +2,7 @@
 use Rattle.std.specs.Prelude.{ℕ, Bool, true, false, not, ◌&&◌, ◌||◌, nat_eq, List, [], ◌∷◌, ◌++◌, Option, Some, None}
 use Rattle.nim_tree.specs.Terms as term
 use Rattle.nim_tree.specs.Terms.{Term}
-use Rattle.nim_core.specs.Program.{Expr, Read, Path, Variable, Fresh, Field, Element}
+use Rattle.nim_program.specs.Program.{Expr, Read, Path, Variable, Fresh, Field, Element, Deref}
 use Rattle.expr_rules.specs.Env.{Env, Known, a_variable, known}
 
 -- an expression as the beginning of a path
@@ -15,7 +15,8 @@ abbrev pub root_of : Path → Option ℕ
 root_of (Variable node ty place global) = Some place
 root_of (Fresh value) = None
 root_of (Field node ty base field) = root_of base
-root_of (Element node ty base index) = root_of base
+root_of (Element node ty base index constant) = root_of base
+root_of (Deref ty base) = root_of base
 
 -- ---- what can be written
 
@@ -50,7 +51,8 @@ abbrev pub steps_of : Path → List Step
 steps_of (Variable node ty place global) = []
 steps_of (Fresh value) = []
 steps_of (Field node ty base number) = steps_of base ++ field number ∷ []
-steps_of (Element node ty base index) = steps_of base ++ element ∷ []
+steps_of (Element node ty base index constant) = steps_of base ++ element ∷ []
+steps_of (Deref ty base) = steps_of base
 
 -- whether some step of one is a field, and the same step of the other is another field
 abbrev pub differ : List Step → List Step → Bool

@@ -13,7 +13,7 @@ use Rattle.nim_tree.specs.Terms as term
 use Rattle.nim_tree.specs.Terms.{Term, Parts, no_parts, part, Choices, no_choices, choice, place_of}
 use Rattle.nim_types.specs.Types as type
 use Rattle.nim_types.specs.Types.{Ty}
-use Rattle.nim_core.specs.Program.{Expr, Label, type_of}
+use Rattle.nim_program.specs.Program.{Expr, Label, type_of}
 use Rattle.expr_rules.specs.Env.{Env, known}
 use Rattle.expr_rules.specs.Answers.{Valued, value_of, Want, nothing, wanted, within, Operand, value}
 use Rattle.expr_rules.specs.Paths.{can_be_written}

@@ -16,18 +16,18 @@ use Rattle.nim_tree.specs.Terms as term
 use Rattle.nim_tree.specs.Terms.{Term, Parts, no_parts, part, Choices, no_choices, choice, place_of}
 use Rattle.nim_types.specs.Types as type
 use Rattle.nim_types.specs.Types.{Ty}
-use Rattle.nim_core.specs.Program.{Expr, Inits, Construct, Literal, Ordinal, Text, Read, Variable, Label, NoChoice, AChoice, NoPick, APick, type_of}
+use Rattle.nim_program.specs.Program.{Expr, Read, Variable, NoArg, ByValue, Literal, Number, Characters, Label, type_of}
+use Rattle.nim_program.specs.Nodes.{literal}
 use Rattle.expr_rules.specs.Env as env_of
 use Rattle.expr_rules.specs.Env.{Env, a_variable, a_constant, known}
 use Rattle.expr_rules.specs.Answers.{node, typed_as, Valued, valued, value_of, Want, nothing, wanted, within, Operand, value, open_sequence, a_type, the_input}
 use Rattle.expr_rules.specs.Paths.{can_be_written}
 use Rattle.expr_rules.specs.Operators.{unary_rule, binary_rule}
-use Rattle.expr_rules.specs.Literals.{constant_use}
 use Rattle.expr_rules.specs.Demands.{Asks, anything, exactly, selector, parts, fields, elements, want_in, asks_behind, Demand, arguments, demand_behind}
 use Rattle.expr_rules.specs.Demands.{operator_demand, call_demand, receiver_demand, special, ordinary, is_open, is_type, is_stdin}
 use Rattle.expr_rules.specs.Constructions.{Found, object_of, tuple_wants, tuple_rule, array_want, array_rule, sequence_want, sequence_rule, index_rule}
 use Rattle.expr_rules.specs.FieldsGiven.{AreFields}
-use Rattle.expr_rules.specs.Constructions.{part_names, part_count, types_in, inits_of}
+use Rattle.expr_rules.specs.Constructions.{part_names, part_count, types_in, construct_rule}
 use Rattle.expr_rules.specs.Choices.{Branching, undecided, branch_want, branching_behind, branch_value, label_value, range_of, gives_in}
 use Rattle.expr_rules.specs.Choices.{Chosen, Picked, if_rule, case_node, case_else_rule}
 use Rattle.expr_rules.specs.Covered.{AreEnough, HasTwice}
@@ -39,15 +39,15 @@ use Rattle.expr_rules.specs.Typed.{accepted, is_dollar, is_range, is_pair}
 mutual
   -- IsTyped env want n t e m: e stands for t, and its nodes have the numbers from n up to m
   pub data IsTyped (env : Env) : Want → ℕ → Term → Expr → ℕ → Type 0 where
-    t_int : {want : Want} {n : ℕ} {at : Place} {z : ℤ} → IsTyped env want n (term.int at z) (Ordinal (node n at) type.int z) (suc n)
-    t_char : {want : Want} {n : ℕ} {at : Place} {c : ℕ} → IsTyped env want n (term.char at c) (Ordinal (node n at) type.char (pos c)) (suc n)
+    t_int : {want : Want} {n : ℕ} {at : Place} {z : ℤ} → IsTyped env want n (term.int at z) (literal (node n at) type.int (Number z)) (suc n)
+    t_char : {want : Want} {n : ℕ} {at : Place} {c : ℕ} → IsTyped env want n (term.char at c) (literal (node n at) type.char (Number (pos c))) (suc n)
     t_text : {want : Want} {n : ℕ} {at : Place} {bytes : List ℕ}
-        → IsTyped env want n (term.text at bytes) (Text (node n at) type.text (characters bytes)) (suc n)
+        → IsTyped env want n (term.text at bytes) (literal (node n at) type.text (Characters (characters bytes))) (suc n)
     t_variable : {want : Want} {n place : ℕ} {at : Place} {x : List ℕ} {of : Ty} {writable global : Bool}
         → known env x ≡ a_variable place of writable global
         → IsTyped env want n (term.name at x) (Read (Variable (node n at) of place global)) (suc n)
     t_constant : {want : Want} {n : ℕ} {at : Place} {x : List ℕ} {of : Ty} {value : Literal} → known env x ≡ a_constant of value
-        → IsTyped env want n (term.name at x) (constant_use (node n at) of value) (suc n)
+        → IsTyped env want n (term.name at x) (literal (node n at) of value) (suc n)
     t_paren : {want : Want} {n m : ℕ} {at : Place} {a : Term} {e : Expr} → IsTyped env want n a e m → IsTyped env want n (term.paren at a) e m
     t_named : {want : Want} {n m : ℕ} {at : Place} {x : List ℕ} {a : Term} {e : Expr} → IsTyped env want n a e m
         → IsTyped env want n (term.named at x a) e m
@@ -61,9 +61,9 @@ mutual
         → AreValues env (elements (sequence_want (wanted want)) None) (suc n) inside vs m → sequence_rule want n at vs ≡ Ok e
         → IsTyped env want n (term.sequence at inside) e m
     t_construct : {want : Want} {n m : ℕ} {at : Place} {x : List ℕ} {inside : Parts} {ty : Ty} {chosen : List Found} {vs : List Valued}
-        {given : Inits} → object_of env (known env x) ≡ Some ty → AreFields env ty (part_names inside) chosen
-        → AreValues env (fields (types_in chosen)) (suc n) inside vs m → inits_of chosen vs ≡ Some given
-        → IsTyped env want n (term.construct at x inside) (Construct (node n at) ty given) m
+        → object_of env (known env x) ≡ Some ty → AreFields env ty (part_names inside) chosen
+        → AreValues env (fields (types_in chosen)) (suc n) inside vs m
+        → IsTyped env want n (term.construct at x inside) (construct_rule n at ty chosen vs) m
     t_field : {want : Want} {n m : ℕ} {at : Place} {a : Term} {x : List ℕ} {o : Operand} {e : Expr}
         → IsOperand env (receiver_demand env (normal x) a) (suc n) a o m → field_of env n at (normal x) o ≡ Some e
         → IsTyped env want n (term.field at a x) e m
@@ -138,22 +138,22 @@ mutual
 
   -- branches of an `if`, behind others
   pub data AreConditions (env : Env) : Branching → ℕ → Choices → Chosen → Type 0 where
-    c_none : {b : Branching} {n : ℕ} → AreConditions env b n no_choices (record { choices = NoChoice; values = b; next = n })
+    c_none : {b : Branching} {n : ℕ} → AreConditions env b n no_choices (record { parts = NoArg; values = b; next = n })
     c_more : {b : Branching} {n m k : ℕ} {at : Place} {t a : Term} {rest : Choices} {c : Valued} {x e : Expr} {more : Chosen}
         → IsValue env (exactly type.bool) n t c m → IsTyped env (branch_want b) m a x k → branch_value b x ≡ Ok e
         → AreConditions env (branching_behind b (type_of e)) k rest more
         → AreConditions env b n (choice at (part t no_parts) a rest)
-        (record { choices = AChoice c.expr e more.choices; values = more.values; next = more.next })
+        (record { parts = ByValue c.expr (ByValue e more.parts); values = more.values; next = more.next })
 
   -- branches of a `case` over values of the type, behind others with these labels
   pub data ArePicks (env : Env) : Ty → List Label → Branching → ℕ → Choices → Picked → Type 0 where
     k_none : {ty : Ty} {before : List Label} {b : Branching} {n : ℕ}
-        → ArePicks env ty before b n no_choices (record { picks = NoPick; labels = before; values = b; next = n })
+        → ArePicks env ty before b n no_choices (record { rows = []; labels = before; parts = NoArg; values = b; next = n })
     k_more : {ty : Ty} {before ls : List Label} {b : Branching} {n k : ℕ} {at : Place} {tests : Parts} {a : Term} {rest : Choices} {x e : Expr}
         {more : Picked} → AreLabels env ty before tests ls → IsTyped env (branch_want b) n a x k → branch_value b x ≡ Ok e
         → ArePicks env ty (before ++ ls) (branching_behind b (type_of e)) k rest more
         → ArePicks env ty before b n (choice at tests a rest)
-        (record { picks = APick ls e more.picks; labels = more.labels; values = more.values; next = more.next })
+        (record { rows = ls ∷ more.rows; labels = more.labels; parts = ByValue e more.parts; values = more.values; next = more.next })
 
   -- labels of values of the type, behind others
   pub data AreLabels (env : Env) : Ty → List Label → Parts → List Label → Type 0 where

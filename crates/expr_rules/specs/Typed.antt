@@ -13,7 +13,8 @@ use Rattle.nim_tree.specs.Terms as term
 use Rattle.nim_tree.specs.Terms.{Term, Parts, no_parts, part, Choices, no_choices, choice, place_of}
 use Rattle.nim_types.specs.Types as type
 use Rattle.nim_types.specs.Types.{Ty, Facts}
-use Rattle.nim_core.specs.Program.{Expr, Ordinal, Text, Label, NoChoice, AChoice, NoPick, APick, type_of}
+use Rattle.nim_program.specs.Program.{Expr, NoArg, ByValue, Number, Characters, Label, type_of}
+use Rattle.nim_program.specs.Nodes.{literal}
 use Rattle.expr_rules.specs.Env.{Env}
 use Rattle.expr_rules.specs.Answers.{Answer, not_typed, node, place_in, Typed, gives, Valued, valued, value_of, Want, nothing, wanted, within, Operand, value}
 use Rattle.expr_rules.specs.Answers.{open_sequence, a_type, the_input}
@@ -125,9 +126,9 @@ is_pair _ = false
 
 abbrev mutual
   pub typed : Env → Want → ℕ → Term → Answer Typed
-  typed env want n (term.int at z) = gives (Ordinal (node n at) type.int z) (suc n)
-  typed env want n (term.char at c) = gives (Ordinal (node n at) type.char (pos c)) (suc n)
-  typed env want n (term.text at bytes) = gives (Text (node n at) type.text (characters bytes)) (suc n)
+  typed env want n (term.int at z) = gives (literal (node n at) type.int (Number z)) (suc n)
+  typed env want n (term.char at c) = gives (literal (node n at) type.char (Number (pos c))) (suc n)
+  typed env want n (term.text at bytes) = gives (literal (node n at) type.text (Characters (characters bytes))) (suc n)
   typed env want n (term.name at x) = named_value env n at x
   typed env want n (term.quoted at x) = not_typed at
   typed env want n (term.nil at) = refused LeftOut at
@@ -146,7 +147,7 @@ abbrev mutual
   typed env want n (term.construct at x inside) =
       and_then (plan_for env at x (part_names inside)) (λ plan.
       and_then (values env (fields (types_in plan.chosen)) (suc n) inside) (λ vs.
-      and_then (construct_rule n at plan vs.all) (λ e. gives e vs.next)))
+      gives (construct_rule n at plan.of plan.chosen vs.all) vs.next))
   typed env want n (term.field at a x) =
       and_then (operand_by env (receiver_demand env (normal x) a) (suc n) a (λ k. typed env nothing k a) (read_type env a)) (λ o.
       and_then (field_rule env n at (normal x) o.operand) (λ e. gives e o.next))
@@ -207,24 +208,24 @@ abbrev mutual
 
   -- the branches of an `if`
   pub conditions : Env → Branching → ℕ → Choices → Answer Chosen
-  conditions env b n no_choices = Ok (record { choices = NoChoice; values = b; next = n })
+  conditions env b n no_choices = Ok (record { parts = NoArg; values = b; next = n })
   conditions env b n (choice at (part t no_parts) a rest) =
       and_then (value_by env (exactly type.bool) t (typed env (want_in (exactly type.bool)) n t)) (λ c.
       and_then (typed env (branch_want b) c.next a) (λ x.
       and_then (branch_value b x.expr) (λ e.
       and_then (conditions env (branching_behind b (type_of e)) x.next rest) (λ more.
-      Ok (record { choices = AChoice c.given.expr e more.choices; values = more.values; next = more.next })))))
+      Ok (record { parts = ByValue c.given.expr (ByValue e more.parts); values = more.values; next = more.next })))))
   conditions env b n (choice at tests a rest) = not_typed at
 
   -- the branches of a `case` over values of a type, behind some labels
   pub picks : Env → Ty → List Label → Branching → ℕ → Choices → Answer Picked
-  picks env ty before b n no_choices = Ok (record { picks = NoPick; labels = before; values = b; next = n })
+  picks env ty before b n no_choices = Ok (record { rows = []; labels = before; parts = NoArg; values = b; next = n })
   picks env ty before b n (choice at tests a rest) =
       and_then (labels env ty before tests) (λ ls.
       and_then (typed env (branch_want b) n a) (λ x.
       and_then (branch_value b x.expr) (λ e.
       and_then (picks env ty (before ++ ls) (branching_behind b (type_of e)) x.next rest) (λ more.
-      Ok (record { picks = APick ls e more.picks; labels = more.labels; values = more.values; next = more.next })))))
+      Ok (record { rows = ls ∷ more.rows; labels = more.labels; parts = ByValue e more.parts; values = more.values; next = more.next })))))
 
   -- labels in order; they are no nodes
   pub labels : Env → Ty → List Label → Parts → Answer (List Label)

@@ -2,10 +2,11 @@
 ghost use Rattle.std.specs.Prelude.{◌≡◌};
 ghost use Rattle.expr_rules.specs.Laws.{EachTerm, OneNode, OneRefusal, NotBoth, NodesComputed, RefusalsComputed, Covering, NumberedSo};
 ghost use Rattle.expr_rules.specs.Laws.{CallsComputed, NoCallsComputed, OverlapComputed, WritingComputed, TwiceComputed, MeetingSo};
-ghost use Rattle.expr_rules.specs.Laws.{EnoughComputed, UnknownComputed, DefaultsAgree};
+ghost use Rattle.expr_rules.specs.Laws.{EnoughComputed, UnknownComputed};
 ghost use Rattle.expr_rules.specs.Examples.{Holds, HoldsIn};
 ghost use Rattle.expr_rules.specs.EdgeRows.{operands_rows, edge, edges_rows};
 ghost use Rattle.expr_rules.specs.NodeRows.{node_answers, expected_nodes, constant_answers, expected_constants};
+ghost use Rattle.expr_rules.specs.NodeRows.{index_answers, expected_indexes};
 ghost use Rattle.expr_rules.specs.OperatorRows.{literals_rows, names_rows, operators_rows};
 ghost use Rattle.expr_rules.specs.CallRows.{calls_rows, built_in_rows, hidden_rows};
 ghost use Rattle.expr_rules.specs.ValueRows.{paths_rows, constructions_rows, choices_rows};
@@ -48,11 +49,6 @@ pub fn calls_computed()
     ensures unknown { UnknownComputed }
 {}
 
-/// A field that a constant construction leaves out has the value that a place of its type starts at.
-pub fn defaults_agree()
-    ensures { DefaultsAgree }
-{}
-
 /// What is said of small terms under the same declarations.
 pub fn examples()
     ensures literals { Holds literals_rows }
@@ -68,4 +64,5 @@ pub fn examples()
     ensures edges { HoldsIn edge edges_rows }
     ensures constants { constant_answers ≡ expected_constants }
     ensures nodes { node_answers ≡ expected_nodes }
+    ensures indexes { index_answers ≡ expected_indexes }
 {}

@@ -5,7 +5,6 @@ mod laws;
 mod limits;
 
 pub use laws::{
-    calls_computed, defaults_agree, examples, labels_cover, nodes_numbered, one_typing,
-    typing_computed,
+    calls_computed, examples, labels_cover, nodes_numbered, one_typing, typing_computed,
 };
 pub use limits::{MOST_ELEMENTS, MOST_TYPE_BYTES};

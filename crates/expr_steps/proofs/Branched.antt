@@ -6,46 +6,51 @@ use Rattle.std.specs.Prelude.{map}
 use Rattle.nim_tree.specs.Terms as term
 use Rattle.nim_tree.specs.Terms.{Term, place_of}
 use Rattle.nim_types.specs.Types.{Ty}
-use Rattle.nim_core.specs.declared.expr.Choice.{Choice as RustChoice}
-use Rattle.nim_core.specs.declared.expr.Label.{Label as RustLabel}
-use Rattle.nim_core.specs.declared.expr.Pick.{Pick as RustPick}
-use Rattle.nim_core.specs.Program.{Choices, NoChoice, AChoice, Picks, NoPick, APick, Label}
-use Rattle.nim_core.specs.View.{expr_of, choices_of, picks_of, label_of}
+use Rattle.nim_program.specs.declared.expr.Choice.{Choice as RustChoice}
+use Rattle.nim_program.specs.declared.expr.Label.{Label as RustLabel}
+use Rattle.nim_program.specs.declared.expr.Pick.{Pick as RustPick}
+use Rattle.nim_program.specs.Nodes.{followed_by, one_value, two_values}
+use Rattle.nim_program.specs.Program.{Args, NoArg, ByValue, Label}
+use Rattle.nim_program.specs.View.{expr_of, choices_of, picks_of, pick_labels, label_of}
 use Rattle.expr_parts.specs.declared.branching.Branching.{Branching as RustBranching}
 use Rattle.expr_parts.specs.declared.branching.Branching.TheVariants as branching
 use Rattle.expr_rules.specs.Choices.{Branching, Chosen, Picked}
 use Rattle.expr_rules.specs.Demands.{bare}
 use Rattle.expr_parts.specs.View.{BranchingWithin}
 use Rattle.expr_parts.specs.ViewReady.{BranchesWithin}
-use Rattle.expr_steps.specs.ViewChoices.{Tests, choices_onto, picks_onto, range_place, test_place}
+use Rattle.expr_steps.specs.ViewChoices.{Tests, range_place, test_place}
 
 pub branching_within : (n : ℕ) (b : RustBranching) → BranchesWithin n b → BranchingWithin n b
 branching_within n (branching.Undecided w) h = tt
 branching_within n (branching.Decided w ty) h = h.1
 
 pub choices_more : (ts : List Ty) (all : List RustChoice) (c : RustChoice)
-    → choices_of ts (all ++ c ∷ []) ≡ choices_onto (choices_of ts all) (AChoice (expr_of ts c.condition) (expr_of ts c.value) NoChoice)
+    → choices_of ts (all ++ c ∷ []) NoArg ≡ followed_by (choices_of ts all NoArg) (two_values (expr_of ts c.condition) (expr_of ts c.value))
 choices_more ts [] c = refl
-choices_more ts (d ∷ all) c = ap (AChoice (expr_of ts d.condition) (expr_of ts d.value)) (choices_more ts all c)
+choices_more ts (d ∷ all) c = ap (λ z. ByValue (expr_of ts d.condition) (ByValue (expr_of ts d.value) z)) (choices_more ts all c)
 
 pub picks_more : (ts : List Ty) (all : List RustPick) (p : RustPick)
-    → picks_of ts (all ++ p ∷ []) ≡ picks_onto (picks_of ts all) (APick (map label_of p.labels) (expr_of ts p.value) NoPick)
+    → picks_of ts (all ++ p ∷ []) NoArg ≡ followed_by (picks_of ts all NoArg) (one_value (expr_of ts p.value))
 picks_more ts [] p = refl
-picks_more ts (q ∷ all) p = ap (APick (map label_of q.labels) (expr_of ts q.value)) (picks_more ts all p)
+picks_more ts (q ∷ all) p = ap (ByValue (expr_of ts q.value)) (picks_more ts all p)
 
-abbrev pub chosen_by : Choices → Branching → ℕ → Chosen
-chosen_by a v next = record { choices = a; values = v; next = next }
+pub rows_more : (all : List RustPick) (p : RustPick) → pick_labels (all ++ p ∷ []) ≡ pick_labels all ++ map label_of p.labels ∷ []
+rows_more [] p = refl
+rows_more (q ∷ all) p = ap (λ z. map label_of q.labels ∷ z) (rows_more all p)
 
-pub same_chosen : (next : ℕ) {a b : Choices} {v w : Branching} → a ≡ b → v ≡ w → chosen_by a v next ≡ chosen_by b w next
+abbrev pub chosen_by : Args → Branching → ℕ → Chosen
+chosen_by a v next = record { parts = a; values = v; next = next }
+
+pub same_chosen : (next : ℕ) {a b : Args} {v w : Branching} → a ≡ b → v ≡ w → chosen_by a v next ≡ chosen_by b w next
 same_chosen next {b = b} {v = v} d e = ap (λ z. chosen_by z v next) d ∙ ap (λ z. chosen_by b z next) e
 
-abbrev pub picked_by : Picks → List Label → Branching → ℕ → Picked
-picked_by a l v next = record { picks = a; labels = l; values = v; next = next }
+abbrev pub picked_by : List (List Label) → List Label → Args → Branching → ℕ → Picked
+picked_by rows l a v next = record { rows = rows; labels = l; parts = a; values = v; next = next }
 
-pub same_picked : (next : ℕ) {a b : Picks} {k l : List Label} {v w : Branching} → a ≡ b → k ≡ l → v ≡ w
-    → picked_by a k v next ≡ picked_by b l w next
-same_picked next {b = b} {k = k} {l = l} {v = v} d e f =
-    ap (λ z. picked_by z k v next) d ∙ ap (λ z. picked_by b z v next) e ∙ ap (λ z. picked_by b l z next) f
+pub same_picked : (next : ℕ) {r s : List (List Label)} {k l : List Label} {a b : Args} {v w : Branching} → r ≡ s → k ≡ l → a ≡ b → v ≡ w
+    → picked_by r k a v next ≡ picked_by s l b w next
+same_picked next {s = s} {k = k} {l = l} {a = a} {b = b} {v = v} c d e f =
+    ap (λ z. picked_by z k a v next) c ∙ ap (λ z. picked_by s z a v next) d ∙ ap (λ z. picked_by s l z v next) e ∙ ap (λ z. picked_by s l b z next) f
 
 abbrev pub tests_by : List Label → List Label → Tests
 tests_by own all = record { own = own; all = all }

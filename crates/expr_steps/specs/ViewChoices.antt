@@ -5,8 +5,10 @@ use Rattle.arc_base.specs.Refusal.{and_then}
 use Rattle.nim_tree.specs.Terms as term
 use Rattle.nim_tree.specs.Terms.{Term, place_of}
 use Rattle.nim_types.specs.Types.{Ty}
-use Rattle.nim_core.specs.Program.{Expr, Label, Choices, NoChoice, AChoice, Picks, NoPick, APick, type_of}
-use Rattle.nim_core.specs.View.{choices_of, picks_of, label_of}
+use Rattle.nim_program.specs.declared.expr.Pick.{Pick as RustPick}
+use Rattle.nim_program.specs.Nodes.{followed_by, one_value, two_values}
+use Rattle.nim_program.specs.Program.{Expr, Label, Args, NoArg, type_of}
+use Rattle.nim_program.specs.View.{choices_of, picks_of, pick_labels, label_of}
 use Rattle.expr_steps.specs.declared.choices.Conditions.{Conditions as RustConditions}
 use Rattle.expr_steps.specs.declared.choices.Picked.{Picked as RustPicked}
 use Rattle.expr_steps.specs.declared.choices.Tests.{Tests as RustTests}
@@ -20,20 +22,15 @@ use Rattle.expr_parts.specs.ViewReady.{BranchesWithin}
 -- ---- branches of an `if`
 
 abbrev pub conditions_of : List Ty → RustConditions → Chosen
-conditions_of ts c = record { choices = choices_of ts c.choices.items; values = branching_of ts c.values; next = c.next }
+conditions_of ts c = record { parts = choices_of ts c.choices.items NoArg; values = branching_of ts c.values; next = c.next }
 
 abbrev pub ConditionsWithin : ℕ → RustConditions → Type 0
 ConditionsWithin n c = BranchesWithin n c.values
 
--- the first ones and then the others
-abbrev pub choices_onto : Choices → Choices → Choices
-choices_onto NoChoice rest = rest
-choices_onto (AChoice condition value more) rest = AChoice condition value (choices_onto more rest)
-
 -- with one more, of this condition and value
 abbrev pub condition_onto : Chosen → (condition value : Expr) → (next : ℕ) → Chosen
 condition_onto c condition value next = record {
-  choices = choices_onto c.choices (AChoice condition value NoChoice);
+  parts = followed_by c.parts (two_values condition value);
   values = branching_behind c.values (type_of value);
   next = next;
 }
@@ -65,24 +62,38 @@ range_place a = None
 
 -- ---- branches of a `case`
 
+-- the labels and the values of branches
+pub record Rows : Type 0 where
+  pub labels : List (List Label)
+  pub parts : Args
+
+abbrev pub rows_of : List Ty → List RustPick → Rows
+rows_of ts all = record { labels = pick_labels all; parts = picks_of ts all NoArg }
+
+abbrev pub rows_in : Picked → Rows
+rows_in p = record { labels = p.rows; parts = p.parts }
+
 abbrev pub picked_of : List Ty → RustPicked → Picked
-picked_of ts p = record { picks = picks_of ts p.picks.items; labels = p.labels; values = branching_of ts p.values; next = p.next }
+picked_of ts p = record {
+  rows = pick_labels p.picks.items;
+  labels = p.labels;
+  parts = picks_of ts p.picks.items NoArg;
+  values = branching_of ts p.values;
+  next = p.next;
+}
 
 abbrev pub PickedWithin : ℕ → RustPicked → Type 0
 PickedWithin n p = BranchesWithin n p.values
 
-abbrev pub picks_onto : Picks → Picks → Picks
-picks_onto NoPick rest = rest
-picks_onto (APick labels value more) rest = APick labels value (picks_onto more rest)
-
 -- with one more, of these labels and this value
-abbrev pub pick_onto : Picks → Branching → Tests → Expr → (next : ℕ) → Picked
-pick_onto picks values tests value next = record {
-  picks = picks_onto picks (APick tests.own value NoPick);
+abbrev pub pick_onto : Rows → Branching → Tests → Expr → (next : ℕ) → Picked
+pick_onto before values tests value next = record {
+  rows = before.labels ++ tests.own ∷ [];
   labels = tests.all;
+  parts = followed_by before.parts (one_value value);
   values = branching_behind values (type_of value);
   next = next;
 }
 
-abbrev pub next_pick : Picks → Branching → Tests → Typed → Answer Picked
-next_pick picks values tests x = and_then (branch_value values x.expr) (λ e. Ok (pick_onto picks values tests e x.next))
+abbrev pub next_pick : Rows → Branching → Tests → Typed → Answer Picked
+next_pick before values tests x = and_then (branch_value values x.expr) (λ e. Ok (pick_onto before values tests e x.next))

@@ -23,7 +23,7 @@ abbrev pub sequence_end : Want → ℕ → Place → Values → Answer Typed
 sequence_end want n at vs = and_then (sequence_rule want n at vs.all) (λ e. gives e vs.next)
 
 abbrev pub object_end : ℕ → Place → Plan → Values → Answer Typed
-object_end n at plan vs = and_then (construct_rule n at plan vs.all) (λ e. gives e vs.next)
+object_end n at plan vs = gives (construct_rule n at plan.of plan.chosen vs.all) vs.next
 
 abbrev pub field_end : Env → ℕ → Place → List ℕ → Part → Answer Typed
 field_end env n at x o = and_then (field_rule env n at x o.operand) (λ e. gives e o.next)

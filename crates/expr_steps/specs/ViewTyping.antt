@@ -7,8 +7,8 @@ use Rattle.nim_types.specs.declared.types.TypeDef.{TypeDef}
 use Rattle.nim_types.specs.Types as type
 use Rattle.nim_types.specs.Types.{Ty, Facts, same}
 use Rattle.nim_types.specs.Table.{type_at, IsBelow, AllBelow}
-use Rattle.nim_core.specs.Program.{Expr}
-use Rattle.nim_core.specs.View.{if_type}
+use Rattle.nim_program.specs.Program.{Expr}
+use Rattle.nim_program.specs.View.{if_type}
 use Rattle.expr_steps.specs.declared.asks.Asks.{Asks as RustAsks}
 use Rattle.expr_steps.specs.declared.asks.Asks.TheVariants as asks
 use Rattle.expr_steps.specs.declared.given.Given.{Given as RustGiven}

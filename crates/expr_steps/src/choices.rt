@@ -6,8 +6,8 @@ ghost use Rattle.arc_base.specs.Refusal.{Answers};
 ghost use Rattle.nim_tree.specs.Terms.{term_of};
 ghost use Rattle.nim_types.specs.Types.{Ty, Facts};
 ghost use Rattle.nim_types.specs.Table.{type_at, IsBelow};
-ghost use Rattle.nim_core.specs.Program.{NoPick};
-ghost use Rattle.nim_core.specs.View.{expr_of, label_of, picks_of};
+ghost use Rattle.nim_program.specs.Program.{NoArg};
+ghost use Rattle.nim_program.specs.View.{expr_of, label_of};
 ghost use Rattle.expr_rules.specs.Answers.{within};
 ghost use Rattle.expr_rules.specs.Choices.{branch_want, undecided};
 ghost use Rattle.expr_rules.specs.Typed.{label_from};
@@ -16,7 +16,7 @@ ghost use Rattle.expr_parts.specs.ViewReady.{BranchesWithin, WantWithin};
 ghost use Rattle.expr_steps.specs.ViewTyping.{TypedWithin, given_of};
 ghost use Rattle.expr_steps.specs.ViewChoices.{conditions_of, ConditionsWithin, next_condition};
 ghost use Rattle.expr_steps.specs.ViewChoices.{condition_onto, pick_onto};
-ghost use Rattle.expr_steps.specs.ViewChoices.{picked_of, PickedWithin, next_pick};
+ghost use Rattle.expr_steps.specs.ViewChoices.{picked_of, PickedWithin, next_pick, rows_of};
 ghost use Rattle.expr_steps.specs.ViewChoices.{tests_of, next_test, test_place, range_place};
 
 use crate::asks::want_or;
@@ -28,7 +28,7 @@ use expr_constants::constant_rules::label_value;
 use expr_parts::branching::{Branching, branch_value, inner_by, value_of, wanted};
 use expr_parts::nodes::type_number;
 use expr_parts::value::{Typed, Want};
-use nim_core::{Choice, Expr, Label, Pick};
+use nim_program::{Choice, Expr, Label, Pick};
 use nim_tree::Expr as Tree;
 use nim_types::{TypeId, TypeTable};
 use std::alloc::Global;
@@ -118,8 +118,9 @@ pub fn with_condition(
 /// No branch yet.
 pub fn no_picks(alloc: Global, want: Want, next: u32) -> Picked
     ensures picked { (ts : List Ty) → picked_of ts result ≡ record {
-      picks = NoPick;
+      rows = [];
       labels = [];
+      parts = NoArg;
       values = undecided (within (want_of ts want));
       next = next;
     } }
@@ -142,7 +143,7 @@ fn one_pick(
     next: u32,
 ) -> Result<Picked, Stop>
     ensures made { IfOk result (λ p. (ts : List Ty) → picked_of ts p ≡ pick_onto
-        (picks_of ts picks.items) (branching_of ts values) (tests_of tests) (expr_of ts value)
+        (rows_of ts picks.items) (branching_of ts values) (tests_of tests) (expr_of ts value)
         next) }
     ensures within { IfOk result (λ p. (n : ℕ) → BranchesWithin n values
         → IsBelow n (number_of value) → PickedWithin n p) }
@@ -173,7 +174,7 @@ pub fn with_pick(
     requires values { BranchesWithin (length types.now) values }
     requires typed { TypedWithin (length types.now) typed }
     ensures answers { (ts : List Ty) (facts : Facts) → Under types.now ts facts
-        → Answers (picked_of ts) (next_pick (picks_of ts picks.items) (branching_of ts values)
+        → Answers (picked_of ts) (next_pick (rows_of ts picks.items) (branching_of ts values)
         (tests_of tests) (typed_of ts typed)) result }
     ensures within { IfOk result (λ p. PickedWithin (length types.now) p) }
 {

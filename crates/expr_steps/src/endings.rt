@@ -4,8 +4,9 @@ ghost use Rattle.arc_base.specs.Refusal.{Answers};
 ghost use Rattle.nim_tree.specs.Terms.{parts_of};
 ghost use Rattle.nim_types.specs.Types.{Ty};
 ghost use Rattle.nim_types.specs.Table.{type_at, IsBelow};
-ghost use Rattle.nim_core.specs.Program.{Case, CaseElse, If, type_of};
-ghost use Rattle.nim_core.specs.View.{choices_of, expr_of, if_type, picks_of};
+ghost use Rattle.nim_program.specs.Nodes.{followed_by, one_value, selecting};
+ghost use Rattle.nim_program.specs.Program.{Choose, ByConditions, ByLabels, NoArg, type_of};
+ghost use Rattle.nim_program.specs.View.{choices_of, expr_of, if_type, picks_of, pick_labels};
 ghost use Rattle.expr_rules.specs.Answers.{gives, node};
 ghost use Rattle.expr_rules.specs.Constructions.{part_names};
 ghost use Rattle.expr_parts.specs.View.{env_of, number_of, want_of, typed_of};
@@ -31,12 +32,12 @@ use expr_calls::any_call::{call_rule, field_rule, unary_call};
 use expr_calls::operator_calls::binary_rule;
 use expr_constants::indexing::index_rule;
 use expr_operations::new_sequences::new_sequence_rule;
+use expr_parts::branches::{chosen, selected, selected_else};
 use expr_parts::branching::branch_value;
 use expr_parts::nodes::type_number;
-use expr_parts::nodes_of_lists::{chosen, selected, selected_else};
 use expr_parts::scope::Scope;
 use expr_parts::value::{Typed, Want};
-use nim_core::{Choice, Expr, Pick};
+use nim_program::{Choice, Expr, Pick};
 use nim_tree::{BinaryOp, Expr as Tree, UnaryOp};
 use nim_types::{TypeId, TypeTable};
 use std::alloc::Global;
@@ -267,8 +268,9 @@ fn if_with(
     otherwise: Expr,
     next: u32,
 ) -> Result<Typed, Stop>
-    ensures answers { (ts : List Ty) → Answers (typed_of ts) (gives (If (node number at)
-        (type_of (expr_of ts otherwise)) (choices_of ts choices.items) (expr_of ts otherwise))
+    ensures answers { (ts : List Ty) → Answers (typed_of ts) (gives (Choose (node number at)
+        (type_of (expr_of ts otherwise)) ByConditions
+        (followed_by (choices_of ts choices.items NoArg) (one_value (expr_of ts otherwise))))
         next) result }
     ensures within { (n : ℕ) → IsBelow n (number_of otherwise)
         → IfOk result (λ t. TypedWithin n t) }
@@ -307,8 +309,9 @@ fn case_with(
     picks: Vec<Pick>,
     next: u32,
 ) -> Result<Typed, Stop>
-    ensures answers { (ts : List Ty) → Answers (typed_of ts) (gives (Case (node number at)
-        (if_type ts ty) (expr_of ts selector) (picks_of ts picks.items)) next) result }
+    ensures answers { (ts : List Ty) → Answers (typed_of ts) (gives (Choose (node number at)
+        (if_type ts ty) (ByLabels (pick_labels picks.items))
+        (selecting (expr_of ts selector) (picks_of ts picks.items NoArg))) next) result }
     ensures within { (n : ℕ) → IsBelow n ty → IfOk result (λ t. TypedWithin n t) }
 {
     typed_from(selected(alloc, number, at, ty, selector, picks), next)
@@ -355,9 +358,10 @@ fn case_else_with(
     otherwise: Expr,
     next: u32,
 ) -> Result<Typed, Stop>
-    ensures answers { (ts : List Ty) → Answers (typed_of ts) (gives (CaseElse (node number at)
-        (type_of (expr_of ts otherwise)) (expr_of ts selector) (picks_of ts picks.items)
-        (expr_of ts otherwise)) next) result }
+    ensures answers { (ts : List Ty) → Answers (typed_of ts) (gives (Choose (node number at)
+        (type_of (expr_of ts otherwise)) (ByLabels (pick_labels picks.items))
+        (selecting (expr_of ts selector) (followed_by (picks_of ts picks.items NoArg)
+        (one_value (expr_of ts otherwise))))) next) result }
     ensures within { (n : ℕ) → IsBelow n (number_of otherwise)
         → IfOk result (λ t. TypedWithin n t) }
 {

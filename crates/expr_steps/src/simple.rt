@@ -4,7 +4,8 @@ ghost use Rattle.arc_base.specs.Refusal.{Answers};
 ghost use Rattle.indent_scanner.specs.ByForm.{characters};
 ghost use Rattle.nim_types.specs.Types.{Ty, Facts};
 ghost use Rattle.nim_types.specs.Types as type;
-ghost use Rattle.nim_core.specs.Program.{Ordinal, Text};
+ghost use Rattle.nim_program.specs.Nodes.{literal};
+ghost use Rattle.nim_program.specs.Program.{Number, Characters};
 ghost use Rattle.expr_rules.specs.Answers.{gives, node};
 ghost use Rattle.expr_rules.specs.Names.{named_value};
 ghost use Rattle.expr_parts.specs.View.{Under, env_of, typed_of};
@@ -29,7 +30,8 @@ pub fn int_of(
 ) -> Result<Typed, Stop>
     requires ready { IsReady types.now scope.now }
     ensures answers { (ts : List Ty) (facts : Facts) → Under types.now ts facts
-        → Answers (typed_of ts) (gives (Ordinal (node number at) type.int value) (suc number))
+        → Answers (typed_of ts) (gives (literal (node number at) type.int (Number value))
+        (suc number))
         result }
     ensures within { IfOk result (λ t. TypedWithin (length types.now) t) }
 {
@@ -46,8 +48,8 @@ pub fn char_of(
 ) -> Result<Typed, Stop>
     requires ready { IsReady types.now scope.now }
     ensures answers { (ts : List Ty) (facts : Facts) → Under types.now ts facts
-        → Answers (typed_of ts) (gives (Ordinal (node number at) type.char (pos value))
-        (suc number)) result }
+        → Answers (typed_of ts) (gives (literal (node number at) type.char
+        (Number (pos value))) (suc number)) result }
     ensures within { IfOk result (λ t. TypedWithin (length types.now) t) }
 {
     single(number, char_literal(types, scope.kinds, number, at, value))
@@ -64,8 +66,8 @@ pub fn text_of(
 ) -> Result<Typed, Stop>
     requires ready { IsReady types.now scope.now }
     ensures answers { (ts : List Ty) (facts : Facts) → Under types.now ts facts
-        → Answers (typed_of ts) (gives (Text (node number at) type.text (characters text.now))
-        (suc number)) result }
+        → Answers (typed_of ts) (gives (literal (node number at) type.text
+        (Characters (characters text.now))) (suc number)) result }
     ensures within { IfOk result (λ t. TypedWithin (length types.now) t) }
 {
     let expr = text_literal(alloc, types, scope.kinds, number, at, text)?;

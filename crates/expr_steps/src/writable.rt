@@ -3,7 +3,7 @@ ghost use Rattle.std.specs.Prelude.{◌≡◌, ℕ, List, IfOk, IfErr};
 ghost use Rattle.arc_base.specs.declared.place.Stop.TheVariants as Stop;
 ghost use Rattle.nim_tree.specs.Terms.{term_of};
 ghost use Rattle.nim_types.specs.Types.{Ty, Facts};
-ghost use Rattle.nim_core.specs.View.{expr_of};
+ghost use Rattle.nim_program.specs.View.{expr_of};
 ghost use Rattle.expr_rules.specs.Env.{Known, known_as, known_next};
 ghost use Rattle.expr_rules.specs.Paths.{is_some, root_of, path_of, is_writable};
 ghost use Rattle.expr_rules.specs.Paths.{has_writable_root, can_be_written};
@@ -13,7 +13,7 @@ use arc_base::Stop;
 use expr_parts::paths::root_of;
 use expr_parts::scope::{Scope, What};
 use indent_scanner::normal_form;
-use nim_core::Expr;
+use nim_program::Expr;
 use nim_tree::Expr as Tree;
 use std::alloc::Global;
 

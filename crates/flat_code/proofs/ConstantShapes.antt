@@ -1,19 +1,23 @@
 -- A constant of a type is a value of its shape.
-use Rattle.std.proofs.Common.{◌≡◌, ℕ, zero, suc, ◌+◌, Bool, true, false, List, [], ◌∷◌, length, Option, Some, None, refl, sym, ap, ap₂, ◌∙◌, subst, arith}
+use Rattle.std.proofs.Common.{◌≡◌, ℕ, zero, suc, ◌+◌, Bool, true, false, List, length, Option, Some, None, refl, sym, ap, ◌∙◌, subst, arith}
 use Rattle.std.specs.Prelude.{◌&&◌, ◌||◌, ℤ, pos}
-use Rattle.std.proofs.lemmas.Bool.{both_ways, and_parts, and_from, or_parts, eqb-true}
+use Rattle.std.proofs.lemmas.Bool.{both_ways, and_parts, and_from, eqb-true}
 use Rattle.nim_types.specs.Types as type
 use Rattle.nim_types.specs.Types.{Ty, Tys, no_types, types, Key, Fact, members, fields, base, below, Facts, fact_of}
 use Rattle.nim_types.specs.Forms as form
-use Rattle.nim_types.specs.Forms.{Form, Forms, HasForm, IsForm, of_int, of_bool, of_char, of_text, of_sequence, of_any_sequence, of_array, of_tuple, of_parameter}
-use Rattle.nim_types.specs.Forms.{of_enum, of_object, of_distinct, of_ref, of_exception, AreForms, none_of, more_of, object_form, wrapped, types_of, hooked, hooked_any}
+use Rattle.nim_types.specs.Forms.{Form, Forms, HasForm, IsForm, of_int, of_bool, of_char, of_text, of_sequence, of_any_sequence, of_array, of_tuple}
+use Rattle.nim_types.specs.Forms.{of_parameter}
+use Rattle.nim_types.specs.Forms.{of_enum, of_object, of_distinct, of_ref, of_exception, AreForms, none_of, more_of, object_form, wrapped, types_of}
+use Rattle.nim_types.specs.Forms.{hooked, hooked_any}
 use Rattle.nim_program.specs.Ints.{fits}
 use Rattle.nim_program.specs.Kinds as kind
-use Rattle.nim_program.specs.Kinds.{TypeKind, kind_of, plain_kind, is_value, is_among, is_text, is_ref, is_sequence, part_at, nth_type, count_types, has_parts, for_some}
+use Rattle.nim_program.specs.Kinds.{TypeKind, kind_of, plain_kind, is_value, is_among, is_text, is_ref, is_sequence, part_at, nth_type, count_types}
+use Rattle.nim_program.specs.Kinds.{has_parts, for_some}
 use Rattle.nim_program.specs.Kinds.{count_literals, is_constant, are_constants}
 use Rattle.nim_program.specs.Program.{Literal, Number as Ordinal, Characters, NoObject, PartsOf, ElementsOf, Literals, NoLiteral, ALiteral}
-use Rattle.nim_meaning.specs.Values.{Value, Number, Parts, Fixed, Ref, literal_value, literal_values}
-use Rattle.flat_code.specs.Shapes.{Shape, number, reference, block, elements, row, parts, resource, Shapes, no_shapes, shapes, object_shape, shape_by, shape_within, shape_of, has_shape, are_rows}
+use Rattle.nim_meaning.specs.Values.{Number, Parts, Fixed, Ref, literal_value, literal_values}
+use Rattle.flat_code.specs.Shapes.{Shape, number, reference, block, elements, row, parts, resource, Shapes, no_shapes, shapes, object_shape, shape_by}
+use Rattle.flat_code.specs.Shapes.{shape_within, shape_of, has_shape, are_rows}
 use Rattle.flat_code.specs.Shapes.{have_shapes}
 use Rattle.flat_code.proofs.ShapeDepths.{AreSorted, object_said, distinct_said, enum_said}
 use Rattle.flat_code.proofs.ShapeKinds.{shapes_of, Matches, AllHave, PartsHave, plain_shaped}
@@ -128,7 +132,8 @@ module _ (facts : Facts) (sorted : AreSorted facts) where
       ∙ rows t p.0 p.1 0 n n (eqb-true n (count_literals all) count) (sym (ap is_free m) ∙ free) h
   parts_right all rows parts_of (kind.tuple ts) s m p free count h =
       ap (has_shape (Parts (literal_values all))) m
-      ∙ parts_of (kind.tuple ts) 0 ts (λ j. ap (nth_type ts) (zero_behind j)) p (sym (ap is_free m) ∙ free) (eqb-true (count_types ts) (count_literals all) count) h
+      ∙ parts_of (kind.tuple ts) 0 ts (λ j. ap (nth_type ts) (zero_behind j)) p (sym (ap is_free m) ∙ free)
+      (eqb-true (count_types ts) (count_literals all) count) h
   parts_right all rows parts_of (kind.object true ts) s m p free count h = never (sym (ap is_free m) ∙ free)
   parts_right all rows parts_of (kind.object false ts) s m p free count h =
       ap (has_shape (Parts (literal_values all))) m

@@ -6,5 +6,5 @@ pub use Rattle.flat_code.proofs.KeptForms.{Alike, same, got, form_by_lines}
 -- ---- shapes of types that have forms
 pub use Rattle.flat_code.proofs.ShapeDepths.{IsSorted, AreSorted}
 pub use Rattle.flat_code.proofs.SortedTables.{sorted_table}
-pub use Rattle.flat_code.proofs.ShapeKinds.{Matches, AllHave, PartsHave, Shaped}
-pub use Rattle.flat_code.proofs.ConstantShapes.{free_of, constant_shape, text_shape}
+pub use Rattle.flat_code.proofs.ShapeKinds.{shapes_of, Matches, AllHave, PartsHave, Shaped, shaped, plain_shaped}
+pub use Rattle.flat_code.proofs.ConstantShapes.{is_free, are_free, free_of, constant_shape, text_shape}

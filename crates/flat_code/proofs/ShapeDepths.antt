@@ -1,11 +1,14 @@
 -- Types that have forms have shapes that looking through more declared types doesn't change.
-use Rattle.std.proofs.Common.{◌≡◌, ◌≢◌, ℕ, zero, suc, ◌<◌, ◌≤◌, Bool, true, false, List, [], ◌∷◌, length, Option, Some, None, refl, sym, ap, ap₂, ◌∙◌, subst, arith}
+use Rattle.std.proofs.Common.{◌≡◌, ◌≢◌, ℕ, zero, suc, ◌≤◌, true, false, [], ◌∷◌, length, Option, Some, None, refl, sym, ap, ap₂, ◌∙◌}
+use Rattle.std.proofs.Common.{arith}
 use Rattle.nim_types.specs.Types as type
 use Rattle.nim_types.specs.Types.{Ty, Tys, Key, Fact, members, fields, base, below, Facts, fact_of}
-use Rattle.nim_types.specs.Forms.{Form, wrapped, Forms, IsForm, of_int, of_bool, of_char, of_text, of_sequence, of_any_sequence, of_array, of_tuple, of_parameter}
-use Rattle.nim_types.specs.Forms.{of_enum, of_object, of_distinct, of_ref, of_exception, AreForms, none_of, more_of, object_form, types_of}
+use Rattle.nim_types.specs.Forms.{Form, wrapped, Forms, IsForm, of_int, of_bool, of_char, of_text, of_sequence, of_any_sequence, of_array, of_tuple}
+use Rattle.nim_types.specs.Forms.{of_parameter}
+use Rattle.nim_types.specs.Forms.{of_enum, of_object, of_distinct, of_ref, of_exception, AreForms, none_of, more_of, object_form}
 use Rattle.nim_types.proofs.ForCallers.{object_weight, without, others_stay, still_among, fewer, smaller, all_smaller}
-use Rattle.flat_code.specs.Shapes.{Shape, number, elements, row, parts, Shapes, no_shapes, shapes, shape_in, shapes_in, object_shape, shape_by, shape_within, shape_of}
+use Rattle.flat_code.specs.Shapes.{Shape, elements, row, parts, shapes, shape_in, shapes_in, object_shape, shape_by}
+use Rattle.flat_code.specs.Shapes.{shape_within, shape_of}
 
 -- what is said of a declared type is of its sort
 abbrev pub IsSorted : Ty → Fact → Type 0

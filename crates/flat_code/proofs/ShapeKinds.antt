@@ -1,10 +1,11 @@
 -- What the shape of a type is by the kind of the type, where it has a form.
-use Rattle.std.proofs.Common.{◌≡◌, ℕ, zero, suc, Bool, true, false, List, [], ◌∷◌, length, Option, Some, None, refl, sym, ap, ap₂, ◌∙◌, subst}
+use Rattle.std.proofs.Common.{◌≡◌, ℕ, zero, suc, true, length, Option, Some, None, refl, sym, ap, ◌∙◌, subst}
 use Rattle.std.proofs.lemmas.Bool.{both_ways}
 use Rattle.nim_types.specs.Types as type
 use Rattle.nim_types.specs.Types.{Ty, Tys, no_types, types, Key, Fact, members, fields, base, below, Facts, fact_of, base_in}
-use Rattle.nim_types.specs.Forms.{Form, Forms, HasForm, IsForm, of_int, of_bool, of_char, of_text, of_sequence, of_any_sequence, of_array, of_tuple, of_parameter}
-use Rattle.nim_types.specs.Forms.{of_enum, of_object, of_distinct, of_ref, of_exception, AreForms, none_of, more_of, object_form, wrapped, types_of}
+use Rattle.nim_types.specs.Forms.{Form, Forms, HasForm, of_int, of_bool, of_char, of_text, of_sequence, of_any_sequence, of_array, of_tuple}
+use Rattle.nim_types.specs.Forms.{of_parameter}
+use Rattle.nim_types.specs.Forms.{of_enum, of_object, of_distinct, of_ref, of_exception, AreForms, none_of, more_of, object_form, wrapped}
 use Rattle.nim_program.specs.Kinds as kind
 use Rattle.nim_program.specs.Kinds.{TypeKind, kind_of, declared_kind, base_or, below_distinct, plain_kind}
 use Rattle.flat_code.specs.Shapes.{Shape, number, reference, block, elements, row, parts, Shapes, shapes_in, object_shape, shape_by, shape_within, shape_of}

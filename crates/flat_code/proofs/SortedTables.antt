@@ -11,7 +11,8 @@ one : {A : Type 0} {x y : A} → Some x ≡ Some y → x ≡ y
 one e = cc
 
 module _ (ts : List Ty) where
-  object_right : (d : TypeDef) (o : Option (List Field)) (own_hooks : Bool) (fact : Fact) → ((all : List Field) → IsSorted (meant ts d) (fields all own_hooks)) →
+  object_right : (d : TypeDef) (o : Option (List Field)) (own_hooks : Bool) (fact : Fact) →
+      ((all : List Field) → IsSorted (meant ts d) (fields all own_hooks)) →
       fields_fact o own_hooks ≡ Some fact → IsSorted (meant ts d) fact
   object_right d None own_hooks fact right e = none_some e
   object_right d (Some all) own_hooks fact right e = subst (IsSorted (meant ts d)) (one e) (right all)

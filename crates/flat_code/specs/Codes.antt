@@ -1,6 +1,6 @@
 -- What flat, owned and block code mean: after n lines. They differ in their lines alone: those of flat code are under its plan, those of owned
 -- code have the plan's acts in them, and those of block code are to have the error word.
-use Rattle.std.specs.Prelude.{◌≡◌, ℕ, ◌+◌, ◌*◌, ◌≤◌, true, List, [], ◌∷◌, map, length, Option}
+use Rattle.std.specs.Prelude.{◌≡◌, ℕ, ◌+◌, ◌*◌, ◌≤◌, true, List, [], ◌∷◌, map, length, Option, None}
 use Rattle.arc_base.specs.Event.{Event}
 use Rattle.arc_base.specs.Behaviour.{Behaviour}
 use Rattle.nim_types.specs.declared.types.TypeDef.{TypeDef}
@@ -49,6 +49,11 @@ procs_of known code = map (proc_of known) code.procs
 -- the hooks of users, procedure by procedure
 abbrev pub hooks_of : {L : Type 0} → Code L → List (Option HookOf)
 hooks_of code = map (λ (p : CodeProc _). p.hook) code.procs
+
+-- no procedure is one
+abbrev pub AreNone : List (Option HookOf) → Type 0
+AreNone [] = Unit {0}
+AreNone (hook ∷ hooks) = (hook ≡ None) × AreNone hooks
 
 -- the places of each procedure
 abbrev pub places_of : {L : Type 0} → Code L → List (List FlatPlace)

@@ -187,7 +187,7 @@ module _ (known : Known) (procs : List Signature) (globals places : List FlatPla
   -- operands of these types
   abbrev pub are_of : List (Option Ty) → List From → Bool
   are_of [] [] = true
-  are_of (ty ∷ tys) (x ∷ from) = same_value ty (taken x) && are_of tys from
+  are_of (ty ∷ tys) (x ∷ from) = same_value (taken x) ty && are_of tys from
   are_of tys from = false
 
   -- arguments for these parameters
@@ -211,32 +211,32 @@ module _ (known : Known) (procs : List Signature) (globals places : List FlatPla
   fits (L.Apply to operation how ty of from) =
       (operation_fits known.facts operation (if_type known.types ty) (map (if_type known.types) of)
       && (are_of (map (if_type known.types) of) from && (are_placed (places_in operation) from && (not (writes operation) || may_write_all from))))
-      && same_value (if_type known.types ty) (value to)
+      && same_value (value to) (if_type known.types ty)
   fits (L.Construct to how ty fields from) =
       (building_fits known.facts (Some (type_at known.types ty)) fields (map taken from) && are_placed zero from)
-      && is_of (Some (type_at known.types ty)) (value to)
+      && is_of (value to) (Some (type_at known.types ty))
   fits (L.Constant to how ty pieces) =
       (are_one pieces 0 && has_shape (value_of pieces) (shape_of known.facts (type_at known.types ty)))
-      && is_of (Some (type_at known.types ty)) (value to)
+      && is_of (value to) (Some (type_at known.types ty))
   fits (L.Call to how ty proc from) =
-      call_fits (slice_get procs proc) (if_type known.types ty) from && same_value (if_type known.types ty) (value to)
-  fits (L.Get to from how site ty) = is_of (if_type known.types ty) (value to) && is_of (location from) (value to)
-  fits (L.Look to from) = is_of (location from) (value to)
-  fits (L.Root to place global) = is_of (any_place place global) (location to) && may_write to
-  fits (L.Fresh to from) = is_of (value from) (location to) && not (may_write to)
-  fits (L.Part to from field) = is_of (field_at (kind_at (location from)) field) (location to) && same_base to from
+      call_fits (slice_get procs proc) (if_type known.types ty) from && same_value (value to) (if_type known.types ty)
+  fits (L.Get to from how site ty) = is_of (value to) (if_type known.types ty) && is_of (value to) (location from)
+  fits (L.Look to from) = is_of (value to) (location from)
+  fits (L.Root to place global) = is_of (location to) (any_place place global) && may_write to
+  fits (L.Fresh to from) = is_of (location to) (value from) && not (may_write to)
+  fits (L.Part to from field) = is_of (location to) (field_at (kind_at (location from)) field) && same_base to from
   fits (L.Item to from index) =
-      is_of (element_of (kind_at (location from))) (location to) && (is_int (kind_at (value index)) && same_base to from)
-  fits (L.Object to from) = is_of (object_of (kind_at (location from))) (location to) && may_write to
-  fits (L.Pass to from how ty) = same_value (value from) (value to) && passes_as (value to) (if_type known.types ty)
+      is_of (location to) (element_of (kind_at (location from))) && (is_int (kind_at (value index)) && same_base to from)
+  fits (L.Object to from) = is_of (location to) (object_of (kind_at (location from))) && may_write to
+  fits (L.Pass to from how ty) = same_value (value to) (value from) && passes_as (value to) (if_type known.types ty)
   fits (L.Truth to holds) = is_bool (kind_at (value to))
-  fits (L.Fill place from) = is_of (value from) (own place)
-  fits (L.Blank place ty) = is_of (Some (type_at known.types ty)) (own place)
-  fits (L.Give place from) = is_of (value from) (own place)
+  fits (L.Fill place from) = is_of (own place) (value from)
+  fits (L.Blank place ty) = is_of (own place) (Some (type_at known.types ty))
+  fits (L.Give place from) = is_of (own place) (value from)
   fits (L.Zero to) = is_int (kind_at (value to))
   fits (L.Length to from) = is_int (kind_at (value to)) && has_length (kind_at (location from))
   fits (L.Still from len) = has_length (kind_at (location from)) && is_int (kind_at (value len))
-  fits (L.Element to from index) = is_of (element_of (kind_at (location from))) (value to) && is_int (kind_at (value index))
+  fits (L.Element to from index) = is_of (value to) (element_of (kind_at (location from))) && is_int (kind_at (value index))
   fits (L.Beyond counter last inclusive to) = is_int (kind_at (value counter)) && is_int (kind_at (value last))
   fits (L.Next counter last) = is_int (kind_at (value counter)) && is_int (kind_at (value last))
   fits (L.Label name) = true

@@ -9,7 +9,7 @@ use Rattle.nim_program.specs.declared.operation.Operation.{Operation}
 use Rattle.nim_program.specs.declared.operation.Operation.TheVariants as O
 use Rattle.nim_program.specs.declared.program.Mode.TheVariants.{Plain, Sink, Var}
 use Rattle.nim_program.specs.Sizes.{type_bytes}
-use Rattle.nim_program.specs.TextSizes.{text_bytes}
+use Rattle.nim_program.specs.TextSizes.{text_bytes, all_bytes}
 use Rattle.flat_code.specs.declared.code.CodeProc.{CodeProc}
 use Rattle.flat_code.specs.declared.line.Line.{Line}
 use Rattle.flat_code.specs.declared.line.Line.TheVariants as L
@@ -151,10 +151,6 @@ globals_bytes known [] = 0
 globals_bytes known (p ∷ places) = global_bytes p.kind (type_bytes known.facts (type_at known.types p.ty)) + globals_bytes known places
 
 -- the names of the members of enums
-abbrev pub all_bytes : List (List ℕ) → ℕ
-all_bytes [] = 0
-all_bytes (text ∷ texts) = text_bytes text + all_bytes texts
-
 abbrev pub members_bytes : TypeDef → ℕ
 members_bytes (D.Enum name at members) = all_bytes members
 members_bytes def = 0

@@ -1,5 +1,5 @@
 -- How many data flat code has.
-use Rattle.std.proofs.Common.{◌≡◌, ℕ, ◌+◌, ◌≤◌, true, List, [], ◌∷◌, ◌++◌, refl, sym, ap, ◌∙◌, subst, arith}
+use Rattle.std.proofs.Common.{◌≡◌, ◌≤◌, true, List, [], ap, arith}
 use Rattle.std.specs.Prelude.{map, None}
 use Rattle.nim_types.specs.declared.types.TypeDef.{TypeDef}
 use Rattle.nim_plan.specs.declared.plan.Plan.{Plan}

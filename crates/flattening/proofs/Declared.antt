@@ -1,26 +1,24 @@
 -- Declared places among the places of flat code: each stands where it is declared, in the order of its number, and is found by that.
-use Rattle.std.proofs.Common.{◌≡◌, ◌≢◌, ℕ, zero, suc, ◌+◌, ◌<◌, ◌≤◌, ◌⊎◌, inl, inr, Bool, true, false, List, [], ◌∷◌, ◌++◌, Option, Some, None, refl, sym, ap, ap₂, ◌∙◌, subst, arith}
-use Rattle.std.specs.Prelude.{nat_eq, nat_le, nat_lt, ◌&&◌, ◌||◌, not, if◌then◌else◌, map}
-use Rattle.std.proofs.lemmas.Bool.{both_ways, and_parts, and_from, leb-true, eqb-true, ne_eqb, eq-eqb, le-leb, lt-ltb, not-true}
+use Rattle.std.proofs.Common.{◌≡◌, ◌≢◌, ℕ, suc, ◌≤◌, ◌⊎◌, inl, inr, Bool, true, false, List, [], ◌∷◌, ◌++◌, Some, refl, sym, ap, ◌∙◌, subst, arith}
+use Rattle.std.specs.Prelude.{nat_le, nat_lt, ◌&&◌, if◌then◌else◌, map}
+use Rattle.std.proofs.lemmas.Bool.{and_parts, and_from, leb-true, ne_eqb, lt-ltb}
 use Rattle.nim_types.specs.Types.{Ty}
-use Rattle.nim_types.specs.Table.{type_at}
-use Rattle.nim_program.specs.Program.{Declared, Kind, While, Count, Each as OfEach, Param, Stmts, Expr}
+use Rattle.nim_program.specs.Program.{Declared, Stmts}
 use Rattle.nim_program.specs.Folds.{Seen, AtApply, AtEarly, AtChoose, AtPath, AtStmt, AtDeclare, AtLoop, AtHandler, lists, total_of, own_places, if_declared}
 use Rattle.nim_program.specs.Folds as folds
 use Rattle.nim_program.specs.Numbering as numbering
 use Rattle.nim_program.specs.Sizes.{is_global as is_global_number}
 use Rattle.nim_program.specs.Typed.{own_types}
-use Rattle.nim_meaning.proofs.ForCallers.{Relates, related_of}
+use Rattle.nim_meaning.proofs.ForCallers.{related_of}
 use Rattle.flat_code.specs.declared.place.PlaceKind.{PlaceKind}
 use Rattle.flat_code.specs.declared.place.PlaceKind.TheVariants as K
 use Rattle.flat_code.specs.declared.place.FlatPlace.{FlatPlace}
-use Rattle.flat_code.specs.Scene.{Known}
-use Rattle.flat_code.specs.Fits.{is_value, is_location, is_declared, is_own, place_named, place_type, type_by_kind, if_type_of, are_within}
+use Rattle.flat_code.specs.Fits.{is_declared, is_own, place_named, type_by_kind, are_within}
 use Rattle.flattening.specs.Formed.{IsListed}
 use Rattle.flattening.specs.Numbering.{type_number}
-use Rattle.flattening.specs.Places.{kind_of_declared, place, of_declared, all_declared, own_declared, param_places, result_places}
+use Rattle.flattening.specs.Places.{kind_of_declared, place, all_declared, own_declared}
 use Rattle.flattening.proofs.FitParts.{never}
-use Rattle.flattening.proofs.Numbered.{named_here, named_before, named_behind}
+use Rattle.flattening.proofs.Numbered.{named_here}
 use Rattle.flattening.proofs.Parts.{Each, apart, both}
 
 -- the kind of what a block declares
@@ -96,7 +94,8 @@ block_like types globals b = related_of lists lists (own_declared types globals)
 }) b
 
 -- the types of what a block declares stand in it
-pub place_listed : (types : List Ty) (ds : List Declared) → Each (IsListed types) (map (λ (d : Declared). d.of) ds) → Each (λ (d : Declared). IsListed types d.of) ds
+pub place_listed : (types : List Ty) (ds : List Declared) → Each (IsListed types) (map (λ (d : Declared). d.of) ds) →
+    Each (λ (d : Declared). IsListed types d.of) ds
 place_listed types [] h = tt
 place_listed types (d ∷ ds) h = (h.0, place_listed types ds h.1)
 
@@ -169,7 +168,8 @@ found_by is_kind from to (q ∷ ps) rest p h (inr m) is =
 pub within_none : (least to : ℕ) (ts : List FlatPlace) → Each (λ (p : FlatPlace). is_declared p.kind ≡ false) ts → are_within least to ts ≡ true
 within_none least to [] h = refl
 within_none least to (p ∷ ts) h =
-    ap (λ b. if b then nat_le least p.number && (nat_lt p.number to && are_within (suc p.number) to ts) else are_within least to ts) h.0 ∙ within_none least to ts h.1
+    ap (λ b. if b then nat_le least p.number && (nat_lt p.number to && are_within (suc p.number) to ts) else are_within least to ts) h.0
+    ∙ within_none least to ts h.1
 
 last_less : (from to : ℕ) (ns : List ℕ) → numbering.rise_to from to ns ≡ true → from ≤ to
 last_less from to [] h = leb-true from to h

@@ -19,7 +19,7 @@ use Rattle.flat_code.specs.Scene.{Known}
 use Rattle.flattening.specs.Flattened.{known_of}
 use Rattle.flattening.specs.Formed.{IsListed}
 use Rattle.flattening.specs.Places.{kind_of_declared, of_declared, own_declared, body_places}
-use Rattle.flattening.proofs.Declared.{Member, member_first, member_second, place_listed}
+use Rattle.flattening.proofs.Declared.{Member, member_second, place_listed}
 use Rattle.flattening.proofs.FitBodies as bodies
 use Rattle.flattening.proofs.FitParts.{never}
 use Rattle.flattening.proofs.FitParts as parts
@@ -105,7 +105,8 @@ module _ (program : Program) where
     globals_found filled Empty h within l = subst (Each Found) (sym (drop_all filled globals (eqb-true filled (length globals) h))) tt
     globals_found filled (Then first rest) h within l =
         globals_found filled rest (and_parts (is_typed_stmt _ module_code first) _ h).1
-        (λ p m. within p (member_second p (total_in lists (own_declared types program.globals) first) (total_of lists (own_declared types program.globals) rest) m))
+        (λ p m. within p (member_second p (total_in lists (own_declared types program.globals) first)
+        (total_of lists (own_declared types program.globals) rest) m))
         (apart (IsListed types) (total_in lists own_types first) (total_of lists own_types rest) l).1
     globals_found filled (Declare node place cursor value rest) h within l =
         let seen = seen_by filled first_in in
@@ -113,13 +114,15 @@ module _ (program : Program) where
         let r = and_parts (is_next (slice_get globals filled) (placed place)) (starts facts place.of value && are_typed seen value) q.0 in
         next (slice_get globals filled) refl r.0
         (globals_found (suc filled) rest q.1
-        (λ p m. within p (inr (member_second p (totals lists (own_declared types program.globals) value) (total_of lists (own_declared types program.globals) rest) m)))
+        (λ p m. within p (inr (member_second p (totals lists (own_declared types program.globals) value)
+        (total_of lists (own_declared types program.globals) rest) m)))
         (apart (IsListed types) (totals lists own_types value) (total_of lists own_types rest) l.1).1)
       where
         flat : FlatPlace
         flat = of_declared types (kind_of_declared program.globals (AtDeclare node place cursor) place) place
 
-        next : (o : Option Placed) → slice_get globals filled ≡ o → is_next o (placed place) ≡ true → Each Found (drop (suc filled) globals) → Each Found (drop filled globals)
+        next : (o : Option Placed) → slice_get globals filled ≡ o → is_next o (placed place) ≡ true → Each Found (drop (suc filled) globals) →
+            Each Found (drop filled globals)
         next None e h rest = never h
         next (Some g) e h rest =
             let q = and_parts (nat_eq g.number place.number) (same g.of place.of) h in

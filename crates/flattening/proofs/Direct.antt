@@ -1,10 +1,10 @@
 -- Expressions without dereferences and without calls that have types for type parameters: those of programs of which nothing is left out.
-use Rattle.std.proofs.Common.{◌≡◌, ℕ, Bool, true, false, List, [], ◌∷◌, Option, Some, None, refl, ap, ◌∙◌}
+use Rattle.std.proofs.Common.{◌≡◌, Bool, true, false, List, [], ◌∷◌, Option, None, refl, ap, ◌∙◌}
 use Rattle.std.specs.Prelude.{not, ◌&&◌, ◌||◌}
-use Rattle.std.proofs.lemmas.Bool.{both_ways, and_parts, and_from, or_parts, not-false}
+use Rattle.std.proofs.lemmas.Bool.{both_ways, and_from, or_parts, not-false}
 use Rattle.nim_types.specs.Types.{Ty, Facts}
-use Rattle.nim_program.specs.declared.expr.Node.{Node}
-use Rattle.nim_program.specs.Program.{Literal, Characters, Number, NoObject, PartsOf, ElementsOf, Act, Doing, Building, Giving, Calling, Expr, Apply, Read, Early, Choose}
+use Rattle.nim_program.specs.Program.{Literal, Characters, Number, NoObject, PartsOf, ElementsOf, Act, Doing, Building, Giving, Calling, Expr, Apply, Read}
+use Rattle.nim_program.specs.Program.{Early, Choose}
 use Rattle.nim_program.specs.Program.{Path, Variable, Fresh, Field, Element, Deref, Args, NoArg, ByValue, ByPath, types_in}
 use Rattle.nim_meaning.specs.Here.{is_hooked, gives_hooked}
 use Rattle.nim_meaning.specs.LeftOut.{is_act_built, writes_literals, unless_literal, out_if, first_hooked, left_out_in, left_out_in_path, left_out_in_args}

@@ -1,16 +1,16 @@
 -- The line of what is done with operands fits.
-use Rattle.std.proofs.Common.{◌≡◌, ℕ, zero, suc, ◌+◌, Bool, true, false, List, [], ◌∷◌, Option, Some, None, refl, sym, ap, ap₂, ◌∙◌, subst}
-use Rattle.std.specs.Prelude.{◌&&◌, ◌||◌, not, nat_eq, map, slice_get, take}
+use Rattle.std.proofs.Common.{◌≡◌, ℕ, suc, ◌+◌, Bool, true, false, List, [], ◌∷◌, Option, Some, None, refl, sym, ap, ap₂, ◌∙◌}
+use Rattle.std.specs.Prelude.{◌&&◌, ◌||◌, not, nat_eq, map, slice_get}
 use Rattle.std.proofs.lemmas.Bool.{and_parts, and_from}
 use Rattle.nim_types.specs.Types.{Ty, Tys, no_types, types as more_types, Facts}
 use Rattle.nim_types.specs.Types as type
-use Rattle.nim_types.specs.Table.{type_at as type_by_number}
 use Rattle.nim_program.specs.declared.operation.Operation.{Operation}
 use Rattle.nim_program.specs.declared.operation.Operation.TheVariants as O
 use Rattle.nim_program.specs.declared.operation.Use.{Use}
 use Rattle.nim_program.specs.declared.program.Mode.{Mode}
 use Rattle.nim_program.specs.declared.program.Mode.TheVariants as M
-use Rattle.nim_program.specs.Program.{Literal, Act, Doing, Building, Giving, Calling, Args, NoArg, ByValue, ByPath, Param, Body, Proc, types_in, type_of, type_at}
+use Rattle.nim_program.specs.Program.{Literal, Act, Doing, Building, Giving, Calling, Args, NoArg, ByValue, ByPath, Param, Body, Proc, types_in, type_of}
+use Rattle.nim_program.specs.Program.{type_at}
 use Rattle.nim_program.specs.Kinds.{TypeKind, is_of, same_value}
 use Rattle.nim_program.specs.Fitting as table
 use Rattle.nim_program.specs.Fitting.{building_fits, are_distinct, are_fields, places_in}
@@ -20,17 +20,14 @@ use Rattle.nim_program.specs.Typed.{act_fits, are_placed, may_take_all}
 use Rattle.nim_program.specs.View.{if_type}
 use Rattle.nim_meaning.specs.Here.{gives_hooked}
 use Rattle.flat_code.specs.declared.line.From.{From}
-use Rattle.flat_code.specs.declared.line.From.TheVariants as F
-use Rattle.flat_code.specs.declared.line.Line.{Line}
 use Rattle.flat_code.specs.declared.line.Line.TheVariants as L
 use Rattle.flat_code.specs.declared.place.FlatPlace.{FlatPlace}
 use Rattle.flat_code.specs.Scene.{Known}
 use Rattle.flat_code.specs.Fits as fit
 use Rattle.flat_code.specs.Fits.{Taken, Signature, operation_fits, writes, are_arguments}
-use Rattle.flat_code.specs.Pieces.{pieces_of, value_of, are_one}
 use Rattle.flat_code.specs.Shapes.{has_shape, shape_of}
-use Rattle.flattening.specs.Formed.{IsListed, IfListed, AreListed}
-use Rattle.flattening.specs.Numbering.{type_number, if_number, all_numbers, width, width_at}
+use Rattle.flattening.specs.Formed.{IfListed, AreListed}
+use Rattle.flattening.specs.Numbering.{if_number, all_numbers, width, width_at}
 use Rattle.flattening.specs.ExprLines.{froms, act_line}
 use Rattle.flattening.proofs.Acting.{type_is, types_are}
 use Rattle.flattening.proofs.Direct.{is_text, of_act}
@@ -107,18 +104,20 @@ module _ (types : List Ty) (facts : Facts) (procs : List Proc) (globals : List P
       act_fits here ty (Doing operation) operands ≡ true → IfListed types ty → AreListed types (types_in operands) → value t ≡ ty → AllStood operands (suc t) →
       fitting around (L.Apply t operation how (if_number types ty) (all_numbers types (types_in operands)) (froms operands (suc t))) ≡ true
   doing_fits t operation how ty operands h listed all_listed is all =
-      let q = and_parts (table.fits facts operation ty (types_in operands)) (are_placed (places_in operation) operands && may_take_all here operation operands) h in
+      let q = and_parts (table.fits facts operation ty (types_in operands))
+      (are_placed (places_in operation) operands && may_take_all here operation operands) h in
       let r = and_parts (are_placed (places_in operation) operands) (may_take_all here operation operands) q.1 in
       let e = type_is types ty listed in
       let es = types_are types (types_in operands) all_listed in
       and_from _ _
       (and_from _ _ (ap₂ (operation_fits facts operation) e es ∙ operation_right facts operation ty (types_in operands) q.0)
       (and_from _ _
-      (paths.are_of_these types facts procs globals sigs start whole filled places dest sees (froms operands (suc t)) _ (taken_are operands (suc t) all ∙ sym es))
+      (paths.are_of_these types facts procs globals sigs start whole filled places dest sees (froms operands (suc t)) _
+      (taken_are operands (suc t) all ∙ sym es))
       (and_from _ _
       (paths.placed_same types facts procs globals sigs start whole filled places dest sees (places_in operation) operands (suc t) r.0)
       (paths.may_be_written types facts procs globals sigs start whole filled places dest sees operation operands (suc t) all r.1))))
-      (both_are _ _ ty e is)
+      (both_are _ _ ty is e)
 
   -- ---- objects and constants
 
@@ -134,7 +133,7 @@ module _ (types : List Ty) (facts : Facts) (procs : List Proc) (globals : List P
       (and_from _ _
       (ap₂ (λ u tys. building_fits facts (Some u) fields tys) listed (taken_are operands (suc t) all) ∙ q.0)
       (paths.placed_same types facts procs globals sigs start whole filled places dest sees 0 operands (suc t) q.1))
-      (both_some _ _ (Some ty) refl (ap Some listed) is)
+      (both_some _ _ (Some ty) refl is (ap Some listed))
 
   giving_right : (t : ℕ) (literal : Literal) (how : Use) (ty : Option Ty) (operands : Args) → is_text literal || not (gives_hooked facts ty) ≡ true →
       act_fits here ty (Giving literal) operands ≡ true → IfListed types ty → value t ≡ ty →
@@ -146,7 +145,7 @@ module _ (types : List Ty) (facts : Facts) (procs : List Proc) (globals : List P
       and_from _ _
       (and_from _ _ (is_one literal)
       (ap₂ (λ v u. has_shape v (shape_of facts u)) (pieces_value literal) listed ∙ grounds.constants ty literal listed d h))
-      (both_some _ _ (Some ty) refl (ap Some listed) is)
+      (both_some _ _ (Some ty) refl is (ap Some listed))
 
   -- ---- calls
 
@@ -202,7 +201,7 @@ module _ (types : List Ty) (facts : Facts) (procs : List Proc) (globals : List P
           and_from _ _
           (ap (λ s. fit.call_fits known sigs start whole s (if_type types (if_number types ty)) (froms operands (suc t))) (grounds.calls proc p body e f)
           ∙ and_from _ _ (ap₂ same_value (sym (given_if_none p.gives)) back ∙ q.0) (arguments_right p.params operands (suc t) q.1 all))
-          (both_are _ _ ty back is)
+          (both_are _ _ ty is back)
 
       by : (o : Option Proc) → slice_get procs proc ≡ o → call_fits here o [] ty operands ≡ true → Said
       by None e h = never h

@@ -1,27 +1,27 @@
 -- What is known of typed statements where they stand.
-use Rattle.std.proofs.Common.{◌≡◌, ℕ, zero, suc, ◌+◌, ◌≤◌, Bool, true, false, List, [], ◌∷◌, ◌++◌, Option, Some, None, refl, sym, ap, ap₂, ◌∙◌, subst, arith, append_assoc}
-use Rattle.std.specs.Prelude.{◌&&◌, nat_eq, if◌then◌else◌, take}
-use Rattle.std.proofs.lemmas.Bool.{and_parts, eqb-true}
+use Rattle.std.proofs.Common.{◌≡◌, ℕ, zero, suc, ◌+◌, ◌≤◌, Bool, true, false, List, [], ◌∷◌, ◌++◌, Option, Some, None, refl, sym, ap, ◌∙◌, subst, arith}
+use Rattle.std.proofs.Common.{append_assoc}
+use Rattle.std.specs.Prelude.{nat_eq, if◌then◌else◌, take}
+use Rattle.std.proofs.lemmas.Bool.{eqb-true}
 use Rattle.nim_types.specs.Types.{Ty, Facts}
 use Rattle.nim_types.specs.Types as type
-use Rattle.nim_program.specs.Program.{Label, ByLabels, Expr, Read, Path, Args, NoArg, ByValue, ByPath, Proc, Declared, type_of, type_at}
-use Rattle.nim_program.specs.Folds.{Seen, Sum, lists, total, total_at, totals, each}
+use Rattle.nim_program.specs.Program.{Label, ByLabels, Expr, Args, NoArg, ByValue, ByPath, Proc, Declared}
+use Rattle.nim_program.specs.Folds.{Seen, lists, total, total_at, totals, each}
 use Rattle.nim_program.specs.Kinds.{kind_of, declared_kind, is_int}
 use Rattle.nim_program.specs.Scopes.{Placed, placed, Here, look}
-use Rattle.nim_program.specs.Typed.{own_types, is_typed, are_typed}
+use Rattle.nim_program.specs.Typed.{own_types, is_typed}
 use Rattle.flat_code.specs.declared.place.FlatPlace.{FlatPlace}
 use Rattle.flat_code.specs.Fits.{Signature, own}
 use Rattle.flattening.specs.Formed.{IsListed}
-use Rattle.flattening.specs.Numbering.{width, width_at, widths}
+use Rattle.flattening.specs.Numbering.{width, widths}
 use Rattle.flattening.specs.Places.{expr_places, operand_places, selector_place}
-use Rattle.flattening.proofs.Direct.{is_direct, are_direct}
+use Rattle.flattening.proofs.Direct.{is_direct}
 use Rattle.flattening.proofs.FitParts.{never}
 use Rattle.flattening.proofs.FitParts as parts
-use Rattle.flattening.proofs.Numbered.{Numbered, ◌>>◌, Owns, owns_first, owns_second, owns_later, owns_less}
-use Rattle.flattening.proofs.Owned as owned
+use Rattle.flattening.proofs.Numbered.{Numbered, ◌>>◌, Owns, owns_first, owns_second, owns_later}
 use Rattle.flattening.proofs.Owned.{locations_from, locations_later}
-use Rattle.flattening.proofs.Parts.{Each, EachIn, apart, both}
-use Rattle.flattening.proofs.PlaceNumbers.{expr_numbers, operand_numbers, selector_number}
+use Rattle.flattening.proofs.Parts.{Each, EachIn, both}
+use Rattle.flattening.proofs.PlaceNumbers.{operand_numbers, selector_number}
 
 -- ---- what is an int
 
@@ -88,7 +88,8 @@ look_taken (suc filled) (p ∷ places) n ty e = at (nat_eq p.number n) e (look_t
 -- ---- lists of operands
 
 -- what holds of each operand's list holds of their list together
-pub together_each : {A : Type 0} (holds : A → Type 0) (own : Seen → List A) (args : Args) → EachIn holds (each lists own args) → Each holds (totals lists own args)
+pub together_each : {A : Type 0} (holds : A → Type 0) (own : Seen → List A) (args : Args) → EachIn holds (each lists own args) →
+    Each holds (totals lists own args)
 together_each holds own NoArg h = tt
 together_each holds own (ByValue e rest) h = both holds (total lists own e) (totals lists own rest) h.0 (together_each holds own rest h.1)
 together_each holds own (ByPath path rest) h = both holds (total_at lists own false path) (totals lists own rest) h.0 (together_each holds own rest h.1)

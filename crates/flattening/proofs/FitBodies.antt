@@ -1,11 +1,12 @@
 -- The places of a body: its parameters and its result come first, and each place in scope is found by its number.
-use Rattle.std.proofs.Common.{◌≡◌, ℕ, zero, suc, ◌+◌, ◌≤◌, inl, inr, Bool, true, false, List, [], ◌∷◌, ◌++◌, Option, Some, None, refl, sym, ap, ap₂, ◌∙◌, subst, arith, append_assoc, append-nil}
-use Rattle.std.specs.Prelude.{nat_eq, nat_le, ◌&&◌, not, if◌then◌else◌, map, length}
+use Rattle.std.proofs.Common.{◌≡◌, ℕ, suc, ◌+◌, inl, inr, Bool, true, false, List, [], ◌∷◌, ◌++◌, Option, Some, None, refl, sym, ap, ap₂, ◌∙◌, subst}
+use Rattle.std.proofs.Common.{append_assoc}
+use Rattle.std.specs.Prelude.{nat_eq, nat_le, ◌&&◌, if◌then◌else◌, map, length}
 use Rattle.std.proofs.lemmas.Bool.{and_parts, and_from, eqb-true, eq-eqb}
 use Rattle.nim_types.specs.Types.{Ty, Facts}
 use Rattle.nim_types.specs.Table.{type_at}
 use Rattle.nim_program.specs.declared.nodes.TheConstants.{MOST_NODES}
-use Rattle.nim_program.specs.Program.{Declared, Param, Body, Stmts}
+use Rattle.nim_program.specs.Program.{Declared, Param, Body}
 use Rattle.nim_program.specs.Folds.{lists, total_of, own_places, if_declared}
 use Rattle.nim_program.specs.Folds as folds
 use Rattle.nim_program.specs.Numbering as numbering
@@ -15,13 +16,15 @@ use Rattle.flat_code.specs.declared.place.PlaceKind.{PlaceKind}
 use Rattle.flat_code.specs.declared.place.PlaceKind.TheVariants as K
 use Rattle.flat_code.specs.declared.place.FlatPlace.{FlatPlace}
 use Rattle.flat_code.specs.Scene.{Known}
-use Rattle.flat_code.specs.Fits.{Taken, is_value, is_location, is_declared, is_own, place_named, place_type, type_by_kind, if_type_of, taken_by, given_by, result_at, params_at, results_at, and_param, and_number, and_result, or_result}
+use Rattle.flat_code.specs.Fits.{Taken, is_value, is_location, is_declared, is_own, place_named, place_type, if_type_of, taken_by, given_by, result_at}
+use Rattle.flat_code.specs.Fits.{params_at, results_at, and_param, and_number, and_result, or_result}
 use Rattle.flat_code.specs.Fits.{is_var, follow, are_within, same_place}
 use Rattle.flattening.specs.Formed.{IsListed}
 use Rattle.flattening.specs.Numbering.{type_number}
 use Rattle.flattening.specs.Places.{of_declared, own_declared, param_places, result_places, block_places, body_places}
 use Rattle.flattening.specs.StmtLines.{number_of}
-use Rattle.flattening.proofs.Declared.{is_block, block_own, block_declared, declared_type, Like, Likes, block_like, block_listed, numbers, Member, member_first, member_second}
+use Rattle.flattening.proofs.Declared.{is_block, block_own, block_declared, declared_type, Likes, block_like, block_listed, numbers, Member, member_first}
+use Rattle.flattening.proofs.Declared.{member_second}
 use Rattle.flattening.proofs.Declared.{found_by, rise_within}
 use Rattle.flattening.proofs.FitParts.{never, takes_of}
 use Rattle.flattening.proofs.Numbered.{named_past, named_behind, Owns}
@@ -233,7 +236,8 @@ module _ (types : List Ty) (facts : Facts) (globals : List Declared) (params : L
   same_numbers : numbers declared ≡ numbers_of (total_of lists own_places body.stmts)
   same_numbers = like_numbers declared (total_of lists own_places body.stmts) (block_like types globals body.stmts)
 
-  result_numbers : (result : Option Declared) → numbers (result_places types result ++ declared) ≡ numbers_of (if_declared result ++ folds.block_places body.stmts)
+  result_numbers : (result : Option Declared) →
+      numbers (result_places types result ++ declared) ≡ numbers_of (if_declared result ++ folds.block_places body.stmts)
   result_numbers None = same_numbers
   result_numbers (Some d) = ap (λ ns. d.number ∷ ns) same_numbers
 
@@ -302,12 +306,14 @@ module _ (types : List Ty) (facts : Facts) (globals : List Declared) (params : L
         member_second p (param_places types params) (result_places types body.result ++ declared)
         (member_second p (result_places types body.result) declared m)
 
-    pub held : Each (IsListed types) (total_of lists own_types body.stmts) → Each (λ (d : Declared). OwnPlace d × Named d) (total_of lists own_places body.stmts)
+    pub held : Each (IsListed types) (total_of lists own_types body.stmts) →
+        Each (λ (d : Declared). OwnPlace d × Named d) (total_of lists own_places body.stmts)
     held listed =
         likes_held declared (total_of lists own_places body.stmts) (block_like types globals body.stmts) (block_listed types body.stmts listed) in_blocks
 
     -- the result
-    result_at_front : (result : Option Declared) (d : Declared) → result ≡ Some d → Member (of_declared types K.Result d) (result_places types result ++ declared)
+    result_at_front : (result : Option Declared) (d : Declared) → result ≡ Some d →
+        Member (of_declared types K.Result d) (result_places types result ++ declared)
     result_at_front None d e = none e
       where
         none : {A : Type 0} → None ≡ Some d → A
@@ -333,19 +339,22 @@ module _ (types : List Ty) (facts : Facts) (globals : List Declared) (params : L
       params_found ps listed.1 (λ q k. in_front q (inr k)),
     )
 
-    if_found : (result : Option Declared) → body.result ≡ result → Each (λ (d : Declared). IsListed types d.of) (if_declared result) → Each Named (if_declared result)
+    if_found : (result : Option Declared) → body.result ≡ result → Each (λ (d : Declared). IsListed types d.of) (if_declared result) →
+        Each Named (if_declared result)
     if_found None e listed = tt
     if_found (Some d) e listed = ((result_found d e listed.0).1, tt)
 
     -- parameters and the result are in scope at first
-    pub head_found : Each (λ (d : Declared). IsListed types d.of) (param_declared params) → Each (λ (d : Declared). IsListed types d.of) (if_declared body.result) →
+    pub head_found : Each (λ (d : Declared). IsListed types d.of) (param_declared params) →
+        Each (λ (d : Declared). IsListed types d.of) (if_declared body.result) →
         Each Named (param_declared params ++ if_declared body.result)
     head_found listed given = both Named (param_declared params) (if_declared body.result)
         (params_found params listed (λ p m. member_first p (param_places types params) (result_places types body.result ++ declared) m))
         (if_found body.result refl given)
 
 -- places in scope, by what holds of each
-pub look_each : (f : ℕ → Option Ty) (ps : List Placed) (n : ℕ) (ty : Ty) → Each (λ (p : Placed). f p.number ≡ Some p.of) ps → look ps n ≡ Some ty → f n ≡ Some ty
+pub look_each : (f : ℕ → Option Ty) (ps : List Placed) (n : ℕ) (ty : Ty) → Each (λ (p : Placed). f p.number ≡ Some p.of) ps → look ps n ≡ Some ty →
+    f n ≡ Some ty
 look_each f [] n ty h e = none e
   where
     none : {A : Type 0} → None ≡ Some ty → A
@@ -356,6 +365,7 @@ look_each f (p ∷ ps) n ty h e = at (nat_eq p.number n) refl e (look_each f ps 
     at true same e rest = ap f (sym (eqb-true p.number n same)) ∙ h.0 ∙ e
     at false same e rest = rest e
 
-pub each_placed : (f : ℕ → Option Ty) (ds : List Declared) → Each (λ (d : Declared). f d.number ≡ Some d.of) ds → Each (λ (p : Placed). f p.number ≡ Some p.of) (map placed ds)
+pub each_placed : (f : ℕ → Option Ty) (ds : List Declared) → Each (λ (d : Declared). f d.number ≡ Some d.of) ds →
+    Each (λ (p : Placed). f p.number ≡ Some p.of) (map placed ds)
 each_placed f [] h = tt
 each_placed f (d ∷ ds) h = (h.0, each_placed f ds h.1)

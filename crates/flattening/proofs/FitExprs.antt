@@ -1,10 +1,8 @@
 -- The lines of expressions fit.
-use Rattle.std.proofs.Common.{◌≡◌, ℕ, zero, suc, ◌+◌, Bool, true, false, List, [], ◌∷◌, ◌++◌, Option, Some, None, refl, sym, ap, ap₂, ◌∙◌, subst, arith}
-use Rattle.std.specs.Prelude.{◌&&◌, ◌||◌, not, if◌then◌else◌, take}
+use Rattle.std.proofs.Common.{◌≡◌, ℕ, suc, ◌+◌, Bool, true, false, List, [], ◌∷◌, Option, Some, None, refl, ap, ap₂, ◌∙◌}
+use Rattle.std.specs.Prelude.{◌&&◌}
 use Rattle.std.proofs.lemmas.Bool.{and_parts, and_from}
 use Rattle.nim_types.specs.Types.{Ty, Facts}
-use Rattle.nim_types.specs.Types as type
-use Rattle.nim_program.specs.declared.operation.Operation.TheVariants as O
 use Rattle.nim_program.specs.declared.operation.Short.{Short}
 use Rattle.nim_program.specs.declared.operation.Short.TheVariants.{And, Or}
 use Rattle.nim_program.specs.declared.operation.Use.{Use}
@@ -13,27 +11,25 @@ use Rattle.nim_program.specs.declared.program.Mode.{Mode}
 use Rattle.nim_program.specs.Ints.{fits as is_int_value}
 use Rattle.nim_program.specs.Program.{Label, Ordinals, Exactly, ByConditions, ByLabels, Expr, Apply, Read, Early, Choose}
 use Rattle.nim_program.specs.Program.{Path, Variable, Fresh, Field, Element, Deref, Args, NoArg, ByValue, ByPath, Proc, type_of, type_at, types_in}
-use Rattle.nim_program.specs.Kinds.{TypeKind, kind_of, kind_if, is_bool, is_ordinal, is_selected, is_of, same_value, is_there}
-use Rattle.nim_program.specs.Fitting.{early_fits, label_fits, labels_fit, has_label, are_labels, are_enough, conditions_fit, values_fit, labels_choose, chooser_fits}
+use Rattle.nim_program.specs.Kinds.{TypeKind, kind_of, kind_if, is_bool, is_ordinal, is_selected, is_of, same_value}
+use Rattle.nim_program.specs.Fitting.{early_fits, label_fits, labels_fit, has_label, are_labels, are_enough, conditions_fit, values_fit, chooser_fits}
 use Rattle.nim_program.specs.Scopes.{Placed, Here}
-use Rattle.nim_program.specs.Typed.{is_typed, are_typed, act_fits, are_placed, is_selector, behind_first, choice_is_placed}
+use Rattle.nim_program.specs.Typed.{are_typed, act_fits, are_placed, is_selector, choice_is_placed}
 use Rattle.nim_program.specs.Uses.{use_of}
-use Rattle.nim_meaning.specs.Here.{is_hooked}
 use Rattle.nim_meaning.specs.Shapes.{is_covered, is_last_value}
-use Rattle.flat_code.specs.declared.line.Line.{Line}
 use Rattle.flat_code.specs.declared.line.Line.TheVariants as L
 use Rattle.flat_code.specs.declared.place.FlatPlace.{FlatPlace}
 use Rattle.flat_code.specs.Scene.{Known}
-use Rattle.flat_code.specs.Fits.{Signature, passes_as, needs_no_type}
+use Rattle.flat_code.specs.Fits.{Signature, needs_no_type}
 use Rattle.flattening.specs.declared.numbers.Purpose.TheVariants.{End, Next, Arm}
 use Rattle.flattening.specs.Formed.{IfListed}
 use Rattle.flattening.specs.Numbering.{if_number, width, width_at, label}
 use Rattle.flattening.specs.ExprLines.{find_lines, label_tests, value_tests, arm_label, none_fits, handed_on, early_lines}
-use Rattle.flattening.specs.ExprLines.{lines, aim_lines, ready_lines, choice_lines, select_lines, arm_lines}
+use Rattle.flattening.specs.ExprLines.{lines, aim_lines, ready_lines, choice_lines, arm_lines}
 use Rattle.flattening.proofs.Acting.{type_is}
 use Rattle.flattening.proofs.Direct.{are_direct}
 use Rattle.flattening.proofs.Fit.{Among, Fit, fitting, fit_none, fit_line, ◌>>◌, fit_if}
-use Rattle.flattening.proofs.FitParts.{never, of_same, value_same, itself, both_are}
+use Rattle.flattening.proofs.FitParts.{value_turned, never, of_same, value_same, itself, both_are}
 use Rattle.flattening.proofs.FitParts as parts
 use Rattle.flattening.proofs.FitPaths as paths
 use Rattle.flattening.proofs.FitActs as acts
@@ -77,14 +73,14 @@ module _ (types : List Ty) (facts : Facts) (procs : List Proc) (globals : List P
 
   -- what gives no value starts at nothing
   none_right : (t : ℕ) (ty : Option Ty) (how : Use) → IfListed types ty → value t ≡ ty → fitting around (none_fits types modes t ty how) ≡ true
-  none_right t ty how listed is = both_are _ _ ty (type_is types ty listed) is
+  none_right t ty how listed is = both_are _ _ ty is (type_is types ty listed)
 
   handed_right : (t from : ℕ) (ty passed : Option Ty) (how : Use) → IfListed types ty → value t ≡ ty → value from ≡ passed → same_value passed ty ≡ true →
       fitting around (handed_on types modes t from how ty) ≡ true
   handed_right t from None passed how listed is from_is same =
-      and_from _ _ (ap₂ same_value from_is is ∙ same) (ap (needs_no_type facts) is)
+      and_from _ _ (ap₂ same_value is from_is ∙ value_turned passed _ same) (ap (needs_no_type facts) is)
   handed_right t from (Some ty) passed how listed is from_is same =
-      and_from _ _ (ap₂ same_value from_is is ∙ same)
+      and_from _ _ (ap₂ same_value is from_is ∙ value_turned passed _ same)
       (ap₂ (λ o u. same_value o (Some u)) is listed ∙ itself (Some ty))
 
   pub tests_fit : (k : TypeKind) (labels : List Label) (s arm : ℕ) → kind_if facts (value s) ≡ k → labels_fit k labels ≡ true →
@@ -119,10 +115,11 @@ module _ (types : List Ty) (facts : Facts) (procs : List Proc) (globals : List P
   bool_passes : (t from : ℕ) (ty : Ty) (how : Use) → value t ≡ Some ty → value from ≡ Some ty → is_bool (kind_of facts ty) ≡ true →
       fitting around (L.Pass t from how None) ≡ true
   bool_passes t from ty how e f h =
-      and_from _ _ (ap₂ same_value f e ∙ itself (Some ty)) (ap (needs_no_type facts) (e ∙ ap Some (the_bool facts ty h)))
+      and_from _ _ (ap₂ same_value e f ∙ itself (Some ty)) (ap (needs_no_type facts) (e ∙ ap Some (the_bool facts ty h)))
 
   -- the last value of a choice
-  last_value : (enough : Bool) (value : Option Ty) (ty : Option Ty) (rest : Args) → values_fit facts ty enough [] (value ∷ types_in rest) ≡ true → same_value value ty ≡ true
+  last_value : (enough : Bool) (value : Option Ty) (ty : Option Ty) (rest : Args) → values_fit facts ty enough [] (value ∷ types_in rest) ≡ true →
+      same_value value ty ≡ true
   last_value enough value ty NoArg h = h
   last_value enough value ty (ByValue e rest) h = never h
   last_value enough value ty (ByPath path rest) h = never h
@@ -155,7 +152,7 @@ module _ (types : List Ty) (facts : Facts) (procs : List Proc) (globals : List P
         aim_fits true path t p
         >> (find_fits true path t p
         >> fit_line (L.Get t t how _ (if_number types (type_at path)))
-        (and_from _ _ (parts.both_some _ _ (type_at path) some (type_is types (type_at path) listed) is) (parts.both_some _ _ (type_at path) some l.type is)))
+        (and_from _ _ (parts.both_some _ _ (type_at path) some is (type_is types (type_at path) listed)) (parts.both_some _ _ (type_at path) some is l.type)))
     expr_fits (Early node ty short left right) how t e =
         let l = parts.left_stood types facts procs globals sigs start whole filled places dest node ty short left right t e in
         let r = parts.right_stood types facts procs globals sigs start whole filled places dest node ty short left right t e in
@@ -168,21 +165,25 @@ module _ (types : List Ty) (facts : Facts) (procs : List Proc) (globals : List P
         expr_fits left Owned (suc t) l
         >> (early_right short t (suc t) ty is left_is b.0
         >> (expr_fits right Owned (suc t + width left) r
-        >> (fit_line (L.Pass t (suc t + width left) how None) (bool_passes t (suc t + width left) ty how is right_is b.0) >> fit_line (L.Label (label End t)) refl)))
+        >> (fit_line (L.Pass t (suc t + width left) how None) (bool_passes t (suc t + width left) ty how is right_is b.0)
+        >> fit_line (L.Label (label End t)) refl)))
     expr_fits (Choose node ty ByConditions parts') how t e =
         let all = parts.conditions_stood types facts procs globals sigs start whole filled places dest node ty parts' t e in
-        let q = and_parts (chooser_fits facts ty ByConditions (types_in parts')) (choice_is_placed ByConditions parts') (and_parts _ (are_typed here parts') e.typed).0 in
+        let q = and_parts (chooser_fits facts ty ByConditions (types_in parts')) (choice_is_placed ByConditions parts')
+        (and_parts _ (are_typed here parts') e.typed).0 in
         let listed = parts.value_listed types facts procs globals sigs start whole (Choose node ty ByConditions parts') e.direct e.listed in
         choice_fits parts' ty how t (suc t) listed (value_is (Choose node ty ByConditions parts') t e) q.0 q.1 all >> fit_line (L.Label (label End t)) refl
     expr_fits (Choose node ty (ByLabels labels) NoArg) how t e =
         never (and_parts false (choice_is_placed (ByLabels labels) NoArg) (and_parts _ true e.typed).0).0
     expr_fits (Choose node ty (ByLabels labels) (ByValue selector rest)) how t e =
         let all = parts.selected_stood types facts procs globals sigs start whole filled places dest node ty labels selector rest t e in
-        let q = and_parts (chooser_fits facts ty (ByLabels labels) (type_of selector ∷ types_in rest)) (choice_is_placed (ByLabels labels) (ByValue selector rest))
+        let q = and_parts (chooser_fits facts ty (ByLabels labels) (type_of selector ∷ types_in rest))
+        (choice_is_placed (ByLabels labels) (ByValue selector rest))
         (and_parts _ (are_typed here (ByValue selector rest)) e.typed).0 in
         let k = kind_if facts (type_of selector) in
         let h = and_parts (is_selected k && are_labels k labels) (values_fit facts ty (are_enough k ty labels) labels (types_in rest)) q.0 in
-        let listed = parts.value_listed types facts procs globals sigs start whole (Choose node ty (ByLabels labels) (ByValue selector rest)) e.direct e.listed in
+        let listed = parts.value_listed types facts procs globals sigs start whole
+        (Choose node ty (ByLabels labels) (ByValue selector rest)) e.direct e.listed in
         let s = first_stood selector rest (suc t) all in
         let is = value_is selector (suc t) s in
         expr_fits selector Looked (suc t) s
@@ -206,11 +207,12 @@ module _ (types : List Ty) (facts : Facts) (procs : List Proc) (globals : List P
         let some = parts.path_typed types facts procs globals sigs start whole filled places dest true path (suc t) p in
         aim_fits true path (suc t) p
         >> (find_fits true path (suc t) p
-        >> (fit_line (L.Look (suc t) (suc t)) (parts.both_some _ _ (type_at path) some l.type is)
+        >> (fit_line (L.Look (suc t) (suc t)) (parts.both_some _ _ (type_at path) some is l.type)
         >> (all_tests_fit k labels rest (suc t) (suc t + width_at path) (ap (kind_if facts) is) (and_parts (is_selected k) (are_labels k labels) h.0).1
         >> (fit_line (L.Jump (label Next t)) refl
         >> (arms_fit (are_enough k ty labels) (is_covered (type_at path)) labels rest ty how t (suc t + width_at path) listed
-        (value_is (Choose node ty (ByLabels labels) (ByPath path rest)) t e) h.1 (and_parts true (are_placed 0 rest) q.1).1 (rest_stood (Read path) rest (suc t) all)
+        (value_is (Choose node ty (ByLabels labels) (ByPath path rest)) t e) h.1 (and_parts true (are_placed 0 rest) q.1).1
+        (rest_stood (Read path) rest (suc t) all)
         >> fit_line (L.Label (label End t)) refl)))))
 
     pub aim_fits : (read : Bool) (path : Path) (t : ℕ) → PathStood read path t → Fit around (aim_lines types modes path t)
@@ -256,7 +258,8 @@ module _ (types : List Ty) (facts : Facts) (procs : List Proc) (globals : List P
     arms_fit : (enough covered : Bool) (labels : List (List Label)) (args : Args) (ty : Option Ty) (how : Use) (t u : ℕ) → IfListed types ty → value t ≡ ty →
         values_fit facts ty enough labels (types_in args) ≡ true → are_placed 0 args ≡ true → AllStood args u →
         Fit around (arm_lines types modes covered labels args ty how t u)
-    arms_fit enough covered labels NoArg ty how t u listed is h placed all = fit_line (L.Label (label Next t)) refl >> fit_line _ (none_right t ty how listed is)
+    arms_fit enough covered labels NoArg ty how t u listed is h placed all = fit_line (L.Label (label Next t)) refl
+        >> fit_line _ (none_right t ty how listed is)
     arms_fit enough covered labels (ByPath path rest) ty how t u listed is h placed all = never placed
     arms_fit enough covered [] (ByValue v rest) ty how t u listed is h placed all =
         let s = first_stood v rest u all in

@@ -1,16 +1,17 @@
 -- What is known of typed parts where they stand: their types are those of the table, and their temporaries have them.
-use Rattle.std.proofs.Common.{◌≡◌, ℕ, suc, ◌+◌, ◌≤◌, Bool, true, false, List, [], ◌∷◌, ◌++◌, Option, Some, None, refl, sym, ap, ap₂, ◌∙◌, subst, arith, append_assoc}
-use Rattle.std.specs.Prelude.{◌&&◌, ◌||◌, not, ℤ, map, slice_get, take}
-use Rattle.std.proofs.lemmas.Bool.{both_ways, and_parts, and_from, not-true}
-use Rattle.nim_types.specs.Types.{Ty, Facts, same}
+use Rattle.std.proofs.Common.{◌≡◌, ℕ, suc, ◌+◌, ◌≤◌, Bool, true, false, List, [], ◌∷◌, ◌++◌, Option, Some, None, refl, sym, ap, ap₂, ◌∙◌, subst, arith}
+use Rattle.std.specs.Prelude.{◌&&◌, ◌||◌, not, ℤ, slice_get, take}
+use Rattle.std.proofs.lemmas.Bool.{both_ways, and_parts}
+use Rattle.nim_types.specs.Types.{Ty, Facts}
 use Rattle.nim_types.proofs.ForCallers.{same_sound, same_refl}
 use Rattle.nim_program.specs.declared.expr.Node.{Node}
 use Rattle.nim_program.specs.declared.operation.Short.{Short}
-use Rattle.nim_program.specs.Program.{Literal, Act, Doing, Building, Giving, Calling, Label, ByConditions, ByLabels, Expr, Apply, Read, Early, Choose, Path, Variable, Fresh, Field, Element, Deref}
+use Rattle.nim_program.specs.Program.{Literal, Act, Doing, Building, Giving, Calling, Label, ByConditions, ByLabels, Expr, Apply, Read, Early, Choose}
+use Rattle.nim_program.specs.Program.{Path, Variable, Fresh, Field, Element, Deref}
 use Rattle.nim_program.specs.Program.{Args, NoArg, ByValue, ByPath, Param, Body, Proc, type_of, type_at, types_in, node_of}
 use Rattle.nim_program.specs.Folds.{lists, total, total_at, totals}
 use Rattle.nim_program.specs.Kinds.{is_of, same_value, is_there, is_constant}
-use Rattle.nim_program.specs.Scopes.{Placed, Here, look, type_in, is_written}
+use Rattle.nim_program.specs.Scopes.{Placed, Here, look, is_written}
 use Rattle.nim_program.specs.Typed.{own_types, type_if, act_types, is_typed, is_typed_path, are_typed, is_whole, is_fresh, act_fits}
 use Rattle.nim_meaning.specs.Here.{is_hooked}
 use Rattle.nim_meaning.specs.Values.{literal_value}
@@ -45,6 +46,12 @@ pub value_same : (a b : Option Ty) → same_value a b ≡ true → a ≡ b
 value_same None None h = refl
 value_same None (Some t) h = never h
 value_same (Some s) b h = of_same (Some s) b h
+
+pub turned : (a b : Option Ty) → is_of a b ≡ true → is_of b a ≡ true
+turned a b h = let e = of_same a b h in ap₂ is_of (sym e) e ∙ h
+
+pub value_turned : (a b : Option Ty) → same_value a b ≡ true → same_value b a ≡ true
+value_turned a b h = let e = value_same a b h in ap₂ same_value (sym e) e ∙ h
 
 pub itself : (ty : Option Ty) → same_value ty ty ≡ true
 itself None = refl
@@ -130,7 +137,8 @@ module _ (types : List Ty) (facts : Facts) (procs : List Proc) (globals : List P
     value_listed (Early node ty short a b) d h = h.0
     value_listed (Choose node ty chooser parts) d h = type_listed ty _ h
 
-    pub path_listed : (read : Bool) (path : Path) → is_direct_path facts path ≡ true → Listed (total_at lists own_types read path) → IfListed types (type_at path)
+    pub path_listed : (read : Bool) (path : Path) → is_direct_path facts path ≡ true → Listed (total_at lists own_types read path) →
+        IfListed types (type_at path)
     path_listed read (Variable node ty place global) d h = h.0
     path_listed read (Fresh value) d h = value_listed value d h
     path_listed read (Field node ty base field) d h = h.0
@@ -244,7 +252,8 @@ module _ (types : List Ty) (facts : Facts) (procs : List Proc) (globals : List P
         )
 
     -- operands of what is done with them
-    direct_operands : (ty : Option Ty) (act : Act) (operands : Args) → act_fits here ty act operands ≡ true → of_act facts ty act (are_direct facts operands) ≡ true →
+    direct_operands : (ty : Option Ty) (act : Act) (operands : Args) → act_fits here ty act operands ≡ true →
+        of_act facts ty act (are_direct facts operands) ≡ true →
         are_direct facts operands ≡ true
     direct_operands ty (Doing operation) operands h d = d
     direct_operands ty (Building fields) operands h d = d
@@ -281,7 +290,8 @@ module _ (types : List Ty) (facts : Facts) (procs : List Proc) (globals : List P
       direct = (and_parts (is_direct facts left) (is_direct facts right) e.direct).1;
       listed = (apart (IsListed types) (total lists own_types left) (total lists own_types right) e.listed.1).1;
       owns = owns_later (locations_from right (suc t + width left)) (locations_later right (suc t + width left))
-          (owns_second (suc t) (suc t + width left) (suc t + width left + width right) (omega arith) (omega arith) (omega arith) (expr_numbers types left (suc t))
+          (owns_second (suc t) (suc t + width left) (suc t + width left + width right) (omega arith) (omega arith) (omega arith)
+          (expr_numbers types left (suc t))
           (owned.behind_node known whole node (Some ty) t (suc t + width left + width right) _ (omega arith) (omega arith) e.owns));
     }
 
@@ -338,7 +348,8 @@ module _ (types : List Ty) (facts : Facts) (procs : List Proc) (globals : List P
 
     pub value_is : (e : Expr) (t : ℕ) → Stood e t → value t ≡ type_of e
     value_is (Apply node ty act operands) t e =
-        owned.value_found known whole node ty t (operand_places types operands (suc t)) (omega arith) (value_listed (Apply node ty act operands) e.direct e.listed)
+        owned.value_found known whole node ty t (operand_places types operands (suc t)) (omega arith)
+        (value_listed (Apply node ty act operands) e.direct e.listed)
         ((operand_numbers types operands (suc t)).values t (λ le. absurd (omega (arith, le)))) e.owns
     value_is (Read (Variable node ty place global)) t e = owned.value_there known whole node ty t _ (omega arith) e.listed.0 e.owns
     value_is (Read (Fresh value)) t e = value_is value t (fresh_stood true value t (read_stood (Fresh value) t e))

@@ -1,27 +1,24 @@
 -- The lines that look paths up fit, and operands are as their types say.
-use Rattle.std.proofs.Common.{◌≡◌, ℕ, zero, suc, ◌+◌, Bool, true, false, List, [], ◌∷◌, Option, Some, None, refl, sym, ap, ap₂, ◌∙◌, subst}
-use Rattle.std.specs.Prelude.{◌&&◌, ◌||◌, not, map, slice_get, take}
+use Rattle.std.proofs.Common.{◌≡◌, ℕ, zero, suc, ◌+◌, Bool, true, false, List, [], ◌∷◌, Option, Some, None, refl, ap, ap₂, ◌∙◌, subst}
+use Rattle.std.specs.Prelude.{◌&&◌, ◌||◌, not, map}
 use Rattle.std.proofs.lemmas.Bool.{and_parts, and_from}
 use Rattle.nim_types.specs.Types.{Ty, Facts}
-use Rattle.nim_types.proofs.ForCallers.{same_refl}
 use Rattle.nim_program.specs.declared.operation.Operation.{Operation}
 use Rattle.nim_program.specs.declared.operation.Operation.TheVariants as O
 use Rattle.nim_program.specs.Program.{Expr, Path, Variable, Fresh, Field, Element, Deref, Args, NoArg, ByValue, ByPath, Proc, type_of, type_at, types_in}
-use Rattle.nim_program.specs.Kinds.{kind_if, is_int, field_at, element_of, is_of, same_value, is_there}
-use Rattle.nim_program.specs.Scopes.{Placed, Here, look, type_in, is_written}
+use Rattle.nim_program.specs.Kinds.{kind_if, is_int, field_at, element_of, is_of, is_there}
+use Rattle.nim_program.specs.Scopes.{Placed, Here, type_in, is_written}
 use Rattle.nim_program.specs.Typed.{is_typed, is_typed_path, is_fresh, is_place, are_placed, may_take, may_take_all}
 use Rattle.flat_code.specs.declared.line.From.{From}
-use Rattle.flat_code.specs.declared.line.From.TheVariants as F
 use Rattle.flat_code.specs.declared.line.Line.TheVariants as L
 use Rattle.flat_code.specs.declared.place.FlatPlace.{FlatPlace}
 use Rattle.flat_code.specs.Fits as fit
 use Rattle.flat_code.specs.Fits.{Signature, same_bool, writes, taken, are_of, may_write_all}
 use Rattle.flattening.specs.Numbering.{width, width_at}
 use Rattle.flattening.specs.ExprLines.{froms, find_lines, settle_lines}
-use Rattle.flattening.proofs.Fit.{Among, Fit, fitting, fit_none, fit_line, ◌>>◌}
-use Rattle.flattening.proofs.FitParts.{never, of_same, value_same, itself, both_are, both_some}
+use Rattle.flattening.proofs.Fit.{Among, Fit, fit_none, fit_line, ◌>>◌}
+use Rattle.flattening.proofs.FitParts.{turned, never, of_same, value_same, itself, both_are, both_some}
 use Rattle.flattening.proofs.FitParts as parts
-use Rattle.flattening.proofs.Owned as owned
 
 module _ (types : List Ty) (facts : Facts) (procs : List Proc) (globals : List Placed) (sigs : List Signature) (start whole : List FlatPlace)
     (filled : ℕ) (places : List Placed) (dest : Option ℕ) (sees : parts.Sees types facts procs globals sigs start whole filled places) where
@@ -71,12 +68,13 @@ module _ (types : List Ty) (facts : Facts) (procs : List Proc) (globals : List P
   find_fits read (Variable node ty place global) t p =
       let l = leads read (Variable node ty place global) t p in
       fit_line (L.Root t place global)
-      (and_from _ _ (both_some _ _ (Some ty) refl (named_is place global ty (of_same _ _ p.typed)) l.type) l.writes)
+      (and_from _ _ (both_some _ _ (Some ty) refl l.type (named_is place global ty (of_same _ _ p.typed))) l.writes)
   find_fits read (Fresh value) t p =
       let l = leads read (Fresh value) t p in
       let e = parts.fresh_stood types facts procs globals sigs start whole filled places dest read value t p in
-      let h = (and_parts (is_fresh value) (is_there (type_of value)) (and_parts (is_fresh value && is_there (type_of value)) (is_typed here value) p.typed).0).1 in
-      fit_line (L.Fresh t t) (and_from _ _ (both_some _ _ (type_of value) h (value_is value t e) l.type) (ap not l.writes))
+      let h = (and_parts (is_fresh value) (is_there (type_of value))
+      (and_parts (is_fresh value && is_there (type_of value)) (is_typed here value) p.typed).0).1 in
+      fit_line (L.Fresh t t) (and_from _ _ (both_some _ _ (type_of value) h l.type (value_is value t e)) (ap not l.writes))
   find_fits read (Field node ty base field) t p =
       let l = leads read (Field node ty base field) t p in
       let b = parts.base_stood types facts procs globals sigs start whole filled places dest read node ty base field t p in
@@ -84,8 +82,9 @@ module _ (types : List Ty) (facts : Facts) (procs : List Proc) (globals : List P
       find_fits false base (suc t) b
       >> fit_line (L.Part t (suc t) field)
       (and_from _ _
-      (ap₂ (λ o q. is_of (field_at (kind_if facts o) field) q) k.type l.type
-      ∙ (and_parts (is_of (field_at (kind_if facts (type_at base)) field) (Some ty)) (is_typed_path here base) p.typed).0)
+      (ap₂ (λ q o. is_of q (field_at (kind_if facts o) field)) l.type k.type
+      ∙ turned (field_at (kind_if facts (type_at base)) field) (Some ty)
+      (and_parts (is_of (field_at (kind_if facts (type_at base)) field) (Some ty)) (is_typed_path here base) p.typed).0)
       (both_same _ _ (is_written base) l.writes k.writes))
   find_fits read (Element node ty base index constant) t p =
       let l = leads read (Element node ty base index constant) t p in
@@ -94,7 +93,7 @@ module _ (types : List Ty) (facts : Facts) (procs : List Proc) (globals : List P
       let h = and_parts (is_of (element_of (kind_if facts (type_at base))) (Some ty)) (is_int (kind_if facts (type_of index))) (and_parts _ _ p.typed).0 in
       find_fits false base (suc t) b.0
       >> fit_line (L.Item t (suc t) (suc t + width_at base))
-      (and_from _ _ (ap₂ (λ o q. is_of (element_of (kind_if facts o)) q) k.type l.type ∙ h.0)
+      (and_from _ _ (ap₂ (λ q o. is_of q (element_of (kind_if facts o))) l.type k.type ∙ turned (element_of (kind_if facts (type_at base))) (Some ty) h.0)
       (and_from _ _ (ap (λ o. is_int (kind_if facts o)) (value_is index (suc t + width_at base) b.1) ∙ h.1)
       (both_same _ _ (is_written base) l.writes k.writes)))
   find_fits read (Deref ty base) t p = never p.direct

@@ -1,7 +1,8 @@
 -- The flat code of a typed program fits.
-use Rattle.std.proofs.Common.{◌≡◌, ℕ, zero, suc, ◌+◌, ◌≤◌, ◌⊎◌, inl, inr, Bool, true, false, List, [], ◌∷◌, ◌++◌, Option, Some, None, refl, sym, ap, ap₂, ◌∙◌, subst, arith}
-use Rattle.std.specs.Prelude.{nat_eq, nat_le, ◌&&◌, ◌||◌, not, if◌then◌else◌, map, take, drop, length, slice_get, option_map}
-use Rattle.std.proofs.lemmas.Bool.{and_parts, and_from, eqb-true, eq-eqb, not-true}
+use Rattle.std.proofs.Common.{◌≡◌, ℕ, zero, suc, ◌+◌, ◌⊎◌, inl, inr, Bool, true, false, List, [], ◌∷◌, ◌++◌, Option, Some, None, refl, sym, ap, ap₂, ◌∙◌}
+use Rattle.std.proofs.Common.{subst, arith}
+use Rattle.std.specs.Prelude.{nat_eq, ◌&&◌, ◌||◌, not, if◌then◌else◌, map, slice_get, option_map}
+use Rattle.std.proofs.lemmas.Bool.{and_parts, and_from, not-true}
 use Rattle.nim_types.specs.Types as type
 use Rattle.nim_types.specs.Types.{Ty, Facts, same}
 use Rattle.nim_types.specs.Forms as form
@@ -10,29 +11,29 @@ use Rattle.nim_types.specs.Table.{type_at as type_by_number}
 use Rattle.nim_types.proofs.ForCallers.{same_sound, same_refl, the_form}
 use Rattle.nim_plan.specs.declared.plan.Plan.{Plan}
 use Rattle.nim_program.specs.declared.expr.Node.{Node}
-use Rattle.nim_program.specs.declared.operation.Use.TheVariants.{Given}
 use Rattle.nim_program.specs.declared.program.HookOf.{HookOf}
 use Rattle.nim_program.specs.declared.program.Mode.{Mode}
-use Rattle.nim_program.specs.Program.{Literal, Number, Characters, NoObject, PartsOf, ElementsOf, Expr, Args, NoArg, ByValue, ByPath, Declared, Param, Body, Proc, Program, type_of}
-use Rattle.nim_program.specs.Program.{Stmt, Stmts, Empty, Then, Declare, Defer}
-use Rattle.nim_program.specs.Folds.{AtDeclare, lists, total, totals, total_in, total_of, own_places, if_declared}
-use Rattle.nim_program.specs.Kinds.{is_among_types, is_constant, is_of, is_there, same_value, are_among_types, are_declared}
+use Rattle.nim_program.specs.Program.{Literal, Number, Characters, NoObject, PartsOf, ElementsOf, Declared, Param, Body, Proc, Program}
+use Rattle.nim_program.specs.Program.{Stmts, Empty, Then, Declare, Defer}
+use Rattle.nim_program.specs.Folds.{lists, total_in, total_of, own_places, if_declared}
+use Rattle.nim_program.specs.Kinds.{is_among_types, is_constant, is_there, same_value, are_among_types, are_declared}
 use Rattle.nim_program.specs.Numbering.{is_numbered, is_numbered_if, are_numbered, is_numbered_program}
-use Rattle.nim_program.specs.Scopes.{Placed, placed, Here, look}
-use Rattle.nim_program.specs.Sizes.{is_global as is_global_number}
-use Rattle.nim_program.specs.Typed.{own_types, place_types, param_declared, body_types, type_of_place, are_held, dest_of, before, is_typed_body, is_typed_if, hook_fits, is_typed_proc}
-use Rattle.nim_program.specs.Typed.{are_typed_procs, is_typed_start, is_typed_program, IsTyped, procedure, module_code, is_typed_stmt, is_typed_block, is_typed_code, is_empty, are_typed, starts, is_next}
-use Rattle.nim_meaning.specs.LeftOut.{out_if, ◌or_then◌, left_out_in_args, left_out_in_stmt, left_out_in_block, left_out_in_head, left_out_in_body, left_out_in_proc, left_out_in_procs}
-use Rattle.nim_meaning.specs.LeftOut.{first_left_out, first_of, IsPlain}
+use Rattle.nim_program.specs.Scopes.{Placed, placed}
+use Rattle.nim_program.specs.Typed.{own_types, param_declared, body_types, type_of_place, are_held, dest_of, before, is_typed_body, is_typed_if, hook_fits}
+use Rattle.nim_program.specs.Typed.{is_typed_proc}
+use Rattle.nim_program.specs.Typed.{are_typed_procs, is_typed_start, IsTyped, procedure, module_code, is_typed_stmt, is_typed_code, is_empty, are_typed}
+use Rattle.nim_program.specs.Typed.{starts, is_next}
+use Rattle.nim_meaning.specs.LeftOut.{left_out_in_stmt, left_out_in_block, left_out_in_head, left_out_in_body, left_out_in_proc, left_out_in_procs}
+use Rattle.nim_meaning.specs.LeftOut.{first_of, IsPlain}
 use Rattle.nim_meaning.specs.Here.{is_hooked}
 use Rattle.nim_meaning.specs.Values.{literal_value}
 use Rattle.flat_code.specs.declared.code.CodeProc.{CodeProc}
 use Rattle.flat_code.specs.declared.line.Line.{Line}
 use Rattle.flat_code.specs.declared.line.Line.TheVariants as L
 use Rattle.flat_code.specs.declared.place.FlatPlace.{FlatPlace}
-use Rattle.flat_code.specs.declared.place.PlaceKind.TheVariants as K
 use Rattle.flat_code.specs.Codes.{flat_plain}
-use Rattle.flat_code.specs.Fits.{Signature, signature_of, is_global, is_own, is_declared, place_named, if_type_of, has_lines_for, start_places, in_order, signatures, proc_fits, each_fits, code_fits}
+use Rattle.flat_code.specs.Fits.{Signature, signature_of, is_global, is_own, is_declared, place_named, if_type_of, has_lines_for, start_places, signatures}
+use Rattle.flat_code.specs.Fits.{proc_fits, each_fits, code_fits}
 use Rattle.flat_code.specs.Fits.{are_none, params_at, results_at, all_fit}
 use Rattle.flat_code.specs.Running.{before_last}
 use Rattle.flat_code.specs.Scene.{Known}
@@ -41,8 +42,8 @@ use Rattle.flat_code.proofs.ForCallers.{AreSorted, free_of, constant_shape, text
 use Rattle.flattening.specs.Flattened.{known_of, modes_of}
 use Rattle.flattening.specs.Formed.{IsListed}
 use Rattle.flattening.specs.Given.{flat_body, flat_proc, flat_procs}
-use Rattle.flattening.specs.Numbering.{type_number, widths, width_in, width_of}
-use Rattle.flattening.specs.Places.{kind_of_declared, of_declared, own_declared, block_places, body_places}
+use Rattle.flattening.specs.Numbering.{type_number, width_in, width_of}
+use Rattle.flattening.specs.Places.{block_places, body_places}
 use Rattle.flattening.specs.StmtLines.{number_of, outermost, returned, lines_of, body_lines}
 use Rattle.flattening.proofs.Bodies.{puts_no_loop}
 use Rattle.flattening.proofs.DeclaredGlobals.{BodyListed, body_listed, Found, globals_in}
@@ -53,8 +54,9 @@ use Rattle.flattening.proofs.FitBodies as bodies
 use Rattle.flattening.proofs.FitBodies.{look_each, each_placed}
 use Rattle.flattening.proofs.FitParts.{never, of_same, value_same, takes_of}
 use Rattle.flattening.proofs.FitParts as parts
+use Rattle.flattening.proofs.FitTests as standing
+use Rattle.flattening.proofs.FitLoops as loops
 use Rattle.flattening.proofs.FitStmts as stmts
-use Rattle.flattening.proofs.Listed.{all_listed}
 use Rattle.flattening.proofs.Numbered.{Owns, owns_first, owns_second}
 use Rattle.flattening.proofs.PlaceNumbers.{stmt_numbers, block_numbers}
 use Rattle.flattening.proofs.Parts.{Each, apart}
@@ -62,7 +64,7 @@ use Rattle.flattening.proofs.Plain.{neither, none_earlier}
 use Rattle.flattening.proofs.Puts as puts
 use Rattle.flattening.proofs.PutsStmts.{puts_stmts}
 
-none_mapped : (o : Option Node) → option_map (λ (node : Node). node.at) o ≡ None → o ≡ None
+pub none_mapped : (o : Option Node) → option_map (λ (node : Node). node.at) o ≡ None → o ≡ None
 none_mapped None e = refl
 none_mapped (Some node) e = cc
 
@@ -156,7 +158,8 @@ module _ (program : Program) (plan : Plan) where
   whole_of params body = body_places types program.globals params body
 
   held_all : (whole : List FlatPlace) (ds : List Declared) →
-      Each (λ (d : Declared). (if_type_of known (place_named is_own whole d.number) ≡ Some d.of) × (if_type_of known (place_named is_declared whole d.number) ≡ Some d.of)) ds →
+      Each (λ (d : Declared). (if_type_of known (place_named is_own whole d.number) ≡ Some d.of) ×
+      (if_type_of known (place_named is_declared whole d.number) ≡ Some d.of)) ds →
       Each (blocks.Held types facts program.procs globals sigs start whole) ds
   held_all whole [] h = tt
   held_all whole (d ∷ ds) h = (record { own = h.0.0; named = h.0.1 }, held_all whole ds h.1)
@@ -180,19 +183,22 @@ module _ (program : Program) (plan : Plan) where
       held : Each (blocks.Held types facts program.procs globals sigs start whole) (total_of lists own_places body.stmts)
       held = held_all whole (total_of lists own_places body.stmts) (bodies.held types facts program.globals params body numbered listed.stmts)
 
-      exits_fit : stmts.ExitsFit types facts program.procs globals sigs start whole modes body.result (grounds whole) (outermost body.result)
+      exits_fit : standing.ExitsFit types facts program.procs globals sigs start whole modes body.result (grounds whole) (outermost body.result)
       exits_fit = record {
         breaks = fit_none;
         continues = fit_none;
-        returns = fit_line (L.Return (number_of body.result)) (bodies.returns types facts params body.result _ (bodies.others types facts program.globals params body));
+        returns = fit_line (L.Return (number_of body.result))
+            (bodies.returns types facts params body.result _ (bodies.others types facts program.globals params body));
       }
 
       -- a body whose lines fit
       pub body_right : (hook : Option HookOf) → Fit (parts.around types facts program.procs globals sigs start whole)
-          (lines_of types modes body.result body.stmts (outermost body.result) 0) → proc_fits flat_plain known sigs start (flat_body program plan hook params body) ≡ true
+          (lines_of types modes body.result body.stmts (outermost body.result) 0) →
+          proc_fits flat_plain known sigs start (flat_body program plan hook params body) ≡ true
       body_right hook fit =
           and_from _ _
-          (some_for whole (body_lines types modes body) ((puts_stmts types modes body.result body.stmts (outermost body.result) 0 (puts_no_loop body.result)).some
+          (some_for whole (body_lines types modes body) ((puts_stmts types modes body.result body.stmts (outermost body.result) 0
+          (puts_no_loop body.result)).some
           (returned body.result []) refl))
           (and_from _ _ (bodies.ordered types facts program.globals params body numbered)
           (ap (all_fit known sigs start whole) (map_same (body_lines types modes body))
@@ -202,14 +208,16 @@ module _ (program : Program) (plan : Plan) where
 
   module _ (typed : are_typed_procs program program.procs ≡ true) (numbered : are_numbered program.procs ≡ true)
       (plain : left_out_in_procs facts program.procs ≡ None) where
-    at_proc : (procs : List Proc) (n : ℕ) (proc : Proc) → slice_get procs n ≡ Some proc → are_typed_procs program procs ≡ true → is_typed_proc program proc ≡ true
+    at_proc : (procs : List Proc) (n : ℕ) (proc : Proc) → slice_get procs n ≡ Some proc → are_typed_procs program procs ≡ true →
+        is_typed_proc program proc ≡ true
     at_proc [] n proc is h = nothing is
     at_proc (q ∷ procs) zero proc is h = subst (λ q. is_typed_proc program q ≡ true) (one is) (and_parts (is_typed_proc program q) _ h).0
     at_proc (q ∷ procs) (suc n) proc is h = at_proc procs n proc is (and_parts (is_typed_proc program q) _ h).1
 
-    typed_body : (p : Proc) (body : Body) → p.body ≡ Some body → is_typed_proc program p ≡ true → is_typed_body program (dest_of p.hook p.params) p.params p.gives body ≡ true
+    typed_body : (p : Proc) (body : Body) → p.body ≡ Some body → is_typed_proc program p ≡ true →
+        is_typed_body program (dest_of p.hook p.params) p.params p.gives body ≡ true
     typed_body p body e h =
-        subst (λ b. is_typed_if program (dest_of p.hook p.params) p.params p.gives b ≡ true) e (and_parts (hook_fits program p.hook p.params p.gives) _ h).1
+        subst (λ b. is_typed_if program (dest_of p.hook p.params) p.params p.gives b ≡ true) e (and_parts (hook_fits program p.hook p.params p.gives p.body) _ h).1
 
     -- what it takes and gives
     signed : (p : Proc) (body : Body) → p.body ≡ Some body → is_typed_proc program p ≡ true →
@@ -231,11 +239,12 @@ module _ (program : Program) (plan : Plan) where
   result_right : (whole : List FlatPlace) (result : Option Declared) (gives : Option Ty) → same_value (type_of_place result) gives ≡ true →
       ((d : Declared) → result ≡ Some d → if_type_of known (place_named is_own whole d.number) ≡ Some d.of) →
       (grounds : parts.Grounds types facts program.procs globals sigs start whole) →
-      stmts.ResultFits types facts program.procs globals sigs start whole modes result grounds result gives
+      standing.ResultFits types facts program.procs globals sigs start whole modes result grounds result gives
   result_right places None gives h own grounds = sym (value_same None gives h)
   result_right places (Some d) gives h own grounds = (own d refl, sym (value_same (Some d.of) gives h))
 
-  result_listed : (result : Option Declared) (d : Declared) → result ≡ Some d → Each (λ (d : Declared). IsListed types d.of) (if_declared result) → IsListed types d.of
+  result_listed : (result : Option Declared) (d : Declared) → result ≡ Some d → Each (λ (d : Declared). IsListed types d.of) (if_declared result) →
+      IsListed types d.of
   result_listed None d e h = nothing e
   result_listed (Some c) d e h = subst (λ (c : Declared). IsListed types c.of) (one e) h.0
 
@@ -261,20 +270,22 @@ module _ (program : Program) (plan : Plan) where
         (exits_fit grounds found params body numbered l)
         (record {
           typed = b;
-          plain = (neither (left_out_in_head facts (first_of body.stmts) (param_declared params ++ if_declared body.result)) (left_out_in_block facts body.stmts) p).1;
+          plain = (neither (left_out_in_head facts (first_of body.stmts) (param_declared params ++ if_declared body.result))
+              (left_out_in_block facts body.stmts) p).1;
           listed = l.stmts;
           held = held grounds found params body numbered l;
           owns = bodies.owned types facts program.globals params body (0 + width_of body.stmts);
         }))
 
     procs_fit : (procs : List Proc) → are_typed_procs program procs ≡ true → are_numbered procs ≡ true → left_out_in_procs facts procs ≡ None →
-        (more : List (CodeProc Line)) → each_fits flat_plain known sigs start more ≡ true → each_fits flat_plain known sigs start (map proc_of procs ++ more) ≡ true
+        (more : List (CodeProc Line)) → each_fits flat_plain known sigs start more ≡ true →
+        each_fits flat_plain known sigs start (map proc_of procs ++ more) ≡ true
     procs_fit [] h k p more rest = rest
     procs_fit (q ∷ procs) h k p more rest =
         let t = and_parts (is_typed_proc program q) (are_typed_procs program procs) h in
         let n = and_parts (is_numbered_if q.params q.body) (are_numbered procs) k in
         let o = none_earlier (left_out_in_proc facts q.params q.body) (left_out_in_procs facts procs) p in
-        and_from _ _ (of_body q.body (and_parts (hook_fits program q.hook q.params q.gives) _ t.0).1 n.0 o.0) (procs_fit procs t.1 n.1 o.1 more rest)
+        and_from _ _ (of_body q.body (and_parts (hook_fits program q.hook q.params q.gives q.body) _ t.0).1 n.0 o.0) (procs_fit procs t.1 n.1 o.1 more rest)
       where
         of_body : (body : Option Body) → is_typed_if program (dest_of q.hook q.params) q.params q.gives body ≡ true → is_numbered_if q.params body ≡ true →
             left_out_in_proc facts q.params body ≡ None → proc_fits flat_plain known sigs start (flat_proc program plan q.hook q.params body) ≡ true
@@ -290,9 +301,11 @@ module _ (program : Program) (plan : Plan) where
       abbrev first_places : List Placed
       first_places = map placed (if_declared result)
 
-      code_lines : (filled : ℕ) (b : Stmts) (t : ℕ) → stmts.ResultFits types facts program.procs globals sigs start start modes result (grounds start) result None →
+      code_lines : (filled : ℕ) (b : Stmts) (t : ℕ) →
+          standing.ResultFits types facts program.procs globals sigs start start modes result (grounds start) result None →
           is_typed_code (parts.seen types facts program.procs globals sigs start start filled first_places None) b ≡ true → left_out_in_block facts b ≡ None →
-          Each (IsListed types) (total_of lists own_types b) → Each (blocks.Held types facts program.procs globals sigs start start) (total_of lists own_places b) →
+          Each (IsListed types) (total_of lists own_types b) →
+          Each (blocks.Held types facts program.procs globals sigs start start) (total_of lists own_places b) →
           Owns start (block_places types b t) t t (t + width_of b) →
           Fit (parts.around types facts program.procs globals sigs start start) (lines_of types modes result b (outermost result) t)
       code_lines filled Empty t gives h p l d owns = fit_none
@@ -317,9 +330,9 @@ module _ (program : Program) (plan : Plan) where
           let seen = parts.seen types facts program.procs globals sigs start start filled first_places None in
           let q = and_parts (is_next (slice_get globals filled) (placed place) && (starts facts place.of value && are_typed seen value)) _ h in
           let r = and_parts (is_next (slice_get globals filled) (placed place)) (starts facts place.of value && are_typed seen value) q.0 in
-          let k = stmts.declared_known types facts program.procs globals sigs start start modes result (grounds start) filled first_places None
+          let k = loops.declared_known types facts program.procs globals sigs start start modes result (grounds start) filled first_places None
           node place cursor value rest t (sees grounds found [] program.start numbered listed filled) r.1 p l d owns in
-          stmts.declared_fits types facts program.procs globals sigs start start modes result (grounds start) filled first_places None
+          loops.declared_fits types facts program.procs globals sigs start start modes result (grounds start) filled first_places None
           (sees grounds found [] program.start numbered listed filled) node place cursor value rest (outermost result) t k
           (λ u o. code_lines (suc filled) rest u gives q.1 k.rest_plain k.rest_listed k.rest_held o)
       code_lines filled (Defer node last rest) t gives h p l d owns = never h
@@ -327,7 +340,7 @@ module _ (program : Program) (plan : Plan) where
   -- ---- constants
 
   -- a type with a number has a form
-  listed_form : IsTyped program → (ty : Ty) → IsListed types ty → (f : Form) × HasForm facts ty f
+  pub listed_form : IsTyped program → (ty : Ty) → IsListed types ty → (f : Form) × HasForm facts ty f
   listed_form typed ty e = by (listed_among types ty e)
     where
       by : (is_among_types types ty ≡ true) ⊎ (ty ≡ type.int) → (f : Form) × HasForm facts ty f
@@ -381,7 +394,8 @@ module _ (program : Program) (plan : Plan) where
       (code_lines grounds found k.1 l 0 program.start.stmts 0
       (result_right start program.start.result None (ap (λ o. same_value (type_of_place o) None) none)
       (λ d e. (bodies.result_found types facts program.globals [] program.start k.1 d e (result_listed program.start.result d e l.given)).0) (grounds start))
-      s.1 (neither (left_out_in_head facts (first_of program.start.stmts) (if_declared program.start.result)) (left_out_in_block facts program.start.stmts) p.1).1
+      s.1 (neither (left_out_in_head facts (first_of program.start.stmts) (if_declared program.start.result))
+      (left_out_in_block facts program.start.stmts) p.1).1
       l.stmts (held grounds found [] program.start k.1 l) (bodies.owned types facts program.globals [] program.start (0 + width_of program.start.stmts))) in
       let procs = procs_fit grounds found program.procs t.0 k.0 p.0 (first ∷ []) (and_from _ _ begins refl) in
       let places : start_places (flat_procs program plan) ≡ start = start_end (map proc_of program.procs) first in

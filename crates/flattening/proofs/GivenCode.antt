@@ -1,83 +1,101 @@
--- What is handed on as flat code is the flat code of the program.
-use Rattle.std.proofs.Common.{◌≡◌, ℕ, Bool, true, false, List, [], ◌∷◌, ◌++◌, Option, Some, None, refl, sym, ap, ap₂, ◌∙◌}
-use Rattle.std.specs.Prelude.{map, not, ◌&&◌}
-use Rattle.std.proofs.lemmas.Bool.{and_parts}
-use Rattle.nim_types.specs.Types.{Facts}
+-- The flat code that is given, as the code that the laws speak of.
+use Rattle.std.proofs.Common.{◌≡◌, ℕ, Bool, List, [], ◌∷◌, ◌++◌, Option, Some, None, refl, sym, ap, ap₂, ◌∙◌}
+use Rattle.std.proofs.Math.Path.{fun_ext}
+use Rattle.std.specs.Prelude.{map, option_map}
+use Rattle.std.proofs.lemmas.List.{map-append}
+use Rattle.nim_types.specs.Types.{Ty, Facts}
 use Rattle.nim_types.specs.Table.{type_at}
 use Rattle.nim_plan.specs.declared.plan.Plan.{Plan}
 use Rattle.nim_program.specs.declared.program.HookOf.{HookOf}
-use Rattle.nim_program.specs.Kinds.{are_among_types, are_declared, is_there}
-use Rattle.nim_program.specs.Program.{Declared, Param, Body, Proc, Program}
-use Rattle.nim_program.specs.Folds.{if_declared}
-use Rattle.nim_program.specs.Typed.{IsTyped, body_types, type_of_place, dest_of, is_typed_body, is_typed_if, hook_fits, is_typed_proc, are_typed_procs, is_typed_start, is_typed_program}
-use Rattle.nim_meaning.specs.Meaning.{result_slots}
-use Rattle.nim_meaning.specs.Values.{default_of, Slot, Holds}
-use Rattle.flat_code.specs.declared.code.CodeProc.{CodeProc}
-use Rattle.flat_code.specs.declared.line.Line.{Line}
-use Rattle.flat_code.specs.declared.place.PlaceKind.{PlaceKind}
-use Rattle.flat_code.specs.declared.place.PlaceKind.TheVariants as K
-use Rattle.flat_code.specs.declared.place.FlatPlace.{FlatPlace}
-use Rattle.flat_code.specs.Codes.{if_result, result_in, proc_of, procs_of}
-use Rattle.flat_code.specs.Running.{Proc as Running}
-use Rattle.flattening.specs.Flattened.{known_of, code_of_proc, code_of_body, code_of}
-use Rattle.flattening.specs.Formed.{IsListed}
-use Rattle.flattening.specs.Given.{flat_body, flat_proc, flat_procs, flat_of}
-use Rattle.flattening.specs.Places.{param_places, result_places, body_places}
-use Rattle.flattening.proofs.FitBodies as bodies
-use Rattle.flattening.proofs.FitBodies.{is_other, Others}
-use Rattle.flattening.proofs.FitParts.{never}
-use Rattle.flattening.proofs.DeclaredGlobals.{BodyListed, body_listed}
-use Rattle.flattening.proofs.Parts.{Each}
+use Rattle.nim_program.specs.declared.program.Body.{Body as RustBody}
+use Rattle.nim_program.specs.declared.program.Proc.{Proc as RustProc}
+use Rattle.nim_program.specs.declared.program.Program.{Program as RustProgram}
+use Rattle.nim_program.specs.declared.stmt.PlaceDecl.{PlaceDecl}
+use Rattle.nim_program.specs.Program.{Declared, Param, Body, Program}
+use Rattle.nim_program.specs.Program as trees
+use Rattle.nim_program.specs.Sizes.{is_global}
+use Rattle.nim_program.specs.View.{declared_of, param_of, body_of, proc_of as tree_of, program_under}
+use Rattle.flat_code.specs.Codes.{proc_of}
+use Rattle.flattening.specs.Numbering.{type_number}
+use Rattle.flattening.specs.StmtLines.{body_lines}
+use Rattle.flattening.specs.Places.{param_places, result_places, block_places, body_places}
+use Rattle.flattening.specs.Flattened.{known_of, modes_of, code_of_body, code_of_proc, code_of}
+use Rattle.flattening.specs.Given.{flat_body, flat_proc, flat_procs}
+use Rattle.flattening.specs.PlaceViews.{declared_in, listed_body, code_body, code_proc}
+use Rattle.flattening.proofs.Declaring.{declares}
+use Rattle.flattening.proofs.ResultPlaces.{listed, result_is}
 
-no_slot : (kind : PlaceKind) (slots rest : List Slot) → is_other kind ≡ true → if_result kind slots rest ≡ rest
-no_slot (K.Param mode) slots rest h = never h
-no_slot K.Result slots rest h = never h
-no_slot kind slots rest h = refl
+module _ (ts : List Ty) (facts : Facts) (p : RustProgram) (plan : Plan) where
+  abbrev program : Program
+  program = program_under ts facts p
 
-map_both : {A B : Type 0} (f : A → B) (xs ys : List A) → map f (xs ++ ys) ≡ map f xs ++ map f ys
-map_both f [] ys = refl
-map_both f (x ∷ xs) ys = ap (λ zs. f x ∷ zs) (map_both f xs ys)
+  result_found : (result : Option PlaceDecl) (place : Declared) → option_map (declared_of ts) result ≡ Some place →
+      type_at ts (type_number ts place.of) ≡ place.of
+  result_found None place e = absurd cc
+  result_found (Some d) place e = let h : declared_of ts d ≡ place = cc in listed ts place.of d.ty (sym (ap (λ x. x.of) h))
 
-module _ (program : Program) (plan : Plan) where
-  slots_none : (ps : List FlatPlace) → Others ps → result_in (known_of program) ps ≡ []
-  slots_none [] h = refl
-  slots_none (p ∷ ps) h = no_slot p.kind _ (result_in (known_of program) ps) h.0 ∙ slots_none ps h.1
+  body_is : (hook : Option HookOf) (params : List Param) (body : RustBody) →
+      proc_of (known_of program) (flat_body program plan hook params (body_of ts body)) ≡ code_of_body program plan hook (body_of ts body)
+  body_is hook params body =
+      ap (λ result. record {
+        first = body.first;
+        span = body.places;
+        result = result;
+        hook = hook;
+        lines = body_lines ts (modes_of program plan) (body_of ts body);
+      }) (result_is (known_of program) program.globals params (body_of ts body) (result_found body.result))
 
-  -- the slot of the result
-  slots : (params : List Param) (result : Option Declared) (others : List FlatPlace) → Others others →
-      Each (λ (d : Declared). IsListed program.types d.of) (if_declared result) →
-      result_in (known_of program) (param_places program.types params ++ (result_places program.types result ++ others)) ≡ result_slots program.facts result
-  slots [] None others h listed = slots_none others h
-  slots [] (Some d) others h listed = ap (λ ty. Holds (default_of program.facts ty) ∷ []) listed.0
-  slots (p ∷ params) result others h listed = slots params result others h listed
+  proc_is : (hook : Option HookOf) (params : List Param) (body : Option RustBody) →
+      proc_of (known_of program) (flat_proc program plan hook params (option_map (body_of ts) body))
+      ≡ code_of_proc program plan hook (option_map (body_of ts) body)
+  proc_is hook params None = refl
+  proc_is hook params (Some body) = body_is hook params body
 
-  body_given : (hook : Option HookOf) (params : List Param) (body : Body) → are_among_types program.types (body_types params body) ≡ true →
-      proc_of (known_of program) (flat_body program plan hook params body) ≡ code_of_body program plan hook body
-  body_given hook params body h =
-      let l = body_listed program params body h in
-      ap (λ result. record { first = body.first; span = body.places; result = result; hook = hook; lines = (flat_body program plan hook params body).lines })
-      (slots params body.result _ (bodies.others program.types program.facts program.globals params body) l.given)
+  each_is : (ps : List RustProc) →
+      map (proc_of (known_of program)) (map (λ (proc : trees.Proc). flat_proc program plan proc.hook proc.params proc.body) (map (tree_of ts) ps))
+      ≡ map (λ (proc : trees.Proc). code_of_proc program plan proc.hook proc.body) (map (tree_of ts) ps)
+  each_is [] = refl
+  each_is (first ∷ rest) = ap₂ (λ x xs. x ∷ xs) (proc_is first.hook (map (param_of ts) first.params) first.body) (each_is rest)
 
-  procs_given : (procs : List Proc) → are_typed_procs program procs ≡ true →
-      map (proc_of (known_of program)) (map (λ (p : Proc). flat_proc program plan p.hook p.params p.body) procs)
-      ≡ map (λ (p : Proc). code_of_proc program plan p.hook p.body) procs
-  procs_given [] h = refl
-  procs_given (p ∷ procs) h =
-      let q = and_parts (is_typed_proc program p) (are_typed_procs program procs) h in
-      ap₂ (λ x xs. x ∷ xs) (one p.body (and_parts (hook_fits program p.hook p.params p.gives) _ q.0).1) (procs_given procs q.1)
-    where
-      one : (body : Option Body) → is_typed_if program (dest_of p.hook p.params) p.params p.gives body ≡ true →
-          proc_of (known_of program) (flat_proc program plan p.hook p.params body) ≡ code_of_proc program plan p.hook body
-      one None h = refl
-      one (Some body) h =
-          let t = (and_parts (are_among_types program.types (body_types p.params body) && _) _ h).0 in
-          body_given p.hook p.params body (and_parts (are_among_types program.types (body_types p.params body)) _ t).0
+  -- what is given is the code of the program
+  pub procs_are : map (proc_of (known_of program)) (flat_procs program plan) ≡ code_of program plan
+  procs_are =
+      map-append (proc_of (known_of program)) (map (λ (proc : trees.Proc). flat_proc program plan proc.hook proc.params proc.body) program.procs) _
+      ∙ ap₂ (λ xs x. xs ++ x ∷ []) (each_is p.procs.items) (body_is None [] p.start)
 
-  pub code_given : IsTyped program → procs_of (known_of program) (flat_of program plan) ≡ code_of program plan
-  code_given typed =
-      let t = and_parts (are_typed_procs program program.procs) (is_typed_start program program.start)
-      (and_parts (are_declared program.facts program.types) _ typed.typed).1 in
-      let s = (and_parts (are_among_types program.types (body_types [] program.start) && not (is_there (type_of_place program.start.result))) _ t.1).0 in
-      map_both (proc_of (known_of program)) (map (λ (p : Proc). flat_proc program plan p.hook p.params p.body) program.procs) (flat_body program plan None [] program.start ∷ [])
-      ∙ ap₂ (λ xs x. xs ++ x ∷ []) (procs_given program.procs t.0)
-      (body_given None [] program.start (and_parts (are_among_types program.types (body_types [] program.start)) _ s).0)
+  -- ---- places where the numbers of globals are marked
+
+  module _ (globals : ℕ → Bool) (same : (n : ℕ) → globals n ≡ is_global program.globals n) where
+    places_are : (params : List Param) (body : Body) → listed_body ts globals params body ≡ body_places ts program.globals params body
+    places_are params body =
+        ap (λ declared. param_places ts params ++ (result_places ts body.result ++ (declared ++ block_places ts body.stmts 0)))
+        (ap (λ g. declared_in ts g body.stmts) (fun_ext same) ∙ sym (declares ts program.globals body.stmts))
+
+    pub body_given : (hook : Option HookOf) (params : List Param) (body : Body) →
+        code_body ts (modes_of program plan) globals hook params body ≡ flat_body program plan hook params body
+    body_given hook params body =
+        ap (λ places. record {
+          first = body.first;
+          span = body.places;
+          places = places;
+          lines = body_lines ts (modes_of program plan) body;
+          hook = hook;
+        }) (places_are params body)
+
+    proc_given : (hook : Option HookOf) (params : List Param) (body : Option Body) →
+        code_proc ts (modes_of program plan) globals hook params body ≡ flat_proc program plan hook params body
+    proc_given hook params None = refl
+    proc_given hook params (Some body) = body_given hook params body
+
+    each_given : (ps : List RustProc) →
+        map (λ (proc : RustProc). code_proc ts (modes_of program plan) globals proc.hook (map (param_of ts) proc.params) (option_map (body_of ts) proc.body)) ps
+        ≡ map (λ (proc : trees.Proc). flat_proc program plan proc.hook proc.params proc.body) (map (tree_of ts) ps)
+    each_given [] = refl
+    each_given (first ∷ rest) = ap₂ (λ x xs. x ∷ xs) (proc_given first.hook (map (param_of ts) first.params) (option_map (body_of ts) first.body)) (each_given rest)
+
+    pub all_given :
+        map (λ (proc : RustProc). code_proc ts (modes_of program plan) globals proc.hook (map (param_of ts) proc.params) (option_map (body_of ts) proc.body))
+        p.procs.items
+        ++ code_body ts (modes_of program plan) globals None [] program.start ∷ []
+        ≡ flat_procs program plan
+    all_given = ap₂ (λ xs x. xs ++ x ∷ []) (each_given p.procs.items) (body_given None [] program.start)

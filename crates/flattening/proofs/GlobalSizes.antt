@@ -1,15 +1,14 @@
 -- The globals in code take no more than those of its program: each stands there once at most.
-use Rattle.std.proofs.Common.{◌≡◌, ℕ, zero, suc, ◌+◌, ◌≤◌, ◌<◌, Bool, true, false, List, [], ◌∷◌, ◌++◌, Option, Some, None, refl, sym, ap, ◌∙◌, subst, arith}
+use Rattle.std.proofs.Common.{◌≡◌, ℕ, suc, ◌+◌, ◌≤◌, ◌<◌, Bool, true, false, List, [], ◌∷◌, ◌++◌, Option, Some, None, refl, sym, ap, arith}
 use Rattle.std.specs.Prelude.{nat_eq, nat_le, ◌&&◌, ◌||◌, if◌then◌else◌, map}
-use Rattle.std.proofs.lemmas.Bool.{both_ways, and_parts, and_from, eqb-true, eq-eqb, leb-true}
-use Rattle.nim_types.specs.Types.{Ty, Facts}
+use Rattle.std.proofs.lemmas.Bool.{and_parts, and_from, eqb-true, eq-eqb, leb-true}
+use Rattle.nim_types.specs.Types.{Ty}
 use Rattle.nim_types.specs.Table.{type_at}
 use Rattle.nim_program.specs.Program.{Declared, Stmts, Program}
 use Rattle.nim_program.specs.Folds.{Seen, AtDeclare, AtHandler, lists, total_of, own_places}
 use Rattle.nim_program.specs.Numbering as numbering
 use Rattle.nim_program.specs.Scopes.{placed}
-use Rattle.nim_program.specs.Sizes.{type_bytes, is_global as is_global_number}
-use Rattle.nim_program.specs.Sizes as trees
+use Rattle.nim_program.specs.Sizes.{type_bytes, is_global as is_global_number, globals_size}
 use Rattle.nim_program.specs.Typed.{IsTyped}
 use Rattle.nim_meaning.proofs.ForCallers.{related_of}
 use Rattle.flat_code.specs.declared.place.FlatPlace.{FlatPlace}
@@ -18,7 +17,6 @@ use Rattle.flat_code.specs.declared.place.PlaceKind.TheVariants as K
 use Rattle.flat_code.specs.Fits.{is_global, is_declared, place_named, place_type, type_by_kind, if_type_of}
 use Rattle.flat_code.specs.Scene.{Known}
 use Rattle.flat_code.specs.Sizes.{global_bytes, globals_bytes}
-use Rattle.flattening.specs.Counted.{globals_size}
 use Rattle.flattening.specs.Flattened.{known_of}
 use Rattle.flattening.specs.Places.{kind_of_declared, all_declared, own_declared, result_places, body_places}
 use Rattle.flattening.proofs.Declared.{numbers}

@@ -1,8 +1,7 @@
 -- A measure of lines against what is counted of a program, by what each part may take: one induction for all such measures.
-use Rattle.std.proofs.Common.{◌≡◌, ℕ, zero, suc, ◌+◌, ◌*◌, ◌≤◌, Bool, true, false, List, [], ◌∷◌, Option, Some, None, refl, arith}
-use Rattle.std.specs.Prelude.{◌&&◌, ℤ, if◌then◌else◌}
+use Rattle.std.proofs.Common.{◌≡◌, ℕ, suc, ◌+◌, ◌*◌, ◌≤◌, Bool, true, false, List, [], ◌∷◌, Option, Some, None, refl, arith}
+use Rattle.std.specs.Prelude.{◌&&◌, ℤ}
 use Rattle.nim_types.specs.Types.{Ty}
-use Rattle.nim_program.specs.declared.operation.Short.{Short}
 use Rattle.nim_program.specs.declared.operation.Short.TheVariants.{And, Or}
 use Rattle.nim_program.specs.declared.operation.Use.{Use}
 use Rattle.nim_program.specs.declared.operation.Use.TheVariants.{Owned, Given, Looked}
@@ -19,12 +18,12 @@ use Rattle.flat_code.specs.declared.line.Line.{Line}
 use Rattle.flat_code.specs.declared.line.Line.TheVariants as L
 use Rattle.flattening.specs.declared.numbers.Purpose.TheVariants.{End, Next, Arm, Turn}
 use Rattle.flattening.specs.Numbering.{type_number, if_number, width, width_at, widths, arm_count, width_in, width_of, label}
-use Rattle.flattening.specs.ExprLines.{froms, find_lines, settle_lines, label_tests, value_tests, arm_label, act_line, none_fits, handed_on, early_lines}
+use Rattle.flattening.specs.ExprLines.{froms, find_lines, settle_lines, label_tests, value_tests, arm_label, act_line, none_fits, handed_on}
 use Rattle.flattening.specs.ExprLines.{lines, aim_lines, ready_lines, choice_lines, select_lines, arm_lines}
 use Rattle.flattening.specs.StmtLines.{Exits, leaving_by, in_loop, back_lines, result_line, block_tests, second, selector_lines, test_lines, look_up}
 use Rattle.flattening.specs.StmtLines.{lines_in, lines_of, branch_lines, arm_blocks}
-use Rattle.flattening.specs.Counted.{act_counted, labels_counted, branches_counted, chooser_counted, expr_counted, path_counted, args_counted}
-use Rattle.flattening.specs.Counted.{stmt_counted, block_counted, blocks_counted}
+use Rattle.flattening.proofs.Amounts.{act_counted, labels_counted, branches_counted, expr_counted, path_counted, args_counted}
+use Rattle.flattening.proofs.Amounts.{stmt_counted, block_counted, blocks_counted}
 use Rattle.flattening.proofs.Spares.{Spare, spare_none, spare_line, ◌>>◌, spare_most, spare_if}
 
 -- so much for each operand
@@ -34,7 +33,8 @@ reserved operand (ByValue value rest) = operand + reserved operand rest
 reserved operand (ByPath path rest) = operand + reserved operand rest
 
 -- What lines may take where a part may take so much: of this so much is for the operation that it is an operand of, and so much for reading at a path.
-pub record Bounds (types : List Ty) (modes : (proc position : ℕ) → Mode) (m : Line → ℕ) (part : ℕ) (of_literal : Literal → ℕ) (operand get exit : ℕ) : Type 0 where
+pub record Bounds (types : List Ty) (modes : (proc position : ℕ) → Mode) (m : Line → ℕ) (part : ℕ) (of_literal : Literal →
+    ℕ) (operand get exit : ℕ) : Type 0 where
   pub act : (t : ℕ) (act : Act) (how : Use) (ty : Option Ty) (operands : Args) →
       m (act_line types modes t act how ty (types_in operands) (froms operands (suc t))) + operand ≤ act_counted part of_literal act + reserved operand operands
   pub root : (t place : ℕ) (global : Bool) → 2 * m (L.Root t place global) + get + operand ≤ part
@@ -145,7 +145,8 @@ module _ (types : List Ty) (modes : (proc position : ℕ) → Mode) (m : Line �
   abbrev A : Args → ℕ
   A = args_counted part of_literal
 
-  none_most : (t : ℕ) (how : Use) (ty : Option Ty) → m (none_fits types modes t ty how) + m (L.Label (label Next t)) + m (L.Jump (label Next t)) + m (L.Label (label End t)) + operand ≤ part
+  none_most : (t : ℕ) (how : Use) (ty : Option Ty) →
+      m (none_fits types modes t ty how) + m (L.Label (label Next t)) + m (L.Jump (label Next t)) + m (L.Label (label End t)) + operand ≤ part
   none_most t how ty = let h = b.chosen t (label End t) (label Next t) how ty in omega (arith, h)
 
   mutual
@@ -222,7 +223,8 @@ module _ (types : List Ty) (modes : (proc position : ℕ) → Mode) (m : Line �
         >> (spare_line (L.Label (label Arm u)) >> choice_spare rest ty how t (u + width condition + width value)))))))
 
     select_spare : (labels : List (List Label)) (args : Args) (ty : Option Ty) (how : Use) (t u : ℕ) →
-        Spare m 0 (all_labels labels + all_branches labels + A args + m (none_fits types modes t ty how) + m (L.Label (label Next t)) + m (L.Jump (label Next t)))
+        Spare m 0 (all_labels labels + all_branches labels + A args + m (none_fits types modes t ty how) + m (L.Label (label Next t)) + m
+        (L.Jump (label Next t)))
         (select_lines types modes labels args ty how t u)
     select_spare labels NoArg ty how t u = spare_most 0 _ (omega arith) (spare_line (none_fits types modes t ty how))
     select_spare labels (ByValue selector rest) ty how t u =
@@ -329,7 +331,8 @@ module _ (types : List Ty) (modes : (proc position : ℕ) → Mode) (m : Line �
     look_up_spare (ByPath path rest) t = find_spare path t
 
     mutual
-      pub stmt_spare : (s : Stmt) (exits : Exits) (t : ℕ) → ExitsSpare exits → Spare m 0 (stmt_counted part of_literal s) (lines_in types modes result s exits t)
+      pub stmt_spare : (s : Stmt) (exits : Exits) (t : ℕ) → ExitsSpare exits →
+          Spare m 0 (stmt_counted part of_literal s) (lines_in types modes result s exits t)
       stmt_spare (Do value) exits t x = spare_most 0 _ (omega arith) (expr_spare value Owned t)
       stmt_spare (Idle node parts) exits t x = spare_most 0 _ (omega arith) spare_none
       stmt_spare (Give node back value) exits t x =

@@ -1,11 +1,12 @@
 -- What is found at the numbers of a part: the types of its values, and of where its paths lead.
-use Rattle.std.proofs.Common.{◌≡◌, ℕ, suc, ◌+◌, ◌<◌, ◌≤◌, ℤ, Bool, true, false, List, [], ◌∷◌, ◌++◌, Option, Some, None, refl, sym, ap, ◌∙◌, subst, arith, append_assoc}
+use Rattle.std.proofs.Common.{◌≡◌, ℕ, suc, ◌+◌, ◌<◌, ◌≤◌, ℤ, Bool, true, false, List, ◌∷◌, ◌++◌, Option, Some, None, refl, sym, ap, ◌∙◌, subst, arith}
+use Rattle.std.proofs.Common.{append_assoc}
 use Rattle.std.specs.Prelude.{if◌then◌else◌}
 use Rattle.std.proofs.lemmas.Bool.{both_ways}
 use Rattle.nim_types.specs.Types.{Ty, int}
 use Rattle.nim_program.specs.declared.expr.Node.{Node}
 use Rattle.nim_program.specs.Program.{Declared, Each, Chooser, Expr, Apply, Read, Early, Choose}
-use Rattle.nim_program.specs.Program.{Path, Variable, Fresh, Field, Element, Deref, Args, NoArg, ByValue, ByPath, type_of, node_of}
+use Rattle.nim_program.specs.Program.{Path, Variable, Fresh, Field, Element, Deref, Args, ByValue, ByPath, type_of, node_of}
 use Rattle.nim_program.specs.Typed.{is_fresh}
 use Rattle.flat_code.specs.declared.place.PlaceKind.{PlaceKind}
 use Rattle.flat_code.specs.declared.place.PlaceKind.TheVariants as K
@@ -15,7 +16,8 @@ use Rattle.flat_code.specs.Fits.{is_value, is_location, is_standing, place_named
 use Rattle.flattening.specs.Formed.{IsListed, IfListed}
 use Rattle.flattening.specs.Numbering.{width, width_at, widths}
 use Rattle.flattening.specs.Places.{kind_of_path, place, temporary, read_place, selector_place, expr_places, path_places, operand_places, loop_places}
-use Rattle.flattening.proofs.Numbered.{named_here, named_neither, other_number, Owns, owns_first, owns_second, owns_fewer, owns_later, owns_behind_value, owns_behind_location}
+use Rattle.flattening.proofs.Numbered.{named_here, named_neither, other_number, Owns, owns_first, owns_second, owns_fewer, owns_later, owns_behind_value}
+use Rattle.flattening.proofs.Numbered.{owns_behind_location}
 use Rattle.flattening.proofs.PlaceNumbers.{temporary_number, location_number, selector_number, expr_numbers, path_numbers, operand_numbers}
 use Rattle.flattening.proofs.Widths.{same_width}
 
@@ -163,7 +165,8 @@ module _ (known : Known) (whole : List FlatPlace) where
       place_named is_value (selector_place types chooser parts (suc t) ++ operand_places types parts (suc t)) t ≡ None
   behind_selector chooser parts t =
       named_neither is_value (selector_place types chooser parts (suc t)) (operand_places types parts (suc t)) t
-      ((selector_number types {lo = suc t} {hi = suc t + widths parts} chooser parts (suc t) (omega arith) (omega arith)).values t (λ le. absurd (omega (arith, le))))
+      ((selector_number types {lo = suc t} {hi = suc t + widths parts} chooser parts (suc t) (omega arith) (omega arith)).values t
+      (λ le. absurd (omega (arith, le))))
       ((operand_numbers types parts (suc t)).values t (λ le. absurd (omega (arith, le))))
 
   -- the parts of a choice; a selector at a path is as one that is read
@@ -207,7 +210,8 @@ module _ (known : Known) (whole : List FlatPlace) where
       let e = fresh_from value t h in
       owns_later (locations_from value t) (omega (arith, e)) (by_type (type_of value) owns)
     where
-      by_type : (ty : Option Ty) → Owns whole (temporary types (node_of value) ty (kind_of_path (Fresh value)) t ++ expr_places types value t) t t (t + width value) →
+      by_type : (ty : Option Ty) →
+          Owns whole (temporary types (node_of value) ty (kind_of_path (Fresh value)) t ++ expr_places types value t) t t (t + width value) →
           Owns whole (expr_places types value t) t (suc t) (t + width value)
       by_type None owns = owns_later (suc t) (omega arith) owns
       by_type (Some ty) owns = owns_behind_location _ refl refl owns

@@ -1,5 +1,5 @@
 -- What holds of each element of lists that stand one behind another.
-use Rattle.std.proofs.Common.{◌≡◌, ℕ, suc, true, false, List, [], ◌∷◌, ◌++◌, refl}
+use Rattle.std.proofs.Common.{List, [], ◌∷◌, ◌++◌}
 use Rattle.nim_program.specs.Folds.{lists, together, in_turn}
 
 abbrev pub Each : {A : Type 0} → (A → Type 0) → List A → Type 0

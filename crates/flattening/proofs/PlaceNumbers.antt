@@ -1,14 +1,13 @@
 -- The temporaries of a part have its numbers.
-use Rattle.std.proofs.Common.{◌≡◌, ℕ, suc, ◌+◌, ◌<◌, ◌≤◌, Bool, true, false, List, [], ◌∷◌, ◌++◌, Option, Some, None, refl, arith}
+use Rattle.std.proofs.Common.{◌≡◌, ℕ, suc, ◌+◌, ◌<◌, ◌≤◌, Bool, true, false, List, Option, Some, None, refl, arith}
 use Rattle.std.specs.Prelude.{if◌then◌else◌}
 use Rattle.nim_types.specs.Types.{Ty}
 use Rattle.nim_program.specs.declared.expr.Node.{Node}
 use Rattle.nim_program.specs.Program.{Chooser, ByConditions, ByLabels, Expr, Apply, Read, Early, Choose}
 use Rattle.nim_program.specs.Program.{Path, Variable, Fresh, Field, Element, Deref, Args, NoArg, ByValue, ByPath, type_at, node_at}
-use Rattle.nim_program.specs.Program.{Declared, Kind, While, Count, Each as OfEach, Stmt, Do, Idle, Give, Leave, Select, Loop, Raise, Try}
+use Rattle.nim_program.specs.Program.{Kind, While, Count, Each as OfEach, Stmt, Do, Idle, Give, Leave, Select, Loop, Raise, Try}
 use Rattle.nim_program.specs.Program.{Stmts, Empty, Then, Declare, Defer, Blocks, Otherwise, Block}
 use Rattle.nim_program.specs.Scopes.{is_written}
-use Rattle.nim_meaning.specs.Shapes.{has_node}
 use Rattle.flat_code.specs.declared.place.PlaceKind.{PlaceKind}
 use Rattle.flat_code.specs.declared.place.PlaceKind.TheVariants as K
 use Rattle.flat_code.specs.Fits.{is_declared}
@@ -148,7 +147,8 @@ module _ (types : List Ty) where
         >> numbered_wide (omega (arith, e)) (omega (arith, e)) (block_numbers rest (behind_value types value t))
     block_numbers (Defer node last rest) t = numbered_none
 
-    pub branch_numbers : (tests : Args) (blocks : Blocks) (t : ℕ) → Numbered t (t + (widths tests + width_of_blocks blocks)) (branch_places types tests blocks t)
+    pub branch_numbers : (tests : Args) (blocks : Blocks) (t : ℕ) →
+        Numbered t (t + (widths tests + width_of_blocks blocks)) (branch_places types tests blocks t)
     branch_numbers NoArg (Otherwise block) t = numbered_wide (omega arith) (omega arith) (block_numbers block t)
     branch_numbers NoArg (Block first rest) t = numbered_wide (omega arith) (omega arith) (block_numbers first t)
     branch_numbers (ByPath path tests) (Otherwise block) t = numbered_none

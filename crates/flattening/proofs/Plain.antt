@@ -1,7 +1,6 @@
 -- What holds where nothing is left out.
-use Rattle.std.proofs.Common.{◌≡◌, ℕ, Bool, true, false, List, [], ◌∷◌, Option, Some, None, refl}
+use Rattle.std.proofs.Common.{◌≡◌, Bool, true, false, Option, Some, None, refl}
 use Rattle.std.specs.Prelude.{nat_lt}
-use Rattle.std.proofs.lemmas.Bool.{both_ways}
 use Rattle.nim_program.specs.declared.expr.Node.{Node}
 use Rattle.nim_meaning.specs.LeftOut.{out_if, ◌or_then◌, earlier}
 

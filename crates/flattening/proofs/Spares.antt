@@ -1,5 +1,5 @@
 -- A measure of lines, over those that are put in front of others: at most so much, with so much to spare.
-use Rattle.std.proofs.Common.{◌≡◌, ℕ, ◌+◌, ◌≤◌, Bool, true, false, List, [], ◌∷◌, refl, arith}
+use Rattle.std.proofs.Common.{ℕ, ◌+◌, ◌≤◌, Bool, true, false, List, ◌∷◌, arith}
 use Rattle.std.specs.Prelude.{if◌then◌else◌}
 use Rattle.flat_code.specs.declared.line.Line.{Line}
 use Rattle.flat_code.specs.Sizes.{summed}

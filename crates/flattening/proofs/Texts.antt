@@ -1,5 +1,5 @@
 -- The texts in flat code are those of its program: each constant stands in one line.
-use Rattle.std.proofs.Common.{◌≡◌, ℕ, zero, suc, ◌+◌, ◌≤◌, Bool, true, false, List, [], ◌∷◌, ◌++◌, Option, Some, None, refl, ap, arith}
+use Rattle.std.proofs.Common.{◌≡◌, ℕ, suc, ◌+◌, ◌≤◌, Bool, true, false, List, [], ◌∷◌, ◌++◌, Option, Some, None, refl, ap, arith}
 use Rattle.std.specs.Prelude.{map}
 use Rattle.nim_types.specs.Types.{Ty}
 use Rattle.nim_plan.specs.declared.plan.Plan.{Plan}
@@ -22,15 +22,15 @@ use Rattle.flat_code.specs.declared.line.Piece.TheVariants as P
 use Rattle.flat_code.specs.Codes.{flat_plain}
 use Rattle.flat_code.specs.Pieces.{pieces_of, pieces_of_all, count_of}
 use Rattle.flat_code.specs.Sizes.{pieces_texts, texts_in, summed, code_texts}
-use Rattle.flattening.specs.Counted.{act_counted, labels_counted, branches_counted, expr_counted, path_counted, args_counted}
-use Rattle.flattening.specs.Counted.{stmt_counted, block_counted, blocks_counted, handlers_counted}
+use Rattle.flattening.proofs.Amounts.{act_counted, labels_counted, branches_counted, expr_counted, path_counted, args_counted}
+use Rattle.flattening.proofs.Amounts.{stmt_counted, block_counted, blocks_counted, handlers_counted}
 use Rattle.flattening.specs.ExprLines.{none_fits, froms, act_line}
 use Rattle.flattening.specs.Flattened.{modes_of}
 use Rattle.flattening.specs.Given.{flat_body, flat_proc, flat_procs}
 use Rattle.flattening.specs.StmtLines.{outermost, returned, number_of, body_lines}
 use Rattle.flattening.proofs.FitPrograms.{map_same}
 use Rattle.flattening.proofs.Measures.{reserved, Bounds, ExitsSpare, block_spare}
-use Rattle.flattening.proofs.Spares.{Spare, spare_none, spare_line, spare_most}
+use Rattle.flattening.proofs.Spares.{spare_none, spare_line}
 
 -- ---- one constant
 

@@ -1,6 +1,7 @@
 -- What flat code weighs.
-use Rattle.std.proofs.Common.{◌≡◌, ℕ, zero, suc, ◌+◌, ◌*◌, ◌≤◌, Bool, true, false, List, [], ◌∷◌, ◌++◌, length, Option, Some, None, refl, sym, ap, ◌∙◌, subst, arith}
-use Rattle.std.specs.Prelude.{map}
+use Rattle.std.proofs.Common.{◌≡◌, ℕ, suc, ◌+◌, ◌*◌, ◌≤◌, Bool, true, false, List, [], ◌∷◌, ◌++◌, length, Option, Some, None, refl, ap, arith}
+use Rattle.std.specs.Prelude.{pos, if◌then◌else◌, map}
+use Rattle.std.specs.Ordering.{int_eq}
 use Rattle.nim_types.specs.Types.{Ty}
 use Rattle.nim_plan.specs.declared.plan.Plan.{Plan}
 use Rattle.nim_program.specs.declared.operation.Operation.{Operation}
@@ -8,25 +9,52 @@ use Rattle.nim_program.specs.declared.operation.Operation.TheVariants as O
 use Rattle.nim_program.specs.declared.operation.Use.{Use}
 use Rattle.nim_program.specs.declared.program.HookOf.{HookOf}
 use Rattle.nim_program.specs.declared.program.Mode.{Mode}
-use Rattle.nim_program.specs.Program.{Literal, Act, Doing, Building, Giving, Calling, Args, NoArg, ByValue, ByPath, Declared, Param, Body, Proc, Program, types_in}
+use Rattle.nim_program.specs.Program.{Literal, Number, Characters, NoObject, PartsOf, ElementsOf, Literals, NoLiteral, ALiteral}
+use Rattle.nim_program.specs.Program.{Act, Doing, Building, Giving, Calling, Args, NoArg, ByValue, ByPath, Declared, Param, Body, Proc, Program, types_in}
 use Rattle.flat_code.specs.declared.code.CodeProc.{CodeProc}
 use Rattle.flat_code.specs.declared.line.Line.{Line}
 use Rattle.flat_code.specs.declared.line.Line.TheVariants as L
 use Rattle.flat_code.specs.Codes.{flat_plain}
-use Rattle.flat_code.specs.Pieces.{pieces_of}
+use Rattle.flat_code.specs.declared.line.Piece.{Piece}
+use Rattle.flat_code.specs.declared.line.Piece.TheVariants as P
+use Rattle.flat_code.specs.Pieces.{pieces_of, pieces_of_all, count_of}
 use Rattle.flat_code.specs.Sizes.{weight_of, weight, pieces_weight, summed, proc_weight, code_weight}
-use Rattle.flattening.specs.Counted.{act_counted, body_counted, if_counted, procs_counted, counted, program_weight}
+use Rattle.flattening.specs.Counted.{literal_parts, all_parts, program_parts}
 use Rattle.flattening.specs.ExprLines.{froms, act_line}
 use Rattle.flattening.specs.Flattened.{modes_of}
 use Rattle.flattening.specs.Given.{flat_body, flat_proc, flat_procs}
 use Rattle.flattening.specs.Numbering.{width, width_at}
-use Rattle.flattening.specs.StmtLines.{outermost, returned, number_of, lines_of, body_lines}
+use Rattle.flattening.specs.StmtLines.{outermost, returned, number_of, body_lines}
+use Rattle.flattening.proofs.Amounts.{act_counted, body_counted, if_counted, procs_counted, taken, program_scaled}
 use Rattle.flattening.proofs.FitPrograms.{map_same}
 use Rattle.flattening.proofs.Measures.{reserved, Bounds, ExitsSpare, block_spare}
-use Rattle.flattening.proofs.Spares.{Spare, spare_none, spare_line, spare_most}
+use Rattle.flattening.proofs.Spares.{spare_none, spare_line, spare_most}
 
-abbrev literal_weight : Literal → ℕ
-literal_weight literal = pieces_weight (pieces_of literal)
+-- ---- what one takes
+
+pieces_end : (a b : List Piece) → pieces_weight (a ++ b) ≡ pieces_weight a + pieces_weight b
+pieces_end [] b = omega arith
+pieces_end (p ∷ a) b = let h = pieces_end a b in omega (arith, h)
+
+number_most : (zero : Bool) → (if zero then 0 else 3) + 0 ≤ 38 * (if zero then 0 else 1)
+number_most true = omega arith
+number_most false = omega arith
+
+mutual
+  literal_most : (l : Literal) → pieces_weight (pieces_of l) ≤ 38 * literal_parts l
+  literal_most (Number z) = number_most (int_eq z (pos 0))
+  literal_most (Characters text) = omega arith
+  literal_most NoObject = omega arith
+  literal_most (PartsOf all) = let h = pieces_end (pieces_of_all all) (P.Parts (count_of all) ∷ []) in let i = all_most all in omega (arith, h, i)
+  literal_most (ElementsOf all) = let h = pieces_end (pieces_of_all all) (P.Elements (count_of all) ∷ []) in let i = all_most all in omega (arith, h, i)
+
+  all_most : (all : Literals) → pieces_weight (pieces_of_all all) ≤ 38 * all_parts all
+  all_most NoLiteral = omega arith
+  all_most (ALiteral first rest) =
+      let h = pieces_end (pieces_of first) (pieces_of_all rest) in
+      let i = literal_most first in
+      let j = all_most rest in
+      omega (arith, h, i, j)
 
 operation_most : (operation : Operation) (n : ℕ) → weight_of operation n ≤ 26 + 12 * n
 operation_most O.Default n = omega arith
@@ -52,16 +80,16 @@ reserves (ByPath path rest) t = let h = reserves rest (t + width_at path) in ome
 
 module _ (types : List Ty) (modes : (proc position : ℕ) → Mode) where
   act_most : (t : ℕ) (act : Act) (how : Use) (ty : Option Ty) (operands : Args) →
-      weight (act_line types modes t act how ty (types_in operands) (froms operands (suc t))) + 12 ≤ act_counted 38 literal_weight act + reserved 12 operands
+      weight (act_line types modes t act how ty (types_in operands) (froms operands (suc t))) + 12 ≤ act_counted 38 taken act + reserved 12 operands
   act_most t (Doing operation) how ty operands =
       let h = operation_most operation (length (froms operands (suc t))) in let r = reserves operands (suc t) in omega (arith, h, r)
   act_most t (Building fields) how None operands = let r = reserves operands (suc t) in omega (arith, r)
   act_most t (Building fields) how (Some ty) operands = let r = reserves operands (suc t) in omega (arith, r)
-  act_most t (Giving literal) how None operands = omega arith
-  act_most t (Giving literal) how (Some ty) operands = omega arith
+  act_most t (Giving literal) how None operands = let h = literal_most literal in omega (arith, h)
+  act_most t (Giving literal) how (Some ty) operands = let h = literal_most literal in omega (arith, h)
   act_most t (Calling proc of) how ty operands = let r = reserves operands (suc t) in omega (arith, r)
 
-  weight_bounds : Bounds types modes weight 38 literal_weight 12 7 3
+  weight_bounds : Bounds types modes weight 38 taken 12 7 3
   weight_bounds = record {
     act = act_most;
     root = λ t place global. omega arith;
@@ -91,7 +119,7 @@ module _ (types : List Ty) (modes : (proc position : ℕ) → Mode) where
   }
 
 module _ (program : Program) (plan : Plan) where
-  exits_spare : (result : Option Declared) → ExitsSpare program.types (modes_of program plan) weight 38 literal_weight 12 7 3
+  exits_spare : (result : Option Declared) → ExitsSpare program.types (modes_of program plan) weight 38 taken 12 7 3
       (weight_bounds program.types (modes_of program plan)) result (outermost result)
   exits_spare result = record {
     breaks = spare_most 0 3 (omega arith) spare_none;
@@ -104,10 +132,10 @@ module _ (program : Program) (plan : Plan) where
   some_most (l ∷ lines) = omega arith
 
   body_most : (hook : Option HookOf) (params : List Param) (body : Body) →
-      proc_weight (map flat_plain (flat_body program plan hook params body).lines) ≤ body_counted 38 literal_weight body
+      proc_weight (map flat_plain (flat_body program plan hook params body).lines) ≤ body_counted 38 taken body
   body_most hook params body =
       let lines = body_lines program.types (modes_of program plan) body in
-      let s = (block_spare program.types (modes_of program plan) weight 38 literal_weight 12 7 3 (weight_bounds program.types (modes_of program plan))
+      let s = (block_spare program.types (modes_of program plan) weight 38 taken 12 7 3 (weight_bounds program.types (modes_of program plan))
       body.result body.stmts (outermost body.result) 0 (exits_spare body.result)).all (returned body.result []) in
       let a = some_most lines in
       let e = ap proc_weight (map_same lines) in
@@ -115,19 +143,20 @@ module _ (program : Program) (plan : Plan) where
 
   procs_most : (procs : List Proc) (more : List (CodeProc Line)) →
       code_weight flat_plain (map (λ (p : Proc). flat_proc program plan p.hook p.params p.body) procs ++ more)
-      ≤ procs_counted 38 literal_weight procs + code_weight flat_plain more
+      ≤ procs_counted 38 taken procs + code_weight flat_plain more
   procs_most [] more = omega arith
   procs_most (p ∷ procs) more =
       let h = of_body p.body in
       let i = procs_most procs more in
       omega (arith, h, i)
     where
-      of_body : (body : Option Body) → proc_weight (map flat_plain (flat_proc program plan p.hook p.params body).lines) ≤ if_counted 38 literal_weight body
+      of_body : (body : Option Body) → proc_weight (map flat_plain (flat_proc program plan p.hook p.params body).lines) ≤ if_counted 38 taken body
       of_body None = omega arith
       of_body (Some body) = body_most p.hook p.params body
 
-  pub weighs : code_weight flat_plain (flat_procs program plan) ≤ program_weight program
+  pub weighs : code_weight flat_plain (flat_procs program plan) ≤ 38 * program_parts program
   weighs =
       let h = procs_most program.procs (flat_body program plan None [] program.start ∷ []) in
       let i = body_most None [] program.start in
-      omega (arith, h, i)
+      let j = program_scaled program in
+      omega (arith, h, i, j)

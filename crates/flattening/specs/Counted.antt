@@ -1,104 +1,103 @@
--- What is counted of a program, so much for each of its parts that has lines: nodes, fresh values and dereferences in paths, the branches of a `case` and
--- their labels, and bodies; and what the literals of constants add.
-use Rattle.std.specs.Prelude.{ℕ, ◌+◌, List, [], ◌∷◌, Option, Some, None}
-use Rattle.nim_types.specs.Types.{Facts}
+-- The parts of a program that bound how much code it has: nodes, fresh values and dereferences in paths, the branches of a `case` and their labels,
+-- bodies, and what isn't zero in its constants. And what bounds its data.
+use Rattle.std.specs.Prelude.{ℕ, suc, ◌+◌, pos, if◌then◌else◌, List, [], ◌∷◌, length, Option, Some, None}
+use Rattle.std.specs.Ordering.{int_eq}
 use Rattle.nim_types.specs.declared.types.TypeDef.{TypeDef}
-use Rattle.nim_program.specs.Program.{Literal, Label, Act, Doing, Building, Giving, Calling, Chooser, ByConditions, ByLabels}
+use Rattle.nim_program.specs.Program.{Literal, Number, Characters, NoObject, PartsOf, ElementsOf, Literals, NoLiteral, ALiteral, Label, Act, Giving}
+use Rattle.nim_program.specs.Program.{Chooser, ByConditions, ByLabels}
 use Rattle.nim_program.specs.Program.{Expr, Apply, Read, Early, Choose, Path, Variable, Fresh, Field, Element, Deref, Args, NoArg, ByValue, ByPath}
 use Rattle.nim_program.specs.Program.{Stmt, Do, Idle, Give, Leave, Select, Loop, Raise, Try}
-use Rattle.nim_program.specs.Program.{Stmts, Empty, Then, Declare, Defer, Blocks, Otherwise, Block, Handlers, NoHandler, Handler, Declared, Body, Proc, Program}
-use Rattle.nim_program.specs.Sizes.{place_bytes}
+use Rattle.nim_program.specs.Program.{Stmts, Empty, Then, Declare, Defer, Blocks, Otherwise, Block, Handlers, NoHandler, Handler, Body, Proc, Program}
+use Rattle.nim_program.specs.Sizes.{globals_size}
 use Rattle.nim_program.specs.TextSizes.{program_texts}
-use Rattle.flat_code.specs.Pieces.{pieces_of}
-use Rattle.flat_code.specs.Sizes.{pieces_weight, names_bytes}
-use Rattle.flattening.specs.declared.laws.TheConstants.{NODE_WEIGHT}
+use Rattle.flat_code.specs.Sizes.{names_bytes}
 
-module _ (part : ℕ) (of_literal : Literal → ℕ) where
-  abbrev pub act_counted : Act → ℕ
-  act_counted (Giving literal) = part + of_literal literal
-  act_counted act = part
+-- what isn't zero in a constant
+abbrev mutual
+  pub literal_parts : Literal → ℕ
+  literal_parts (Number z) = if int_eq z (pos 0) then 0 else 1
+  literal_parts (Characters text) = 1
+  literal_parts NoObject = 0
+  literal_parts (PartsOf all) = all_parts all
+  literal_parts (ElementsOf all) = all_parts all
 
-  abbrev pub labels_counted : List Label → ℕ
-  labels_counted [] = 0
-  labels_counted (label ∷ labels) = part + labels_counted labels
+  pub all_parts : Literals → ℕ
+  all_parts NoLiteral = 0
+  all_parts (ALiteral first rest) = literal_parts first + all_parts rest
 
-  abbrev pub branches_counted : List (List Label) → ℕ
-  branches_counted [] = 0
-  branches_counted (labels ∷ rest) = part + (labels_counted labels + branches_counted rest)
+abbrev pub act_parts : Act → ℕ
+act_parts (Giving literal) = suc (literal_parts literal)
+act_parts act = 1
 
-  abbrev pub chooser_counted : Chooser → ℕ
-  chooser_counted ByConditions = 0
-  chooser_counted (ByLabels labels) = branches_counted labels
+-- branches of a `case` and their labels
+abbrev pub labels_parts : List (List Label) → ℕ
+labels_parts [] = 0
+labels_parts (labels ∷ rest) = suc (length labels + labels_parts rest)
 
-  abbrev mutual
-    pub expr_counted : Expr → ℕ
-    expr_counted (Apply node ty act operands) = act_counted act + args_counted operands
-    expr_counted (Read path) = path_counted path
-    expr_counted (Early node ty short left right) = part + (expr_counted left + expr_counted right)
-    expr_counted (Choose node ty chooser parts) = part + (chooser_counted chooser + args_counted parts)
+abbrev pub chooser_parts : Chooser → ℕ
+chooser_parts ByConditions = 0
+chooser_parts (ByLabels labels) = labels_parts labels
 
-    pub path_counted : Path → ℕ
-    path_counted (Variable node ty place global) = part
-    path_counted (Fresh value) = part + expr_counted value
-    path_counted (Field node ty base field) = part + path_counted base
-    path_counted (Element node ty base index constant) = part + (path_counted base + expr_counted index)
-    path_counted (Deref ty base) = part + path_counted base
+abbrev mutual
+  pub expr_parts : Expr → ℕ
+  expr_parts (Apply node ty act operands) = act_parts act + args_parts operands
+  expr_parts (Read path) = path_parts path
+  expr_parts (Early node ty short left right) = suc (expr_parts left + expr_parts right)
+  expr_parts (Choose node ty chooser parts) = suc (chooser_parts chooser + args_parts parts)
 
-    pub args_counted : Args → ℕ
-    args_counted NoArg = 0
-    args_counted (ByValue value rest) = expr_counted value + args_counted rest
-    args_counted (ByPath path rest) = path_counted path + args_counted rest
+  pub path_parts : Path → ℕ
+  path_parts (Variable node ty place global) = 1
+  path_parts (Fresh value) = suc (expr_parts value)
+  path_parts (Field node ty base field) = suc (path_parts base)
+  path_parts (Element node ty base index constant) = suc (path_parts base + expr_parts index)
+  path_parts (Deref ty base) = suc (path_parts base)
 
-  abbrev mutual
-    pub stmt_counted : Stmt → ℕ
-    stmt_counted (Do value) = expr_counted value
-    stmt_counted (Idle node parts) = part + args_counted parts
-    stmt_counted (Give node back value) = part + expr_counted value
-    stmt_counted (Leave node leaving parts) = part + args_counted parts
-    stmt_counted (Select node chooser tests blocks) = part + (chooser_counted chooser + (args_counted tests + blocks_counted blocks))
-    stmt_counted (Loop node kind head body) = part + (args_counted head + block_counted body)
-    stmt_counted (Raise node exception message) = part + args_counted message
-    stmt_counted (Try node body handlers last) = part + (block_counted body + (handlers_counted handlers + block_counted last))
+  pub args_parts : Args → ℕ
+  args_parts NoArg = 0
+  args_parts (ByValue value rest) = expr_parts value + args_parts rest
+  args_parts (ByPath path rest) = path_parts path + args_parts rest
 
-    pub block_counted : Stmts → ℕ
-    block_counted Empty = 0
-    block_counted (Then first rest) = stmt_counted first + block_counted rest
-    block_counted (Declare node place cursor value rest) = part + (args_counted value + block_counted rest)
-    block_counted (Defer node last rest) = part + (block_counted last + block_counted rest)
+abbrev mutual
+  pub stmt_parts : Stmt → ℕ
+  stmt_parts (Do value) = expr_parts value
+  stmt_parts (Idle node parts) = suc (args_parts parts)
+  stmt_parts (Give node back value) = suc (expr_parts value)
+  stmt_parts (Leave node leaving parts) = suc (args_parts parts)
+  stmt_parts (Select node chooser tests blocks) = suc (chooser_parts chooser + (args_parts tests + blocks_parts blocks))
+  stmt_parts (Loop node kind head body) = suc (args_parts head + block_parts body)
+  stmt_parts (Raise node exception message) = suc (args_parts message)
+  stmt_parts (Try node body handlers last) = suc (block_parts body + (handlers_parts handlers + block_parts last))
 
-    pub blocks_counted : Blocks → ℕ
-    blocks_counted (Otherwise block) = block_counted block
-    blocks_counted (Block first rest) = block_counted first + blocks_counted rest
+  pub block_parts : Stmts → ℕ
+  block_parts Empty = 0
+  block_parts (Then first rest) = stmt_parts first + block_parts rest
+  block_parts (Declare node place cursor value rest) = suc (args_parts value + block_parts rest)
+  block_parts (Defer node last rest) = suc (block_parts last + block_parts rest)
 
-    pub handlers_counted : Handlers → ℕ
-    handlers_counted NoHandler = 0
-    handlers_counted (Handler types name body rest) = block_counted body + handlers_counted rest
+  pub blocks_parts : Blocks → ℕ
+  blocks_parts (Otherwise block) = block_parts block
+  blocks_parts (Block first rest) = block_parts first + blocks_parts rest
 
-  abbrev pub body_counted : Body → ℕ
-  body_counted body = part + block_counted body.stmts
+  pub handlers_parts : Handlers → ℕ
+  handlers_parts NoHandler = 0
+  handlers_parts (Handler types name body rest) = block_parts body + handlers_parts rest
 
-  abbrev pub if_counted : Option Body → ℕ
-  if_counted None = 0
-  if_counted (Some body) = body_counted body
+abbrev pub body_parts : Body → ℕ
+body_parts body = suc (block_parts body.stmts)
 
-  abbrev pub procs_counted : List Proc → ℕ
-  procs_counted [] = 0
-  procs_counted (p ∷ procs) = if_counted p.body + procs_counted procs
+abbrev pub if_parts : Option Body → ℕ
+if_parts None = 0
+if_parts (Some body) = body_parts body
 
-  abbrev pub counted : Program → ℕ
-  counted program = procs_counted program.procs + body_counted program.start
+abbrev pub procs_parts : List Proc → ℕ
+procs_parts [] = 0
+procs_parts (p ∷ procs) = if_parts p.body + procs_parts procs
 
--- ---- weights
-
--- what code weighs at most: so much for each part, and what its constants weigh
-abbrev pub program_weight : Program → ℕ
-program_weight program = counted NODE_WEIGHT (λ literal. pieces_weight (pieces_of literal)) program
+-- of the whole
+abbrev pub program_parts : Program → ℕ
+program_parts program = procs_parts program.procs + body_parts program.start
 
 -- ---- data
-
-abbrev pub globals_size : Facts → List Declared → ℕ
-globals_size facts [] = 0
-globals_size facts (place ∷ globals) = place_bytes facts place + globals_size facts globals
 
 -- what data there is at most: globals, the names of members of enums, and texts
 abbrev pub program_data : List TypeDef → Program → ℕ

@@ -7,3 +7,7 @@ pub mod Given
 pub mod Counted
 pub mod Formed
 pub mod Examples
+pub mod Written
+pub mod Views
+pub mod PlaceViews
+pub mod Forms

@@ -1,6 +1,6 @@
 -- The places of flat code, in order of text: what a body declares, and the temporaries of its parts by their numbers: one for the value of each node that
 -- gives one, and one for where each path leads that is looked up.
-use Rattle.std.specs.Prelude.{ℕ, suc, ◌+◌, Bool, true, false, if◌then◌else◌, List, [], ◌∷◌, ◌++◌, Option, Some, None}
+use Rattle.std.specs.Prelude.{ℕ, suc, ◌+◌, true, false, if◌then◌else◌, List, [], ◌∷◌, ◌++◌, Option, Some, None}
 use Rattle.arc_base.specs.declared.place.Place.{Place}
 use Rattle.nim_types.specs.Types.{Ty, int}
 use Rattle.nim_program.specs.declared.expr.Node.{Node}
@@ -8,7 +8,7 @@ use Rattle.nim_program.specs.Program.{Chooser, ByConditions, ByLabels, Expr, App
 use Rattle.nim_program.specs.Program.{Path, Variable, Fresh, Field, Element, Deref, Args, NoArg, ByValue, ByPath, type_at, node_at}
 use Rattle.nim_program.specs.Program.{Declared, Kind, While, Count, Each, Stmt, Do, Idle, Give, Leave, Select, Loop, Raise, Try}
 use Rattle.nim_program.specs.Program.{Stmts, Empty, Then, Declare, Defer, Blocks, Otherwise, Block, Param, Body}
-use Rattle.nim_program.specs.Folds.{Seen, AtDeclare, AtLoop, AtHandler, lists, total_of, own_places}
+use Rattle.nim_program.specs.Folds.{Seen, AtDeclare, AtHandler, lists, total_of, own_places}
 use Rattle.nim_program.specs.Scopes.{is_written}
 use Rattle.nim_program.specs.Sizes.{is_global}
 use Rattle.nim_meaning.specs.Shapes.{has_node}

@@ -1,5 +1,5 @@
 // The laws of flat code.
-ghost use Rattle.std.specs.Prelude.{◌≡◌, ◌≤◌, ℕ, true, List, codes};
+ghost use Rattle.std.specs.Prelude.{◌≡◌, ◌≤◌, ◌*◌, ℕ, true, List, codes};
 ghost use Rattle.arc_base.specs.Behaviour.{Agrees, Sound};
 ghost use Rattle.arc_base.specs.Event.{writes};
 ghost use Rattle.arc_base.specs.declared.outside.Stream.TheVariants.{Out};
@@ -12,12 +12,12 @@ ghost use Rattle.nim_program.specs.Program.{Program};
 ghost use Rattle.nim_program.specs.Typed.{IsTyped};
 ghost use Rattle.nim_meaning.specs.LeftOut.{IsPlain};
 ghost use Rattle.nim_meaning.specs.Meaning.{meaning};
-ghost use Rattle.flat_code.specs.Codes.{flat_plain, procs_of};
+ghost use Rattle.flat_code.specs.Codes.{flat_plain, procs_of, hooks_of, AreNone};
 ghost use Rattle.flat_code.specs.Fits.{code_fits};
 ghost use Rattle.flat_code.specs.Scene.{known_in};
 ghost use Rattle.flat_code.specs.Sizes.{code_weight, data_bytes};
-ghost use Rattle.flattening.specs.declared.laws.TheConstants.{FLAT_PACE};
-ghost use Rattle.flattening.specs.Counted.{program_weight, program_data};
+ghost use Rattle.flattening.specs.declared.laws.TheConstants.{FLAT_PACE, NODE_WEIGHT};
+ghost use Rattle.flattening.specs.Counted.{program_parts, program_data};
 ghost use Rattle.flattening.specs.Examples.{counting};
 ghost use Rattle.flattening.specs.Flattened.{known_of, code_of, flat_meaning, flat_by_units, IsExact};
 ghost use Rattle.flattening.specs.Formed.{IsFormed};
@@ -26,7 +26,7 @@ ghost use Rattle.flattening.specs.Given.{flat_procs, flat_of};
 /// Flat code does at most so many times the work of its program's meaning and one more.
 pub const FLAT_PACE: u32 = 12;
 
-/// The most that flat code weighs for each counted part of its program, beside its constants.
+/// The most that flat code weighs for each counted part of its program.
 pub const NODE_WEIGHT: u32 = 38;
 
 /// The flat code of a program shows what the program means, under each plan, each heap and each
@@ -45,19 +45,22 @@ pub fn flat_code()
 {}
 
 /// What is handed on as flat code of a typed program is its flat code; and where nothing is left out
-/// of the program, it fits the types of its places.
+/// of the program, it fits the types of its places, and no procedure is a hook.
 pub fn fits()
     ensures given { (program : Program) → IsTyped program → (plan : Plan) →
         procs_of (known_of program) (flat_of program plan) ≡ code_of program plan }
     ensures fits { (table : List TypeDef) (program : Program) → program.facts ≡ facts_in table →
         IsTyped program → is_numbered_program program ≡ true → IsPlain program → (plan : Plan) →
         code_fits flat_plain (known_of program) (flat_procs program plan) ≡ true }
+    ensures hooks { (table : List TypeDef) (program : Program) → program.facts ≡ facts_in table →
+        IsTyped program → IsPlain program → (plan : Plan) → AreNone (hooks_of (flat_of program plan)) }
 {}
 
-/// Flat code weighs no more than is counted of its program, and has no more data.
+/// Flat code weighs no more than the counted parts of its program allow, and has no more data than
+/// are counted.
 pub fn sizes()
     ensures weight { (program : Program) (plan : Plan) →
-        code_weight flat_plain (flat_procs program plan) ≤ program_weight program }
+        code_weight flat_plain (flat_procs program plan) ≤ NODE_WEIGHT * program_parts program }
     ensures data { (table : List TypeDef) (program : Program) (plan : Plan) → known_of program ≡ known_in table →
         IsTyped program → is_numbered_program program ≡ true →
         data_bytes flat_plain table (flat_procs program plan) ≤ program_data table program }

@@ -1,8 +1,25 @@
 //! From the typed program to its flat code.
 #![tactic(auto)]
 
+mod acts;
+mod around;
+mod declared_places;
+mod expr_code;
+mod expr_places;
+mod finds;
 mod laws;
+mod marks;
 mod numbers;
+mod pieces;
+mod program;
+mod spans;
+mod stmt_acts;
+mod stmt_code;
+mod stmt_places;
+mod stmt_spans;
+mod temporaries;
+mod written;
 
 pub use laws::{FLAT_PACE, NODE_WEIGHT, counts_in_turn, fits, flat_code, sizes};
 pub use numbers::{PURPOSES, Purpose};
+pub use program::flatten;

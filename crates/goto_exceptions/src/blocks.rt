@@ -1,12 +1,11 @@
 // Owned code as block code, procedure by procedure and line by line.
 ghost use Rattle.std.specs.Prelude.{◌≡◌, IfOk, map};
-ghost use Rattle.mid_code.specs.Plain.{block_from, block_proc_from};
+ghost use Rattle.flat_code.specs.declared.block.BlockLine.TheVariants.{Plain};
+ghost use Rattle.flat_code.specs.Codes.{each_line};
 ghost use Rattle.goto_exceptions.specs.Branches.{IsBranched};
 
 use arc_base::{Items, Memory, agreement};
-use mid_code::{
-    BlockLine, BlockProc, Blocks, Owned, OwnedLine, OwnedProc, codes, copied, plain_codes,
-};
+use flat_code::{BlockLine, Blocks, CodeProc, Owned, OwnedLine, codes, copied};
 use std::alloc::Global;
 
 /// Block code does at most so many times the work of the owned code that it is of.
@@ -15,34 +14,23 @@ pub const PACE: u32 = 1;
 /// It has at most so many lines for each line of the owned code.
 pub const LINES_EACH: u32 = 1;
 
-fn block_line(alloc: Global, line: &OwnedLine) -> Result<BlockLine, Memory>
-    ensures { IfOk result (λ block. block ≡ block_from line.now) }
-{
-    match line {
-        OwnedLine::Plain(line) => {
-            let line = line.copied(alloc)?;
-            Ok(BlockLine::Plain(line))
-        }
-    }
-}
-
 fn block_lines(alloc: Global, lines: &[OwnedLine]) -> Result<Items<BlockLine>, Memory>
-    ensures { IfOk result (λ block. block ≡ map block_from lines.now) }
+    ensures { IfOk result (λ block. block ≡ map Plain lines.now) }
 {
     let mut block = Items::new(alloc);
     for line in lines {
-        let next = block_line(alloc, line)?;
-        block.push(next)?;
+        let line = line.copied(alloc)?;
+        block.push(BlockLine::Plain(line))?;
     }
     Ok(block)
 }
 
-fn block_proc(alloc: Global, proc: &OwnedProc) -> Result<BlockProc, Memory>
-    ensures { IfOk result (λ block. block ≡ block_proc_from proc.now) }
+fn block_proc(alloc: Global, proc: &CodeProc<OwnedLine>) -> Result<CodeProc<BlockLine>, Memory>
+    ensures { IfOk result (λ block. block ≡ each_line Plain proc.now) }
 {
     let places = copied(alloc, proc.places.as_slice())?;
     let lines = block_lines(alloc, proc.lines.as_slice())?;
-    Ok(BlockProc {
+    Ok(CodeProc {
         first: proc.first,
         span: proc.span,
         places,
@@ -51,8 +39,11 @@ fn block_proc(alloc: Global, proc: &OwnedProc) -> Result<BlockProc, Memory>
     })
 }
 
-fn block_procs(alloc: Global, procs: &[OwnedProc]) -> Result<Items<BlockProc>, Memory>
-    ensures { IfOk result (λ block. block ≡ map block_proc_from procs.now) }
+fn block_procs(
+    alloc: Global,
+    procs: &[CodeProc<OwnedLine>],
+) -> Result<Items<CodeProc<BlockLine>>, Memory>
+    ensures { IfOk result (λ block. block ≡ map (each_line Plain) procs.now) }
 {
     let mut block = Items::new(alloc);
     for proc in procs {
@@ -68,7 +59,6 @@ pub fn branches(alloc: Global, owned: &Owned) -> Result<Blocks, Memory>
 {
     agreement();
     codes();
-    plain_codes();
     let procs = block_procs(alloc, owned.procs.as_slice())?;
     Ok(Blocks { procs })
 }

@@ -28,6 +28,10 @@ value_bytes facts (Some ty) = type_bytes facts ty
 abbrev pub place_bytes : Facts → Declared → ℕ
 place_bytes facts place = type_bytes facts place.of
 
+abbrev pub globals_size : Facts → List Declared → ℕ
+globals_size facts [] = 0
+globals_size facts (place ∷ globals) = place_bytes facts place + globals_size facts globals
+
 abbrev pub if_place_bytes : Facts → Option Declared → ℕ
 if_place_bytes facts None = 0
 if_place_bytes facts (Some place) = place_bytes facts place

@@ -8,6 +8,10 @@ use Rattle.nim_program.specs.Folds.{Seen, AtApply, numbers, total_of}
 abbrev pub text_bytes : List ℕ → ℕ
 text_bytes text = WORD_BYTES + WORD_BYTES * ((length text + 3) / WORD_BYTES)
 
+abbrev pub all_bytes : List (List ℕ) → ℕ
+all_bytes [] = 0
+all_bytes (text ∷ texts) = text_bytes text + all_bytes texts
+
 abbrev mutual
   pub literal_texts : Literal → ℕ
   literal_texts (Number value) = 0

@@ -349,16 +349,19 @@ params_fit (suc (suc zero)) ty (dest ∷ source ∷ []) = takes ty Var dest && t
 params_fit (suc (suc (suc zero))) ty (dest ∷ source ∷ []) = takes ty Var dest && takes ty Plain source
 params_fit kind ty params = false
 
-abbrev pub hook_fits : Program → Option HookOf → List Param → (gives : Option Ty) → Bool
-hook_fits program None params gives = true
-hook_fits program (Some hook) params gives =
+-- (a hook has a body)
+abbrev pub hook_fits : Program → Option HookOf → List Param → (gives : Option Ty) → Option Body → Bool
+hook_fits program None params gives body = true
+hook_fits program (Some hook) params gives None = false
+hook_fits program (Some hook) params gives (Some body) =
     is_resource (kind_of program.facts (type_by_number program.types hook.of))
     && (not (is_there gives) && params_fit hook.kind (type_by_number program.types hook.of) params)
 
 -- ---- programs
 
 abbrev pub is_typed_proc : Program → Proc → Bool
-is_typed_proc program p = hook_fits program p.hook p.params p.gives && is_typed_if program (dest_of p.hook p.params) p.params p.gives p.body
+is_typed_proc program p =
+    hook_fits program p.hook p.params p.gives p.body && is_typed_if program (dest_of p.hook p.params) p.params p.gives p.body
 
 abbrev pub are_typed_procs : Program → List Proc → Bool
 are_typed_procs program [] = true

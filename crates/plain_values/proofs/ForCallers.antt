@@ -1,2 +1,2 @@
 -- The lemmas that proofs of other crates may cite.
-pub use Rattle.plain_values.proofs.LiteralRows.{parts_held, elements_held, literals_last}
+pub use Rattle.plain_values.proofs.StartRows.{literals_last}

@@ -1,4 +1,3 @@
-mod LiteralRows
 mod TextRows
 mod StartRows
 pub mod ForCallers

@@ -12,12 +12,11 @@ use Rattle.nim_types.specs.declared.types.FieldName.{FieldName}
 use Rattle.nim_types.specs.Table.{types_in, fields_with, fields_fact, facts_in, IsTable}
 use Rattle.nim_types.specs.Entries.{meant_at}
 use Rattle.nim_types.proofs.ForCallers.{by_entry, said_by, fields_by, fields_there, fields_none, fields_types}
-use Rattle.nim_core.specs.declared.expr.Literal.{Literal as RustLiteral}
-use Rattle.nim_core.specs.Program.{Literal, PartsOf, NoLiteral, ALiteral}
-use Rattle.nim_core.specs.View.{literal_of, literals_of}
-use Rattle.plain_values.specs.Starts.{so_many, start, starts}
+use Rattle.nim_program.specs.declared.expr.Literal.{Literal as RustLiteral}
+use Rattle.nim_program.specs.Program.{Literal, PartsOf, NoLiteral, ALiteral}
+use Rattle.nim_program.specs.View.{literal_of, literals_of}
+use Rattle.nim_program.specs.Defaults.{times, blank_literal, blank_literals}
 use Rattle.plain_values.specs.Entries.{starts_at, starts_all, and_last}
-use Rattle.plain_values.proofs.LiteralRows.{literals_last}
 
 pub if_is : (r : Result RustLiteral Memory) (v w : Literal) → IfOk r (λ x. literal_of x ≡ v) → v ≡ w → IfOk r (λ x. literal_of x ≡ w)
 if_is (Ok x) v w h e = h ∙ e
@@ -25,15 +24,20 @@ if_is (Err m) v w h e = tt
 
 -- ---- lists
 
-one_last : (n : ℕ) (l : Literal) → and_last (so_many n l) l ≡ so_many (suc n) l
+-- values, and one more behind them
+pub literals_last : (xs : List RustLiteral) (w : RustLiteral) → literals_of (xs ++ w ∷ []) ≡ and_last (literals_of xs) (literal_of w)
+literals_last [] w = refl
+literals_last (x ∷ xs) w = ap (ALiteral (literal_of x)) (literals_last xs w)
+
+one_last : (n : ℕ) (l : Literal) → and_last (times n l) l ≡ times (suc n) l
 one_last zero l = refl
 one_last (suc n) l = ap (ALiteral l) (one_last n l)
 
-pub one_of_many : (n : ℕ) (all xs : List RustLiteral) (w : RustLiteral) (l : Literal) → all ≡ xs ++ w ∷ [] → literals_of xs ≡ so_many n l
-    → literal_of w ≡ l → literals_of all ≡ so_many (n + 1) l
+pub one_of_many : (n : ℕ) (all xs : List RustLiteral) (w : RustLiteral) (l : Literal) → all ≡ xs ++ w ∷ [] → literals_of xs ≡ times n l
+    → literal_of w ≡ l → literals_of all ≡ times (n + 1) l
 one_of_many n all xs w l e h g =
     let f : suc n ≡ n + 1 = omega arith in
-    ap literals_of e ∙ literals_last xs w ∙ ap₂ and_last h g ∙ one_last n l ∙ ap (λ m. so_many m l) f
+    ap literals_of e ∙ literals_last xs w ∙ ap₂ and_last h g ∙ one_last n l ∙ ap (λ m. times m l) f
 
 starts_take : (n : ℕ) (ds : List TypeDef) (is : List ℕ) (k i : ℕ) → slice_get is k ≡ Some i
     → starts_all n ds (take (suc k) is) ≡ and_last (starts_all n ds (take k is)) (starts_at n ds i)
@@ -58,15 +62,15 @@ module _ (ds : List TypeDef) (table : IsTable ds) where
   facts = facts_in ds
 
   abbrev within : ℕ → Ty → Literal
-  within n ty = start (form_in (form_within n facts) ty)
+  within n ty = blank_literal (form_in (form_within n facts) ty)
 
   pub start_entry : (n i : ℕ) (o : Option TypeDef) → slice_get ds i ≡ o → starts_at n ds i ≡ within n (meant_at ts o)
   start_entry n i o h = ap (within n) (by_entry ds table i o h)
 
   abbrev by_fact : ℕ → Option Fact → Literal
-  by_fact n fact = start (form_by (form_within n facts) fact)
+  by_fact n fact = blank_literal (form_by (form_within n facts) fact)
 
-  start_object_form : (own_hooks : Bool) (fs : Forms) → start (object_form own_hooks fs) ≡ PartsOf (starts fs)
+  start_object_form : (own_hooks : Bool) (fs : Forms) → blank_literal (object_form own_hooks fs) ≡ PartsOf (blank_literals fs)
   start_object_form true fs = refl
   start_object_form false fs = refl
 
@@ -78,7 +82,7 @@ module _ (ds : List TypeDef) (table : IsTable ds) where
       let o = Some (D.Object name at is all own_hooks parts) in
       start_entry (suc n) i o h ∙ ap (by_fact n) (said_by ds table i o h ∙ ap (λ o. fields_fact o own_hooks) fields.1)
       ∙ start_object_form own_hooks (forms_in (form_within n facts) (types_of fields.0))
-      ∙ ap (λ us. PartsOf (starts (forms_in (form_within n facts) us))) (fields_types ts all parts fields.0 fields.1)
+      ∙ ap (λ us. PartsOf (blank_literals (forms_in (form_within n facts) us))) (fields_types ts all parts fields.0 fields.1)
 
   pub start_unknown : (n : ℕ) (name : _) (at : _) (is : List ℕ) (all : List FieldName) (own_hooks : Bool) (parts : List ℕ) (i : ℕ)
       → slice_get ds i ≡ Some (D.Object name at is all own_hooks parts) → nat_eq (length all) (length parts) ≡ false

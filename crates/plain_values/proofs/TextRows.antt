@@ -8,8 +8,8 @@ use Rattle.nim_types.specs.declared.types.TypeDef.TheVariants as D
 use Rattle.nim_types.specs.Table.{type_at, types_in, fields_with, fields_fact, facts_in, IsTable}
 use Rattle.nim_types.specs.Entries.{meant_at, said_at}
 use Rattle.nim_types.proofs.ForCallers.{entry_type, entry_said}
-use Rattle.nim_core.specs.Meaning.{limit_of}
-use Rattle.nim_core.specs.Texts.{plain_text, text_in, base_or, below_distinct}
+use Rattle.nim_program.specs.Texts.{plain_text, text_in, base_or, below_distinct}
+use Rattle.plain_values.specs.Values.{limit_of}
 use Rattle.plain_values.specs.Entries.{limit_at, text_for, base_at}
 
 pub on_ok : (r : Result (Unit {0}) Memory) (new old v w : List ℕ) → OnOk r (new ≡ old ++ v) → v ≡ w → OnOk r (new ≡ old ++ w)

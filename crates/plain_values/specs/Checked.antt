@@ -1,7 +1,7 @@
 -- What an operation of the code gives: a number or a trap.
 use Rattle.std.specs.Prelude.{ℤ, Result, Ok, Err, Option, Some, None}
-use Rattle.nim_core.specs.Traps.{Trap, Overflow, DivisionByZero, IndexOutOfBounds, OutOfRange, LengthChanged, CallDepth}
-use Rattle.nim_core.specs.Ints.{Checked, Fine, Trapped}
+use Rattle.nim_program.specs.Traps.{Trap, Overflow, DivisionByZero, IndexOutOfBounds, OutOfRange, LengthChanged, CallDepth}
+use Rattle.nim_program.specs.Ints.{Checked, Fine, Trapped}
 use Rattle.plain_values.specs.declared.numbers.Trap.{Trap as RustTrap}
 use Rattle.plain_values.specs.declared.numbers.Trap.TheVariants as X
 

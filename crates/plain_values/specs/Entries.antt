@@ -6,10 +6,10 @@ use Rattle.nim_types.specs.Forms.{form_in, forms_in, form_within}
 use Rattle.nim_types.specs.declared.types.TypeDef.{TypeDef}
 use Rattle.nim_types.specs.declared.types.TypeDef.TheVariants as D
 use Rattle.nim_types.specs.Table.{type_at, types_at, types_in, facts_in}
-use Rattle.nim_core.specs.Ints.{is_true}
-use Rattle.nim_core.specs.Program.{Literal, Literals, NoLiteral, ALiteral}
-use Rattle.nim_core.specs.Texts.{bool_text, text_in}
-use Rattle.plain_values.specs.Starts.{start, starts}
+use Rattle.nim_program.specs.Ints.{is_true}
+use Rattle.nim_program.specs.Program.{Literal, Literals, NoLiteral, ALiteral}
+use Rattle.nim_program.specs.Texts.{bool_text, text_in}
+use Rattle.nim_program.specs.Defaults.{blank_literal, blank_literals}
 
 -- how many values it has where an int is converted to it with a check
 abbrev pub limit_at : Option TypeDef → Option ℕ
@@ -32,10 +32,10 @@ base_at _ = None
 
 -- what a place of it starts at, so many declared types looked through
 abbrev pub starts_at : ℕ → List TypeDef → ℕ → Literal
-starts_at n ds i = start (form_in (form_within n (facts_in ds)) (type_at (types_in ds) i))
+starts_at n ds i = blank_literal (form_in (form_within n (facts_in ds)) (type_at (types_in ds) i))
 
 abbrev pub starts_all : ℕ → List TypeDef → List ℕ → Literals
-starts_all n ds is = starts (forms_in (form_within n (facts_in ds)) (types_at (types_in ds) is))
+starts_all n ds is = blank_literals (forms_in (form_within n (facts_in ds)) (types_at (types_in ds) is))
 
 -- with one more at the end
 abbrev pub and_last : Literals → Literal → Literals

@@ -1,3 +1,3 @@
 pub mod Checked
-pub mod Starts
+pub mod Values
 pub mod Entries

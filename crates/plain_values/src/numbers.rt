@@ -1,12 +1,12 @@
 // Operations on ints.
 ghost use Rattle.std.specs.Prelude.{◌≡◌, ◌*◌, ◌^◌, ◌%◌, pos};
 ghost use Rattle.std.specs.Int.{int_div_euclid};
-ghost use Rattle.nim_core.specs.declared.expr.Operator.TheVariants.{Divide, Modulo};
-ghost use Rattle.nim_core.specs.Ints.{applied, applied_to, compared, within, bits_of, signed};
-ghost use Rattle.nim_core.specs.Ints.{shift_by};
+ghost use Rattle.nim_program.specs.declared.operation.Operator.TheVariants.{Divide, Modulo};
+ghost use Rattle.nim_program.specs.Ints.{applied, applied_to, compared, within, bits_of, signed};
+ghost use Rattle.nim_program.specs.Ints.{shift_by};
 ghost use Rattle.plain_values.specs.Checked.{checked_of, or_overflow};
 
-use nim_core::{Comparison, Operator, UnaryOperator};
+use nim_program::{Comparison, Operator, UnaryOperator};
 
 /// What ends a run at once.
 #[derive(Clone, Copy)]

@@ -1,13 +1,13 @@
 // What places start at.
 ghost use Rattle.std.specs.Prelude.{◌≡◌, length, IfOk};
 ghost use Rattle.nim_types.specs.Table.{type_at, types_in, facts_in, AllBelow};
-ghost use Rattle.nim_core.specs.Program.{PartsOf, ElementsOf, NoLiteral};
-ghost use Rattle.nim_core.specs.View.{literal_of, literals_of};
+ghost use Rattle.nim_program.specs.Program.{PartsOf, ElementsOf, NoLiteral};
+ghost use Rattle.nim_program.specs.Defaults.{times, default_literal};
+ghost use Rattle.nim_program.specs.View.{literal_of, literals_of};
 ghost use Rattle.plain_values.specs.Entries.{starts_at, starts_all};
-ghost use Rattle.plain_values.specs.Starts.{so_many, start_of};
 
 use arc_base::{Bytes, Memory};
-use nim_core::Literal;
+use nim_program::Literal;
 use nim_types::{TypeDef, TypeId, TypeTable, entry, says};
 use std::alloc::Global;
 
@@ -69,7 +69,7 @@ fn start(alloc: Global, types: &TypeTable, within: u32, ty: TypeId) -> Result<Li
             TypeDef::Char => Ok(Literal::Ordinal(0)),
             TypeDef::Param(_) => Ok(Literal::Ordinal(0)),
             TypeDef::Enum { .. } => Ok(Literal::Ordinal(0)),
-            TypeDef::Ref { .. } => Ok(Literal::Ordinal(0)),
+            TypeDef::Ref { .. } => Ok(Literal::Nil),
             TypeDef::Exception { .. } => Ok(Literal::Ordinal(0)),
         },
     }
@@ -85,7 +85,7 @@ fn start_row(
     count: u32,
 ) -> Result<Vec<Literal>, Memory>
     ensures { IfOk result (λ all. literals_of all.items
-        ≡ so_many count (starts_at within types.now ty)) }
+        ≡ times count (starts_at within types.now ty)) }
 {
     let mut all = Vec::new(alloc);
     for _ in 0..count {
@@ -123,7 +123,7 @@ pub fn start_of(
     ty: TypeId,
 ) -> Result<Literal, Memory>
     requires { declared ≡ length (facts_in types.now) }
-    ensures { IfOk result (λ l. literal_of l ≡ start_of (facts_in types.now)
+    ensures { IfOk result (λ l. literal_of l ≡ default_literal (facts_in types.now)
         (type_at (types_in types.now) ty)) }
 {
     start(alloc, types, declared, ty)

@@ -3,11 +3,10 @@ ghost use Rattle.std.specs.Prelude.{◌≡◌, ◌++◌, ◌∷◌, [], length, 
 ghost use Rattle.std.specs.Prelude.{unsigned_abs};
 ghost use Rattle.std.specs.Fmt.{signed_decimal};
 ghost use Rattle.nim_types.specs.Table.{type_at, types_in, facts_in};
-ghost use Rattle.nim_core.specs.Ints.{is_true};
-ghost use Rattle.nim_core.specs.Meaning.{limit_of};
-ghost use Rattle.nim_core.specs.Texts.{text_at, below_distinct, bool_text, text_in};
-ghost use Rattle.nim_core.specs.Values.{Number};
-ghost use Rattle.nim_core.specs.View.{if_type};
+ghost use Rattle.nim_program.specs.Ints.{is_true};
+ghost use Rattle.nim_program.specs.Texts.{below_distinct, bool_text, text_in};
+ghost use Rattle.nim_program.specs.View.{if_type};
+ghost use Rattle.plain_values.specs.Values.{limit_of, text_of};
 ghost use Rattle.plain_values.specs.Entries.{limit_at, text_for, base_at};
 
 use arc_base::{Bytes, Memory};
@@ -160,8 +159,8 @@ fn last_below(types: &TypeTable, ty: TypeId) -> TypeId
 
 // Adds the text of a number of a type.
 fn add_of(types: &TypeTable, ty: TypeId, z: i32, text: &mut Bytes) -> Result<(), Memory>
-    ensures { OnOk result (text.new ≡ text.old ++ text_at (facts_in types.now)
-        (Some (type_at (types_in types.now) ty)) (Number z)) }
+    ensures { OnOk result (text.new ≡ text.old ++ text_of (facts_in types.now)
+        (Some (type_at (types_in types.now) ty)) z) }
 {
     let plain = last_below(types, ty);
     add_plain(entry(types, plain), z, text)
@@ -174,8 +173,8 @@ pub fn add_text(
     number: i32,
     text: &mut Bytes,
 ) -> Result<(), Memory>
-    ensures { OnOk result (text.new ≡ text.old ++ text_at (facts_in types.now)
-        (if_type (types_in types.now) ty) (Number number)) }
+    ensures { OnOk result (text.new ≡ text.old ++ text_of (facts_in types.now)
+        (if_type (types_in types.now) ty) number) }
 {
     match ty {
         None => Ok(()),

@@ -3,9 +3,8 @@ use Rattle.std.proofs.Common.{◌≡◌, ◌≤◌, ◌<◌, ℕ, zero, suc, ◌
 use Rattle.nim_types.specs.Types.{Ty, int, Facts}
 use Rattle.nim_types.specs.Table.{type_at}
 use Rattle.nim_program.specs.declared.stmt.PlaceDecl.{PlaceDecl}
-use Rattle.nim_program.specs.Sizes.{type_bytes}
+use Rattle.nim_program.specs.Sizes.{type_bytes, globals_size}
 use Rattle.nim_program.specs.View.{declared_of}
-use Rattle.program_limits.specs.Data.{globals_size}
 use Rattle.program_limits.proofs.Capping.{drop_next}
 
 -- a number beyond the types is that of an int

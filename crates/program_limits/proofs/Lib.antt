@@ -7,3 +7,4 @@ mod FormRows
 mod Capping
 mod Globals
 mod TypeNames
+pub mod ForCallers

@@ -6,10 +6,8 @@ use Rattle.nim_types.specs.Types.{Ty, Field}
 use Rattle.nim_types.specs.declared.types.TypeDef.{TypeDef}
 use Rattle.nim_types.specs.declared.types.TypeDef.TheVariants as D
 use Rattle.nim_types.specs.Table.{meant, types_in, fields_with, fields_fact, and_said, facts_over, facts_in}
-use Rattle.nim_program.specs.TextSizes.{text_bytes}
-use Rattle.program_limits.specs.Data.{all_bytes}
-use Rattle.program_limits.specs.Data.{names_size}
-use Rattle.program_limits.specs.Data.{entry_names, table_names}
+use Rattle.nim_program.specs.TextSizes.{text_bytes, all_bytes}
+use Rattle.program_limits.specs.Data.{names_size, entry_names, table_names}
 use Rattle.program_limits.proofs.Capping.{drop_next}
 
 none_more : {m n : ℕ} → m ≡ n → 0 + m ≡ n

@@ -4,17 +4,9 @@ use Rattle.std.specs.Prelude.{ℕ, ◌+◌, List, [], ◌∷◌}
 use Rattle.nim_types.specs.Types.{Ty, exception, Fact, members, below, Facts}
 use Rattle.nim_types.specs.declared.types.TypeDef.{TypeDef}
 use Rattle.nim_types.specs.declared.types.TypeDef.TheVariants as D
-use Rattle.nim_program.specs.Program.{Declared, Program}
-use Rattle.nim_program.specs.Sizes.{place_bytes}
-use Rattle.nim_program.specs.TextSizes.{text_bytes, program_texts}
-
-abbrev pub globals_size : Facts → List Declared → ℕ
-globals_size facts [] = 0
-globals_size facts (place ∷ globals) = place_bytes facts place + globals_size facts globals
-
-abbrev pub all_bytes : List (List ℕ) → ℕ
-all_bytes [] = 0
-all_bytes (text ∷ texts) = text_bytes text + all_bytes texts
+use Rattle.nim_program.specs.Program.{Program}
+use Rattle.nim_program.specs.Sizes.{globals_size}
+use Rattle.nim_program.specs.TextSizes.{text_bytes, all_bytes, program_texts}
 
 -- the names that a declaration of a type brings with it
 abbrev pub names_in : Ty → Fact → ℕ

@@ -5,8 +5,8 @@ use Rattle.std.proofs.Common.{refl, sym, ap, subst, ◌∙◌, arith, length-app
 use Rattle.std.specs.Prelude.{nat_le, ◌&&◌, ◌||◌, slice_get}
 use Rattle.std.specs.HashMap.{HashMap}
 use Rattle.std.proofs.lemmas.Bool.{cases_eq, and_parts, leb-true, true≢false}
-use Rattle.mid_code.specs.declared.word.WordInstr.{WordInstr}
-use Rattle.mid_code.specs.declared.word.WordProc.{WordProc}
+use Rattle.word_code.specs.declared.word.WordInstr.{WordInstr}
+use Rattle.word_code.specs.declared.word.WordProc.{WordProc}
 use Rattle.reg_scan.specs.declared.homes.Home.{Home}
 use Rattle.reg_scan.specs.declared.homes.Home.TheVariants.{Reg, Frame}
 use Rattle.reg_scan.specs.declared.homes.Homes.{Homes}

@@ -2,10 +2,10 @@
 --
 -- A variable is alive at lines where a way from them comes to a line that reads it, over lines that don't set it.
 use Rattle.std.specs.Prelude.{◌≡◌, ℕ, true, false, List, ◌∷◌, ◌⊎◌, Option, Some, None}
-use Rattle.mid_code.specs.declared.word.WordInstr.{WordInstr}
-use Rattle.mid_code.specs.declared.word.WordInstr.TheVariants.{Label, Constant, Copy, Compute, Sum, Place, Datum, Load, Store, Jump, Branch}
-use Rattle.mid_code.specs.declared.word.WordInstr.TheVariants.{Argument, Call, Return, Read, Write, Exit}
-use Rattle.mid_code.specs.Words.{from_label}
+use Rattle.word_code.specs.declared.word.WordInstr.{WordInstr}
+use Rattle.word_code.specs.declared.word.WordInstr.TheVariants.{Label, Constant, Copy, Compute, Sum, Place, Datum, Load, Store, Jump, Branch}
+use Rattle.word_code.specs.declared.word.WordInstr.TheVariants.{Argument, Call, Return, Read, Write, Exit}
+use Rattle.word_code.specs.Words.{from_label}
 use Rattle.reg_scan.specs.declared.effects.Effect.{Effect}
 
 -- a line that reads variables and sets one, from which control goes on to the next line

@@ -3,8 +3,8 @@ use Rattle.std.specs.Prelude.{◌≡◌, ◌<◌, ℕ, ◌+◌, ◌-◌, ◌*◌
 use Rattle.std.specs.Prelude.{Bool, true, false, if◌then◌else◌, List, Option, Some, None}
 use Rattle.std.specs.Prelude.{length, slice_get}
 use Rattle.std.specs.HashMap.{HashMap, get}
-use Rattle.mid_code.specs.declared.word.WordInstr.{WordInstr}
-use Rattle.mid_code.specs.declared.word.WordInstr.TheVariants as word
+use Rattle.word_code.specs.declared.word.WordInstr.{WordInstr}
+use Rattle.word_code.specs.declared.word.WordInstr.TheVariants as word
 use Rattle.reg_scan.specs.declared.effects.Effect.{Effect}
 use Rattle.reg_scan.specs.declared.fine.TheConstants.{NO_VARIABLE}
 use Rattle.reg_scan.specs.declared.homes.Home.{Home}

@@ -3,9 +3,9 @@ use crate::chains::{Chains, filled};
 use crate::effects::{Effect, effect_of};
 use crate::fine::{Labels, NO_VARIABLE, place};
 use arc_base::Memory;
-use mid_code::{WordInstr, WordProc};
 use std::alloc::Global;
 use std::collections::HashMap;
+use word_code::{WordInstr, WordProc};
 
 /// The registers that variables may have, a bit for each.
 const FREE: u32 = 0xFFFD_E300;

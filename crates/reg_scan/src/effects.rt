@@ -2,7 +2,7 @@
 ghost use Rattle.std.specs.Prelude.{◌≡◌};
 ghost use Rattle.reg_scan.specs.Alive.{passing, effect_of};
 
-use mid_code::WordInstr;
+use word_code::WordInstr;
 
 /// What a line does to variables, and where control goes from it.
 #[derive(Clone, Copy)]

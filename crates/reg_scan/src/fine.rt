@@ -4,8 +4,8 @@ ghost use Rattle.reg_scan.specs.Fine as spec;
 
 use crate::effects::{Effect, effect_of};
 use crate::homes::{Home, home_at};
-use mid_code::WordInstr;
 use std::collections::HashMap;
+use word_code::WordInstr;
 
 /// Stands where a register holds no variable.
 pub(crate) const NO_VARIABLE: u32 = 4_294_967_295;

@@ -1,14 +1,14 @@
 // Where the variables of a procedure are.
 ghost use Rattle.std.specs.Prelude.{◌≡◌, ◌<◌, ◌≤◌, slice_get, IfOk};
-ghost use Rattle.mid_code.specs.declared.word.TheConstants.{MOST_VARIABLES as most_variables};
+ghost use Rattle.word_code.specs.declared.word.TheConstants.{MOST_VARIABLES as most_variables};
 ghost use Rattle.reg_scan.specs.Homes.{or_none, is_free, IsHomes};
 ghost use Rattle.reg_scan.specs.Fine.{IsOwn, AreOwn};
 
 use crate::choose::{Choice, choose};
 use crate::fine::is_fine;
 use arc_base::{Items, Memory};
-use mid_code::WordProc;
 use std::alloc::Global;
+use word_code::WordProc;
 
 /// Where a variable is.
 #[derive(Clone, Copy)]

@@ -28,13 +28,13 @@ use Rattle.rv32_isa.specs.Machine.{Answers, answered, stream_of}
 use Rattle.rv32_isa.specs.LabelsMeaning.{LabelRun, did, led, replied, step}
 use Rattle.rv32_logic.specs.Registers.{put}
 use Rattle.rv32_logic.proofs.ForCallers.{plain_address, signed12_small}
-use Rattle.mid_code.specs.declared.word.TheConstants.{MOST_ARGUMENTS}
-use Rattle.mid_code.specs.declared.word.WordInstr.{WordInstr}
-use Rattle.mid_code.specs.declared.word.WordInstr.TheVariants as word
-use Rattle.mid_code.specs.Memory.{Memory, as_state, memory_of, number_at, may_put, bytes_at, may_fill}
+use Rattle.word_code.specs.declared.word.TheConstants.{MOST_ARGUMENTS}
+use Rattle.word_code.specs.declared.word.WordInstr.{WordInstr}
+use Rattle.word_code.specs.declared.word.WordInstr.TheVariants as word
+use Rattle.word_code.specs.Memory.{Memory, as_state, memory_of, number_at, may_put, bytes_at, may_fill}
 use Rattle.reg_scan.specs.Alive.{Alive, read_by}
 use Rattle.reg_scan.specs.Homes.{home_of}
-use Rattle.mid_code.specs.Words.{put as put_var, WordState, scene_of, loads, shows, on}
+use Rattle.word_code.specs.Words.{put as put_var, WordState, scene_of, loads, shows, on}
 use Rattle.rv32_codegen.specs.Code.{does, save, fetch, store, stream_number, move, give, is_call_or_label, only_calls, left_of, right_of, argument_at}
 use Rattle.rv32_codegen.specs.Code.{move_range}
 use Rattle.rv32_codegen.proofs.Machine.{state_of, run_at, Fits, fits_words, word_place, Regs, Quiet, quiet_does, Goes_in, then_goes}

@@ -5,10 +5,10 @@ use Rattle.rv32_isa.specs.declared.instr.Instr.TheVariants.{Sw, Addi, Jalr, Ecal
 use Rattle.rv32_isa.specs.declared.label.LabelName.TheVariants.{Inner}
 use Rattle.rv32_isa.specs.declared.label.LabelLine.{LabelLine}
 use Rattle.rv32_isa.specs.declared.label.LabelLine.TheVariants.{Do, Branch}
-use Rattle.mid_code.specs.declared.word.WordInstr.{WordInstr}
-use Rattle.mid_code.specs.declared.word.WordInstr.TheVariants as word
-use Rattle.mid_code.specs.declared.word.WordProc.{WordProc}
-use Rattle.mid_code.specs.Sizes.{word_weight}
+use Rattle.word_code.specs.declared.word.WordInstr.{WordInstr}
+use Rattle.word_code.specs.declared.word.WordInstr.TheVariants as word
+use Rattle.word_code.specs.declared.word.WordProc.{WordProc}
+use Rattle.word_code.specs.Sizes.{word_weight}
 use Rattle.reg_scan.specs.declared.homes.Homes.{Homes}
 use Rattle.reg_scan.specs.Homes.{home_of}
 use Rattle.rv32_codegen.specs.Code.{does, negative, constant, datum, sum, shift, save, operate, fetch, store, stream_number, bring, move, settle, give, target}

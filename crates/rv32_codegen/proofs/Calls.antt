@@ -20,19 +20,19 @@ use Rattle.rv32_isa.specs.LabelsMeaning.{LabelRun, hook_or, hook_at, goto, step}
 use Rattle.rv32_isa.proofs.ForCallers.{comes_back, mark_some, mark_within}
 use Rattle.rv32_logic.specs.Registers.{put, IsRegs}
 use Rattle.rv32_logic.proofs.ForCallers.{put_regs, put_same, plain_address}
-use Rattle.mid_code.specs.declared.word.TheConstants.{MOST_ARGUMENTS}
-use Rattle.mid_code.specs.declared.word.WordInstr.{WordInstr}
-use Rattle.mid_code.specs.declared.word.WordInstr.TheVariants as word
-use Rattle.mid_code.specs.declared.word.ProcKind.{ProcKind}
-use Rattle.mid_code.specs.declared.word.ProcKind.TheVariants as kind
-use Rattle.mid_code.specs.declared.word.WordProc.{WordProc}
-use Rattle.mid_code.specs.Memory.{Memory}
+use Rattle.word_code.specs.declared.word.TheConstants.{MOST_ARGUMENTS}
+use Rattle.word_code.specs.declared.word.WordInstr.{WordInstr}
+use Rattle.word_code.specs.declared.word.WordInstr.TheVariants as word
+use Rattle.word_code.specs.declared.word.ProcKind.{ProcKind}
+use Rattle.word_code.specs.declared.word.ProcKind.TheVariants as kind
+use Rattle.word_code.specs.declared.word.WordProc.{WordProc}
+use Rattle.word_code.specs.Memory.{Memory}
 use Rattle.reg_scan.specs.declared.homes.Home.TheVariants.{Frame}
 use Rattle.reg_scan.specs.Alive.{effect_of, IsOne, Alive, kept_by}
 use Rattle.reg_scan.specs.Homes.{home_of, IsFrame}
-use Rattle.mid_code.specs.Words.{Vars, no_words, WordState, most_calls, is_counted, counted, seen_call, is_full, from_proc}
-use Rattle.mid_code.specs.Words.{params_of}
-use Rattle.mid_code.specs.Words.{scene_of, entered}
+use Rattle.word_code.specs.Words.{Vars, no_words, WordState, most_calls, is_counted, counted, seen_call, is_full, from_proc}
+use Rattle.word_code.specs.Words.{params_of}
+use Rattle.word_code.specs.Words.{scene_of, entered}
 use Rattle.rv32_codegen.specs.Code.{does, shift, sum, negative, is_call_or_label, only_calls, is_leaf, after_call, lines_code, hook_of, proc_code}
 use Rattle.rv32_codegen.specs.Code.{start_code}
 use Rattle.rv32_codegen.proofs.Machine.{state_of, run_at, Fits, fits_words, word_place, Regs, put_other, quiet_does, Goes_in, then_goes}

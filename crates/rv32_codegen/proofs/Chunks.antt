@@ -13,10 +13,10 @@ use Rattle.rv32_isa.specs.declared.label.LabelLine.TheVariants.{Label, Do, Jump,
 use Rattle.rv32_isa.specs.Image.{statics_at}
 use Rattle.rv32_isa.specs.Labels.{from_label, hooks_lead}
 use Rattle.rv32_codegen.specs.Layout.{enters_no_hook}
-use Rattle.mid_code.specs.declared.word.WordInstr.{WordInstr}
-use Rattle.mid_code.specs.declared.word.WordInstr.TheVariants as word
-use Rattle.mid_code.specs.declared.word.WordProc.{WordProc}
-use Rattle.mid_code.specs.Words.{is_label}
+use Rattle.word_code.specs.declared.word.WordInstr.{WordInstr}
+use Rattle.word_code.specs.declared.word.WordInstr.TheVariants as word
+use Rattle.word_code.specs.declared.word.WordProc.{WordProc}
+use Rattle.word_code.specs.Words.{is_label}
 use Rattle.reg_scan.specs.declared.homes.Home.{Home}
 use Rattle.reg_scan.specs.declared.homes.Home.TheVariants.{Reg, Frame}
 use Rattle.reg_scan.specs.declared.homes.Homes.{Homes}

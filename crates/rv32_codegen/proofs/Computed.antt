@@ -9,9 +9,9 @@ use Rattle.std.proofs.lemmas.Nat.{and_le_l, or_of_32, xor_of_32}
 use Rattle.std.proofs.Math.Facts.{sfits_to_z}
 use lib.Signed.{mag_rem}
 use Rattle.rv32_isa.specs.Values.{signed, one_if, is_less_signed}
-use Rattle.mid_code.specs.declared.word.WordOperation.{WordOperation}
-use Rattle.mid_code.specs.declared.word.WordOperation.TheVariants as operation
-use Rattle.mid_code.specs.Words.{computed}
+use Rattle.word_code.specs.declared.word.WordOperation.{WordOperation}
+use Rattle.word_code.specs.declared.word.WordOperation.TheVariants as operation
+use Rattle.word_code.specs.Words.{computed}
 
 fits_of : (word : ℕ) → word < 2 ^ 32 → FitsSigned w32 (signed word)
 fits_of word h = sfits_to_z (record { fits = h })

@@ -4,12 +4,12 @@ use Rattle.std.proofs.Common.{false, Option, Some, None, refl, sym, ap, subst, �
 use Rattle.std.proofs.Common.{inl, inr}
 use Rattle.std.specs.Prelude.{◌==◌, nat_le, if◌then◌else◌}
 use Rattle.std.proofs.lemmas.Bool.{cases_Bool, and_parts, eqb-true, leb-true, cond-false, cond_both}
-use Rattle.mid_code.specs.declared.word.WordInstr.{WordInstr}
-use Rattle.mid_code.specs.declared.word.WordInstr.TheVariants as word
-use Rattle.mid_code.specs.declared.word.WordProc.{WordProc}
-use Rattle.mid_code.specs.Words.{is_counted, from_proc, callee_of, taken_for, most_called, most_chain, uncounted, chain, most_room, places_size}
-use Rattle.mid_code.specs.Words.{is_kind, is_proc, are_procs}
-use Rattle.mid_code.specs.Sizes.{chain_level, has_no_circle}
+use Rattle.word_code.specs.declared.word.WordInstr.{WordInstr}
+use Rattle.word_code.specs.declared.word.WordInstr.TheVariants as word
+use Rattle.word_code.specs.declared.word.WordProc.{WordProc}
+use Rattle.word_code.specs.Words.{is_counted, from_proc, callee_of, taken_for, most_called, most_chain, uncounted, chain, most_room, places_size}
+use Rattle.word_code.specs.Words.{is_kind, is_proc, are_procs}
+use Rattle.word_code.specs.Sizes.{chain_level, has_no_circle}
 use Rattle.rv32_codegen.proofs.Lookups.{nil_cons, here, later}
 
 -- ---- what lines call

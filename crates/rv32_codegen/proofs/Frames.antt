@@ -16,12 +16,12 @@ use Rattle.rv32_isa.specs.Values.{added}
 use Rattle.rv32_isa.specs.Machine.{Lives}
 use Rattle.rv32_isa.specs.Labels.{Addresses, Rise, marks, mark_before}
 use Rattle.rv32_isa.specs.LabelsMeaning.{LabelRun, OfDataAndHeap, step}
-use Rattle.mid_code.specs.declared.word.TheConstants.{MOST_ARGUMENTS}
-use Rattle.mid_code.specs.declared.word.WordInstr.{WordInstr}
-use Rattle.mid_code.specs.declared.word.WordInstr.TheVariants.{Call}
-use Rattle.mid_code.specs.declared.word.WordProc.{WordProc}
-use Rattle.mid_code.specs.Words.{Vars, no_words, put, WordFrame, WordState, most_calls, is_counted, counted, from_proc, from_label, is_label, are_named}
-use Rattle.mid_code.specs.Words.{all_named}
+use Rattle.word_code.specs.declared.word.TheConstants.{MOST_ARGUMENTS}
+use Rattle.word_code.specs.declared.word.WordInstr.{WordInstr}
+use Rattle.word_code.specs.declared.word.WordInstr.TheVariants.{Call}
+use Rattle.word_code.specs.declared.word.WordProc.{WordProc}
+use Rattle.word_code.specs.Words.{Vars, no_words, put, WordFrame, WordState, most_calls, is_counted, counted, from_proc, from_label, is_label, are_named}
+use Rattle.word_code.specs.Words.{all_named}
 use Rattle.reg_scan.specs.declared.homes.Home.{Home}
 use Rattle.reg_scan.specs.declared.homes.Home.TheVariants.{Reg, Frame}
 use Rattle.reg_scan.specs.declared.homes.Homes.{Homes}

@@ -11,7 +11,7 @@ use Rattle.rv32_isa.specs.Labels.{Addresses}
 use Rattle.rv32_isa.specs.LabelsMeaning.{step}
 use Rattle.rv32_logic.specs.Registers.{put}
 use Rattle.rv32_logic.proofs.ForCallers.{plain_address, put_same}
-use Rattle.mid_code.specs.Memory.{Memory}
+use Rattle.word_code.specs.Memory.{Memory}
 use Rattle.reg_scan.specs.declared.homes.Home.{Home}
 use Rattle.reg_scan.specs.declared.homes.Home.TheVariants.{Reg, Frame}
 use Rattle.rv32_codegen.specs.Code.{does, seat, bring, move, settle, give}

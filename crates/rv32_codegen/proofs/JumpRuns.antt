@@ -12,12 +12,12 @@ use Rattle.rv32_isa.specs.declared.label.LabelLine.{LabelLine}
 use Rattle.rv32_isa.specs.declared.label.LabelLine.TheVariants.{Branch}
 use Rattle.rv32_isa.specs.Labels.{holds as label_holds, from_label as label_from}
 use Rattle.rv32_isa.specs.LabelsMeaning.{LabelRun, goto, comes, step}
-use Rattle.mid_code.specs.declared.word.Test.{Test}
-use Rattle.mid_code.specs.declared.word.Test.TheVariants as test
-use Rattle.mid_code.specs.declared.word.WordInstr.{WordInstr}
-use Rattle.mid_code.specs.declared.word.WordInstr.TheVariants as word
-use Rattle.mid_code.specs.Words.{WordState, holds, scene_of, on, jumped}
-use Rattle.mid_code.specs.Words.{from_label}
+use Rattle.word_code.specs.declared.word.Test.{Test}
+use Rattle.word_code.specs.declared.word.Test.TheVariants as test
+use Rattle.word_code.specs.declared.word.WordInstr.{WordInstr}
+use Rattle.word_code.specs.declared.word.WordInstr.TheVariants as word
+use Rattle.word_code.specs.Words.{WordState, holds, scene_of, on, jumped}
+use Rattle.word_code.specs.Words.{from_label}
 use Rattle.reg_scan.specs.Alive.{Alive, read_by, led_by}
 use Rattle.rv32_codegen.specs.Code.{compare, only_calls, left_of, right_of, lines_code}
 use Rattle.rv32_codegen.proofs.Machine.{state_of, run_at, Regs, Goes_in, then_goes}

@@ -11,15 +11,15 @@ use Rattle.rv32_isa.specs.Values.{added}
 use Rattle.rv32_isa.specs.Steps.{written}
 use Rattle.rv32_isa.specs.LabelsMeaning.{LabelRun, did, led, step}
 use Rattle.rv32_logic.specs.Registers.{put}
-use Rattle.mid_code.specs.declared.word.TheConstants.{MOST_ARGUMENTS}
-use Rattle.mid_code.specs.declared.word.WordOperation.{WordOperation}
-use Rattle.mid_code.specs.declared.word.WordOperation.TheVariants as operation
-use Rattle.mid_code.specs.declared.word.WordInstr.{WordInstr}
-use Rattle.mid_code.specs.declared.word.WordInstr.TheVariants as word
-use Rattle.mid_code.specs.Memory.{Memory}
-use Rattle.mid_code.specs.Words.{put as put_var, WordState, computed, WordDid, scene_of, onward, using, on, settled}
-use Rattle.mid_code.specs.Words.{does as word_does}
-use Rattle.mid_code.specs.Words.{are_named}
+use Rattle.word_code.specs.declared.word.TheConstants.{MOST_ARGUMENTS}
+use Rattle.word_code.specs.declared.word.WordOperation.{WordOperation}
+use Rattle.word_code.specs.declared.word.WordOperation.TheVariants as operation
+use Rattle.word_code.specs.declared.word.WordInstr.{WordInstr}
+use Rattle.word_code.specs.declared.word.WordInstr.TheVariants as word
+use Rattle.word_code.specs.Memory.{Memory}
+use Rattle.word_code.specs.Words.{put as put_var, WordState, computed, WordDid, scene_of, onward, using, on, settled}
+use Rattle.word_code.specs.Words.{does as word_does}
+use Rattle.word_code.specs.Words.{are_named}
 use Rattle.reg_scan.specs.declared.homes.Home.{Home}
 use Rattle.reg_scan.specs.declared.homes.Homes.{Homes}
 use Rattle.reg_scan.specs.Alive.{effect_of, IsOne, Alive, read_by, kept_by}

@@ -18,7 +18,7 @@ use Rattle.rv32_isa.specs.Labels.{Addresses}
 use Rattle.rv32_isa.specs.LabelsMeaning.{LabelRun, still, hook_at, did, led, step}
 use Rattle.rv32_logic.specs.Registers.{put, IsRegs}
 use Rattle.rv32_logic.proofs.ForCallers.{put_regs}
-use Rattle.mid_code.specs.Memory.{Memory}
+use Rattle.word_code.specs.Memory.{Memory}
 use Rattle.rv32_codegen.specs.Code.{does}
 use Rattle.rv32_codegen.proofs.Area.{area, length-area}
 

@@ -7,8 +7,8 @@ use Rattle.rv32_isa.specs.declared.label.LabelName.TheVariants.{Entry, Inner}
 use Rattle.rv32_isa.specs.declared.label.LabelLine.{LabelLine}
 use Rattle.rv32_isa.specs.declared.label.LabelLine.TheVariants.{Label, Do}
 use Rattle.rv32_isa.specs.Labels.{from_label}
-use Rattle.mid_code.specs.declared.word.WordProc.{WordProc}
-use Rattle.mid_code.specs.Words.{from_proc, first_of, has_number, is_proc, are_procs}
+use Rattle.word_code.specs.declared.word.WordProc.{WordProc}
+use Rattle.word_code.specs.Words.{from_proc, first_of, has_number, is_proc, are_procs}
 use Rattle.reg_scan.specs.declared.homes.Homes.{Homes}
 use Rattle.reg_scan.specs.Homes.{IsHomes}
 use Rattle.rv32_codegen.specs.Code.{negative, sum, shift, lines_code, hook_of, entry_code, proc_code, homes_code, code_of}

@@ -17,7 +17,7 @@ use Rattle.rv32_isa.proofs.ForCallers.{little-word_bytes, length-word_bytes}
 use Rattle.rv32_logic.specs.Data.{Holds}
 use Rattle.rv32_logic.specs.Placed.{moved}
 use Rattle.rv32_logic.proofs.ForCallers.{constant_is, holds_read, lw_goes}
-use Rattle.mid_code.specs.Memory.{data_of}
+use Rattle.word_code.specs.Memory.{data_of}
 use Rattle.rv32_codegen.specs.Code.{is_near, lower, upper, negative, sum, shift, start_code}
 use Rattle.rv32_codegen.specs.Lowering.{HoldsBehind, there, first, up_by, down_by, Moved, MovesStack, SetUp}
 use Rattle.rv32_codegen.proofs.PieceRuns.{near_is, sum_low}

@@ -21,7 +21,7 @@ use Rattle.rv32_isa.specs.LabelsMeaning.{led, hook_at, step}
 use Rattle.rv32_isa.proofs.ForCallers.{little-word_bytes, length-word_bytes}
 use Rattle.rv32_logic.specs.Registers.{put, IsRegs}
 use Rattle.rv32_logic.proofs.ForCallers.{put_regs, put_same, constant_is, stack_read, stack_may, stack_put, lw_goes, sw_goes}
-use Rattle.mid_code.specs.Memory.{Memory}
+use Rattle.word_code.specs.Memory.{Memory}
 use Rattle.rv32_codegen.specs.Code.{does, is_near, lower, upper, negative, constant, datum, sum, shift, load, save}
 use Rattle.rv32_codegen.proofs.Area.{area, length-area, area_read, area_put, word_bytes-low}
 use Rattle.rv32_codegen.proofs.Machine.{state_of, run_at, Fits, regions, word_place, Regs, put_other, put_kept, Quiet}

@@ -11,11 +11,11 @@ use Rattle.rv32_isa.specs.declared.label.LabelLine.{LabelLine}
 use Rattle.rv32_isa.specs.Image.{statics_at}
 use Rattle.rv32_isa.specs.Row.{IsInRange}
 use Rattle.rv32_isa.specs.Labels.{AreLines}
-use Rattle.mid_code.specs.declared.word.WordOperation.{WordOperation}
-use Rattle.mid_code.specs.declared.word.WordOperation.TheVariants as operation
-use Rattle.mid_code.specs.declared.word.WordInstr.{WordInstr}
-use Rattle.mid_code.specs.declared.word.WordInstr.TheVariants as word
-use Rattle.mid_code.specs.declared.word.WordProc.{WordProc}
+use Rattle.word_code.specs.declared.word.WordOperation.{WordOperation}
+use Rattle.word_code.specs.declared.word.WordOperation.TheVariants as operation
+use Rattle.word_code.specs.declared.word.WordInstr.{WordInstr}
+use Rattle.word_code.specs.declared.word.WordInstr.TheVariants as word
+use Rattle.word_code.specs.declared.word.WordProc.{WordProc}
 use Rattle.reg_scan.specs.declared.homes.Home.{Home}
 use Rattle.reg_scan.specs.declared.homes.Home.TheVariants.{Reg, Frame}
 use Rattle.reg_scan.specs.declared.homes.Homes.{Homes}

@@ -15,13 +15,13 @@ use Rattle.rv32_isa.specs.Labels.{mark_before, from_mark}
 use Rattle.rv32_isa.specs.LabelsMeaning.{LabelRun, goto, step}
 use Rattle.rv32_logic.specs.Registers.{put, IsRegs}
 use Rattle.rv32_logic.proofs.ForCallers.{put_regs, put_same, plain_address}
-use Rattle.mid_code.specs.declared.word.WordInstr.{WordInstr}
-use Rattle.mid_code.specs.declared.word.WordInstr.TheVariants as word
-use Rattle.mid_code.specs.Memory.{Memory}
+use Rattle.word_code.specs.declared.word.WordInstr.{WordInstr}
+use Rattle.word_code.specs.declared.word.WordInstr.TheVariants as word
+use Rattle.word_code.specs.Memory.{Memory}
 use Rattle.reg_scan.specs.Alive.{Alive, read_by}
 use Rattle.reg_scan.specs.Homes.{home_of}
-use Rattle.mid_code.specs.Words.{put as put_var, WordFrame, WordState}
-use Rattle.mid_code.specs.Words.{returned, on}
+use Rattle.word_code.specs.Words.{put as put_var, WordFrame, WordState}
+use Rattle.word_code.specs.Words.{returned, on}
 use Rattle.rv32_codegen.specs.Code.{does, shift, sum, negative, give, is_leaf, restore, after_call, line_code}
 use Rattle.rv32_codegen.proofs.Machine.{state_of, run_at, Fits, fits_words, word_place, Regs, put_other, Quiet, quiet_does, Goes_in, then_goes}
 use Rattle.rv32_codegen.proofs.Machine.{goes_within}

@@ -25,20 +25,20 @@ use Rattle.rv32_isa.proofs.ForCallers.{little-word_bytes, length-word_bytes}
 use Rattle.rv32_logic.specs.Data.{Holds}
 use Rattle.rv32_logic.specs.Registers.{put, IsRegs}
 use Rattle.rv32_logic.proofs.ForCallers.{put_regs, put_same, holds_read, lw_goes}
-use Rattle.mid_code.specs.declared.word.TheConstants.{MOST_ARGUMENTS}
-use Rattle.nim_core.specs.declared.program.TheConstants.{ACTIVE_CALLS}
-use Rattle.mid_code.specs.declared.word.WordInstr.{WordInstr}
-use Rattle.mid_code.specs.declared.word.WordInstr.TheVariants as word
-use Rattle.mid_code.specs.declared.word.ProcKind.TheVariants.{Counted}
-use Rattle.mid_code.specs.declared.word.WordProc.{WordProc}
-use Rattle.mid_code.specs.declared.word.WordCode.{WordCode}
-use Rattle.mid_code.specs.Memory.{Memory, data_of}
-use Rattle.mid_code.specs.Words.{WordFrame, WordState, no_words, most_calls, places_size, from_proc, from_label as from_word_label, first_of, is_counted}
-use Rattle.mid_code.specs.Words.{is_full}
-use Rattle.mid_code.specs.Words.{WordScene, WordDid, Passes, Leaps, Calls, Returns, Exits, Fails, scene_of, does as word_does, jumped, entered, returned}
-use Rattle.mid_code.specs.Words.{settled}
-use Rattle.mid_code.specs.Words.{step_lines}
-use Rattle.mid_code.specs.Words as words
+use Rattle.word_code.specs.declared.word.TheConstants.{MOST_ARGUMENTS}
+use Rattle.nim_program.specs.declared.program.TheConstants.{ACTIVE_CALLS}
+use Rattle.word_code.specs.declared.word.WordInstr.{WordInstr}
+use Rattle.word_code.specs.declared.word.WordInstr.TheVariants as word
+use Rattle.word_code.specs.declared.word.ProcKind.TheVariants.{Counted}
+use Rattle.word_code.specs.declared.word.WordProc.{WordProc}
+use Rattle.word_code.specs.declared.word.WordCode.{WordCode}
+use Rattle.word_code.specs.Memory.{Memory, data_of}
+use Rattle.word_code.specs.Words.{WordFrame, WordState, no_words, most_calls, places_size, from_proc, from_label as from_word_label, first_of, is_counted}
+use Rattle.word_code.specs.Words.{is_full}
+use Rattle.word_code.specs.Words.{WordScene, WordDid, Passes, Leaps, Calls, Returns, Exits, Fails, scene_of, does as word_does, jumped, entered, returned}
+use Rattle.word_code.specs.Words.{settled}
+use Rattle.word_code.specs.Words.{step_lines}
+use Rattle.word_code.specs.Words as words
 use Rattle.rv32_codegen.specs.Code.{lines_code, proc_code}
 use Rattle.rv32_codegen.proofs.Area.{area}
 use Rattle.rv32_codegen.proofs.Machine.{state_of, run_at, Fits, word_place, put_other, Goes_in, then_goes, instr_goes, writes}

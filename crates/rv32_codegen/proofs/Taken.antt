@@ -6,10 +6,10 @@ use Rattle.std.specs.Prelude.{max, ◌==◌, if◌then◌else◌, slice_get}
 use Rattle.std.proofs.lemmas.Bool.{cases_Bool, ne_eqb, cond-true, cond-false}
 use Rattle.std.proofs.lemmas.List.{drop_more, drop_all}
 use Rattle.std.proofs.lemmas.Option.{slice_get_read}
-use Rattle.mid_code.specs.declared.word.TheConstants.{MOST_ARGUMENTS, SPARE_ROOM}
-use Rattle.mid_code.specs.declared.word.WordInstr.{WordInstr}
-use Rattle.mid_code.specs.declared.word.WordProc.{WordProc}
-use Rattle.mid_code.specs.Words.{is_counted, most_calls, from_proc, callee_of, taken_for, most_called, most_chain, uncounted, chain, longest, most_room}
+use Rattle.word_code.specs.declared.word.TheConstants.{MOST_ARGUMENTS, SPARE_ROOM}
+use Rattle.word_code.specs.declared.word.WordInstr.{WordInstr}
+use Rattle.word_code.specs.declared.word.WordProc.{WordProc}
+use Rattle.word_code.specs.Words.{is_counted, most_calls, from_proc, callee_of, taken_for, most_called, most_chain, uncounted, chain, longest, most_room}
 use Rattle.reg_scan.specs.declared.homes.Homes.{Homes}
 use Rattle.rv32_codegen.specs.Stack.{frame_for, most_frame, stack_need}
 use Rattle.rv32_codegen.specs.Chains.{cut, number_for, chain_from, chains_from, most_of, rooms_of, frames_of, none_of, cut_chain}

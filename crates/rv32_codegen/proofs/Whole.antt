@@ -14,16 +14,15 @@ use Rattle.rv32_isa.specs.declared.label.LabelLine.TheVariants.{Do}
 use Rattle.rv32_isa.specs.Machine.{Lives}
 use Rattle.rv32_isa.specs.Labels.{Addresses, Rise, marks, begins, leads, hooks_lead}
 use Rattle.rv32_isa.specs.LabelsMeaning.{OfDataAndHeap, label_meaning}
-use Rattle.mid_code.specs.declared.word.ProcKind.{ProcKind}
-use Rattle.mid_code.specs.declared.word.ProcKind.TheVariants as kind
-use Rattle.mid_code.specs.declared.word.WordInstr.{WordInstr}
-use Rattle.mid_code.specs.declared.word.WordProc.{WordProc}
-use Rattle.mid_code.specs.declared.word.WordCode.{WordCode}
-use Rattle.mid_code.specs.Memory.{data_of}
-use Rattle.mid_code.specs.Running.{if_formed}
-use Rattle.mid_code.specs.Words.{from_proc, first_of, chain, longest, is_kind, is_no_hook, have_no_hooks, are_procs, may_start, is_word_code, start}
-use Rattle.mid_code.specs.Words.{word_meaning}
-use Rattle.mid_code.specs.Words as words
+use Rattle.word_code.specs.declared.word.ProcKind.{ProcKind}
+use Rattle.word_code.specs.declared.word.ProcKind.TheVariants as kind
+use Rattle.word_code.specs.declared.word.WordInstr.{WordInstr}
+use Rattle.word_code.specs.declared.word.WordProc.{WordProc}
+use Rattle.word_code.specs.declared.word.WordCode.{WordCode}
+use Rattle.word_code.specs.Memory.{data_of}
+use Rattle.word_code.specs.Words.{from_proc, first_of, chain, longest, is_kind, is_no_hook, have_no_hooks, are_procs, may_start, is_word_code, start}
+use Rattle.word_code.specs.Words.{if_formed, word_meaning}
+use Rattle.word_code.specs.Words as words
 use Rattle.reg_scan.specs.declared.homes.Homes.{Homes}
 use Rattle.rv32_codegen.specs.Code.{does, sum, shift, negative, lines_code, hook_of, entry_code, homes_code, start_code, code_of}
 use Rattle.rv32_codegen.specs.Stack.{frame_for, most_frame}

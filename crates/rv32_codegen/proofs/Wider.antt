@@ -15,7 +15,7 @@ use Rattle.rv32_isa.specs.Image.{statics_at, heap_at, stack_at}
 use Rattle.rv32_isa.specs.State.{State, lies_in, part, part_of, or_else, readable, writable, put_bytes, filled}
 use Rattle.rv32_isa.specs.Steps.{size_of, number_of, found, low_bytes}
 use Rattle.rv32_logic.proofs.ForCallers.{put_bytes_long}
-use Rattle.mid_code.specs.Memory.{Memory, as_state, memory_of}
+use Rattle.word_code.specs.Memory.{Memory, as_state, memory_of}
 use Rattle.rv32_codegen.proofs.Area.{area}
 use Rattle.rv32_codegen.proofs.Machine.{state_of, Fits}
 

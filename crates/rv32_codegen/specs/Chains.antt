@@ -1,8 +1,8 @@
 -- Chains of calls as they are computed: a number for each procedure, in order, of at most 32 bits. No public contract speaks of it.
 use Rattle.std.specs.Prelude.{◌≡◌, ◌<◌, ◌≤◌, ℕ, zero, suc, ◌+◌, ◌-◌, ◌^◌, max, min, ◌==◌, if◌then◌else◌, List, [], ◌∷◌}
 use Rattle.std.specs.Prelude.{length, drop}
-use Rattle.mid_code.specs.declared.word.WordProc.{WordProc}
-use Rattle.mid_code.specs.Words.{is_counted, most_called, most_chain}
+use Rattle.word_code.specs.declared.word.WordProc.{WordProc}
+use Rattle.word_code.specs.Words.{is_counted, most_called, most_chain}
 use Rattle.reg_scan.specs.declared.homes.Homes.{Homes}
 
 -- what is too large is the largest word

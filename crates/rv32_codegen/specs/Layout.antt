@@ -27,7 +27,7 @@ use Rattle.rv32_isa.specs.Image.{Image}
 use Rattle.rv32_isa.specs.Machine.{Lives, machine}
 use Rattle.rv32_isa.specs.Labels.{from_label, marks, Addresses, Rise}
 use Rattle.rv32_isa.specs.LabelsMeaning.{label_meaning}
-use Rattle.mid_code.specs.Memory.{data_of}
+use Rattle.word_code.specs.Memory.{data_of}
 use Rattle.rv32_codegen.specs.declared.layout.LayFault.{LayFault}
 use Rattle.rv32_codegen.specs.declared.layout.LayFault.TheVariants.{TooLarge, Memory}
 use Rattle.rv32_codegen.specs.declared.layout.TheConstants.{BRANCH_REACH, MOST_CODE_BYTES, LAYOUT_PACE}

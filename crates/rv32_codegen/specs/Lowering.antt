@@ -19,11 +19,11 @@ use Rattle.rv32_isa.specs.declared.label.LabelLine.{LabelLine}
 use Rattle.rv32_isa.specs.declared.label.LabelLine.TheVariants.{Label, Do, Jump, Branch}
 use Rattle.rv32_isa.specs.Labels.{is_jalr, from_label, Addresses, Rise, marks}
 use Rattle.rv32_isa.specs.LabelsMeaning.{OfDataAndHeap, is_straight, start, label_meaning}
-use Rattle.mid_code.specs.declared.word.WordProc.{WordProc}
-use Rattle.mid_code.specs.declared.word.WordCode.{WordCode}
-use Rattle.mid_code.specs.Memory.{data_of}
-use Rattle.mid_code.specs.Sizes.{word_weight, word_line_count, has_no_circle}
-use Rattle.mid_code.specs.Words.{from_proc, first_of, has_number, word_meaning}
+use Rattle.word_code.specs.declared.word.WordProc.{WordProc}
+use Rattle.word_code.specs.declared.word.WordCode.{WordCode}
+use Rattle.word_code.specs.Memory.{data_of}
+use Rattle.word_code.specs.Sizes.{word_weight, word_line_count, has_no_circle}
+use Rattle.word_code.specs.Words.{from_proc, first_of, has_number, word_meaning}
 use Rattle.reg_scan.specs.declared.homes.Homes.{Homes}
 use Rattle.reg_scan.specs.Homes.{IsHomes}
 use Rattle.rv32_codegen.specs.declared.label_code.TheConstants.{CODE_PACE, LINES_OF_LINE, LINES_OF_PROC, LINES_OF_START, BYTES_OF_LINE}

@@ -3,9 +3,9 @@
 -- For each of the calls that may be active and count it holds the frame of the largest procedure, and those of the longest chain of calls
 -- of procedures that don't count. The arguments of one call more have room below them.
 use Rattle.std.specs.Prelude.{ℕ, ◌+◌, ◌*◌, ◌/◌, max, ◌==◌, if◌then◌else◌, List, [], ◌∷◌}
-use Rattle.mid_code.specs.declared.word.TheConstants.{MOST_ARGUMENTS}
-use Rattle.mid_code.specs.declared.word.WordProc.{WordProc}
-use Rattle.mid_code.specs.Words.{most_calls, longest, places_size}
+use Rattle.word_code.specs.declared.word.TheConstants.{MOST_ARGUMENTS}
+use Rattle.word_code.specs.declared.word.WordProc.{WordProc}
+use Rattle.word_code.specs.Words.{most_calls, longest, places_size}
 use Rattle.reg_scan.specs.declared.homes.Homes.{Homes}
 
 -- ---- frames

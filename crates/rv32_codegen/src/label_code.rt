@@ -2,7 +2,7 @@
 ghost use Rattle.std.specs.Prelude.{◌≡◌, ◌≤◌, ◌++◌, true, List, length, IfOk, OnOk};
 ghost use Rattle.rv32_isa.specs.declared.label.LabelLine.{LabelLine as Line};
 ghost use Rattle.rv32_isa.specs.Labels.{AreLines, has_instruction, hooks_lead};
-ghost use Rattle.mid_code.specs.Words.{have_no_hooks, is_word_code};
+ghost use Rattle.word_code.specs.Words.{have_no_hooks, is_word_code};
 ghost use Rattle.rv32_codegen.specs.Code as spec;
 ghost use Rattle.rv32_codegen.specs.Layout.{all_far, enters_no_hook, size};
 ghost use Rattle.rv32_codegen.specs.Lowering.{AllHomes, AlwaysDoes, MakeFrames};
@@ -11,11 +11,11 @@ ghost use Rattle.rv32_codegen.specs.Lowering.{most_lines, most_bytes};
 use crate::lines::emit_lines;
 use crate::pieces::{emit, emit_shift, emit_sum, negative, push};
 use arc_base::{Items, Memory};
-use mid_code::{ProcKind, WordCode, WordProc};
 use reg_scan::Homes;
 use rv32_isa::build::{add, ebreak, lui, lw, sw};
 use rv32_isa::{HookLabel, LabelCode, LabelLine, LabelName, STACK_AT, STATICS_AT};
 use std::alloc::Global;
+use word_code::{ProcKind, WordCode, WordProc};
 
 /// The lines of label code do at most so many times the work of the word code and one more.
 pub const CODE_PACE: u32 = 32;

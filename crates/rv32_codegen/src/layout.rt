@@ -8,7 +8,7 @@ ghost use Rattle.rv32_isa.specs.Image.{image_of};
 ghost use Rattle.rv32_isa.specs.Machine.{Lives};
 ghost use Rattle.rv32_isa.specs.Labels.{IsLine, AreLines, has_instruction, hooks_lead};
 ghost use Rattle.rv32_isa.specs.LabelsMeaning.{OfDataAndHeap};
-ghost use Rattle.mid_code.specs.Memory.{data_of};
+ghost use Rattle.word_code.specs.Memory.{data_of};
 ghost use Rattle.rv32_codegen.specs.Layout.{all_far, size, too_far, code_size, target, laid_at, distance, branch_of, opposite, branched, laid, instrs, hook_of, hook_table, code_bytes};
 ghost use Rattle.rv32_codegen.specs.Layout.{laid_out, enters_no_hook, DoesCode, IsFault, AllReach};
 ghost use Rattle.rv32_codegen.specs.Places.{IsLayout};

@@ -1,6 +1,6 @@
 // The label code of the lines of word code.
 ghost use Rattle.std.specs.Prelude.{◌≡◌, ◌++◌, ◌∷◌, List, OnOk};
-ghost use Rattle.mid_code.specs.declared.word.WordInstr.TheVariants as word;
+ghost use Rattle.word_code.specs.declared.word.WordInstr.TheVariants as word;
 ghost use Rattle.rv32_isa.specs.declared.label.LabelLine.{LabelLine as Line};
 ghost use Rattle.reg_scan.specs.Alive.{effect_of};
 ghost use Rattle.reg_scan.specs.Homes.{home_of};
@@ -11,10 +11,10 @@ use crate::pieces::{
     emit_settle, emit_shift, emit_sum, fetch, negative, operate, push, seat, store, stream_number,
 };
 use arc_base::{Memory, Stream};
-use mid_code::{Test, WordInstr, WordOperation, WordProc};
 use reg_scan::{Home, Homes};
 use rv32_isa::build::{addi, ecall, jalr, lw};
 use rv32_isa::{LabelCode, LabelLine, LabelName, STATICS_AT, Size};
+use word_code::{Test, WordInstr, WordOperation, WordProc};
 
 /// Where the word code's own data begins: behind the sizes of heap and stack.
 const OWN_DATA_AT: u32 = STATICS_AT + 8;

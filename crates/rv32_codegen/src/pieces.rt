@@ -4,13 +4,13 @@ ghost use Rattle.rv32_isa.specs.declared.label.LabelLine.{LabelLine as Line};
 ghost use Rattle.rv32_codegen.specs.Code as code;
 
 use arc_base::{Memory, Stream};
-use mid_code::{Test, WordOperation};
 use reg_scan::Home;
 use rv32_isa::build::{
     add, addi, and, div, divu, lbu, lhu, lui, lw, mul, mulh, or, rem, remu, sb, sh, sll, slt, sltu,
     sra, srl, sub, sw, xor,
 };
 use rv32_isa::{Instr, LabelCode, LabelLine, STATICS_AT, Size, Test as LabelTest};
+use word_code::{Test, WordOperation};
 
 /// A line.
 pub fn push(lines: &mut LabelCode, line: LabelLine) -> Result<(), Memory>

@@ -1,16 +1,16 @@
 // The stack that label code needs.
 ghost use Rattle.std.specs.Prelude.{◌≡◌, ◌≤◌, ◌+◌, ◌*◌, true, false, max, length, IfOk};
-ghost use Rattle.mid_code.specs.Words as words;
-ghost use Rattle.mid_code.specs.Sizes.{has_no_circle};
+ghost use Rattle.word_code.specs.Words as words;
+ghost use Rattle.word_code.specs.Sizes.{has_no_circle};
 ghost use Rattle.rv32_codegen.specs.Stack as stack;
 ghost use Rattle.rv32_codegen.specs.Chains as chains;
 ghost use Rattle.rv32_codegen.specs.Lowering.{AllHomes};
 
 use arc_base::{Items, Memory};
-use mid_code::{MOST_ARGUMENTS, ProcKind, SPARE_ROOM, WordCode, WordInstr, WordProc};
-use nim_core::ACTIVE_CALLS;
+use nim_program::ACTIVE_CALLS;
 use reg_scan::Homes;
 use std::alloc::Global;
+use word_code::{MOST_ARGUMENTS, ProcKind, SPARE_ROOM, WordCode, WordInstr, WordProc};
 
 fn larger(a: u32, b: u32) -> u32
     ensures { result ≡ max a b }

@@ -2,7 +2,9 @@
 use Rattle.std.proofs.Common.{◌≡◌, ℕ, ◌<◌, List, [], ◌∷◌, ◌++◌, length, ◌⊎◌, refl, sym, ap, ◌∙◌, subst, arith}
 use Rattle.std.specs.Prelude.{◌≤◌, ◌^◌}
 use Rattle.std.specs.List.{AllByRecursion}
+use Rattle.std.specs.List.Sorted.{IsStrictlySortedBy}
 use Rattle.nim_plan.specs.declared.plan.Plan.{Plan}
+use Rattle.nim_plan.specs.Order.{IsInOrder}
 use Rattle.rv32_isa.specs.Words.{word_bytes}
 use Rattle.rv32_isa.specs.declared.image.Image.{Image as RustImage}
 use Rattle.rv32_isa.specs.Image.{IsImage, image_of}
@@ -52,6 +54,11 @@ plan_is plan sites sinks skips =
     let two : record { sites = []; sinks = plan.sinks; skips = plan.skips } ≡ record { sites = []; sinks = []; skips = plan.skips } =
     ap (λ l. record { sites = []; sinks = l; skips = plan.skips }) sinks in
     one ∙ two ∙ ap (λ l. record { sites = []; sinks = []; skips = l }) skips
+
+-- its lists are in order
+pub plan_ordered : (plan : Plan) → plan.sites ≡ [] → plan.sinks ≡ [] → plan.skips ≡ [] → IsInOrder plan
+unfolding IsStrictlySortedBy
+plan_ordered plan sites sinks skips = subst IsInOrder (sym (plan_is plan sites sinks skips)) (record { sites = tt; sinks = tt; skips = tt })
 
 -- what the type of an image keeps
 pub image_is : (image : RustImage) → IsImage (image_of image)

@@ -6,7 +6,7 @@ use Rattle.indent_scanner.specs.declared.token.Token.{Token}
 use Rattle.indent_scanner.specs.Tokens.{Tokens}
 use Rattle.indent_scanner.proofs.ForCallers.{once, apart, refused_once as bytes_refused_once}
 use Rattle.nim_tree.specs.Statements.{Statements}
-use Rattle.nim_core.specs.Program.{Program}
+use Rattle.nim_program.specs.Program.{Program}
 use Rattle.parse_stmts.specs.Grammar.{IsModule}
 use Rattle.parse_stmts.specs.Parsed.{IsRefused}
 use Rattle.parse_stmts.proofs.ForCallers.{module_once, module_stands, refused_once as tokens_refused_once}
@@ -42,7 +42,7 @@ module _ (rules : Rules) where
   pub alone_only : (source : List ℕ) (p q : Program) → ReadsAlone source p → ReadsAlone source q → q ≡ p
   alone_only source p q r s =
       let same = one_tree source s.tokens r.tokens s.tree r.tree s.is_tree r.is_tree in
-      rules.program (lone r.tree) p q r.typed (subst (λ t. AreTyped (lone t) q) same s.typed)
+      rules.program [] (lone r.tree) p q r.typed (subst (λ t. AreTyped [] (lone t) q) same s.typed)
 
   pub alone_not_refused : (source : List ℕ) (program : Program) (c : Code) (at : Place) → ReadsAlone source program → RefusesAlone source c at → ⊥
   alone_not_refused source program c at r (by_bytes refused) = apart source 0 c at r.tokens refused r.is_tree.scanned
@@ -50,7 +50,7 @@ module _ (rules : Rules) where
       not_tokens source c at r.tokens r.tree r.is_tree tokens scanned refused
   alone_not_refused source program c at r (by_rules tokens tree is refused) =
       let same = one_tree source tokens r.tokens tree r.tree is r.is_tree in
-      rules.apart (lone r.tree) program c at r.typed (subst (λ t. AreNotTyped (lone t) c at) same refused)
+      rules.apart [] (lone r.tree) program c at r.typed (subst (λ t. AreNotTyped (lone t) c at) same refused)
 
   -- a source is refused with one code, at one place
   pub alone_refused_once : (source : List ℕ) (c d : Code) (p q : Place) → RefusesAlone source c p → RefusesAlone source d q → (c ≡ d) × (p ≡ q)

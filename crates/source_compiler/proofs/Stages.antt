@@ -1,5 +1,5 @@
 -- What the stages of the compiler give one another.
-use Rattle.std.proofs.Common.{ℕ, List, Result, Ok, Err}
+use Rattle.std.proofs.Common.{◌≡◌, ℕ, List, [], true, Result, Ok, Err}
 use Rattle.std.specs.Prelude.{IfOk, IfErr}
 use Rattle.arc_base.specs.Stops.{OnRefusal}
 use Rattle.arc_base.specs.declared.place.Stop.{Stop}
@@ -9,13 +9,21 @@ use Rattle.indent_scanner.specs.declared.token.Token.{Token}
 use Rattle.indent_scanner.specs.Tokens.{Tokens}
 use Rattle.indent_scanner.specs.Tokens.{IsRefused as IsRefusedByBytes}
 use Rattle.nim_tree.specs.Statements.{Statements}
-use Rattle.nim_core.specs.declared.program.Program.{Program as RustProgram}
-use Rattle.nim_core.specs.Program.{Program}
+use Rattle.nim_types.specs.Types.{Ty}
+use Rattle.nim_types.specs.Table.{types_in}
+use Rattle.nim_program.specs.declared.program.Program.{Program as RustProgram}
+use Rattle.nim_program.specs.Numbering.{is_numbered_program}
+use Rattle.nim_program.specs.Program.{Program}
+use Rattle.nim_program.specs.Typed.{IsTyped}
 use Rattle.parse_stmts.specs.Parsed.{IsRefused}
-use Rattle.decl_rules.specs.Elaborated.{elaborated}
+use Rattle.decl_rules.specs.Elaborated.{Module, elaborated}
 use Rattle.decl_rules.specs.Laws.{ProgramsComputed, ReasonsComputed}
-use Rattle.check_decls.specs.Modules.{program_in}
-use Rattle.source_compiler.specs.Source.{main_module, IsTree, lone, ReadsAlone, RefusesAlone, by_bytes, by_tokens, by_rules, alone, Reads}
+use Rattle.decl_rules.specs.ProgramRules.{IsProgram as AreTyped, p_program}
+use Rattle.typing_laws.specs.Trees.{StatementsRead, ModulesRead}
+use Rattle.typing_laws.specs.Programs.{IsWholeTable, NodesWithin}
+use Rattle.check_decls.specs.Modules.{program_in, types_or, IsWhole}
+use Rattle.source_compiler.specs.Source.{main_module, IsTree, lone, unlisted, read_program, ReadsAlone, RefusesAlone, by_bytes, by_tokens, by_rules}
+use Rattle.source_compiler.specs.Source.{alone, Reads}
 use Rattle.source_compiler.specs.Limits.{Limits}
 use Rattle.source_compiler.specs.Compile.{AreTurnedDown, by_limits}
 
@@ -32,18 +40,42 @@ refused_tokens source tokens Memory scanned h = tt
 
 -- ---- what typing says
 
+-- what is a program with a list of types is one without
+without_list : (types : List Ty) (all : List Module) (program : Program) → AreTyped types all program → AreTyped [] all (unlisted program)
+without_list types all program (p_program none modules text) = p_program none modules text
+
+-- with whatever types where there is no program
+abbrev pub IsElaborated : Statements → Result RustProgram Stop → Type 0
+IsElaborated tree result = (ts : List Ty) → Answers program_in (elaborated (types_or ts result) (lone tree)) result
+
+abbrev pub TypedLaw : Type 0
+TypedLaw = (p : RustProgram) (all : List Module) → AreTyped (types_in p.types) all (program_in p) → ModulesRead all → IsWholeTable p.types
+    → NodesWithin all → IsTyped (program_in p) × (is_numbered_program (program_in p) ≡ true)
+
 module _ (source : List ℕ) (tokens : List Token) (tree : Statements) (is : IsTree source tokens tree) where
-  pub typing_reads : ProgramsComputed → (result : Result RustProgram Stop) → Answers program_in (elaborated (lone tree)) result
-      → IfOk result (λ program. ReadsAlone source (program_in program))
-  typing_reads computed (Ok program) said =
-      record { tokens = tokens; tree = tree; is_tree = is; typed = (computed (lone tree) (program_in program)).1 said }
+  pub typing_reads : ProgramsComputed → (result : Result RustProgram Stop) → IsElaborated tree result
+      → IfOk result (λ program. ReadsAlone source (read_program program))
+  typing_reads computed (Ok p) said = record {
+    tokens = tokens;
+    tree = tree;
+    is_tree = is;
+    typed = without_list (types_in p.types) (lone tree) (program_in p) ((computed (types_in p.types) (lone tree) (program_in p)).1 (said []));
+  }
   typing_reads computed (Err stop) said = tt
 
-  pub typing_refuses : ReasonsComputed → (result : Result RustProgram Stop) → Answers program_in (elaborated (lone tree)) result
+  pub typing_refuses : ReasonsComputed → (result : Result RustProgram Stop) → IsElaborated tree result
       → IfErr result (λ stop. OnRefusal stop (RefusesAlone source))
   typing_refuses computed (Ok program) said = tt
-  typing_refuses computed (Err (Refused code at)) said = by_rules tokens tree is ((computed (lone tree) code at).1 said)
+  typing_refuses computed (Err (Refused code at)) said = by_rules tokens tree is ((computed [] (lone tree) code at).1 (said []))
   typing_refuses computed (Err Memory) said = tt
+
+-- what is read is typed
+pub typing_typed : TypedLaw → ProgramsComputed → (tree : Statements) → StatementsRead tree → (result : Result RustProgram Stop) → IsElaborated tree result
+    → IfOk result (IsWhole (lone tree)) → IfOk result (λ p. IsTyped (program_in p)) × IfOk result (λ p. is_numbered_program (program_in p) ≡ true)
+typing_typed law computed tree read (Ok p) said whole =
+    law p (lone tree) ((computed (types_in p.types) (lone tree) (program_in p)).1 (said [])) (read, tt)
+    (record { table = whole.table; forms = whole.forms; ints = whole.ints }) whole.nodes
+typing_typed law computed tree read (Err stop) said whole = (tt, tt)
 
 -- ---- what can't be compiled
 

@@ -12,8 +12,8 @@ use Rattle.arc_base.specs.declared.place.Code.{Code}
 use Rattle.arc_base.specs.declared.place.Stop.{Stop}
 use Rattle.arc_base.specs.declared.place.Stop.TheVariants as stop
 use Rattle.nim_plan.specs.declared.plan.Plan.{Plan}
-use Rattle.nim_core.specs.Program.{Program}
-use Rattle.nim_core.specs.Meaning.{meaning}
+use Rattle.nim_program.specs.Program.{Program}
+use Rattle.nim_meaning.specs.Meaning.{meaning}
 use Rattle.rv32_isa.specs.Machine.{machine}
 use Rattle.elf32.specs.Elf.{File, IsFile}
 use Rattle.source_compiler.specs.declared.compiler.NotCompiled.{NotCompiled}
@@ -22,7 +22,7 @@ use Rattle.source_compiler.specs.declared.source.TheConstants.{SOURCE_MOST}
 use Rattle.source_compiler.specs.Source.{Module, alone, Reads, Refuses}
 use Rattle.core_compiler.specs.declared.program.TheConstants.{IMAGE_PACE, IMAGE_LATE}
 use Rattle.core_compiler.specs.Limits.{build_limits}
-use Rattle.core_compiler.specs.Compile.{live_objects, EndsInTime, HasNeededStack}
+use Rattle.core_compiler.specs.Compile.{live_objects, EndsInTime, HasCode, HasCodeWhereWithin, image_with}
 use Rattle.source_compiler.specs.Limits.{Limits}
 
 -- the plan of a program without sites
@@ -31,8 +31,8 @@ empty_plan = record { sites = []; sinks = []; skips = [] }
 
 -- THE HEADLINE. The modules are one typed program, which can be compiled. For every input and every number of steps the machine on the
 -- file's image agrees with the meaning of the program under the file's plan and this heap, in bytes; its work is in proportion, and where
--- the meaning ends the machine has ended in time. The stack is exactly what the calls need of some word code that does the same and that
--- the image is made of. The file is one that can be written, its plan is empty, and there are no hooks.
+-- the meaning ends the machine has ended in time. The image is that of code which does the same, with just the stack that its calls need.
+-- The file is one that can be written, its plan is empty, and there are no hooks.
 pub record Compiled (modules : List Module) (heap : ℕ) (file : File) : Type 0 where
   pub program : Program
   pub reads : Reads modules program
@@ -42,10 +42,15 @@ pub record Compiled (modules : List Module) (heap : ℕ) (file : File) : Type 0 
   pub agrees : (input : List ℕ) → Agrees (machine live_objects file.image input) (meaning program file.plan heap input)
   pub paced : (input : List ℕ) → PacedFrom IMAGE_PACE IMAGE_LATE (machine live_objects file.image input) (meaning program file.plan heap input)
   pub in_time : (input : List ℕ) → EndsInTime (machine live_objects file.image input) (meaning program file.plan heap input)
-  pub stack : HasNeededStack program heap file.image
+  pub code : HasCode program file.plan (length file.image.code)
+  pub made : file.image ≡ image_with heap code
   pub plan : file.plan ≡ empty_plan
   pub heap_is : file.image.heap ≡ heap
   pub hooks : file.image.hooks ≡ []
+
+-- Where the modules are a typed program that isn't refused before it has code, code of so many bytes does what that means under its plan.
+abbrev pub HaveCodeWhereWithin : List Module → (bytes : ℕ) → Type 0
+HaveCodeWhereWithin modules bytes = (program : Program) → Reads modules program → HasCodeWhereWithin program empty_plan bytes
 
 -- the longest source
 abbrev pub source_most : ℕ
@@ -87,10 +92,18 @@ IsOkOrMemory (Err TooLong) = ⊥
 IsOkOrMemory (Err (Refused code at)) = ⊥
 IsOkOrMemory (Err Memory) = ⊤
 
--- a source is taken under these limits, or refused as they say
-pub record DecidedBy (limits : Limits) (source : List ℕ) {T : Type 0} (result : Result T NotCompiled) : Type 0 where
-  pub refused : IfErr result (λ e. OnRefused e (λ code at. (name : List ℕ) → IsNoProgram limits name source code at))
-  pub complete : (name : List ℕ) → IsProgram limits name source → IsOkOrMemory result
+-- it is compiled or refused
+abbrev pub WhereDecided : {T : Type 0} → Result T NotCompiled → Type 0 → Type 0
+WhereDecided (Ok x) P = P
+WhereDecided (Err TooLong) P = ⊤
+WhereDecided (Err (Refused code at)) P = P
+WhereDecided (Err Memory) P = ⊤
+
+-- a source is compiled, or refused as the limits of `build` say of so many bytes of code; and so many has its code
+pub record DecidedBy (bytes : ℕ) (source : List ℕ) {T : Type 0} (result : Result T NotCompiled) : Type 0 where
+  pub refused : IfErr result (λ e. OnRefused e (λ code at. (name : List ℕ) → IsNoProgram (build_limits bytes) name source code at))
+  pub complete : (name : List ℕ) → IsProgram (build_limits bytes) name source → IsOkOrMemory result
+  pub code : WhereDecided result ((name : List ℕ) → HaveCodeWhereWithin (alone name source) bytes)
 
 -- what a front-end call said, said of the source
 abbrev pub IsStop : Stop → NotCompiled → Type 0

@@ -9,13 +9,15 @@ use Rattle.indent_scanner.specs.declared.token.Token.{Token}
 use Rattle.indent_scanner.specs.Tokens.{Tokens}
 use Rattle.indent_scanner.specs.Tokens.{IsRefused as IsRefusedByBytes}
 use Rattle.nim_tree.specs.Statements.{Statements}
-use Rattle.nim_core.specs.Program.{Program}
+use Rattle.nim_program.specs.declared.program.Program.{Program as RustProgram}
+use Rattle.nim_program.specs.Program.{Program}
 use Rattle.parse_exprs.specs.Look.{Origin}
 use Rattle.parse_stmts.specs.Grammar.{IsModule}
 use Rattle.parse_stmts.specs.Parsed.{HasFew}
 use Rattle.parse_stmts.specs.Parsed.{IsRefused as IsRefusedByTokens}
 use Rattle.decl_rules.specs.Elaborated.{Module as Tree}
 use Rattle.decl_rules.specs.ProgramRules.{IsProgram as AreTyped, IsNoProgram as AreNotTyped}
+use Rattle.check_decls.specs.Modules.{program_in}
 
 -- ---- one module
 
@@ -33,12 +35,20 @@ pub record IsTree (source : List ℕ) (tokens : List Token) (tree : Statements) 
 abbrev pub lone : Statements → List Tree
 lone tree = record { number = 0; body = tree } ∷ []
 
+-- A program without its list of types by number. What is read has none: the list serves code alone, and a meaning doesn't ask for it.
+abbrev pub unlisted : Program → Program
+unlisted program = record program { types = [] }
+
+-- the program that the code's trees stand for, as it is read
+abbrev pub read_program : RustProgram → Program
+read_program p = unlisted (program_in p)
+
 -- the main module is a typed program by itself
 pub record ReadsAlone (source : List ℕ) (program : Program) : Type 0 where
   pub tokens : List Token
   pub tree : Statements
   pub is_tree : IsTree source tokens tree
-  pub typed : AreTyped (lone tree) program
+  pub typed : AreTyped [] (lone tree) program
 
 -- The main module is refused: by its bytes (E1 to E3), else by its tokens (E4, E5, E23), else by the typing rules (E6 to E15,
 -- E23, E26).

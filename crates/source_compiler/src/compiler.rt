@@ -1,8 +1,7 @@
 // From the bytes of a source to what its file says.
-ghost use Rattle.std.specs.Prelude.{◌<◌, ◌≤◌, ℕ, List, length, IfOk, IfErr};
+ghost use Rattle.std.specs.Prelude.{◌≡◌, ◌<◌, ◌≤◌, ℕ, List, length, IfOk, IfErr};
 ghost use Rattle.elf32.specs.Elf.{file_of};
 ghost use Rattle.source_compiler.specs.Source.{alone};
-ghost use Rattle.core_compiler.specs.Limits.{build_limits};
 ghost use Rattle.source_compiler.specs.Compile.{Compiled, DecidedBy, source_most, OnTooLong};
 
 use crate::source::{one_answer, typed};
@@ -54,7 +53,7 @@ impl From<Memory> for NotCompiled {
 /// every number of steps, the machine on its image does what the source means.
 ///
 /// Refused is a source that is no program, or none that can be compiled, and too long one of more than 1,048,576 bytes. Whether
-/// code is too large is said of the number of its bytes.
+/// code is too large is said of the number of bytes of code that does what the source means.
 pub fn compile(alloc: Global, source: &[u8], heap: u32) -> Result<ElfFile, NotCompiled>
     requires heap_least { 4096 ≤ heap }
     requires heap_most { heap ≤ 16777216 }
@@ -62,14 +61,16 @@ pub fn compile(alloc: Global, source: &[u8], heap: u32) -> Result<ElfFile, NotCo
         (name : List ℕ) → Compiled (alone name source.now) heap (file_of file)) }
     ensures too_long { IfErr result (λ e. OnTooLong e (source_most < length source.now)) }
     ensures within { IfOk result (λ _. length source.now ≤ source_most) }
-    ensures decided { (code : ℕ) × DecidedBy (build_limits code) source.now result }
+    ensures decided { (bytes : ℕ) × DecidedBy bytes source.now result
+        × IfOk result (λ file. length file.image.code ≡ bytes) }
 {
     one_answer();
     let program = typed(alloc, source)?;
-    let image = compile_core(alloc, &program, heap)?;
+    let plan = Plan::new(alloc);
+    let image = compile_core(alloc, &program, &plan, heap)?;
     Ok(ElfFile {
         image,
         version: VERSION,
-        plan: Plan::new(alloc),
+        plan,
     })
 }

@@ -1,11 +1,13 @@
 // From the bytes of a source to its typed program.
-ghost use Rattle.std.specs.Prelude.{◌≡◌, ◌⊎◌, ◌≤◌, ◌<◌, [], ◌∷◌, ℕ, List, length, IfOk, IfErr};
+ghost use Rattle.std.specs.Prelude.{◌≡◌, ◌⊎◌, ◌≤◌, ◌<◌, [], ◌∷◌, ℕ, true, List, length, IfOk, IfErr};
 ghost use Rattle.arc_base.specs.Stops.{OnRefusal};
 ghost use Rattle.arc_base.specs.declared.place.Code.{Code};
 ghost use Rattle.arc_base.specs.declared.place.Place.{Place};
-ghost use Rattle.nim_core.specs.Program.{Program as TypedProgram};
+ghost use Rattle.nim_program.specs.Program.{Program as TypedProgram};
+ghost use Rattle.nim_program.specs.Numbering.{is_numbered_program};
+ghost use Rattle.nim_program.specs.Typed.{IsTyped};
 ghost use Rattle.check_decls.specs.Modules.{program_in};
-ghost use Rattle.source_compiler.specs.Source.{Module, alone, ReadsAlone, RefusesAlone, Reads, Refuses};
+ghost use Rattle.source_compiler.specs.Source.{Module, alone, read_program, ReadsAlone, RefusesAlone, Reads, Refuses};
 ghost use Rattle.source_compiler.specs.Limits.{Limits};
 ghost use Rattle.source_compiler.specs.Compile.{IsProgram, IsNoProgram, source_most, OnTooLong, OnRefused, IsOkOrMemory};
 
@@ -14,9 +16,10 @@ use arc_base::Stop;
 use check_decls::elaborate;
 use decl_rules::{one_program, programs_computed};
 use indent_scanner::{one_reading, scan};
-use nim_core::Program;
+use nim_program::Program;
 use parse_stmts::parse;
 use std::alloc::Global;
+use typing_laws::typed_programs;
 
 /// The longest source, in bytes.
 pub const SOURCE_MOST: usize = 1_048_576;
@@ -27,12 +30,16 @@ const MAIN: u32 = 0;
 // The typed program of a source that isn't too long.
 fn read(alloc: Global, source: &[u8]) -> Result<Program, Stop>
     requires { length source.now ≤ source_most }
-    ensures reads { IfOk result (λ program. ReadsAlone source.now (program_in program)) }
+    ensures reads { IfOk result (λ program. ReadsAlone source.now (read_program program)) }
+    ensures typed { IfOk result (λ program. IsTyped (program_in program)) }
+    ensures numbered { IfOk result (λ program.
+        is_numbered_program (program_in program) ≡ true) }
     ensures refused { IfErr result (λ stop. OnRefusal stop (RefusesAlone source.now)) }
 {
     let tokens = scan(alloc, source, MAIN)?;
     let tree = parse(alloc, source, tokens.as_slice(), MAIN)?;
     programs_computed();
+    typed_programs();
     elaborate(alloc, &[tree], &[MAIN])
 }
 
@@ -41,7 +48,10 @@ fn read(alloc: Global, source: &[u8]) -> Result<Program, Stop>
 /// Refused is a source that is none, and too long one of more than 1,048,576 bytes.
 pub fn typed(alloc: Global, source: &[u8]) -> Result<Program, NotCompiled>
     ensures reads { IfOk result (λ program.
-        (name : List ℕ) → Reads (alone name source.now) (program_in program)) }
+        (name : List ℕ) → Reads (alone name source.now) (read_program program)) }
+    ensures typed { IfOk result (λ program. IsTyped (program_in program)) }
+    ensures numbered { IfOk result (λ program.
+        is_numbered_program (program_in program) ≡ true) }
     ensures too_long { IfErr result (λ e. OnTooLong e (source_most < length source.now)) }
     ensures refused { IfErr result (λ e. OnRefused e (λ code at.
         (limits : Limits) (name : List ℕ) → IsNoProgram limits name source.now code at)) }

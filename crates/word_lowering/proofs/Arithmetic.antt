@@ -9,7 +9,7 @@ use borrow.Author.Differences.{up, down, read_fits}
 use Rattle.std.proofs.lemmas.Int.{ints, of_z-to_z, wrapping_mul_is, int_wrap_fits, unsigned_abs-mul, quot_fits}
 use Rattle.std.proofs.lemmas.Bool.{false_from_ne_true, eqb-true, eqb-false, cond-false}
 use Rattle.std.proofs.lemmas.Bool.Decides.{same_from_decides, Decides-eqb, Decides-int_eq}
-use Rattle.nim_core.specs.Ints.{low, fits, low_byte}
+use Rattle.nim_program.specs.Ints.{low, fits, low_byte}
 use Rattle.rv32_isa.specs.Values.{signed, added, subtracted, one_if, is_less_signed, low_product, high_product_signed, shifted_right_signed, quotient_signed}
 use Rattle.rv32_isa.specs.Values.{remainder_signed}
 use Rattle.word_lowering.specs.Operations.{word}
@@ -33,6 +33,9 @@ word_small z h = let f = fits_signed z h in omega (arith, ints)
 
 pub word_signed : (n : ℕ) → n < 2 ^ 32 → word (signed n) ≡ n
 word_signed n h = of_z-to_z w32 n h
+
+pub pos_word : (n : ℕ) → fits (pos n) ≡ true → word (pos n) ≡ n
+pos_word n f = let h = fits_signed (pos n) f in omega (arith, ints)
 
 pub word_injective : (u v : ℤ) → fits u ≡ true → fits v ≡ true → word u ≡ word v → u ≡ v
 word_injective u v f g e = sym (signed_word u f) ∙ ap signed e ∙ signed_word v g

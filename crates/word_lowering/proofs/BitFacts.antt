@@ -7,7 +7,7 @@ use Rattle.std.proofs.lemmas.Int.{ints}
 use Rattle.std.proofs.lemmas.Bool.{ltb-true, ltb-false}
 use Rattle.std.proofs.lemmas.Nat.{and_le_l, or_lt, xor_lt}
 use Rattle.rv32_isa.specs.Values.{shifted_left, shifted_right_signed}
-use Rattle.nim_core.specs.Ints.{fits, bits_of, signed as int_of, shift_by}
+use Rattle.nim_program.specs.Ints.{fits, bits_of, signed as int_of, shift_by}
 use Rattle.word_lowering.specs.Operations.{word}
 use Rattle.word_lowering.proofs.Arithmetic.{fits_signed, signed_fits, signed_word, word_small}
 

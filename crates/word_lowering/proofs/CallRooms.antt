@@ -1,11 +1,11 @@
 -- What a call that counts takes for places, with the chain of calls that it may make.
 use Rattle.std.proofs.Common.{◌≡◌, ℕ, ◌+◌, ◌*◌, ◌≤◌, List, [], ◌∷◌, ◌==◌, sym, subst, ◌∙◌, arith, inl, inr}
 use Rattle.std.proofs.lemmas.Bool.{cases_Bool, cond-true, cond-false}
-use Rattle.mid_code.specs.declared.word.WordProc.{WordProc}
-use Rattle.mid_code.specs.Words.{from_proc, longest, most_room}
-use Rattle.mid_code.specs.Sizes.{longest_chain}
-use Rattle.mid_code.proofs.ForCallers.{longest_times}
-use Rattle.word_lowering.specs.declared.lowering.TheConstants.{ROUTINE_ROOM, ROUTINE_CHAIN}
+use Rattle.word_code.specs.declared.word.WordProc.{WordProc}
+use Rattle.word_code.specs.Words.{from_proc, longest, most_room}
+use Rattle.word_code.specs.Sizes.{longest_chain}
+use Rattle.word_code.proofs.ForCallers.{longest_times}
+use Rattle.word_code.specs.declared.routine.TheConstants.{ROUTINE_ROOM, ROUTINE_CHAIN}
 use Rattle.word_lowering.specs.declared.may_lower.TheConstants.{MOST_ROOM}
 use Rattle.word_lowering.specs.Lowers.{IsSmall, AreSmall}
 

@@ -3,19 +3,18 @@ use Rattle.std.proofs.Common.{◌≡◌, ℕ, suc, ◌+◌, ◌-◌, ◌^◌, �
 use Rattle.std.proofs.Common.{refl, ap, ◌∙◌, arith}
 use Rattle.std.proofs.lemmas.Bool.{le-ltb, lt-ltb, true≢false}
 use Rattle.rv32_isa.specs.Machine.{Lives}
-use Rattle.nim_core.specs.declared.program.TheConstants.{ACTIVE_CALLS}
-use Rattle.nim_core.specs.Traps.{CallDepth}
-use Rattle.mid_code.specs.declared.word.Test.TheVariants as test
-use Rattle.mid_code.specs.declared.word.WordInstr.{WordInstr}
-use Rattle.mid_code.specs.declared.word.WordInstr.TheVariants.{Sum, Branch}
-use Rattle.mid_code.specs.declared.word.WordProc.{WordProc}
-use Rattle.mid_code.specs.Memory.{Memory}
-use Rattle.mid_code.specs.Words.{Vars, put, from_label}
+use Rattle.nim_program.specs.declared.program.TheConstants.{ACTIVE_CALLS}
+use Rattle.nim_program.specs.Traps.{CallDepth}
+use Rattle.word_code.specs.declared.word.Test.TheVariants as test
+use Rattle.word_code.specs.declared.word.WordInstr.{WordInstr}
+use Rattle.word_code.specs.declared.word.WordInstr.TheVariants.{Sum, Branch}
+use Rattle.word_code.specs.declared.word.WordProc.{WordProc}
+use Rattle.word_code.specs.Memory.{Memory}
+use Rattle.word_code.specs.Words.{Vars, put, from_label}
+use Rattle.word_code.proofs.ForCallers.{got, Runs, Within, at, then_runs, run_constant, run_copy, run_sum, run_past, run_off}
 use Rattle.word_lowering.specs.declared.homes.TheConstants.{LEFT, FIRST, SECOND}
 use Rattle.word_lowering.specs.Operations.{trap_label}
 use Rattle.word_lowering.specs.LineCode.{one_less, checked_code}
-use Rattle.word_lowering.proofs.CopyRuns.{got}
-use Rattle.word_lowering.proofs.Runs.{Runs, Within, at, then_runs, run_constant, run_copy, run_sum, run_past, run_off}
 use Rattle.word_lowering.proofs.OrdinalRuns.{AllSame}
 use Rattle.word_lowering.proofs.Moves.{same_more, same_first, same_second}
 use Rattle.word_lowering.proofs.OperationRuns.{Led}

@@ -1,56 +1,66 @@
--- Constants: zeros, and then the words that are no zeros. What the line does is followed.
+-- Constants that are built: zeros, and then the words that are no zeros. What the line does is followed.
 use Rattle.std.proofs.Common.{◌≡◌, inl, inr, ℕ, zero, suc, ◌+◌, ◌*◌, ◌%◌, ◌^◌, ◌<◌, ◌≤◌, List, [], ◌∷◌}
-use Rattle.std.proofs.Common.{◌++◌, Some, Ok, ℤ, true, false, refl, sym, pos}
+use Rattle.std.proofs.Common.{◌++◌, Some, None, Ok, ℤ, true, false, refl, sym, pos}
 use Rattle.std.proofs.Common.{ap, ap₂, subst, ◌∙◌, arith}
 use Rattle.std.proofs.lemmas.Bool.{and_parts}
+use Rattle.std.specs.Prelude.{◌&&◌}
 use Rattle.nim_types.specs.Forms.{or_word}
-use Rattle.nim_core.specs.Values.{Value, Number, Parts, Values, Nil, More, bytes, bytes_all}
+use Rattle.nim_types.specs.Table.{facts_in, type_at}
+use Rattle.nim_types.specs.Types.{Ty}
+use Rattle.nim_program.specs.Kinds.{is_of}
+use Rattle.nim_program.specs.declared.operation.Use.{Use}
+use Rattle.nim_meaning.specs.Values.{Value, Number, Parts, Handle, Fixed, Ref, Resource, Gone, Vacant, Values, Nil, More, bytes, bytes_all}
+use Rattle.nim_meaning.specs.Deeds.{Answers, costs, give, ◌>>=◌}
+use Rattle.nim_meaning.specs.Places.{made_by}
 use Rattle.rv32_isa.specs.declared.micro_op.Size.TheVariants.{Word as whole}
-use Rattle.mid_code.specs.declared.block.BlockLine.{BlockLine}
-use Rattle.mid_code.specs.declared.line.Line.{Line}
-use Rattle.mid_code.specs.declared.line.Line.TheVariants as L
-use Rattle.mid_code.specs.declared.line.Piece.{Piece}
-use Rattle.mid_code.specs.declared.line.Piece.TheVariants as P
-use Rattle.mid_code.specs.declared.word.WordInstr.{WordInstr}
-use Rattle.mid_code.specs.declared.word.WordInstr.TheVariants.{Constant, Store}
-use Rattle.mid_code.specs.Memory.{Memory, number_at, with_number}
-use Rattle.mid_code.specs.Words.{Vars, put}
-use Rattle.mid_code.specs.Pieces.{value_of, are_one}
-use Rattle.mid_code.specs.Shapes.{Shape, number, reference, block, elements, row, parts, Shapes, no_shapes, shapes, has_shape, are_rows, have_shapes}
-use Rattle.mid_code.specs.Fits.{may_have}
-use Rattle.mid_code.proofs.ForCallers.{never}
+use Rattle.flat_code.specs.declared.block.BlockLine.{BlockLine}
+use Rattle.flat_code.specs.declared.line.Line.TheVariants as L
+use Rattle.flat_code.specs.declared.line.Piece.{Piece}
+use Rattle.flat_code.specs.declared.line.Piece.TheVariants as P
+use Rattle.flat_code.specs.Lines.{gives}
+use Rattle.flat_code.specs.Running.{scene_of}
+use Rattle.flat_code.specs.Scene.{Passes, with_value}
+use Rattle.word_code.specs.declared.word.WordInstr.{WordInstr}
+use Rattle.word_code.specs.declared.word.WordInstr.TheVariants.{Constant, Store}
+use Rattle.word_code.specs.Memory.{Memory, number_at, with_number}
+use Rattle.word_code.specs.Words.{Vars, put}
+use Rattle.flat_code.specs.Pieces.{value_of, are_one, pieces_bytes}
+use Rattle.flat_code.specs.Shapes.{Shape, number, reference, block, elements, row, parts}
+use Rattle.flat_code.specs.Shapes.{resource, Shapes, no_shapes, shapes, has_shape, are_rows, have_shapes, shape_of}
+use Rattle.word_lowering.proofs.ShapeFacts.{all_of_numbers, fewer_numbers, never, of_numbers, values_of_numbers}
+use Rattle.word_code.proofs.ForCallers.{put_here, Changed, changed_word, Runs, then_runs, at as run_at, run_constant, run_store, got}
 use Rattle.word_lowering.specs.declared.homes.TheConstants.{FIRST, SECOND}
 use Rattle.word_lowering.specs.declared.homes.Home.{Home}
 use Rattle.word_lowering.specs.declared.homes.Housed.{Housed}
 use Rattle.word_lowering.specs.declared.spots.Spot.TheVariants.{Lies}
+use Rattle.word_lowering.specs.Aliases.{text_in, text_alias}
 use Rattle.word_lowering.specs.Layouts.{is_address}
 use Rattle.word_lowering.specs.Spots.{spot_of, shifted, cleared}
 use Rattle.word_lowering.specs.Operations.{word}
-use Rattle.word_lowering.specs.LineCode.{unless_zero, pieces_code, piece_words, first_word, constant_code}
-use Rattle.word_lowering.proofs.Cells.{put_here}
-use Rattle.word_lowering.proofs.InMemory.{AreAt, AreZero, all_carried, bytes_some}
-use Rattle.word_lowering.proofs.Copied.{Changed, changed_word}
-use Rattle.word_lowering.proofs.Runs.{Runs, then_runs, at as run_at, run_constant, run_store}
-use Rattle.word_lowering.proofs.CopyRuns.{got}
+use Rattle.word_lowering.specs.LineCode.{unless_zero, pieces_code, piece_words, first_word, constant_at, constant_by}
+use Rattle.word_lowering.proofs.AddressFacts.{in_memory}
+use Rattle.word_lowering.proofs.InMemory.{AreAt, AreZero, OfNumbers, all_carried, bytes_some, or_word_is}
 use Rattle.word_lowering.proofs.RoutineCalls.{awaiting}
 use Rattle.word_lowering.proofs.OrdinalRuns.{put_here as var_here, but_one}
 use Rattle.word_lowering.proofs.Arithmetic.{word_small}
-use Rattle.word_lowering.proofs.Moves.{is_single, all_same, same_more, same_first, same_second, ToVariable, address_runs}
-use Rattle.word_lowering.proofs.LineFits.{may_have_some, number_fits, single_is}
-use Rattle.word_lowering.proofs.Sites.{InMemory, IsHoused}
-use Rattle.word_lowering.proofs.SitesApart.{houses}
-use Rattle.word_lowering.proofs.Scenes.{address_of, Points, Name, of_value, house, IsThere, looked}
+use Rattle.word_lowering.proofs.Clears.{zeros_by}
+use Rattle.word_lowering.proofs.ConstantWords.{number_constant, text_constant}
+use Rattle.word_lowering.proofs.Moves.{ToVariable, address_runs, all_same, is_single, same_first, same_more, same_second}
+use Rattle.word_lowering.proofs.LineFits.{are_of, number_fits, single_is}
+use Rattle.word_lowering.proofs.Sites.{InMemory}
+use Rattle.word_lowering.proofs.Scenes.{address_of, Points, of_value, house, IsThere, looked}
 use Rattle.word_lowering.proofs.Keeping.{spot_memory, points_there}
-use Rattle.word_lowering.proofs.Related.{Both, body_of, procs, within, code_behind}
-use Rattle.word_lowering.proofs.Lines.{Basis, fits_here, stands_next, starts, IsGood, all_sites}
-use Rattle.word_lowering.proofs.ValueFacts.{named_value, value_plain, InWord, in_word}
-use Rattle.word_lowering.proofs.ControlLines.{FollowedHere}
+use Rattle.word_lowering.proofs.Related.{Both, body_of, high, within}
+use Rattle.word_lowering.proofs.Lines.{Basis, Settles, all_procs, fits_here, known, starts, IsGood, all_sites}
+use Rattle.word_lowering.proofs.ValueFacts.{value_plain, InWord, in_word}
+use Rattle.word_lowering.proofs.ControlLines.{FollowedHere, plain, value_type}
 use Rattle.word_lowering.proofs.Sources.{Lying, lying_all, lying_area, lying_near, size_is, word_is, address_whole}
 use Rattle.word_lowering.proofs.Gets.{Gets, memory_kept, gets_word, gets_bytes, value_settles}
-use Rattle.word_lowering.proofs.OutLines.{zeros_at}
-use Rattle.word_lowering.proofs.PartRuns.{changed_same, changed_both, shifted_inside, shifted_address, Sofar}
-use Rattle.word_lowering.proofs.MakeLines.{shape_of_value, parts_inside}
-use Rattle.word_lowering.proofs.PieceWords.{words_in, all_words, room_of, words_room, WordsAt, by_words, words_are}
+use Rattle.word_lowering.proofs.PartRuns.{changed_same, changed_both, more_most, shifted_inside, shifted_address, Sofar}
+use Rattle.word_lowering.proofs.PieceWords.{PiecesAre, one_number, one_text, built, pieces_are, words_in, all_words, room_of, words_room, WordsAt}
+use Rattle.word_lowering.proofs.PieceWords.{by_words, words_are}
+use Rattle.word_lowering.proofs.Settling.{LabelsLead, code_here, code_next}
+use Rattle.word_lowering.proofs.Targets.{target, texts_behind}
 
 -- as many zeros
 abbrev zeros_of : List ℕ → Values
@@ -65,11 +75,7 @@ zeros_room : (ws : List ℕ) → bytes_all (zeros_of ws) ≡ room_of ws
 zeros_room [] = refl
 zeros_room (w ∷ ws) = let e = zeros_room ws in omega (arith, e)
 
-some_room : (n : ℕ) → 4 ≤ n → or_word n ≡ n
-some_room zero h = absurd (omega (arith, h))
-some_room (suc n) h = refl
-
--- words of ints
+-- words of 32 bits
 abbrev AllSmall : List ℕ → Type 0
 AllSmall [] = Unit {0}
 AllSmall (w ∷ ws) = (w < 2 ^ 32) × AllSmall ws
@@ -79,32 +85,40 @@ small_both [] us a b = b
 small_both (w ∷ ws) us a b = (a.0, small_both ws us a.1 b)
 
 mutual
-  small_words : (v : Value) (s : Shape) → has_shape v s ≡ true → AllSmall (words_in v)
-  small_words (Number z) s h = (word_small z (number_fits (Number z) s h), tt)
-  small_words (Parts Nil) s h = (omega arith, tt)
-  small_words (Parts (More v vs)) (number values) h = never h
-  small_words (Parts (More v vs)) reference h = never h
-  small_words (Parts (More v vs)) block h = never h
-  small_words (Parts (More v vs)) (elements s) h = never h
-  small_words (Parts (More v vs)) (row n s) h = small_rows (More v vs) n s h
-  small_words (Parts (More v vs)) (parts ss) h = small_parts (More v vs) ss h
+  small_words : (v : Value) (s : Shape) → of_numbers s ≡ true → has_shape v s ≡ true → AllSmall (words_in v)
+  small_words (Number z) s o h = (word_small z (number_fits (Number z) s h), tt)
+  small_words (Parts Nil) s o h = (omega arith, tt)
+  small_words (Parts (More v vs)) (number values) o h = never h
+  small_words (Parts (More v vs)) reference o h = never o
+  small_words (Parts (More v vs)) block o h = never o
+  small_words (Parts (More v vs)) (elements s) o h = never o
+  small_words (Parts (More v vs)) (resource ss) o h = never o
+  small_words (Parts (More v vs)) (row n s) o h = small_rows (More v vs) n s o h
+  small_words (Parts (More v vs)) (parts ss) o h = small_parts (More v vs) ss o h
+  small_words (Handle n k) s o h = tt
+  small_words (Fixed text) s o h = tt
+  small_words (Ref object) s o h = tt
+  small_words (Resource vs i) s o h = tt
+  small_words (Gone v final) s o h = tt
+  small_words Vacant s o h = tt
 
-  small_rows : (vs : Values) (n : ℕ) (s : Shape) → are_rows vs n s ≡ true → AllSmall (all_words vs)
-  small_rows Nil n s h = tt
-  small_rows (More v vs) zero s h = never h
-  small_rows (More v vs) (suc n) s h =
+  small_rows : (vs : Values) (n : ℕ) (s : Shape) → of_numbers (row n s) ≡ true → are_rows vs n s ≡ true → AllSmall (all_words vs)
+  small_rows Nil n s o h = tt
+  small_rows (More v vs) zero s o h = never h
+  small_rows (More v vs) (suc n) s o h =
       let p = and_parts (has_shape v s) (are_rows vs n s) h in
-      small_both (words_in v) (all_words vs) (small_words v s p.0) (small_rows vs n s p.1)
+      small_both (words_in v) (all_words vs) (small_words v s o p.0) (small_rows vs n s (fewer_numbers n s o) p.1)
 
-  small_parts : (vs : Values) (ss : Shapes) → have_shapes vs ss ≡ true → AllSmall (all_words vs)
-  small_parts Nil ss h = tt
-  small_parts (More v vs) no_shapes h = never h
-  small_parts (More v vs) (shapes s ss) h =
+  small_parts : (vs : Values) (ss : Shapes) → all_of_numbers ss ≡ true → have_shapes vs ss ≡ true → AllSmall (all_words vs)
+  small_parts Nil ss o h = tt
+  small_parts (More v vs) no_shapes o h = never h
+  small_parts (More v vs) (shapes s ss) o h =
       let p = and_parts (has_shape v s) (have_shapes vs ss) h in
-      small_both (words_in v) (all_words vs) (small_words v s p.0) (small_parts vs ss p.1)
+      let q = and_parts (of_numbers s) (all_of_numbers ss) o in
+      small_both (words_in v) (all_words vs) (small_words v s q.0 p.0) (small_parts vs ss q.1 p.1)
 
-module _ (x : Basis) (g : Both) (line : Line) (rest : List BlockLine) (y : IsGood x (starts g line rest)) (to : ℕ)
-    (there : IsThere x.table x.blocks g.call.site (of_value to)) (inside : InMemory (house g.call.site (of_value to)).home) where
+module _ (x : Basis) (g : Both) (line : BlockLine) (rest : List BlockLine) (y : IsGood x (starts g line rest)) (to : ℕ)
+    (there : IsThere g.call.site (of_value to)) (inside : InMemory (house g.call.site (of_value to)).home) where
   abbrev place : Housed
   place = house g.call.site (of_value to)
 
@@ -120,44 +134,19 @@ module _ (x : Basis) (g : Both) (line : Line) (rest : List BlockLine) (y : IsGoo
     pub are_at : WordsAt sofar.memory a ws
     pub more : before ≤ sofar.steps
 
-  abbrev more_few : (lines k : List WordInstr) (most most' : ℕ) → most ≤ most' → (s : So lines k most) → So lines k most'
-  more_few lines k most most' le s = record {
-    memory = s.memory;
-    vars = s.vars;
-    words = s.words;
-    awaits = s.awaits;
-    good = s.good;
-    changed = s.changed;
-    same = s.same;
-    steps = s.steps;
-    few = (let h = s.few in omega (arith, h, le));
-    runs = s.runs;
-  }
-
   -- a word where a zero is
   word_written : (home : Home) → InMemory home → (a : ℕ) → a ≡ address_of g.call.site.base home → start ≤ a → a + 4 ≤ start + place.bytes
       → a % 4 ≡ 0
       → (n : ℕ) → n < 2 ^ 32 → (lines k : List WordInstr) (most : ℕ) → (s : So lines (unless_zero home n k) most)
       → number_at s.memory a whole ≡ Ok 0
       → WordsAfter s.memory s.steps lines k a (n ∷ []) (most + 3)
-  word_written home in_memory a is low high by_four zero small lines k most s blank = record {
-    sofar = record {
-      memory = s.memory;
-      vars = s.vars;
-      words = s.words;
-      awaits = s.awaits;
-      good = s.good;
-      changed = s.changed;
-      same = s.same;
-      steps = s.steps;
-      few = (let h = s.few in omega (arith, h));
-      runs = s.runs;
-    };
+  word_written home at_home a is low high by_four zero small lines k most s blank = record {
+    sofar = more_most x g line rest y to there inside lines k most (most + 3) (omega arith) s;
     changed = changed_same s.memory a 4 s.good.sized;
     are_at = (blank, tt);
     more = omega arith;
   }
-  word_written home in_memory a is low high by_four (suc n) small lines k most s blank =
+  word_written home at_home a is low high by_four (suc n) small lines k most s blank =
       let w : ℕ = suc n in
       let lying : Lying x (all_sites x g line rest y) y.linked a 4 = record {
         site = g.call.site;
@@ -172,15 +161,15 @@ module _ (x : Basis) (g : Both) (line : Line) (rest : List BlockLine) (y : IsGoo
       let area = lying_area x (all_sites x g line rest y) y.linked s.memory a 4 s.good lying 1 (omega arith) in
       let near = lying_near x (all_sites x g line rest y) y.linked a 4 lying in
       let points : Points g.call.site.base s.vars home a = subst (Points g.call.site.base s.vars home) (sym is)
-      (points_there g.call.site.base s.vars home in_memory) in
+      (points_there g.call.site.base s.vars home at_home) in
       let c = awaiting (within x.table x.blocks g) s.awaits in
       let v1 : Vars = put s.vars FIRST a in
       let v2 : Vars = put v1 SECOND w in
       let k2 : List WordInstr = Store FIRST SECOND whole ∷ k in
       let m : Memory = with_number s.memory a whole w in
-      let r1 = address_runs x.law x.live (procs x.table x.blocks) c refl s.words s.memory (Constant SECOND w ∷ k2) s.vars FIRST home a points in
-      let r2 = run_constant x.live (procs x.table x.blocks) c s.memory k2 v1 s.words SECOND w in
-      let r3 = run_store x.live (procs x.table x.blocks) c s.memory k v2 s.words FIRST SECOND whole (got a (omega (arith, near))) (got w small) area.0.may in
+      let r1 = address_runs x.law x.live (all_procs x) c refl s.words s.memory (Constant SECOND w ∷ k2) s.vars FIRST home a points in
+      let r2 = run_constant x.live (all_procs x) c s.memory k2 v1 s.words SECOND w in
+      let r3 = run_store x.live (all_procs x) c s.memory k v2 s.words FIRST SECOND whole (got a (omega (arith, near))) (got w small) area.0.may in
       let ch = changed_word x.law s.memory a w s.good.sized area.0 small in
       record {
         sofar = record {
@@ -193,8 +182,8 @@ module _ (x : Basis) (g : Both) (line : Line) (rest : List BlockLine) (y : IsGoo
           same = same_more g.call.vars s.vars v2 s.same (same_more s.vars v1 v2 (same_first s.vars a) (same_second v1 w));
           steps = s.steps + 3;
           few = (let h = s.few in omega (arith, h));
-          runs = then_runs x.live (procs x.table x.blocks) s.runs
-              (then_runs x.live (procs x.table x.blocks) (then_runs x.live (procs x.table x.blocks) r1 r2) r3);
+          runs = then_runs x.live (all_procs x) s.runs
+              (then_runs x.live (all_procs x) (then_runs x.live (all_procs x) r1 r2) r3);
         };
         changed = ch;
         are_at = (put_here x.law s.memory a w s.good.sized area.0.may small, tt);
@@ -207,7 +196,7 @@ module _ (x : Basis) (g : Both) (line : Line) (rest : List BlockLine) (y : IsGoo
       → WordsAfter f.sofar.memory f.sofar.steps lines k (a + 4) ws (most + 3 + room_of ws) → WordsAfter m before lines k a (n ∷ ws) (most +
       (4 + room_of ws))
   words_both n ws a lines k k' most before m f q = record {
-    sofar = more_few lines k (most + 3 + room_of ws) (most + (4 + room_of ws)) (omega arith) q.sofar;
+    sofar = more_most x g line rest y to there inside lines k (most + 3 + room_of ws) (most + (4 + room_of ws)) (omega arith) q.sofar;
     changed = changed_both m f.sofar.memory q.sofar.memory a 4 (a + 4) (room_of ws) a (4 + room_of ws) f.changed q.changed
         (omega arith) (omega arith) (omega arith) (omega arith);
     are_at = (q.changed.outside a (inl (omega arith)) ∙ f.are_at.0, q.are_at);
@@ -220,60 +209,75 @@ module _ (x : Basis) (g : Both) (line : Line) (rest : List BlockLine) (y : IsGoo
   still_zeros n ws a lines k most before m f blank =
       all_carried m f.sofar.memory (a + 4) (a + 4) (zeros_of ws) (λ o inner by. f.changed.outside (a + 4 + o) (inr (omega arith))) blank
 
-  words_written : (pieces : List Piece) → AllSmall (piece_words pieces) → (home : Home) → InMemory home → (a : ℕ)
-      → a ≡ address_of g.call.site.base home
+  -- what some pieces do, at a home
+  abbrev Writes : List Piece → Type 0
+  Writes pieces = AllSmall (piece_words pieces) → (home : Home) → InMemory home → (a : ℕ) → a ≡ address_of g.call.site.base home
       → start ≤ a → a + room_of (piece_words pieces) ≤ start + place.bytes → a % 4 ≡ 0
       → (lines k : List WordInstr) (most : ℕ) → (s : So lines (pieces_code home pieces k) most) → AreAt s.memory a (zeros_of (piece_words pieces))
       → WordsAfter s.memory s.steps lines k a (piece_words pieces) (most + room_of (piece_words pieces))
-  words_written [] small home in_memory a is low high by_four lines k most s blank = record {
-    sofar = more_few lines k most (most + 0) (omega arith) s;
+
+  -- a word before others
+  word_before : (n : ℕ) (pieces : List Piece) → n < 2 ^ 32 → AllSmall (piece_words pieces) → Writes pieces
+      → (home : Home) → InMemory home → (a : ℕ) → a ≡ address_of g.call.site.base home
+      → start ≤ a → a + (4 + room_of (piece_words pieces)) ≤ start + place.bytes → a % 4 ≡ 0
+      → (lines k : List WordInstr) (most : ℕ) → (s : So lines (unless_zero home n (pieces_code (shifted 4 home) pieces k)) most)
+      → AreAt s.memory a (More (Number (pos 0)) (zeros_of (piece_words pieces)))
+      → WordsAfter s.memory s.steps lines k a (n ∷ piece_words pieces) (most + (4 + room_of (piece_words pieces)))
+  word_before n pieces small all more home at_home a is low high by_four lines k most s blank =
+      let ws : List ℕ = piece_words pieces in
+      let k' : List WordInstr = pieces_code (shifted 4 home) pieces k in
+      let address = shifted_address g.call.site.base 4 home at_home in
+      let f = word_written home at_home a is low (omega (arith, high)) by_four n small lines k' most s blank.0 in
+      words_both n ws a lines k k' most s.steps s.memory f
+      (more all (shifted 4 home) (shifted_inside 4 home at_home) (a + 4) (omega (arith, is, address)) (omega (arith, low))
+      (omega (arith, high)) (omega (arith, by_four)) lines k (most + 3) f.sofar
+      (still_zeros n ws a lines k' (most + 3) s.steps s.memory f blank.1))
+
+  words_written : (pieces : List Piece) → Writes pieces
+  words_written [] small home at_home a is low high by_four lines k most s blank = record {
+    sofar = more_most x g line rest y to there inside lines k most (most + 0) (omega arith) s;
     changed = changed_same s.memory a 0 s.good.sized;
     are_at = tt;
     more = omega arith;
   }
-  words_written (P.Ordinal z ∷ pieces) small home in_memory a is low high by_four lines k most s blank =
-      let ws : List ℕ = piece_words pieces in
-      let k' : List WordInstr = pieces_code (shifted 4 home) pieces k in
-      let address = shifted_address g.call.site.base 4 home in_memory in
-      let f = word_written home in_memory a is low (omega (arith, high)) by_four (word z) small.0 lines k' most s blank.0 in
-      words_both (word z) ws a lines k k' most s.steps s.memory f
-      (words_written pieces small.1 (shifted 4 home) (shifted_inside 4 home in_memory) (a + 4) (omega (arith, is, address)) (omega (arith, low))
-      (omega (arith, high)) (omega (arith, by_four)) lines k (most + 3) f.sofar
-      (still_zeros (word z) ws a lines k' (most + 3) s.steps s.memory f blank.1))
-  words_written (P.Parts zero ∷ pieces) small home in_memory a is low high by_four lines k most s blank =
-      let ws : List ℕ = piece_words pieces in
-      let k' : List WordInstr = pieces_code (shifted 4 home) pieces k in
-      let address = shifted_address g.call.site.base 4 home in_memory in
-      let f = word_written home in_memory a is low (omega (arith, high)) by_four 0 (omega arith) lines k' most s blank.0 in
-      words_both 0 ws a lines k k' most s.steps s.memory f
-      (words_written pieces small.1 (shifted 4 home) (shifted_inside 4 home in_memory) (a + 4) (omega (arith, is, address)) (omega (arith, low))
-      (omega (arith, high)) (omega (arith, by_four)) lines k (most + 3) f.sofar
-      (still_zeros 0 ws a lines k' (most + 3) s.steps s.memory f blank.1))
-  words_written (P.Parts (suc n) ∷ pieces) small home in_memory a is low high by_four lines k most s blank =
-      words_written pieces small home in_memory a is low high by_four lines k most s blank
+  words_written (P.Ordinal z ∷ pieces) small home at_home a is low high by_four lines k most s blank =
+      word_before (word z) pieces small.0 small.1 (words_written pieces) home at_home a is low high by_four lines k most s blank
+  words_written (P.Parts zero ∷ pieces) small home at_home a is low high by_four lines k most s blank =
+      word_before 0 pieces small.0 small.1 (words_written pieces) home at_home a is low high by_four lines k most s blank
+  words_written (P.Elements zero ∷ pieces) small home at_home a is low high by_four lines k most s blank =
+      word_before 0 pieces small.0 small.1 (words_written pieces) home at_home a is low high by_four lines k most s blank
+  words_written (P.Parts (suc n) ∷ pieces) small home at_home a is low high by_four lines k most s blank =
+      words_written pieces small home at_home a is low high by_four lines k most s blank
+  words_written (P.Elements (suc n) ∷ pieces) small home at_home a is low high by_four lines k most s blank =
+      words_written pieces small home at_home a is low high by_four lines k most s blank
+  words_written (P.Text text ∷ pieces) small home at_home a is low high by_four lines k most s blank =
+      words_written pieces small home at_home a is low high by_four lines k most s blank
+  words_written (P.Nil ∷ pieces) small home at_home a is low high by_four lines k most s blank =
+      words_written pieces small home at_home a is low high by_four lines k most s blank
 
   -- zeros, and then the words
-  gets_constant : (pieces : List Piece) (v : Value) → piece_words pieces ≡ words_in v → AllSmall (piece_words pieces)
-      → has_shape v (looked x.table x.blocks g.call.site (of_value to)) ≡ true → is_single v ≡ false → (k : List WordInstr)
-      → Gets x g line rest y (constant_code place (spot_of place) pieces k) k (of_value to) v (9 + 2 * bytes v)
-  gets_constant pieces v are small shaped parted k =
-      let plain : is_address place.kind ≡ false = value_plain place.kind there.kind in
+  gets_constant : (pieces : List Piece) (v : Value) → piece_words pieces ≡ words_in v → AllSmall (words_in v) → OfNumbers v
+      → has_shape v (looked x.table g.call.site (of_value to)) ≡ true → is_single v ≡ false → (k : List WordInstr)
+      → Gets x g line rest y (constant_at place (spot_of place) pieces k) k (of_value to) v (9 + 2 * bytes v)
+  gets_constant pieces v are are_small numbers shaped parted k =
+      let plain_is : is_address place.kind ≡ false = value_plain place.kind there.kind in
       let ws : List ℕ = piece_words pieces in
+      let small : AllSmall ws = subst AllSmall (sym are) are_small in
       let zeros : Value = Parts (zeros_of ws) in
-      let full : room_of ws ≡ bytes v = ap room_of are ∙ words_room v in
-      let least : 4 ≤ bytes v = bytes_some v in
+      let full : room_of ws ≡ bytes v = ap room_of are ∙ words_room v numbers in
+      let least : 4 ≤ bytes v = bytes_some v numbers in
       let zeros_bytes : bytes zeros ≡ bytes v
-      = ap or_word (zeros_room ws) ∙ some_room (room_of ws) (omega (arith, full, least)) ∙ full in
-      let size : place.bytes ≡ bytes v = size_is x (all_sites x g line rest y) y.linked g.call (inl refl) (of_value to) there plain v shaped in
+      = ap or_word (zeros_room ws) ∙ or_word_is (room_of ws) (omega (arith, full, least)) ∙ full in
+      let size : place.bytes ≡ bytes v = size_is x (all_sites x g line rest y) y.linked g.call (inl refl) (of_value to) there plain_is v shaped in
       let long : place.bytes ≡ bytes zeros = size ∙ sym zeros_bytes in
       let single : place.is_word ≡ false
-      = word_is x (all_sites x g line rest y) y.linked g.call (inl refl) (of_value to) there plain v shaped ∙ parted in
+      = word_is x (all_sites x g line rest y) y.linked g.call (inl refl) (of_value to) there plain_is v shaped ∙ parted in
       let lying = lying_all x (all_sites x g line rest y) y.linked g.call.site (of_value to) (bytes zeros) (inl refl) there inside long in
       let k1 : List WordInstr = pieces_code place.home pieces k in
-      let lines : List WordInstr = constant_code place (spot_of place) pieces k in
-      let r = zeros_at x g line rest y place.home start (points_there g.call.site.base g.call.vars place.home inside) zeros (zeros_zero ws) lying k1 in
+      let lines : List WordInstr = constant_at place (spot_of place) pieces k in
+      let r = zeros_by x g line rest y (of_value to) there inside zeros (zeros_zero ws) long k1 in
       let same_code : lines ≡ cleared false (bytes zeros) (Lies place.home) k1
-      = ap (λ p. constant_code place p pieces k) (spot_memory place plain inside) ∙ ap₂ (λ a b. cleared a b (Lies place.home) k1) single long in
+      = ap (λ p. constant_at place p pieces k) (spot_memory place plain_is inside) ∙ ap₂ (λ a b. cleared a b (Lies place.home) k1) single long in
       let s0 : So lines k1 (9 + bytes v) = record {
         memory = r.memory;
         vars = r.vars;
@@ -284,93 +288,104 @@ module _ (x : Basis) (g : Both) (line : Line) (rest : List BlockLine) (y : IsGoo
         same = r.same;
         steps = r.steps;
         few = (let h = r.few in omega (arith, h, zeros_bytes));
-        runs = subst (λ c. Runs x.live (procs x.table x.blocks) r.steps (run_at (within x.table x.blocks g) g.memory c g.call.vars g.words)
+        runs = subst (λ c. Runs x.live (all_procs x) r.steps (run_at (within x.table x.blocks g) g.memory c g.call.vars g.words)
             (run_at (awaiting (within x.table x.blocks g) r.awaits) r.memory k1 r.vars r.words)) (sym same_code) r.runs;
       } in
       let d = words_written pieces small place.home inside start refl (omega arith) (omega (arith, full, size))
       (address_whole x (all_sites x g line rest y) y.linked g.call.site (of_value to) (inl refl) there inside) lines k (9 + bytes v) s0 r.there in
-      gets_bytes x g line rest y (of_value to) there plain v shaped lines k (9 + 2 * bytes v) inside (record {
+      gets_bytes x g line rest y (of_value to) there plain_is v shaped lines k (9 + 2 * bytes v) inside (record {
         memory = d.sofar.memory;
         vars = d.sofar.vars;
         words = d.sofar.words;
         awaits = d.sofar.awaits;
         same = d.sofar.same;
         changed = subst (λ b. Changed g.memory d.sofar.memory start b) size d.sofar.changed;
-        there = by_words d.sofar.memory start v (subst (λ us. WordsAt d.sofar.memory start us) are d.are_at);
+        there = by_words d.sofar.memory start v numbers (subst (λ us. WordsAt d.sofar.memory start us) are d.are_at);
         steps = d.sofar.steps;
         some = (let h = d.more in let j = r.some in omega (arith, h, j));
         few = (let h = d.sofar.few in omega (arith, h, full));
         runs = d.sofar.runs;
       })
 
-more_gets : (x : Basis) (g : Both) (line : Line) (rest : List BlockLine) (y : IsGood x (starts g line rest)) (lines k : List WordInstr) (f : Name) (v : Value)
-    (most : ℕ) → 2 ≤ most → Gets x g line rest y lines k f v 2 → Gets x g line rest y lines k f v most
-more_gets x g line rest y lines k f v most le r = record {
-  vars = r.vars;
-  memory = r.memory;
-  words = r.words;
-  awaits = r.awaits;
-  good = r.good;
-  edit = r.edit;
-  variables = r.variables;
-  left = r.left;
-  at_place = r.at_place;
-  steps = r.steps;
-  some = r.some;
-  few = (let h = r.few in omega (arith, h, le));
-  runs = r.runs;
-}
+module _ (x : Basis) (g : Both) (line : BlockLine) (rest : List BlockLine) (y : IsGood x (starts g line rest)) (to : ℕ)
+    (there : IsThere g.call.site (of_value to)) where
+  -- a word, in a variable
+  gets_number : (pieces : List Piece) (z : ℤ) → piece_words pieces ≡ word z ∷ [] → has_shape (Number z) (looked x.table g.call.site (of_value to)) ≡ true
+      → InWord (house g.call.site (of_value to)) → (k : List WordInstr)
+      → Gets x g line rest y (constant_at (house g.call.site (of_value to)) (spot_of (house g.call.site (of_value to))) pieces k) k (of_value to)
+      (Number z) 2
+  gets_number pieces z are shaped w k =
+      let h : Housed = house g.call.site (of_value to) in
+      let t : ℕ = w.variable in
+      let n : ℕ = first_word (piece_words pieces) in
+      let is : n ≡ word z = ap first_word are in
+      let small : word z < 2 ^ 32 = word_small z (number_fits (Number z) (looked x.table g.call.site (of_value to)) shaped) in
+      gets_word x g line rest y (of_value to) there (value_plain h.kind there.kind) (Number z) shaped (constant_at h (spot_of h) pieces k) k t w.home
+      (subst (λ l. ToVariable x.law x.live (all_procs x) (within x.table x.blocks g) refl g.words g.memory l g.call.vars t (Number z) k)
+      (sym (ap (λ q. constant_at h q pieces k) w.spot)) (record {
+        vars = put g.call.vars t n;
+        given = var_here g.call.vars t n (omega (arith, is, small)) ∙ ap Some is;
+        but = but_one g.call.vars g.call.vars t n w.high (all_same g.call.vars);
+        steps = 1;
+        some = omega arith;
+        few = omega arith;
+        runs = run_constant x.live (all_procs x) (within x.table x.blocks g) g.memory k g.call.vars g.words t n;
+      }))
 
-module _ (x : Basis) (g : Both) (rest : List BlockLine) where
-  pub constant_line : (to : ℕ) (pieces : List Piece) → FollowedHere x g rest (L.Constant to pieces)
-  constant_line to pieces y free =
-      let line : Line = L.Constant to pieces in
-      let fit = and_parts (are_one pieces 0) (may_have (shape_of_value x g to) (value_of pieces))
-      (fits_here x.table x.blocks (body_of g) y.passed line rest y.stands) in
-      let m = may_have_some (shape_of_value x g to) (value_of pieces) fit.1 in
-      let n = named_value x g.call.site to m.shape y.linked.0 m.is in
-      let shaped : has_shape (value_of pieces) (looked x.table x.blocks g.call.site (of_value to)) ≡ true
-      = subst (λ s. has_shape (value_of pieces) s ≡ true) (sym n.1) m.shaped in
-      value_settles x g line rest y free (stands_next x.table x.blocks (body_of g) y.passed line rest y.stands) to (value_of pieces)
-      (9 + 2 * bytes (value_of pieces)) n.0 shaped
-      (by y n.0 (value_of pieces) (words_are pieces fit.0) shaped (houses x.table x.blocks g.call.site (of_value to) y.linked.0 n.0)) (omega arith)
+  -- a value that is built, of numbers
+  pub built_settles : (pieces : List Piece) (v : Value) → piece_words pieces ≡ words_in v → OfNumbers v
+      → of_numbers (looked x.table g.call.site (of_value to)) ≡ true
+      → has_shape v (looked x.table g.call.site (of_value to)) ≡ true
+      → code_here x g line rest y
+      ≡ constant_at (house g.call.site (of_value to)) (spot_of (house g.call.site (of_value to))) pieces (code_next x g line rest y)
+      → Settles x (starts g line rest) rest (Passes (Answers [] (1 + (bytes v + 0)) (with_value to g.call.temps v) g.world))
+  built_settles pieces (Number z) are o numbers shaped code =
+      value_settles x g line rest y to (Number z) 2 (1 + (4 + 0)) there shaped
+      (subst (λ l. Gets x g line rest y l (code_next x g line rest y) (of_value to) (Number z) 2) (sym code)
+      (gets_number pieces z are shaped
+      (in_word x g.call.site to y.linked.0 there (sym (single_is (Number z) (looked x.table g.call.site (of_value to)) numbers shaped)))
+      (code_next x g line rest y))) (omega arith)
+  built_settles pieces (Parts vs) are o numbers shaped code =
+      let plain_is = value_plain (house g.call.site (of_value to)).kind there.kind in
+      let inside = in_memory x g line rest y (of_value to) there plain_is
+      (sym (single_is (Parts vs) (looked x.table g.call.site (of_value to)) numbers shaped)) in
+      value_settles x g line rest y to (Parts vs) (9 + 2 * bytes (Parts vs)) (1 + (bytes (Parts vs) + 0)) there shaped
+      (subst (λ l. Gets x g line rest y l (code_next x g line rest y) (of_value to) (Parts vs) (9 + 2 * bytes (Parts vs))) (sym code)
+      (gets_constant x g line rest y to there inside pieces (Parts vs) are
+      (small_words (Parts vs) (looked x.table g.call.site (of_value to)) numbers shaped) o shaped refl (code_next x g line rest y))) (omega arith)
+  built_settles pieces (Handle n k) are o numbers shaped code = absurd o
+  built_settles pieces (Fixed text) are o numbers shaped code = absurd o
+  built_settles pieces (Ref object) are o numbers shaped code = absurd o
+  built_settles pieces (Resource vs i) are o numbers shaped code = absurd o
+  built_settles pieces (Gone v final) are o numbers shaped code = absurd o
+  built_settles pieces Vacant are o numbers shaped code = absurd o
+
+-- ---- the line
+
+module _ (x : Basis) (labels : LabelsLead x) (g : Both) (rest : List BlockLine) (to : ℕ) (how : Use) (ty : ℕ) where
+  built_constant : (pieces : List Piece) → text_in pieces ≡ None → pieces_bytes pieces ≡ bytes (value_of pieces)
+      → FollowedHere x labels g rest (L.Constant to how ty pieces)
+  built_constant pieces no_text long y =
+      let line = plain (L.Constant to how ty pieces) in
+      let to_type : Ty = type_at (known x).types ty in
+      let v : Value = value_of pieces in
+      let one_shaped = has_shape v (shape_of (facts_in x.table) to_type) in
+      let f = and_parts (are_one pieces 0 && one_shaped) (is_of (value_type x g line rest y to) (Some to_type))
+      (fits_here x.table x.blocks (body_of g) line rest y.stands) in
+      let p = and_parts (are_one pieces 0) one_shaped f.0 in
+      let u = are_of (value_type x g line rest y to) (Some to_type) f.1 in
+      let t = target x g line rest y to to_type refl (ap (text_alias (texts_behind x g line rest y)) no_text) (u.is ∙ sym u.is_other) in
+      subst (λ b. Settles x (starts g line rest) rest (gives (scene_of (high x.table x.blocks (starts g line rest))) to
+      (costs 1 (costs (pieces_bytes pieces) (give v)) >>= made_by b how))) (sym t.unhooked)
+      (subst (λ n. Settles x (starts g line rest) rest (Passes (Answers [] (1 + (n + 0)) (with_value to g.call.temps v) g.world))) (sym long)
+      (built_settles x g line rest y to t.there pieces v (words_are pieces p.0) (values_of_numbers v (shape_of (facts_in x.table) to_type) t.numbers p.1)
+      (ap of_numbers t.look ∙ t.numbers) (subst (λ s. has_shape v s ≡ true) (sym t.look) p.1)
+      (ap (λ o. constant_by o (house g.call.site (of_value to)) pieces (code_next x g line rest y)) no_text)))
+
+  pub constant_line : (pieces : List Piece) → FollowedHere x labels g rest (L.Constant to how ty pieces)
+  constant_line pieces = by (pieces_are pieces)
     where
-      number_by : (y : IsGood x (starts g (L.Constant to pieces) rest)) → IsThere x.table x.blocks g.call.site (of_value to) → (z : ℤ)
-          → piece_words pieces ≡ word z ∷ [] → has_shape (Number z) (looked x.table x.blocks g.call.site (of_value to)) ≡ true
-          → InWord (house g.call.site (of_value to))
-          → Gets x g (L.Constant to pieces) rest y
-          (constant_code (house g.call.site (of_value to)) (spot_of (house g.call.site (of_value to))) pieces (code_behind x.table x.blocks (body_of g) rest))
-          (code_behind x.table x.blocks (body_of g) rest) (of_value to) (Number z) 17
-      number_by y there z are shaped w =
-          let t : ℕ = w.variable in
-          let n : ℕ = first_word (piece_words pieces) in
-          let k : List WordInstr = code_behind x.table x.blocks (body_of g) rest in
-          let is : n ≡ word z = ap first_word are in
-          let small : word z < 2 ^ 32 = word_small z (number_fits (Number z) (looked x.table x.blocks g.call.site (of_value to)) shaped) in
-          more_gets x g (L.Constant to pieces) rest y
-          (constant_code (house g.call.site (of_value to)) (spot_of (house g.call.site (of_value to))) pieces k) k (of_value to) (Number z) 17 (omega arith)
-          (gets_word x g (L.Constant to pieces) rest y (of_value to) there (value_plain (house g.call.site (of_value to)).kind there.kind) (Number z) shaped
-          (constant_code (house g.call.site (of_value to)) (spot_of (house g.call.site (of_value to))) pieces k) k t w.home
-          (subst (λ l. ToVariable x.law x.live (procs x.table x.blocks) (within x.table x.blocks g) refl g.words g.memory l g.call.vars t (Number z) k)
-          (sym (ap (λ q. constant_code (house g.call.site (of_value to)) q pieces k) w.spot)) (record {
-            vars = put g.call.vars t n;
-            given = var_here g.call.vars t n (omega (arith, is, small)) ∙ ap Some is;
-            but = but_one g.call.vars g.call.vars t n w.high (all_same g.call.vars);
-            steps = 1;
-            some = omega arith;
-            few = omega arith;
-            runs = run_constant x.live (procs x.table x.blocks) (within x.table x.blocks g) g.memory k g.call.vars g.words t n;
-          })))
-
-      by : (y : IsGood x (starts g (L.Constant to pieces) rest)) → IsThere x.table x.blocks g.call.site (of_value to) → (v : Value)
-          → piece_words pieces ≡ words_in v → has_shape v (looked x.table x.blocks g.call.site (of_value to)) ≡ true
-          → IsHoused x.table x.blocks g.call.site.body (house g.call.site (of_value to))
-          → Gets x g (L.Constant to pieces) rest y
-          (constant_code (house g.call.site (of_value to)) (spot_of (house g.call.site (of_value to))) pieces (code_behind x.table x.blocks (body_of g) rest))
-          (code_behind x.table x.blocks (body_of g) rest) (of_value to) v (9 + 2 * bytes v)
-      by y there (Number z) are shaped housed = number_by y there z are shaped
-          (in_word x g.call.site to y.linked.0 there (sym (single_is (Number z) (looked x.table x.blocks g.call.site (of_value to)) shaped)))
-      by y there (Parts vs) are shaped housed =
-          gets_constant x g (L.Constant to pieces) rest y to there (parts_inside x g (L.Constant to pieces) rest y to vs there shaped) pieces (Parts vs) are
-          (subst AllSmall (sym are) (small_words (Parts vs) (looked x.table x.blocks g.call.site (of_value to)) shaped)) shaped refl
-          (code_behind x.table x.blocks (body_of g) rest)
+      by : {pieces : List Piece} → PiecesAre pieces → FollowedHere x labels g rest (L.Constant to how ty pieces)
+      by (one_number z) = number_constant x labels g rest to how ty z
+      by (one_text text) = text_constant x labels g rest to how ty text
+      by (built {pieces} no_text long) = built_constant pieces no_text long

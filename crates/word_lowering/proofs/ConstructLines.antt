@@ -1,68 +1,75 @@
 -- An object that is constructed: zeros, and then each field that is given. What the line does is followed.
-use Rattle.std.proofs.Common.{◌≡◌, ◌≢◌, inl, ℕ, zero, suc, ◌+◌, ◌*◌, ◌<◌, ◌≤◌, List, [], ◌∷◌}
+use Rattle.std.proofs.Common.{◌≡◌, inl, ℕ, zero, suc, ◌+◌, ◌*◌, ◌≤◌, List, [], ◌∷◌, map}
 use Rattle.std.proofs.Common.{Option, Some, None, Bool, true, false, refl, sym}
 use Rattle.std.proofs.Common.{ap, ap₂, subst, ◌∙◌, arith}
 use Rattle.std.specs.Prelude.{nat_eq, not, ◌||◌, ◌&&◌, if◌then◌else◌}
 use Rattle.std.proofs.lemmas.Bool.{and_parts, eq-eqb}
-use Rattle.nim_types.specs.Table.{type_at}
+use Rattle.nim_types.specs.Types as type
+use Rattle.nim_types.specs.Types.{Ty, Facts, Fact, members, fields, base, below, fact_of}
+use Rattle.nim_types.specs.Table.{facts_in, type_at}
 use Rattle.nim_types.specs.Forms.{form_of}
-use Rattle.nim_core.specs.Values.{Value, Number, Parts, bytes, default_of, part, put_part}
-use Rattle.nim_core.specs.Meaning.{Part as FieldValue, with_parts}
-use Rattle.mid_code.specs.declared.place.PlaceKind.{PlaceKind}
-use Rattle.mid_code.specs.declared.place.PlaceKind.TheVariants as K
-use Rattle.mid_code.specs.declared.block.BlockLine.{BlockLine}
-use Rattle.mid_code.specs.declared.block.BlockLine.TheVariants as block_line
-use Rattle.mid_code.specs.declared.line.FieldFrom.{FieldFrom}
-use Rattle.mid_code.specs.declared.line.Line.{Line}
-use Rattle.mid_code.specs.declared.line.Line.TheVariants as L
-use Rattle.mid_code.specs.declared.word.WordInstr.{WordInstr}
-use Rattle.mid_code.specs.Memory.{Memory}
-use Rattle.mid_code.specs.Scene.{Did}
-use Rattle.mid_code.specs.Lines.{using_fields, gives_whole}
-use Rattle.mid_code.specs.Shapes.{Shape, number, reference, block, elements, row, parts, Shapes, no_shapes, shapes, has_shape, shape_of}
-use Rattle.mid_code.specs.Fits.{shape_by_kind, alike, may_get, nth_shape, fields_of, names_field, each_once}
-use Rattle.mid_code.specs.Running.{scene_of}
-use Rattle.mid_code.proofs.ForCallers.{never, shape_bytes, shapes_bytes, bytes_is, value_wider}
+use Rattle.nim_program.specs.Fitting.{are_distinct, are_fields, built, is_built, is_in}
+use Rattle.nim_program.specs.Kinds.{TypeKind, declared_kind, field_at, is_of, kind_of}
+use Rattle.nim_program.specs.declared.operation.Use.{Use}
+use Rattle.nim_meaning.specs.Values.{Value, Values, Nil, More, bytes, default_of, part, put_part, Operand, values_in}
+use Rattle.nim_meaning.specs.Table.{with_fields}
+use Rattle.nim_meaning.specs.Deeds.{Answers, costs, give, ◌>>=◌}
+use Rattle.nim_meaning.specs.Here.{gives_hooked}
+use Rattle.nim_meaning.specs.Places.{made_by}
+use Rattle.flat_code.specs.declared.block.BlockLine.{BlockLine}
+use Rattle.flat_code.specs.declared.line.From.{From}
+use Rattle.flat_code.specs.declared.line.From.TheVariants as F
+use Rattle.flat_code.specs.declared.line.Line.TheVariants as L
+use Rattle.flat_code.specs.Fits.{are_placed}
+use Rattle.flat_code.specs.Fits as fit
+use Rattle.flat_code.specs.Lines.{gives}
+use Rattle.flat_code.specs.Running.{scene_of}
+use Rattle.flat_code.specs.Scene.{Passes, with_value}
+use Rattle.flat_code.specs.Shapes.{Shape, parts, Shapes, no_shapes, shapes, has_shape, shape_of}
+use Rattle.word_code.specs.declared.word.WordInstr.{WordInstr}
+use Rattle.word_code.specs.Memory.{Memory}
+use Rattle.word_code.proofs.ForCallers.{Apart, Changed, Runs, at as run_at}
 use Rattle.word_lowering.specs.declared.homes.Housed.{Housed}
 use Rattle.word_lowering.specs.declared.spots.Spot.TheVariants.{Lies}
 use Rattle.word_lowering.specs.Layouts.{is_address}
 use Rattle.word_lowering.specs.Spots.{spot_of, shifted, cleared, clears}
 use Rattle.word_lowering.specs.Stored.{part_at}
-use Rattle.word_lowering.specs.LineCode.{fields_code}
-use Rattle.word_lowering.proofs.Options.{none_some, some_same}
-use Rattle.word_lowering.proofs.ShapePaths.{shapes_before, PathTo, path_in, path_put}
-use Rattle.word_lowering.proofs.InMemory.{IsAt, AllZero, blank_zero, bytes_some}
-use Rattle.word_lowering.proofs.Copied.{Apart, Changed}
-use Rattle.word_lowering.proofs.PartsInMemory.{offset, part_within, offset_whole, put_at}
-use Rattle.word_lowering.proofs.Runs.{Runs, at as run_at}
-use Rattle.word_lowering.proofs.RoutineCalls.{awaiting}
-use Rattle.word_lowering.proofs.Moves.{is_single}
-use Rattle.word_lowering.proofs.LineFits.{may_get_some, alike_some}
-use Rattle.word_lowering.proofs.Sites.{InMemory, around, sigs, globals_of}
-use Rattle.word_lowering.proofs.SitesApart.{houses}
-use Rattle.word_lowering.proofs.Scenes.{address_of, of_value, house, IsThere, looked}
-use Rattle.word_lowering.proofs.Keeping.{spot_memory, points_there}
-use Rattle.word_lowering.proofs.Related.{Both, body_of, procs, within, high, code_behind, StandAt}
-use Rattle.word_lowering.proofs.Lines.{Basis, fits_here, stands_next, starts, IsGood, known, Settles, using_settles, all_sites}
-use Rattle.word_lowering.proofs.ValueFacts.{named_value, value_plain}
-use Rattle.word_lowering.proofs.ControlLines.{FollowedHere}
-use Rattle.word_lowering.proofs.Sources.{lying_all, size_is, word_is, address_whole}
+use Rattle.word_lowering.specs.LineCode.{fields_code, operands}
+use Rattle.word_lowering.proofs.AddressFacts.{in_memory}
+use Rattle.word_lowering.proofs.AllOperands.{Have, using_all_settles}
+use Rattle.word_lowering.proofs.Clears.{zeros_by}
+use Rattle.word_lowering.proofs.ControlLines.{FollowedHere, plain, value_type}
 use Rattle.word_lowering.proofs.Gets.{memory_kept, gets_bytes, value_settles}
-use Rattle.word_lowering.proofs.Clears.{gets_cleared}
-use Rattle.word_lowering.proofs.OutLines.{zeros_at}
-use Rattle.word_lowering.proofs.MoveLines.{value_shaped}
-use Rattle.word_lowering.proofs.PartRuns.{shifted_inside, shifted_address, Sofar, part_moved}
-use Rattle.word_lowering.proofs.MakeLines.{depth, depths, or_word_least, shape_of_value, other_than, parts_inside}
+use Rattle.word_lowering.proofs.InMemory.{IsAt, AllZero, blank_zero, bytes_some, of_numbers as are_numbers, or_word_least}
+use Rattle.word_lowering.proofs.Keeping.{spot_memory}
+use Rattle.word_lowering.proofs.LineFits.{are_of}
+use Rattle.word_lowering.proofs.Lines.{Basis, IsGood, Settles, all_procs, all_sites, fits_here, known, starts}
+use Rattle.word_lowering.proofs.Moves.{is_single}
+use Rattle.word_lowering.proofs.Options.{none_some, some_same}
+use Rattle.word_lowering.proofs.PartRuns.{PartOf, Sofar, more_most, part_moved, shifted_address, shifted_inside}
+use Rattle.word_lowering.proofs.PartShapes.{part_comes}
+use Rattle.word_lowering.proofs.ShapeDepth.{nth_depth, depth}
+use Rattle.word_lowering.proofs.PartsInMemory.{offset, part_within, offset_whole, put_at}
+use Rattle.word_lowering.proofs.Related.{Both, body_of, within, high}
+use Rattle.word_lowering.proofs.RoutineCalls.{awaiting}
+use Rattle.word_lowering.proofs.Scenes.{IsThere, address_of, house, looked, of_value}
+use Rattle.word_lowering.proofs.Settling.{LabelsLead, code_here, code_next}
+use Rattle.word_lowering.proofs.ShapeFacts.{bytes_is, never, nth_shape, of_numbers, shape_bytes, shapes_bytes, values_of_numbers}
+use Rattle.word_lowering.proofs.ShapePaths.{PathTo, path_in, path_numbers, path_put, shapes_before}
+use Rattle.word_lowering.proofs.Sites.{InMemory, around, globals_of, is_one_word, sigs}
+use Rattle.word_lowering.proofs.Sources.{address_whole, lying_all, size_is, word_is}
+use Rattle.word_lowering.proofs.Targets.{target}
+use Rattle.word_lowering.proofs.ValueFacts.{value_plain}
 
 -- ---- fields, each of which is named once, have no more bytes than all
 
 if_named : Bool → ℕ → ℕ
 if_named named n = if named then n else 0
 
--- the bytes of those fields that are named, where the first one has a number
-named_bytes : Shapes → List FieldFrom → (first : ℕ) → ℕ
-named_bytes no_shapes ps k = 0
-named_bytes (shapes s ss) ps k = if_named (names_field ps k) (shape_bytes s) + named_bytes ss ps (suc k)
+-- the bytes of those parts that are named, where the first one has a number
+named_bytes : Shapes → List ℕ → (first : ℕ) → ℕ
+named_bytes no_shapes names k = 0
+named_bytes (shapes s ss) names k = if_named (is_in k names) (shape_bytes s) + named_bytes ss names (suc k)
 
 some_named : (b : Bool) (n : ℕ) → if_named b n ≤ n
 unfolding if_named
@@ -75,17 +82,17 @@ more_named true true n = omega arith
 more_named true false n = omega arith
 more_named false c n = omega arith
 
-named_at_most : (ss : Shapes) (ps : List FieldFrom) (k : ℕ) → named_bytes ss ps k ≤ shapes_bytes ss
+named_at_most : (ss : Shapes) (names : List ℕ) (k : ℕ) → named_bytes ss names k ≤ shapes_bytes ss
 unfolding named_bytes
-named_at_most no_shapes ps k = omega arith
-named_at_most (shapes s ss) ps k =
-    let a = some_named (names_field ps k) (shape_bytes s) in let b = named_at_most ss ps (suc k) in omega (arith, a, b)
+named_at_most no_shapes names k = omega arith
+named_at_most (shapes s ss) names k =
+    let a = some_named (is_in k names) (shape_bytes s) in let b = named_at_most ss names (suc k) in omega (arith, a, b)
 
-named_more : (ss : Shapes) (p : FieldFrom) (ps : List FieldFrom) (k : ℕ) → named_bytes ss ps k ≤ named_bytes ss (p ∷ ps) k
+named_more : (ss : Shapes) (field : ℕ) (names : List ℕ) (k : ℕ) → named_bytes ss names k ≤ named_bytes ss (field ∷ names) k
 unfolding named_bytes
-named_more no_shapes p ps k = omega arith
-named_more (shapes s ss) p ps k =
-    let a = more_named (nat_eq p.field k) (names_field ps k) (shape_bytes s) in let b = named_more ss p ps (suc k) in omega (arith, a, b)
+named_more no_shapes field names k = omega arith
+named_more (shapes s ss) field names k =
+    let a = more_named (nat_eq k field) (is_in k names) (shape_bytes s) in let b = named_more ss field names (suc k) in omega (arith, a, b)
 
 first_named : (b c : Bool) (n : ℕ) → b ≡ true → c ≡ false → n + if_named c n ≤ if_named (b || c) n
 unfolding if_named
@@ -93,334 +100,293 @@ first_named true false n e f = omega arith
 first_named true true n e f = never (sym f)
 first_named false c n e f = never e
 
-named_first : (ss : Shapes) (p : FieldFrom) (ps : List FieldFrom) (k i : ℕ) (t : Shape) → nth_shape ss i ≡ Some t → p.field ≡ k + i
-    → names_field ps p.field ≡ false → shape_bytes t + named_bytes ss ps k ≤ named_bytes ss (p ∷ ps) k
+named_first : (ss : Shapes) (field : ℕ) (names : List ℕ) (k i : ℕ) (t : Shape) → nth_shape ss i ≡ Some t → field ≡ k + i
+    → is_in field names ≡ false → shape_bytes t + named_bytes ss names k ≤ named_bytes ss (field ∷ names) k
 unfolding named_bytes
-named_first no_shapes p ps k i t e is other = absurd (none_some t e)
-named_first (shapes s ss) p ps k zero t e is other =
-    let a = first_named (nat_eq p.field k) (names_field ps k) (shape_bytes s) (eq-eqb p.field k (omega (arith, is)))
-    (subst (λ n. names_field ps n ≡ false) (omega (arith, is)) other) in
-    let b = named_more ss p ps (suc k) in
+named_first no_shapes field names k i t e is other = absurd (none_some t e)
+named_first (shapes s ss) field names k zero t e is other =
+    let a = first_named (nat_eq k field) (is_in k names) (shape_bytes s) (eq-eqb k field (omega (arith, is)))
+    (subst (λ n. is_in n names ≡ false) (omega (arith, is)) other) in
+    let b = named_more ss field names (suc k) in
     let f : shape_bytes s ≡ shape_bytes t = ap shape_bytes (some_same s t e) in
     omega (arith, a, b, f)
-named_first (shapes s ss) p ps k (suc i) t e is other =
-    let a = more_named (nat_eq p.field k) (names_field ps k) (shape_bytes s) in
-    let b = named_first ss p ps (suc k) i t e (omega (arith, is)) other in
+named_first (shapes s ss) field names k (suc i) t e is other =
+    let a = more_named (nat_eq k field) (is_in k names) (shape_bytes s) in
+    let b = named_first ss field names (suc k) i t e (omega (arith, is)) other in
     omega (arith, a, b)
-
-pub nth_depth : (ss : Shapes) (i : ℕ) (s : Shape) → nth_shape ss i ≡ Some s → depth s < suc (depths ss)
-nth_depth no_shapes i s e = absurd (none_some s e)
-nth_depth (shapes t ss) zero s e = let f : depth t ≡ depth s = ap depth (some_same t s e) in omega (arith, f)
-nth_depth (shapes t ss) (suc i) s e = let h = nth_depth ss i s e in omega (arith, h)
 
 not_true : (b : Bool) → not b ≡ true → b ≡ false
 not_true true h = never h
 not_true false h = refl
 
--- ---- fields that have values
+-- ---- what is constructed is an object, unless it is a ref
 
-abbrev pub HaveFields : (ℕ → Option Value) → List FieldFrom → List Value → Type 0
-HaveFields values [] [] = Unit {0}
-HaveFields values (p ∷ ps) (v ∷ vs) = (values p.from ≡ Some v) × HaveFields values ps vs
-HaveFields values ps vs = ⊥
+declared_built : (facts : Facts) (o : Option Fact) → built facts (declared_kind o) ≡ declared_kind o
+declared_built facts None = refl
+declared_built facts (Some (members names)) = refl
+declared_built facts (Some (fields all own)) = refl
+declared_built facts (Some (base t)) = refl
+declared_built facts (Some (below t)) = refl
 
-abbrev pub named_values : List FieldFrom → List Value → List FieldValue
-named_values [] vs = []
-named_values (p ∷ ps) [] = []
-named_values (p ∷ ps) (v ∷ vs) = record { field = p.field; value = v } ∷ named_values ps vs
+built_is : (facts : Facts) (ty : Ty) → of_numbers (shape_of facts ty) ≡ true → built facts (kind_of facts ty) ≡ kind_of facts ty
+built_is facts type.int o = refl
+built_is facts type.bool o = refl
+built_is facts type.char o = refl
+built_is facts type.text o = refl
+built_is facts (type.sequence t) o = refl
+built_is facts (type.array n t) o = refl
+built_is facts (type.tuple names ts) o = refl
+built_is facts (type.parameter n) o = refl
+built_is facts (type.ref name t) o = never o
+built_is facts (type.enum key) o = declared_built facts (fact_of facts (type.enum key))
+built_is facts (type.object key arguments) o = declared_built facts (fact_of facts (type.object key arguments))
+built_is facts (type.distinct key) o = declared_built facts (fact_of facts (type.distinct key))
+built_is facts (type.exception key) o = declared_built facts (fact_of facts (type.exception key))
 
-abbrev pub spent : List Value → ℕ
-spent [] = 0
-spent (v ∷ vs) = bytes v + spent vs
+-- ---- operands that are fields
 
--- types that look alike have their parts at the same places
-abbrev pub PartsAlike : Basis → Type 0
-PartsAlike x = (ty other i : ℕ) (ss : Shapes) (s : Shape) → shape_of (known x).facts (type_at (known x).types ty) ≡ parts ss
-    → shape_of (known x).facts (type_at (known x).types other) ≡ parts ss → nth_shape ss i ≡ Some s → part_at x.table ty i ≡ part_at x.table other i
+abbrev pub spent : Values → ℕ
+spent Nil = 0
+spent (More v vs) = bytes v + spent vs
 
--- of a place that has parts
-kind_parts : (kind : PlaceKind) (s : Shape) (ss : Shapes) → shape_by_kind kind s ≡ parts ss → s ≡ parts ss
-kind_parts K.Counter s ss e = absurd (no_parts ss e)
-  where
-    no_parts : (ss : Shapes) → number None ≡ parts ss → ⊥
-    no_parts ss e = cc
-kind_parts kind s ss e = e
+module _ (x : Basis) (g : Both) (line : BlockLine) (rest : List BlockLine) (y : IsGood x (starts g line rest)) (to : ℕ) (ss : Shapes)
+    (look : looked x.table g.call.site (of_value to) ≡ parts ss) where
+  -- each is of the shape of its field
+  abbrev pub FieldsCome : List ℕ → List From → Values → Type 0
+  FieldsCome [] [] Nil = Unit {0}
+  FieldsCome (field ∷ names) (F.Value t ∷ from) (More v vs) =
+      ((s : Shape) × (nth_shape ss field ≡ Some s) × PartOf x g line rest y to t v s) × FieldsCome names from vs
+  FieldsCome names from vs = ⊥
 
-module _ (x : Basis) (g : Both) (line : Line) (rest : List BlockLine) (y : IsGood x (starts g line rest)) where
-  abbrev FieldsFit : Shapes → List FieldFrom → Type 0
-  FieldsFit ss ps = fields_of (known x) (sigs x.table x.blocks) (globals_of x.table x.blocks) (body_of g).proc.places (Some (parts ss)) ps ≡ true
+  spent_named : (names : List ℕ) (from : List From) (vs : Values) → FieldsCome names from vs → are_distinct names ≡ true
+      → spent vs ≤ named_bytes ss names 0
+  spent_named [] [] Nil come once = omega arith
+  spent_named [] [] (More v vs) come once = absurd come
+  spent_named [] (f ∷ from) vs come once = absurd come
+  spent_named (field ∷ names) [] vs come once = absurd come
+  spent_named (field ∷ names) (F.Place t ∷ from) vs come once = absurd come
+  spent_named (field ∷ names) (F.Value t ∷ from) Nil come once = absurd come
+  spent_named (field ∷ names) (F.Value t ∷ from) (More v vs) come once =
+      let o = and_parts (not (is_in field names)) (are_distinct names) once in
+      let c = come.0 in
+      let a = named_first ss field names 0 field c.0 c.1 (omega arith) (not_true (is_in field names) o.0) in
+      let b = spent_named names from vs come.1 o.1 in
+      let e : bytes v ≡ shape_bytes c.0 = bytes_is v c.0 c.2.numbers c.2.shaped in
+      omega (arith, a, b, e)
 
-  using_fields_settles : (ps : List FieldFrom) (go : List FieldValue → Did)
-      → ((vs : List Value) → HaveFields g.call.temps.values ps vs → Settles x (starts g line rest) rest (go (named_values ps vs)))
-      → Settles x (starts g line rest) rest (using_fields g.call.temps.values ps go)
-  using_fields_settles [] go h = h [] tt
-  using_fields_settles (p ∷ ps) go h = using_settles x (starts g line rest) rest (g.call.temps.values p.from)
-      (λ v. using_fields g.call.temps.values ps (λ more. go (record { field = p.field; value = v } ∷ more)))
-      (λ v e. using_fields_settles ps (λ more. go (record { field = p.field; value = v } ∷ more)) (λ vs all. h (v ∷ vs) (e, all)))
+  module _ (k : TypeKind) (nth : (field : ℕ) (of : Ty) → field_at k field ≡ Some of → nth_shape ss field ≡ Some (shape_of (facts_in x.table) of)) where
+    abbrev taken : From → Option Ty
+    taken f = fit.taken (known x) (sigs x.table x.blocks) (globals_of x.table x.blocks) (body_of g).proc.places f
 
-  module _ (to : ℕ) (ss : Shapes) (is : shape_of_value x g to ≡ Some (parts ss)) where
-    -- one field fits
-    record FieldFits (p : FieldFrom) (v : Value) : Type 0 where
-      pub shape : Shape
-      pub nth : nth_shape ss p.field ≡ Some shape
-      pub shaped : has_shape v shape ≡ true
-      pub other : p.from ≢ to
+    fields_come : of_numbers (parts ss) ≡ true → (names : List ℕ) (from : List From) (xs : List Operand)
+        → are_fields k names (map taken from) ≡ true → are_placed 0 from ≡ true → Have g.call.temps from xs → FieldsCome names from (values_in xs)
+    fields_come numbers [] [] [] are placed has = tt
+    fields_come numbers [] [] (z ∷ xs) are placed has = absurd has
+    fields_come numbers [] (f ∷ from) xs are placed has = never are
+    fields_come numbers (field ∷ names) [] xs are placed has = never are
+    fields_come numbers (field ∷ names) (F.Place t ∷ from) xs are placed has = never placed
+    fields_come numbers (field ∷ names) (F.Value t ∷ from) [] are placed has = absurd has
+    fields_come numbers (field ∷ names) (F.Value t ∷ from) (z ∷ xs) are placed has =
+        let p = and_parts (is_of (value_type x g line rest y t) (field_at k field)) (are_fields k names (map taken from)) are in
+        let v = are_of (value_type x g line rest y t) (field_at k field) p.0 in
+        let is = nth field v.ty v.is_other in
+        let way : PathTo (parts ss) (field ∷ []) (shapes_before ss field) (shape_of (facts_in x.table) v.ty)
+        = (shape_of (facts_in x.table) v.ty, shapes_before ss field, 0, (is, refl), (refl, refl), omega arith) in
+        let less = nth_depth ss field (shape_of (facts_in x.table) v.ty) is in
+        let d : depth (looked x.table g.call.site (of_value to)) ≡ depth (parts ss) = ap depth look in (
+          (
+            shape_of (facts_in x.table) v.ty,
+            is,
+            part_comes x g line rest y to t z v.ty has.0 v.is
+                (path_numbers (parts ss) (field ∷ []) (shapes_before ss field) (shape_of (facts_in x.table) v.ty) numbers way) (omega (arith, less, d)),
+          ),
+          fields_come numbers names from xs p.1 placed has.1,
+        )
 
-    field_fits : (p : FieldFrom) (v : Value) → may_get (nth_shape ss p.field) (shape_of_value x g p.from) ≡ true
-        → g.call.temps.values p.from ≡ Some v → FieldFits p v
-    field_fits p v fit e =
-        let m = may_get_some (nth_shape ss p.field) (shape_of_value x g p.from) fit in
+  module _ (ty : ℕ) (there : IsThere g.call.site (of_value to)) (inside : InMemory (house g.call.site (of_value to)).home)
+      (numbers : of_numbers (parts ss) ≡ true) (size : (house g.call.site (of_value to)).bytes ≡ shape_bytes (parts ss))
+      (stands : (i : ℕ) (s : Shape) → nth_shape ss i ≡ Some s → part_at x.table ty i ≡ shapes_before ss i) where
+    abbrev place : Housed
+    place = house g.call.site (of_value to)
+
+    abbrev start : ℕ
+    start = address_of g.call.site.base place.home
+
+    abbrev So : (lines k : List WordInstr) → ℕ → Type 0
+    So lines k most = Sofar x g line rest y to there inside lines k most
+
+    abbrev code_of : List ℕ → List From → List WordInstr → List WordInstr
+    code_of names from k = fields_code (around x.table x.blocks (body_of g)) place.home ty names (operands (around x.table x.blocks (body_of g)) from) k
+
+    record FieldsAfter (before : ℕ) (lines k : List WordInstr) (u : Value) (most : ℕ) : Type 0 where
+      pub sofar : So lines k most
+      pub is_at : IsAt sofar.memory start u
+      pub shaped : has_shape u (parts ss) ≡ true
+      pub more : before ≤ sofar.steps
+
+    -- one field
+    field_moved : (field : ℕ) (names : List ℕ) (t : ℕ) (from : List From) (v : Value) (s : Shape) → nth_shape ss field ≡ Some s
+        → PartOf x g line rest y to t v s → (u : Value) → has_shape u (parts ss) ≡ true
+        → (lines k : List WordInstr) (most : ℕ) → (o : So lines (code_of (field ∷ names) (F.Value t ∷ from) k) most) → IsAt o.memory start u
+        → FieldsAfter o.steps lines (code_of names from k) (put_part u (field ∷ []) v) (most + (10 + 2 * bytes v))
+    field_moved field names t from v s nth part_is u shaped lines k most o is_at =
+        let before : ℕ = shapes_before ss field in
+        let path : List ℕ = field ∷ [] in
+        let way : PathTo (parts ss) path before s = (s, before, 0, (nth, refl), (refl, refl), omega arith) in
+        let w = path_in u (parts ss) path before s numbers shaped way in
+        let same : bytes v ≡ bytes (part u path) = bytes_is v s part_is.numbers part_is.shaped ∙ sym (bytes_is (part u path) s part_is.numbers w.2) in
+        let less = part_within u path (are_numbers o.memory start u is_at) w.0 in
+        let all : bytes u ≡ shape_bytes (parts ss) = bytes_is u (parts ss) numbers shaped in
+        let by_words = offset_whole u path in
+        let first = address_whole x (all_sites x g line rest y) y.linked g.call.site (of_value to) (inl refl) there inside in
+        let far : part_at x.table ty field ≡ before = stands field s nth in
+        let off : offset u path ≡ before = w.1 in
+        let address = shifted_address g.call.site.base (part_at x.table ty field) place.home inside in
+        let a = part_moved x g line rest y to there inside t v s part_is (shifted (part_at x.table ty field) place.home)
+        (shifted_inside (part_at x.table ty field) place.home inside) (start + before) (omega (arith, address, far)) (omega arith)
+        (omega (arith, less, same, off, all, size)) (omega (arith, by_words, first, off)) lines (code_of names from k) most o in
+        let m : Memory = a.sofar.memory in
         record {
-          shape = m.shape;
-          nth = m.is;
-          shaped = value_wider v m.shape m.other m.takes_it (value_shaped x g rest line y p.from v m.other m.is_other e);
-          other = other_than x g line rest y to (parts ss) is m.shape p.from
-              (subst (λ o. may_get o (shape_of_value x g p.from) ≡ true) m.is fit) (nth_depth ss p.field m.shape m.is);
+          sofar = a.sofar;
+          is_at = put_at o.memory m start u path v w.0 same is_at
+              (λ i within whole apart. a.changed.outside (start + i)
+              (subst (λ n. Apart (start + i) n (bytes v)) (omega (arith, off)) apart))
+              (subst (λ n. IsAt m n v) (omega (arith, off)) a.is_at);
+          shaped = path_put u (parts ss) path before s v numbers shaped way part_is.shaped;
+          more = (let h = a.some in omega (arith, h));
         }
 
-    fit_parts : (p : FieldFrom) (ps : List FieldFrom) → FieldsFit ss (p ∷ ps)
-        → (may_get (nth_shape ss p.field) (shape_of_value x g p.from) ≡ true) × FieldsFit ss ps
-    fit_parts p ps fit = and_parts (may_get (nth_shape ss p.field) (shape_of_value x g p.from))
-        (fields_of (known x) (sigs x.table x.blocks) (globals_of x.table x.blocks) (body_of g).proc.places (Some (parts ss)) ps) fit
+    fields_moved : (names : List ℕ) (from : List From) (vs : Values) → FieldsCome names from vs → (u : Value)
+        → has_shape u (parts ss) ≡ true
+        → (lines k : List WordInstr) (most : ℕ) → (o : So lines (code_of names from k) most) → IsAt o.memory start u
+        → FieldsAfter o.steps lines k (with_fields u names vs) (most + 5 * spent vs)
+    fields_moved [] [] Nil come u shaped lines k most o is_at = record {
+      sofar = more_most x g line rest y to there inside lines k most (most + 5 * 0) (omega arith) o;
+      is_at = is_at;
+      shaped = shaped;
+      more = omega arith;
+    }
+    fields_moved [] [] (More v vs) come u shaped lines k most o is_at = absurd come
+    fields_moved [] (f ∷ from) vs come u shaped lines k most o is_at = absurd come
+    fields_moved (field ∷ names) [] vs come u shaped lines k most o is_at = absurd come
+    fields_moved (field ∷ names) (F.Place t ∷ from) vs come u shaped lines k most o is_at = absurd come
+    fields_moved (field ∷ names) (F.Value t ∷ from) Nil come u shaped lines k most o is_at = absurd come
+    fields_moved (field ∷ names) (F.Value t ∷ from) (More v vs) come u shaped lines k most o is_at =
+        let c = come.0 in
+        let a = field_moved field names t from v c.0 c.1 c.2 u shaped lines k most o is_at in
+        let q = fields_moved names from vs come.1 (put_part u (field ∷ []) v) a.shaped lines k (most + (10 + 2 * bytes v)) a.sofar a.is_at in
+        let some : 4 ≤ bytes v = bytes_some v (values_of_numbers v c.0 c.2.numbers c.2.shaped) in
+        record {
+          sofar = more_most x g line rest y to there inside lines k (most + (10 + 2 * bytes v) + 5 * spent vs) (most + 5 * (bytes v + spent vs))
+              (omega (arith, some)) q.sofar;
+          is_at = q.is_at;
+          shaped = q.shaped;
+          more = (let h = a.more in let j = q.more in omega (arith, h, j));
+        }
 
-    spent_named : (ps : List FieldFrom) (vs : List Value) → HaveFields g.call.temps.values ps vs → FieldsFit ss ps → each_once ps ≡ true
-        → spent vs ≤ named_bytes ss ps 0
-    spent_named [] [] all fit once = omega arith
-    spent_named [] (v ∷ vs) all fit once = absurd all
-    spent_named (p ∷ ps) [] all fit once = absurd all
-    spent_named (p ∷ ps) (v ∷ vs) all fit once =
-        let f = fit_parts p ps fit in
-        let one = field_fits p v f.0 all.0 in
-        let o = and_parts (not (names_field ps p.field)) (each_once ps) once in
-        let a = named_first ss p ps 0 p.field one.shape one.nth (omega arith) (not_true (names_field ps p.field) o.0) in
-        let b = spent_named ps vs all.1 f.1 o.1 in
-        let e : bytes v ≡ shape_bytes one.shape = bytes_is v one.shape one.shaped in
-        omega (arith, a, b, e)
+    -- zeros, and then the fields
+    pub constructed : (names : List ℕ) (from : List From) (vs : Values) → FieldsCome names from vs → are_distinct names ≡ true
+        → (zero_value : Value) → AllZero zero_value → has_shape zero_value (parts ss) ≡ true
+        → code_here x g line rest y ≡ clears place (code_of names from (code_next x g line rest y))
+        → Settles x (starts g line rest) rest (Passes (Answers [] (1 + (bytes zero_value + 0))
+        (with_value to g.call.temps (with_fields zero_value names vs)) g.world))
+    constructed names from vs come once zero_value zeros shaped code =
+        let next : List WordInstr = code_next x g line rest y in
+        let here : List WordInstr = code_here x g line rest y in
+        let k : List WordInstr = code_of names from next in
+        let plain_is : is_address place.kind ≡ false = value_plain place.kind there.kind in
+        let n : ℕ = bytes zero_value in
+        let all : bytes zero_value ≡ shape_bytes (parts ss) = bytes_is zero_value (parts ss) numbers shaped in
+        let long : place.bytes ≡ bytes zero_value = size ∙ sym all in
+        let single : place.is_word ≡ is_single zero_value
+        = word_is x (all_sites x g line rest y) y.linked g.call (inl refl) (of_value to) there plain_is zero_value
+        (subst (λ s. has_shape zero_value s ≡ true) (sym look) shaped) in
+        let lying = lying_all x (all_sites x g line rest y) y.linked g.call.site (of_value to) (bytes zero_value) (inl refl) there inside long in
+        let r = zeros_by x g line rest y (of_value to) there inside zero_value zeros long k in
+        let same_code : clears place k ≡ cleared (is_single zero_value) (bytes zero_value) (Lies place.home) k
+        = ap₂ (λ a b. cleared a b (spot_of place) k) single long ∙ ap (λ p. cleared (is_single zero_value) (bytes zero_value) p k)
+        (spot_memory place plain_is inside) in
+        let s0 : So here k (9 + n) = record {
+          memory = r.memory;
+          vars = r.vars;
+          words = r.words;
+          awaits = r.awaits;
+          good = memory_kept x (all_sites x g line rest y) y.linked g.memory r.memory start (bytes zero_value) y.memory r.changed lying;
+          changed = subst (λ b. Changed g.memory r.memory start b) (sym long) r.changed;
+          same = r.same;
+          steps = r.steps;
+          few = r.few;
+          runs = subst (λ c. Runs x.live (all_procs x) r.steps (run_at (within x.table x.blocks g) g.memory c g.call.vars g.words)
+              (run_at (awaiting (within x.table x.blocks g) r.awaits) r.memory k r.vars r.words)) (sym (code ∙ same_code)) r.runs;
+        } in
+        let d = fields_moved names from vs come zero_value shaped here next (9 + n) s0 r.there in
+        let made : Value = with_fields zero_value names vs in
+        let full : bytes made ≡ shape_bytes (parts ss) = bytes_is made (parts ss) numbers d.shaped in
+        let look_made : has_shape made (looked x.table g.call.site (of_value to)) ≡ true = subst (λ s. has_shape made s ≡ true)
+        (sym look) d.shaped in
+        let cost : spent vs ≤ shapes_bytes ss = (let a = spent_named names from vs come once in let b = named_at_most ss names 0 in omega (arith, a, b)) in
+        let least : shapes_bytes ss ≤ shape_bytes (parts ss) = or_word_least (shapes_bytes ss) in
+        value_settles x g line rest y to made (9 + n + 5 * spent vs) (1 + (n + 0)) there look_made
+        (gets_bytes x g line rest y (of_value to) there plain_is made look_made here next (9 + n + 5 * spent vs) inside (record {
+          memory = d.sofar.memory;
+          vars = d.sofar.vars;
+          words = d.sofar.words;
+          awaits = d.sofar.awaits;
+          same = d.sofar.same;
+          changed = subst (λ b. Changed g.memory d.sofar.memory start b) (size ∙ sym full) d.sofar.changed;
+          there = d.is_at;
+          steps = d.sofar.steps;
+          some = (let h = d.more in let j = r.some in omega (arith, h, j));
+          few = d.sofar.few;
+          runs = d.sofar.runs;
+        })) (omega (arith, cost, least, all))
 
-    module _ (ty : ℕ) (there : IsThere x.table x.blocks g.call.site (of_value to)) (inside : InMemory (house g.call.site (of_value to)).home)
-        (size : (house g.call.site (of_value to)).bytes ≡ shape_bytes (parts ss))
-        (stands : (i : ℕ) (s : Shape) → nth_shape ss i ≡ Some s → part_at x.table ty i ≡ shapes_before ss i) where
-      abbrev place : Housed
-      place = house g.call.site (of_value to)
+-- ---- the line
 
-      abbrev start : ℕ
-      start = address_of g.call.site.base place.home
+module _ (x : Basis) (labels : LabelsLead x) (g : Both) (rest : List BlockLine) (to : ℕ) (how : Use) (ty : ℕ) (names : List ℕ) (from : List From) where
+  abbrev building : BlockLine
+  building = plain (L.Construct to how ty names from)
 
-      abbrev So : (lines k : List WordInstr) → ℕ → Type 0
-      So lines k most = Sofar x g line rest y to there inside lines k most
+  abbrev to_type : Ty
+  to_type = type_at (known x).types ty
 
-      abbrev code_of : List FieldFrom → List WordInstr → List WordInstr
-      code_of ps k = fields_code (around x.table x.blocks (body_of g)) place.home ty ps k
+  abbrev start_value : Value
+  start_value = default_of (facts_in x.table) to_type
 
-      record FieldsAfter (before : ℕ) (lines k : List WordInstr) (u : Value) (most : ℕ) : Type 0 where
-        pub sofar : So lines k most
-        pub is_at : IsAt sofar.memory start u
-        pub shaped : has_shape u (parts ss) ≡ true
-        pub more : before ≤ sofar.steps
+  abbrev to_kind : TypeKind
+  to_kind = kind_of (facts_in x.table) to_type
 
-      -- one field
-      field_moved : (p : FieldFrom) (v : Value) → FieldFits p v → g.call.temps.values p.from ≡ Some v → (u : Value) → has_shape u (parts ss) ≡ true
-          → (ps : List FieldFrom) (lines k : List WordInstr) (most : ℕ) → (s : So lines (code_of (p ∷ ps) k) most) → IsAt s.memory start u
-          → FieldsAfter s.steps lines (code_of ps k) (put_part u (p.field ∷ []) v) (most + (10 + 2 * bytes v))
-      field_moved p v f e u shaped ps lines k most s is_at =
-          let o : ℕ = shapes_before ss p.field in
-          let path : List ℕ = p.field ∷ [] in
-          let way : PathTo (parts ss) path o f.shape = (f.shape, o, 0, (f.nth, refl), (refl, refl), omega arith) in
-          let w = path_in u (parts ss) path o f.shape shaped way in
-          let same : bytes v ≡ bytes (part u path) = bytes_is v f.shape f.shaped ∙ sym (bytes_is (part u path) f.shape w.2) in
-          let less = part_within u path w.0 in
-          let all : bytes u ≡ shape_bytes (parts ss) = bytes_is u (parts ss) shaped in
-          let by_words = offset_whole u path in
-          let first = address_whole x (all_sites x g line rest y) y.linked g.call.site (of_value to) (inl refl) there inside in
-          let far : part_at x.table ty p.field ≡ o = stands p.field f.shape f.nth in
-          let off : offset u path ≡ o = w.1 in
-          let address = shifted_address g.call.site.base (part_at x.table ty p.field) place.home inside in
-          let a = part_moved x g line rest y to there inside p.from v e f.other (shifted (part_at x.table ty p.field) place.home)
-          (shifted_inside (part_at x.table ty p.field) place.home inside) (start + o) (omega (arith, address, far)) (omega arith)
-          (omega (arith, less, same, off, all, size)) (omega (arith, by_words, first, off)) lines (code_of ps k) most s in
-          let m : Memory = a.sofar.memory in
-          record {
-            sofar = a.sofar;
-            is_at = put_at s.memory m start u path v w.0 same is_at
-                (λ i within whole apart. a.changed.outside (start + i)
-                (subst (λ n. Apart (start + i) n (bytes v)) (omega (arith, off)) apart))
-                (subst (λ n. IsAt m n v) (omega (arith, off)) a.is_at);
-            shaped = path_put u (parts ss) path o f.shape v shaped way f.shaped;
-            more = (let h = a.some in omega (arith, h));
-          }
+  abbrev all_taken : List (Option Ty)
+  all_taken = map (fit.taken (known x) (sigs x.table x.blocks) (globals_of x.table x.blocks) (body_of g).proc.places) from
 
-      fields_moved : (ps : List FieldFrom) (vs : List Value) → HaveFields g.call.temps.values ps vs → FieldsFit ss ps → (u : Value)
-          → has_shape u (parts ss) ≡ true
-          → (lines k : List WordInstr) (most : ℕ) → (s : So lines (code_of ps k) most) → IsAt s.memory start u
-          → FieldsAfter s.steps lines k (with_parts u (named_values ps vs)) (most + 5 * spent vs)
-      fields_moved [] [] have fit u shaped lines k most s is_at = record {
-        sofar = record {
-          memory = s.memory;
-          vars = s.vars;
-          words = s.words;
-          awaits = s.awaits;
-          good = s.good;
-          changed = s.changed;
-          same = s.same;
-          steps = s.steps;
-          few = (let h = s.few in omega (arith, h));
-          runs = s.runs;
-        };
-        is_at = is_at;
-        shaped = shaped;
-        more = omega arith;
-      }
-      fields_moved [] (v ∷ vs) have fit u shaped lines k most s is_at = absurd have
-      fields_moved (p ∷ ps) [] have fit u shaped lines k most s is_at = absurd have
-      fields_moved (p ∷ ps) (v ∷ vs) have fit u shaped lines k most s is_at =
-          let f = fit_parts p ps fit in
-          let a = field_moved p v (field_fits p v f.0 have.0) have.0 u shaped ps lines k most s is_at in
-          let q = fields_moved ps vs have.1 f.1 (put_part u (p.field ∷ []) v) a.shaped lines k (most + (10 + 2 * bytes v)) a.sofar a.is_at in
-          let some : 4 ≤ bytes v = bytes_some v in
-          record {
-            sofar = record {
-              memory = q.sofar.memory;
-              vars = q.sofar.vars;
-              words = q.sofar.words;
-              awaits = q.sofar.awaits;
-              good = q.sofar.good;
-              changed = q.sofar.changed;
-              same = q.sofar.same;
-              steps = q.sofar.steps;
-              few = (let h = q.sofar.few in omega (arith, h, some));
-              runs = q.sofar.runs;
-            };
-            is_at = q.is_at;
-            shaped = q.shaped;
-            more = (let h = a.more in let j = q.more in omega (arith, h, j));
-          }
-
-      -- zeros, and then the fields
-      constructed : (ps : List FieldFrom) (vs : List Value) → HaveFields g.call.temps.values ps vs → FieldsFit ss ps → each_once ps ≡ true
-          → y.passed ≡ [] → StandAt x.table x.blocks (body_of g) y.passed rest
-          → (looked x.table x.blocks g.call.site (of_value to) ≡ parts ss) → (zero_value : Value) → AllZero zero_value → has_shape zero_value
-          (parts ss) ≡ true
-          → code_behind x.table x.blocks (body_of g) (block_line.Plain line ∷ rest) ≡ clears place (code_of ps (code_behind x.table x.blocks
-          (body_of g) rest))
-          → Settles x (starts g line rest) rest
-          (gives_whole (scene_of (high x.table x.blocks (starts g line rest))) to (with_parts zero_value (named_values ps vs)))
-      constructed ps vs have fit once free stand look zero_value zeros shaped code =
-          let code_here : List WordInstr = code_behind x.table x.blocks (body_of g) (block_line.Plain line ∷ rest) in
-          let code_next : List WordInstr = code_behind x.table x.blocks (body_of g) rest in
-          let k : List WordInstr = code_of ps code_next in
-          let plain : is_address place.kind ≡ false = value_plain place.kind there.kind in
-          let n : ℕ = bytes zero_value in
-          let all : bytes zero_value ≡ shape_bytes (parts ss) = bytes_is zero_value (parts ss) shaped in
-          let long : place.bytes ≡ bytes zero_value = size ∙ sym all in
-          let single : place.is_word ≡ is_single zero_value
-          = word_is x (all_sites x g line rest y) y.linked g.call (inl refl) (of_value to) there plain zero_value
-          (subst (λ s. has_shape zero_value s ≡ true) (sym look) shaped) in
-          let lying = lying_all x (all_sites x g line rest y) y.linked g.call.site (of_value to) (bytes zero_value) (inl refl) there inside long in
-          let r = zeros_at x g line rest y place.home start (points_there g.call.site.base g.call.vars place.home inside) zero_value zeros lying k in
-          let same_code : clears place k ≡ cleared (is_single zero_value) (bytes zero_value) (Lies place.home) k
-          = ap₂ (λ a b. cleared a b (spot_of place) k) single long ∙ ap (λ p. cleared (is_single zero_value) (bytes zero_value) p k)
-          (spot_memory place plain inside) in
-          let s0 : So code_here k (9 + n) = record {
-            memory = r.memory;
-            vars = r.vars;
-            words = r.words;
-            awaits = r.awaits;
-            good = memory_kept x (all_sites x g line rest y) y.linked g.memory r.memory start (bytes zero_value) y.memory r.changed lying;
-            changed = subst (λ b. Changed g.memory r.memory start b) (sym long) r.changed;
-            same = r.same;
-            steps = r.steps;
-            few = r.few;
-            runs = subst (λ c. Runs x.live (procs x.table x.blocks) r.steps (run_at (within x.table x.blocks g) g.memory c g.call.vars g.words)
-                (run_at (awaiting (within x.table x.blocks g) r.awaits) r.memory k r.vars r.words)) (sym (code ∙ same_code)) r.runs;
-          } in
-          let d = fields_moved ps vs have fit zero_value shaped code_here code_next (9 + n) s0 r.there in
-          let made : Value = with_parts zero_value (named_values ps vs) in
-          let full : bytes made ≡ shape_bytes (parts ss) = bytes_is made (parts ss) d.shaped in
-          let here : has_shape made (looked x.table x.blocks g.call.site (of_value to)) ≡ true = subst (λ s. has_shape made s ≡ true)
-          (sym look) d.shaped in
-          let cost : spent vs ≤ shapes_bytes ss = (let a = spent_named ps vs have fit once in let b = named_at_most ss ps 0 in omega (arith, a, b)) in
-          let least : shapes_bytes ss ≤ shape_bytes (parts ss) = or_word_least (shapes_bytes ss) in
-          value_settles x g line rest y free stand to made (9 + n + 5 * spent vs) there here
-          (gets_bytes x g line rest y (of_value to) there plain made here code_here code_next (9 + n + 5 * spent vs) inside (record {
-            memory = d.sofar.memory;
-            vars = d.sofar.vars;
-            words = d.sofar.words;
-            awaits = d.sofar.awaits;
-            same = d.sofar.same;
-            changed = subst (λ b. Changed g.memory d.sofar.memory start b) (size ∙ sym full) d.sofar.changed;
-            there = d.is_at;
-            steps = d.sofar.steps;
-            some = (let h = d.more in let j = r.some in omega (arith, h, j));
-            few = d.sofar.few;
-            runs = d.sofar.runs;
-          })) (omega (arith, cost, least, all, full))
-
-module _ (x : Basis) (alike_parts : PartsAlike x) (g : Both) (rest : List BlockLine) where
-  abbrev start_value : ℕ → Value
-  start_value ty = default_of (known x).facts (type_at (known x).types ty)
-
-  abbrev start_shape : ℕ → Shape
-  start_shape ty = shape_of (known x).facts (type_at (known x).types ty)
-
-  -- what has fields is in memory
-  value_inside : (line : Line) (y : IsGood x (starts g line rest)) (to : ℕ) (v : Value) (ss : Shapes) → IsThere x.table x.blocks g.call.site (of_value to)
-      → looked x.table x.blocks g.call.site (of_value to) ≡ parts ss → has_shape v (parts ss) ≡ true → InMemory (house g.call.site (of_value to)).home
-  value_inside line y to (Number z) ss there look h = never h
-  value_inside line y to (Parts vs) ss there look h =
-      parts_inside x g line rest y to vs there (subst (λ s. has_shape (Parts vs) s ≡ true) (sym look) h)
-
-  -- a shape that has a field
-  has_fields : (s : Shape) (p : FieldFrom) (ps : List FieldFrom)
-      → fields_of (known x) (sigs x.table x.blocks) (globals_of x.table x.blocks) (body_of g).proc.places (Some s) (p ∷ ps) ≡ true
-      → (ss : Shapes) × (s ≡ parts ss)
-  has_fields (number values) p ps h = never h
-  has_fields reference p ps h = never h
-  has_fields block p ps h = never h
-  has_fields (elements s) p ps h = never h
-  has_fields (row n s) p ps h = never h
-  has_fields (parts ss) p ps h = (ss, refl)
-
-  pub construct_line : (to ty : ℕ) (ps : List FieldFrom) → FollowedHere x g rest (L.Construct to ty ps)
-  construct_line to ty [] y free =
-      let line : Line = L.Construct to ty [] in
-      let fit = and_parts (alike (shape_of_value x g to) (Some (start_shape ty))) true
-      (fits_here x.table x.blocks (body_of g) y.passed line rest y.stands) in
-      let a = alike_some (shape_of_value x g to) (Some (start_shape ty)) fit.0 in
-      let n = named_value x g.call.site to a.shape y.linked.0 a.is in
-      let look : has_shape (start_value ty) (looked x.table x.blocks g.call.site (of_value to)) ≡ true
-      = subst (λ s. has_shape (start_value ty) s ≡ true) (some_same (start_shape ty) a.shape a.is_other ∙ sym n.1) (x.defaults ty) in
-      value_settles x g line rest y free (stands_next x.table x.blocks (body_of g) y.passed line rest y.stands) to (start_value ty)
-      (9 + bytes (start_value ty)) n.0 look
-      (gets_cleared x g line rest y (of_value to) n.0 (value_plain (house g.call.site (of_value to)).kind n.0.kind) (start_value ty) look
-      (blank_zero (form_of (known x).facts (type_at (known x).types ty))) (code_behind x.table x.blocks (body_of g) rest)) (omega arith)
-  construct_line to ty (p ∷ ps) y free =
-      let line : Line = L.Construct to ty (p ∷ ps) in
-      let fit = and_parts (alike (shape_of_value x g to) (Some (start_shape ty)))
-      (fields_of (known x) (sigs x.table x.blocks) (globals_of x.table x.blocks) (body_of g).proc.places (shape_of_value x g to) (p ∷ ps)
-      && each_once (p ∷ ps)) (fits_here x.table x.blocks (body_of g) y.passed line rest y.stands) in
-      let more = and_parts
-      (fields_of (known x) (sigs x.table x.blocks) (globals_of x.table x.blocks) (body_of g).proc.places (shape_of_value x g to) (p ∷ ps))
-      (each_once (p ∷ ps)) fit.1 in
-      let a = alike_some (shape_of_value x g to) (Some (start_shape ty)) fit.0 in
-      let f = has_fields a.shape p ps (subst
-      (λ o. fields_of (known x) (sigs x.table x.blocks) (globals_of x.table x.blocks) (body_of g).proc.places o (p ∷ ps) ≡ true) a.is more.0) in
-      let is : shape_of_value x g to ≡ Some (parts f.0) = a.is ∙ ap Some f.1 in
-      let is_start : start_shape ty ≡ parts f.0 = some_same (start_shape ty) a.shape a.is_other ∙ f.1 in
-      let n = named_value x g.call.site to (parts f.0) y.linked.0 is in
-      let shaped : has_shape (start_value ty) (parts f.0) ≡ true = subst (λ s. has_shape (start_value ty) s ≡ true) is_start (x.defaults ty) in
-      let inside = value_inside line y to (start_value ty) f.0 n.0 n.1 shaped in
-      let place : Housed = house g.call.site (of_value to) in
-      let housed = houses x.table x.blocks g.call.site (of_value to) y.linked.0 n.0 in
-      let look_place : shape_of (known x).facts (type_at (known x).types place.ty) ≡ parts f.0
-      = kind_parts place.kind (shape_of (known x).facts (type_at (known x).types place.ty)) f.0 n.1 in
-      let size = size_is x (all_sites x g line rest y) y.linked g.call (inl refl) (of_value to) n.0
-      (value_plain (house g.call.site (of_value to)).kind n.0.kind) (start_value ty) (subst (λ s. has_shape (start_value ty) s ≡ true) (sym n.1) shaped)
-      ∙ bytes_is (start_value ty) (parts f.0) shaped in
-      using_fields_settles x g line rest y (p ∷ ps)
-      (λ given. gives_whole (scene_of (high x.table x.blocks (starts g line rest))) to (with_parts (start_value ty) given))
-      (λ vs have. constructed x g line rest y to f.0 is ty n.0 inside size
-      (λ i s e. alike_parts ty place.ty i f.0 s is_start look_place e ∙ housed.fields f.0 i s n.1 e) (p ∷ ps) vs have
-      (subst (λ o. fields_of (known x) (sigs x.table x.blocks) (globals_of x.table x.blocks) (body_of g).proc.places o
-      (p ∷ ps) ≡ true) is more.0) more.1 free
-      (stands_next x.table x.blocks (body_of g) y.passed line rest y.stands) n.1 (start_value ty)
-      (blank_zero (form_of (known x).facts (type_at (known x).types ty))) shaped refl)
+  pub construct_line : FollowedHere x labels g rest (L.Construct to how ty names from)
+  construct_line y =
+      let whole_kind : TypeKind = built (facts_in x.table) to_kind in
+      let named : Bool = are_distinct names && are_fields whole_kind names all_taken in
+      let f = and_parts ((is_built whole_kind && named) && are_placed 0 from) (is_of (value_type x g building rest y to) (Some to_type))
+      (fits_here x.table x.blocks (body_of g) building rest y.stands) in
+      let p = and_parts (is_built whole_kind && named) (are_placed 0 from) f.0 in
+      let q = and_parts (is_built whole_kind) named p.0 in
+      let r = and_parts (are_distinct names) (are_fields whole_kind names all_taken) q.1 in
+      let v = are_of (value_type x g building rest y to) (Some to_type) f.1 in
+      let t = target x g building rest y to to_type refl refl (v.is ∙ sym v.is_other) in
+      let same = built_is (facts_in x.table) to_type t.numbers in
+      let o = x.objects ty (subst (λ k. is_built k ≡ true) same q.0) t.numbers in
+      let look : looked x.table g.call.site (of_value to) ≡ parts o.0 = t.look ∙ o.1 in
+      let numbers : of_numbers (parts o.0) ≡ true = subst (λ s. of_numbers s ≡ true) o.1 t.numbers in
+      let plain_is = value_plain (house g.call.site (of_value to)).kind t.there.kind in
+      let inside = in_memory x g building rest y (of_value to) t.there plain_is (ap is_one_word look) in
+      let shaped : has_shape start_value (parts o.0) ≡ true = subst (λ s. has_shape start_value s ≡ true) o.1 (x.defaults ty) in
+      let size : (house g.call.site (of_value to)).bytes ≡ shape_bytes (parts o.0)
+      = size_is x (all_sites x g building rest y) y.linked g.call (inl refl) (of_value to) t.there plain_is start_value
+      (subst (λ s. has_shape start_value s ≡ true) (sym look) shaped) ∙ bytes_is start_value (parts o.0) numbers shaped in
+      using_all_settles x (starts g building rest) rest g.call.temps from
+      (λ xs. gives (scene_of (high x.table x.blocks (starts g building rest))) to
+      (costs 1 (costs (bytes start_value) (give (with_fields start_value names (values_in xs))))
+      >>= made_by (gives_hooked (facts_in x.table) (Some to_type)) how))
+      (λ xs has. subst (λ b. Settles x (starts g building rest) rest (gives (scene_of (high x.table x.blocks (starts g building rest))) to
+      (costs 1 (costs (bytes start_value) (give (with_fields start_value names (values_in xs)))) >>= made_by b how))) (sym t.unhooked)
+      (constructed x g building rest y to o.0 look ty t.there inside numbers size (λ i s e. x.parts_at ty t.unhooked o.0 i s o.1 e) names from
+      (values_in xs)
+      (fields_come x g building rest y to o.0 look to_kind o.2 numbers names from xs (subst (λ k. are_fields k names all_taken ≡ true) same r.1) p.1 has)
+      r.0 start_value (blank_zero (form_of (facts_in x.table) to_type) t.unhooked) shaped refl))

@@ -1,39 +1,41 @@
 -- The data of word code is whole words, and no more than what block code's takes.
-use Rattle.std.proofs.Common.{nat_le, ◌≡◌, ℕ, zero, suc, ◌+◌, ◌*◌, ◌-◌, ◌%◌, ◌≤◌, List, [], ◌∷◌}
-use Rattle.std.proofs.Common.{◌++◌, length, map, replicate, Bool, true, false}
-use Rattle.std.proofs.Common.{if◌then◌else◌, refl, sym, ap, arith, add-zero, length-append}
+use Rattle.std.proofs.Common.{nat_le, ◌&&◌, ◌≡◌, ℕ, zero, suc, ◌+◌, ◌*◌, ◌-◌, ◌%◌, ◌≤◌, List, [], ◌∷◌, ◌++◌, length, map, replicate, Bool, true, false}
+use Rattle.std.proofs.Common.{refl, sym, ap, ◌∙◌, arith, add-zero, length-append}
 use Rattle.std.proofs.lemmas.Bool.{and_parts, leb-true}
 use Rattle.nim_types.specs.declared.types.TypeDef.{TypeDef}
 use Rattle.nim_types.specs.declared.types.TypeDef.TheVariants as D
+use Rattle.nim_program.specs.TextSizes.{text_bytes, all_bytes}
 use Rattle.rv32_isa.specs.Words.{word_bytes}
-use Rattle.mid_code.specs.declared.line.Line.{Line}
-use Rattle.mid_code.specs.declared.line.Line.TheVariants as L
-use Rattle.mid_code.specs.declared.place.PlaceKind.{PlaceKind}
-use Rattle.mid_code.specs.declared.place.PlaceKind.TheVariants as K
-use Rattle.mid_code.specs.declared.place.FlatPlace.{FlatPlace}
-use Rattle.mid_code.specs.declared.block.BlockProc.{BlockProc}
-use Rattle.mid_code.specs.declared.block.Blocks.{Blocks}
-use Rattle.mid_code.specs.Codes.{block_plain, block_placed}
-use Rattle.mid_code.specs.Fits.{Placed, no_lines}
-use Rattle.mid_code.specs.Running.{last_of}
-use Rattle.mid_code.specs.Scene.{known_in}
-use Rattle.mid_code.specs.Sizes.{is_line_end, text_bytes, written_bytes, texts_bytes, all_texts_bytes, global_bytes, globals_bytes}
-use Rattle.mid_code.specs.Sizes.{all_bytes, members_bytes, names_bytes, data_bytes}
+use Rattle.rv32_isa.proofs.ForCallers.{length-word_bytes}
+use Rattle.flat_code.specs.declared.block.BlockLine.{BlockLine}
+use Rattle.flat_code.specs.declared.code.Code.{Code}
+use Rattle.flat_code.specs.declared.code.CodeProc.{CodeProc}
+use Rattle.flat_code.specs.declared.line.Line.{Line}
+use Rattle.flat_code.specs.declared.line.Line.TheVariants as L
+use Rattle.flat_code.specs.declared.line.Piece.{Piece}
+use Rattle.flat_code.specs.declared.line.Piece.TheVariants as P
+use Rattle.flat_code.specs.declared.place.PlaceKind.{PlaceKind}
+use Rattle.flat_code.specs.declared.place.PlaceKind.TheVariants as K
+use Rattle.flat_code.specs.declared.place.FlatPlace.{FlatPlace}
+use Rattle.flat_code.specs.Codes.{block_plain}
+use Rattle.flat_code.specs.Fits.{start_places}
+use Rattle.flat_code.specs.Running.{last_of}
+use Rattle.flat_code.specs.Scene.{known_in}
+use Rattle.flat_code.specs.Sizes.{pieces_texts, summed, code_texts, global_bytes, globals_bytes, members_bytes, names_bytes, data_bytes, texts_in as measured}
+use Rattle.word_lowering.specs.declared.homes.Alias.{Alias}
+use Rattle.word_lowering.specs.declared.homes.Alias.TheVariants.{Own, Place, Value, Text}
 use Rattle.word_lowering.specs.declared.homes.Free.{Free}
 use Rattle.word_lowering.specs.declared.homes.Layout.{Layout}
 use Rattle.word_lowering.specs.declared.lowering.TheConstants.{MORE_DATA}
 use Rattle.word_lowering.specs.declared.may_lower.TheConstants.{MOST_DATA}
 use Rattle.word_lowering.specs.declared.texts.TheConstants.{FIXED_BYTES}
+use Rattle.word_lowering.specs.Aliases.{text_in, or_empty, text_of, texts_of, alias_for}
 use Rattle.word_lowering.specs.Stored.{bytes_at}
-use Rattle.word_lowering.specs.Layouts.{is_static, free_behind, bytes_by, place_kept, behind, behind_all, roots_in, free_at}
-use Rattle.word_lowering.specs.Layouts.{layouts, layout_of}
+use Rattle.word_lowering.specs.Layouts.{is_static, free_behind, free_by, bytes_by, place_kept, behind, behind_all, free_at, layouts, layout_of}
 use Rattle.word_lowering.specs.LineCode.{no_layout}
 use Rattle.word_lowering.specs.Lowered.{globals_end, data_of, lowered}
-use Rattle.word_lowering.specs.Texts.{missing, padded, fixed_texts, members_of, all_names, joined_all, starts_from, ends_from, own_text, text_of}
-use Rattle.word_lowering.specs.Texts.{texts_of}
-use Rattle.word_lowering.specs.Texts.{texts_in, data_in}
-use Rattle.word_lowering.specs.MayLower.{defs_may, procs_may, may_lower}
-use Rattle.rv32_isa.proofs.ForCallers.{length-word_bytes}
+use Rattle.word_lowering.specs.Texts.{missing, padded, fixed_texts, members_of, all_names, joined_all, starts_from, ends_from, texts_in, data_in}
+use Rattle.word_lowering.specs.MayLower.{defs_may, labels_may, procs_may, may_lower}
 use Rattle.word_lowering.proofs.EntryNames.{joined_append}
 
 -- ---- whole words
@@ -63,56 +65,49 @@ padded_most bytes =
 text_most : (text : List ℕ) → length text + 4 ≤ text_bytes text
 text_most text = omega arith
 
-line_text : (text : List ℕ) → length (own_text text) ≤ written_bytes (L.WriteText text)
-line_text text = by (is_line_end text)
-  where
-    by : (b : Bool) → length (if b then [] else text) ≤ (if b then 0 else text_bytes text)
-    by true = omega arith
-    by false = let h = text_most text in omega (arith, h)
+pieces_most : (pieces : List Piece) → length (or_empty (text_in pieces)) ≤ pieces_texts pieces
+pieces_most [] = omega arith
+pieces_most (P.Text text ∷ []) = let h = text_most text in omega (arith, h)
+pieces_most (P.Text text ∷ piece ∷ pieces) = omega arith
+pieces_most (P.Ordinal z ∷ pieces) = omega arith
+pieces_most (P.Nil ∷ pieces) = omega arith
+pieces_most (P.Parts n ∷ pieces) = omega arith
+pieces_most (P.Elements n ∷ pieces) = omega arith
 
-line_most : (line : Line) → length (text_of line) ≤ written_bytes line
-line_most (L.WriteText text) = line_text text
-line_most L.Pass = omega arith
-line_most (L.Ordinal to z) = omega arith
-line_most (L.Constant to pieces) = omega arith
-line_most (L.Default to ty) = omega arith
-line_most (L.Copy to from) = omega arith
-line_most (L.Narrow to from values) = omega arith
-line_most (L.Unary to operator from) = omega arith
-line_most (L.Binary to operator left right) = omega arith
-line_most (L.Compare to c left right) = omega arith
-line_most (L.Make to ts) = omega arith
-line_most (L.Construct to ty fs) = omega arith
-line_most (L.Fetch to p global) = omega arith
-line_most (L.Store p global from) = omega arith
-line_most (L.Fill p from) = omega arith
-line_most (L.Blank p ty) = omega arith
-line_most (L.FillAt p from) = omega arith
+line_most : (line : Line) → length (text_of line) ≤ measured line
+line_most (L.Constant to how ty pieces) = pieces_most pieces
+line_most (L.Apply to operation how ty of from) = omega arith
+line_most (L.Construct to how ty fields from) = omega arith
+line_most (L.Call to how ty proc from) = omega arith
+line_most (L.Get to from how site ty) = omega arith
+line_most (L.Look to from) = omega arith
 line_most (L.Root to p global) = omega arith
 line_most (L.Fresh to from) = omega arith
 line_most (L.Part to from field) = omega arith
 line_most (L.Item to from index) = omega arith
-line_most (L.Get to from) = omega arith
-line_most (L.Put at from) = omega arith
-line_most (L.MoveOut to at ty) = omega arith
-line_most (L.Swap left right) = omega arith
-line_most (L.Measure to measure from) = omega arith
+line_most (L.Object to from) = omega arith
+line_most (L.Pass to from how ty) = omega arith
+line_most (L.Truth to holds) = omega arith
+line_most (L.Fill p from) = omega arith
+line_most (L.Blank p ty) = omega arith
+line_most (L.Give p from) = omega arith
+line_most (L.Zero to) = omega arith
+line_most (L.Length to from) = omega arith
 line_most (L.Still from len) = omega arith
+line_most (L.Element to from index) = omega arith
+line_most (L.Beyond counter last inclusive to) = omega arith
+line_most (L.Next counter last) = omega arith
 line_most (L.Label name) = omega arith
 line_most (L.Jump to) = omega arith
 line_most (L.Unless from to) = omega arith
 line_most (L.Fits from low high to) = omega arith
-line_most (L.Uncovered to) = omega arith
-line_most (L.Count counter last inclusive more) = omega arith
-line_most (L.Argument from) = omega arith
-line_most (L.ArgumentAt from) = omega arith
-line_most (L.Call to proc) = omega arith
+line_most (L.Turn to) = omega arith
+line_most (L.TurnIf from to) = omega arith
+line_most (L.CountTurn counter last inclusive to) = omega arith
 line_most (L.Return result) = omega arith
-line_most (L.Write from ty) = omega arith
-line_most (L.Quit status) = omega arith
-line_most L.QuitZero = omega arith
+line_most L.Enter = omega arith
 
-texts_most : (lines : List Line) → length (texts_of lines) ≤ texts_bytes lines
+texts_most : (lines : List Line) → length (texts_of lines) ≤ summed measured lines
 texts_most [] = omega arith
 texts_most (line ∷ rest) =
     let e = length-append (texts_of rest) (text_of line) in
@@ -120,7 +115,7 @@ texts_most (line ∷ rest) =
     let i = line_most line in
     omega (arith, e, h, i)
 
-all_texts_most : (procs : List BlockProc) → length (texts_in procs) ≤ all_texts_bytes (map block_placed procs)
+all_texts_most : (procs : List (CodeProc BlockLine)) → length (texts_in procs) ≤ code_texts block_plain procs
 all_texts_most [] = omega arith
 all_texts_most (p ∷ procs) =
     let e = length-append (texts_in procs) (texts_of (map block_plain p.lines)) in
@@ -179,42 +174,47 @@ ends_length n names =
 
 -- ---- globals
 
-datum_step : (kind : PlaceKind) (kept : Bool) (n : ℕ) (free : Free)
-    → (free_behind (is_static true kind) kept (bytes_by kind n) free).datum ≡ free.datum + global_bytes kind n
-datum_step K.Global kept n free = refl
-datum_step K.Local true n free = sym (add-zero free.datum)
-datum_step K.Local false n free = sym (add-zero free.datum)
-datum_step K.Cursor true n free = sym (add-zero free.datum)
-datum_step K.Cursor false n free = sym (add-zero free.datum)
-datum_step K.Result true n free = sym (add-zero free.datum)
-datum_step K.Result false n free = sym (add-zero free.datum)
-datum_step (K.Param mode) true n free = sym (add-zero free.datum)
-datum_step (K.Param mode) false n free = sym (add-zero free.datum)
-datum_step K.ForVar true n free = sym (add-zero free.datum)
-datum_step K.ForVar false n free = sym (add-zero free.datum)
-datum_step K.Caught true n free = sym (add-zero free.datum)
-datum_step K.Caught false n free = sym (add-zero free.datum)
-datum_step K.Temp true n free = sym (add-zero free.datum)
-datum_step K.Temp false n free = sym (add-zero free.datum)
-datum_step K.Location true n free = sym (add-zero free.datum)
-datum_step K.Location false n free = sym (add-zero free.datum)
-datum_step K.Counter true n free = sym (add-zero free.datum)
-datum_step K.Counter false n free = sym (add-zero free.datum)
+free_datum : (alias : Alias) (low high : Free) → high.datum ≡ low.datum → (free_by alias low high).datum ≡ low.datum + 0
+free_datum Own low high e = e ∙ sym (add-zero low.datum)
+free_datum (Place p global) low high e = sym (add-zero low.datum)
+free_datum (Value t) low high e = sym (add-zero low.datum)
+free_datum (Text behind bytes) low high e = sym (add-zero low.datum)
+
+kept_datum : (kept : Bool) (n : ℕ) (free : Free) → (free_behind false kept n free).datum ≡ free.datum
+kept_datum true n free = refl
+kept_datum false n free = refl
+
+datum_by : (alias : Alias) (kept : Bool) (n : ℕ) (free : Free) → (free_by alias free (free_behind false kept n free)).datum ≡ free.datum + 0
+datum_by alias kept n free = free_datum alias free (free_behind false kept n free) (kept_datum kept n free)
+
+datum_step : (kind : PlaceKind) (number : ℕ) (lines : List Line) (kept : Bool) (n : ℕ) (free : Free)
+    → (free_by (alias_for kind number lines) free (free_behind (is_static true kind) kept (bytes_by kind n) free)).datum
+    ≡ free.datum + global_bytes kind n
+datum_step K.Global number lines kept n free = refl
+datum_step (K.Param mode) number lines kept n free = datum_by Own kept n free
+datum_step K.Local number lines kept n free = datum_by (alias_for K.Local number lines) kept n free
+datum_step K.Cursor number lines kept n free = datum_by (alias_for K.Cursor number lines) kept n free
+datum_step K.Result number lines kept n free = datum_by (alias_for K.Result number lines) kept n free
+datum_step K.ForVar number lines kept n free = datum_by (alias_for K.ForVar number lines) kept n free
+datum_step K.Caught number lines kept n free = datum_by (alias_for K.Caught number lines) kept n free
+datum_step K.Temp number lines kept n free = datum_by (alias_for K.Temp number lines) kept n free
+datum_step K.Location number lines kept n free = datum_by (alias_for K.Location number lines) kept n free
+datum_step K.Within number lines kept n free = datum_by (alias_for K.Within number lines) kept n free
+datum_step K.Counter number lines kept n free = datum_by Own kept (bytes_by K.Counter n) free
 
 module _ (table : List TypeDef) where
-  datum_is : (roots : List ℕ) (free : Free) (ps : List FlatPlace)
-      → (behind_all table true roots free ps).datum ≡ free.datum + globals_bytes (known_in table) ps
-  datum_is roots free [] = sym (add-zero free.datum)
-  datum_is roots free (p ∷ ps) =
-      let e = datum_step p.kind (place_kept table true roots p) (bytes_at table p.ty) free in
-      let h = datum_is roots (behind table true roots free p) ps in
+  datum_is : (lines : List Line) (free : Free) (ps : List FlatPlace)
+      → (behind_all table true lines free ps).datum ≡ free.datum + globals_bytes (known_in table) ps
+  datum_is lines free [] = sym (add-zero free.datum)
+  datum_is lines free (p ∷ ps) =
+      let e = datum_step p.kind p.number lines (place_kept table true lines p) (bytes_at table p.ty) free in
+      let h = datum_is lines (behind table true lines free p) ps in
       omega (arith, e, h)
 
-  last_datum : (datum : ℕ) (none : Layout) (other : Placed) (p : BlockProc) (ps : List BlockProc)
-      → (last_of none (layouts table datum (p ∷ ps))).free.datum
-      ≡ datum + globals_bytes (known_in table) (last_of other (map block_placed (p ∷ ps))).places
-  last_datum datum none other p [] = datum_is (roots_in (map block_plain p.lines)) (free_at datum) p.places
-  last_datum datum none other p (q ∷ ps) = last_datum datum (layout_of table false datum p) (block_placed p) q ps
+  last_datum : (datum : ℕ) (none : Layout) (p : CodeProc BlockLine) (ps : List (CodeProc BlockLine))
+      → (last_of none (layouts table datum (p ∷ ps))).free.datum ≡ datum + globals_bytes (known_in table) (start_places (p ∷ ps))
+  last_datum datum none p [] = datum_is (map block_plain p.lines) (free_at datum) p.places
+  last_datum datum none p (q ∷ ps) = last_datum datum (layout_of table false datum p) q ps
 
 -- ---- all of it
 
@@ -227,42 +227,43 @@ six_parts a b c d e f =
     let l = length-append e f in
     omega (arith, h, i, j, k, l)
 
-fixed_length : length fixed_texts ≡ 160
+fixed_length : length fixed_texts ≡ 16
 fixed_length = refl
 
-data_length : (table : List TypeDef) (globals_end : ℕ) (procs : List BlockProc)
-    → length (data_in table globals_end procs) ≤ 180 + (globals_end - FIXED_BYTES) + (names_bytes table + all_texts_bytes (map block_placed procs))
+data_length : (table : List TypeDef) (globals_end : ℕ) (procs : List (CodeProc BlockLine))
+    → length (data_in table globals_end procs) ≤ 24 + (globals_end - FIXED_BYTES) + (names_bytes table + code_texts block_plain procs)
 data_length table globals_end procs =
     let names : List (List ℕ) = all_names table in
-    let e = six_parts (replicate 16 0) fixed_texts (replicate (globals_end - FIXED_BYTES) 0) (ends_from 0 names) (joined_all names) (texts_in procs) in
+    let e = six_parts (replicate 4 0) fixed_texts (replicate (globals_end - FIXED_BYTES) 0) (ends_from 0 names) (joined_all names) (texts_in procs) in
     let f = zeros_length (globals_end - FIXED_BYTES) in
     let g = ends_length 0 names in
     let h = all_names_most table in
     let i = all_texts_most procs in
     let j = fixed_length in
-    let k = zeros_length 16 in
+    let k = zeros_length 4 in
     omega (arith, e, f, g, h, i, j, k)
 
-data_by : (table : List TypeDef) (procs : List BlockProc) → length (data_of table procs) ≤ data_bytes table (map block_placed procs) + MORE_DATA
+data_by : (table : List TypeDef) (procs : List (CodeProc BlockLine)) → length (data_of table procs) ≤ data_bytes block_plain table procs + MORE_DATA
 data_by table [] =
     let h = data_length table 0 [] in
     let i = padded_most (data_in table 0 []) in
     omega (arith, h, i)
 data_by table (p ∷ ps) =
     let globals_end : ℕ = (last_of no_layout (layouts table FIXED_BYTES (p ∷ ps))).free.datum in
-    let e : globals_end ≡ FIXED_BYTES + globals_bytes (known_in table) (last_of no_lines (map block_placed (p ∷ ps))).places =
-    last_datum table FIXED_BYTES no_layout no_lines p ps in
+    let e : globals_end ≡ FIXED_BYTES + globals_bytes (known_in table) (start_places (p ∷ ps)) =
+    last_datum table FIXED_BYTES no_layout p ps in
     let h = data_length table globals_end (p ∷ ps) in
     let i = padded_most (data_in table globals_end (p ∷ ps)) in
     omega (arith, e, h, i)
 
-pub data_whole : (table : List TypeDef) (blocks : Blocks) → length (lowered table blocks).statics % 4 ≡ 0
+pub data_whole : (table : List TypeDef) (blocks : Code BlockLine) → length (lowered table blocks).statics % 4 ≡ 0
 data_whole table blocks = padded_whole (data_in table (globals_end table blocks.procs) blocks.procs)
 
-pub data_sized : (table : List TypeDef) (blocks : Blocks)
-    → length (lowered table blocks).statics ≤ data_bytes table (map block_placed blocks.procs) + MORE_DATA
+pub data_sized : (table : List TypeDef) (blocks : Code BlockLine)
+    → length (lowered table blocks).statics ≤ data_bytes block_plain table blocks.procs + MORE_DATA
 data_sized table blocks = data_by table blocks.procs
 
-pub data_within : (table : List TypeDef) (blocks : Blocks) → may_lower table blocks ≡ true → length (lowered table blocks).statics ≤ MOST_DATA
-data_within table blocks may = leb-true _ MOST_DATA (and_parts (nat_le (length (data_of table blocks.procs)) MOST_DATA) (defs_may table)
+pub data_within : (table : List TypeDef) (blocks : Code BlockLine) → may_lower table blocks ≡ true → length (lowered table blocks).statics ≤ MOST_DATA
+data_within table blocks may = leb-true _ MOST_DATA
+    (and_parts (nat_le (length (data_of table blocks.procs)) MOST_DATA) (defs_may table && labels_may blocks.procs)
     (and_parts (procs_may table _ blocks.procs) _ may).1).0

@@ -1,121 +1,121 @@
--- Each line is followed, wherever both states belong together.
-use Rattle.std.proofs.Common.{◌≡◌, ℕ, List, [], ◌∷◌, map, true, false, refl, sym, ◌∙◌}
-use Rattle.std.specs.Prelude.{◌&&◌}
-use Rattle.std.proofs.lemmas.Bool.{and_parts}
-use Rattle.mid_code.specs.declared.block.BlockLine.{BlockLine}
-use Rattle.mid_code.specs.declared.block.BlockLine.TheVariants as block_line
-use Rattle.mid_code.specs.declared.line.Line.{Line}
-use Rattle.mid_code.specs.declared.line.Line.TheVariants as L
-use Rattle.mid_code.specs.Codes.{block_plain, block_label, block_does, block_procs}
-use Rattle.mid_code.specs.Fits.{Passed, gives_more, may_stand, fits, given_behind, all_fit}
-use Rattle.mid_code.specs.Lines.{does}
-use Rattle.mid_code.specs.Running.{scene_of, step as block_step}
-use Rattle.mid_code.proofs.ForCallers.{never}
-use Rattle.word_lowering.proofs.Sites.{sigs, globals_of}
-use Rattle.word_lowering.proofs.Related.{Both, body_of, with_rest, high}
-use Rattle.word_lowering.proofs.Lines.{Basis, starts, IsGood, known, Settles, Follows}
-use Rattle.word_lowering.proofs.OrdinalLines.{TrapsStop, ordinal_line}
-use Rattle.word_lowering.proofs.ControlLines.{FollowedHere, pass_line, label_line, jump_line, uncovered_line, unless_line}
+-- Each line of block code is followed.
+use Rattle.std.proofs.Common.{ℕ, List, [], ◌∷◌, Option, Some, None}
+use Rattle.nim_program.specs.declared.operation.Operation.{Operation}
+use Rattle.nim_program.specs.declared.operation.Operation.TheVariants as O
+use Rattle.nim_program.specs.declared.operation.Use.{Use}
+use Rattle.flat_code.specs.declared.block.BlockLine.{BlockLine}
+use Rattle.flat_code.specs.declared.block.BlockLine.TheVariants as block_line
+use Rattle.flat_code.specs.declared.owned.OwnedLine.TheVariants as owned_line
+use Rattle.flat_code.specs.declared.line.From.{From}
+use Rattle.flat_code.specs.declared.line.Line.{Line}
+use Rattle.flat_code.specs.declared.line.Line.TheVariants as L
+use Rattle.flat_code.specs.Codes.{block_does}
+use Rattle.flat_code.specs.Running.{scene_of}
+use Rattle.word_lowering.proofs.ApplyFits.{applies}
+use Rattle.word_lowering.proofs.CallLabels.{ArgumentLabels}
+use Rattle.word_lowering.proofs.CallLines.{call_line}
 use Rattle.word_lowering.proofs.CaseLines.{fits_line}
-use Rattle.word_lowering.proofs.Clears.{default_line, blank_line}
+use Rattle.word_lowering.proofs.Clears.{blank_line, default_line}
+use Rattle.word_lowering.proofs.CompareLines.{compare_line, convert_line}
 use Rattle.word_lowering.proofs.ConstantLines.{constant_line}
-use Rattle.word_lowering.proofs.ConstructLines.{PartsAlike, construct_line}
-use Rattle.word_lowering.proofs.CountLines.{count_line}
-use Rattle.word_lowering.proofs.EndLines.{quit_zero_line, quit_line}
-use Rattle.word_lowering.proofs.GivenLines.{argument_line, argument_at_line}
+use Rattle.word_lowering.proofs.ConstructLines.{construct_line}
+use Rattle.word_lowering.proofs.ControlLines.{FollowedHere, enter_line, jump_line, label_line, turn_if_line, turn_line, unless_line}
+use Rattle.word_lowering.proofs.ElementLines.{element_line}
+use Rattle.word_lowering.proofs.EchoLines.{echo_line}
+use Rattle.word_lowering.proofs.EndLines.{quit_line}
+use Rattle.word_lowering.proofs.ItemLines.{item_line}
+use Rattle.word_lowering.proofs.LeadLines.{fresh_line, root_line}
+use Rattle.word_lowering.proofs.Lines.{Basis, IsGood, Settles, known, starts}
 use Rattle.word_lowering.proofs.MakeLines.{make_line}
-use Rattle.word_lowering.proofs.MeasureLines.{measure_line, still_line}
-use Rattle.word_lowering.proofs.MoveLines.{copy_line, fill_line, get_line, fill_at_line}
-use Rattle.word_lowering.proofs.OperandLines.{unary_line, binary_line, compare_line, narrow_line}
-use Rattle.word_lowering.proofs.OutLines.{move_out_line}
-use Rattle.word_lowering.proofs.PartLines.{part_line, item_line}
-use Rattle.word_lowering.proofs.PlaceLines.{fetch_line, root_line, fresh_line}
+use Rattle.word_lowering.proofs.MeasureLines.{length_line, measure_row, still_line}
+use Rattle.word_lowering.proofs.MovedLines.{fill_line, get_line, give_line, look_line, take_line}
+use Rattle.word_lowering.proofs.NumberLines.{count_line, beyond_line, next_line, truth_line, zero_line}
+use Rattle.word_lowering.proofs.OperandLines.{binary_line, unary_line}
+use Rattle.word_lowering.proofs.PartLines.{part_line}
+use Rattle.word_lowering.proofs.Related.{Both, high}
 use Rattle.word_lowering.proofs.ReturnLine.{return_line}
-use Rattle.word_lowering.proofs.StoreLines.{put_line, store_line}
+use Rattle.word_lowering.proofs.Settling.{LabelsLead, OwnLabels, TrapsStop}
+use Rattle.word_lowering.proofs.ShapeFacts.{never}
+use Rattle.word_lowering.proofs.StoreLines.{assign_line, discard_line, number_pass, pass_line}
+use Rattle.word_lowering.proofs.HeapLines.{add_line, append_line, is_nil_line, join_line, new_sequence_line, object_line, pop_line, read_line_into_line}
+use Rattle.word_lowering.proofs.HeapLines.{read_line_line, sequence_line, set_length_line, show_line, destroy_line, unborn_line}
+use Rattle.word_lowering.proofs.OutLines.{move_line}
 use Rattle.word_lowering.proofs.SwapLines.{swap_line}
-use Rattle.word_lowering.proofs.TextLines.{LiteralsThere, write_text_line}
-use Rattle.word_lowering.proofs.CallLines.{callee, call_settles}
-use Rattle.word_lowering.proofs.EnterLines.{enters_line}
+use Rattle.word_lowering.proofs.UpdateLines.{update_line}
+use Rattle.word_lowering.proofs.WrittenLines.{Writing}
 
--- each line that writes a value is followed
-abbrev pub WritesFollowed : Basis → Type 0
-WritesFollowed x = (g : Both) (rest : List BlockLine) (from ty : ℕ) → FollowedHere x g rest (L.Write from ty)
+module _ (x : Basis) (labels : LabelsLead x) where
+  abbrev Row : Operation → Type 0
+  Row operation = (g : Both) (rest : List BlockLine) (to : ℕ) (how : Use) (ty : Option ℕ) (of : List (Option ℕ)) (from : List From)
+      → FollowedHere x labels g rest (L.Apply to operation how ty of from)
 
-module _ (x : Basis) (traps : TrapsStop x) (literals : LiteralsThere x) (alike_parts : PartsAlike x) (writes : WritesFollowed x) where
-  -- behind arguments only such lines stand as give more, or call
-  none_passed : (g : Both) (line : Line) (passed : List Passed) → gives_more line ≡ false
-      → may_stand (known x) (sigs x.table x.blocks) (globals_of x.table x.blocks) (body_of g).proc.places passed line ≡ true → passed ≡ []
-  none_passed g line [] none h = refl
-  none_passed g line (p ∷ ps) none h = never (sym none ∙ h)
+module _ (x : Basis) (labels : LabelsLead x) (traps : TrapsStop x) (own : OwnLabels x) (arguments : ArgumentLabels x)
+    (said : Writing x) where
+  row_followed : (operation : Operation) → Row x labels operation
+  row_followed O.Default g rest to how ty [] from y = default_line x labels g rest to how ty from y
+  row_followed O.Default g rest to how ty (a ∷ of) from y = never (applies x g rest to O.Default how ty (a ∷ of) from y).row
+  row_followed (O.Unary operator) g rest to how ty of from y = unary_line x traps own g rest to how ty operator of from y
+  row_followed (O.Binary operator) g rest to how ty of from y = binary_line x traps own g rest to how ty operator of from y
+  row_followed (O.Compare comparison) g rest to how ty of from y = compare_line x labels g rest to how ty comparison of from y
+  row_followed O.Convert g rest to how ty of from y = convert_line x traps labels g rest to how ty of from y
+  row_followed O.Join g rest to how ty of from y = join_line x labels g rest to how ty of from y
+  row_followed O.Show g rest to how ty of from y = show_line x labels g rest to how ty of from y
+  row_followed O.Make g rest to how ty of from y = make_line x labels g rest to how ty of from y
+  row_followed O.Sequence g rest to how ty of from y = sequence_line x labels g rest to how ty of from y
+  row_followed O.NewSequence g rest to how ty of from y = new_sequence_line x labels g rest to how ty of from y
+  row_followed (O.Measure m) g rest to how ty of from y = measure_row x labels g rest m to how ty of from y
+  row_followed O.IsNil g rest to how ty of from y = is_nil_line x labels g rest to how ty of from y
+  row_followed O.Echo g rest to how ty of from y = echo_line x labels said g rest to how ty of from y
+  row_followed O.Quit g rest to how ty of from y = quit_line x labels g rest to how ty of from y
+  row_followed O.ReadLine g rest to how ty of from y = read_line_line x labels g rest to how ty of from y
+  row_followed O.ReadLineInto g rest to how ty of from y = read_line_into_line x labels g rest to how ty of from y
+  row_followed O.Assign g rest to how ty of from y = assign_line x labels g rest to how ty of from y
+  row_followed (O.Update operator) g rest to how ty of from y = update_line x traps labels g rest to how operator ty of from y
+  row_followed O.Add g rest to how ty of from y = add_line x labels g rest to how ty of from y
+  row_followed O.Append g rest to how ty of from y = append_line x labels g rest to how ty of from y
+  row_followed O.SetLength g rest to how ty of from y = set_length_line x labels g rest to how ty of from y
+  row_followed O.Pop g rest to how ty of from y = pop_line x labels g rest to how ty of from y
+  row_followed O.Move g rest to how ty of from y = move_line x labels g rest to how ty of from y
+  row_followed O.Swap g rest to how ty of from y = swap_line x labels g rest to how ty of from y
+  row_followed O.Discard g rest to how ty of from y = discard_line x labels g rest to how ty of from y
+  row_followed O.Destroy g rest to how ty of from y = destroy_line x labels g rest to how ty of from y
+  row_followed O.Blank g rest to how ty of from y = unborn_line x labels g rest to how ty of from y
 
-  module _ (g : Both) (rest : List BlockLine) where
-    free : (line : Line) (y : IsGood x (starts g line rest)) → gives_more line ≡ false → y.passed ≡ []
-    free line y none = none_passed g line y.passed none
-        (and_parts
-        (may_stand (known x) (sigs x.table x.blocks) (globals_of x.table x.blocks) (body_of g).proc.places y.passed line)
-        (all_fit (known x) (sigs x.table x.blocks) (globals_of x.table x.blocks) (body_of g).proc.places
-        (given_behind (known x) (sigs x.table x.blocks) (globals_of x.table x.blocks) (body_of g).proc.places y.passed line) (map block_plain rest))
-        (and_parts
-        (fits (known x) (sigs x.table x.blocks) (globals_of x.table x.blocks) (body_of g).proc.places y.passed line)
-        (may_stand (known x) (sigs x.table x.blocks) (globals_of x.table x.blocks) (body_of g).proc.places y.passed line
-        && all_fit (known x) (sigs x.table x.blocks) (globals_of x.table x.blocks) (body_of g).proc.places
-        (given_behind (known x) (sigs x.table x.blocks) (globals_of x.table x.blocks) (body_of g).proc.places y.passed line) (map block_plain rest))
-        y.stands.fits).1).0
+  line_followed : (g : Both) (rest : List BlockLine) (line : Line) → FollowedHere x labels g rest line
+  line_followed g rest (L.Apply to operation how ty of from) y = row_followed operation g rest to how ty of from y
+  line_followed g rest (L.Construct to how ty fields from) y = construct_line x labels g rest to how ty fields from y
+  line_followed g rest (L.Constant to how ty pieces) y = constant_line x labels g rest to how ty pieces y
+  line_followed g rest (L.Call to how ty proc from) y = call_line x labels traps arguments g rest to how ty proc from y
+  line_followed g rest (L.Get to from how site ty) y = get_line x labels g rest to from how site ty y
+  line_followed g rest (L.Look to from) y = look_line x labels g rest to from y
+  line_followed g rest (L.Root to place global) y = root_line x labels g rest to place global y
+  line_followed g rest (L.Fresh to from) y = fresh_line x labels g rest to from y
+  line_followed g rest (L.Part to from field) y = part_line x labels g rest to from field y
+  line_followed g rest (L.Item to from index) y = item_line x traps labels g rest to from index y
+  line_followed g rest (L.Object to from) y = object_line x labels g rest to from y
+  line_followed g rest (L.Pass to from how None) y = number_pass x labels g rest to from how y
+  line_followed g rest (L.Pass to from how (Some ty)) y = pass_line x labels g rest to from how ty y
+  line_followed g rest (L.Truth to holds) y = truth_line x labels g rest to holds y
+  line_followed g rest (L.Fill place from) y = fill_line x labels g rest place from y
+  line_followed g rest (L.Blank place ty) y = blank_line x labels g rest place ty y
+  line_followed g rest (L.Give place from) y = give_line x labels g rest place from y
+  line_followed g rest (L.Zero to) y = zero_line x labels g rest to y
+  line_followed g rest (L.Length to from) y = length_line x labels g rest to from y
+  line_followed g rest (L.Still from len) y = still_line x traps labels g rest from len y
+  line_followed g rest (L.Element to from index) y = element_line x labels g rest to from index y
+  line_followed g rest (L.Beyond counter last inclusive to) y = beyond_line x labels g rest counter last inclusive to y
+  line_followed g rest (L.Next counter last) y = next_line x labels g rest counter last y
+  line_followed g rest (L.Label name) y = label_line x labels g rest name y
+  line_followed g rest (L.Jump to) y = jump_line x labels g rest to y
+  line_followed g rest (L.Unless from to) y = unless_line x labels g rest from to y
+  line_followed g rest (L.Fits from least most to) y = fits_line x labels g rest from least most to y
+  line_followed g rest L.Enter y = enter_line x labels g rest y
+  line_followed g rest (L.Turn to) y = turn_line x labels g rest to y
+  line_followed g rest (L.TurnIf from to) y = turn_if_line x labels g rest from to y
+  line_followed g rest (L.CountTurn counter last inclusive to) y = count_line x labels g rest counter last inclusive to own y
+  line_followed g rest (L.Return result) y = return_line x labels g rest result y
 
-    pub line_settles : (line : Line) (y : IsGood x (starts g line rest))
-        → Settles x (starts g line rest) rest (does (known x) (scene_of (high x.table x.blocks (starts g line rest))) line)
-    line_settles L.Pass y = pass_line x g rest y
-    line_settles (L.Ordinal to z) y = ordinal_line x traps g rest to z y (free (L.Ordinal to z) y refl)
-    line_settles (L.Constant to pieces) y = constant_line x g rest to pieces y (free (L.Constant to pieces) y refl)
-    line_settles (L.Default to ty) y = default_line x g rest to ty y (free (L.Default to ty) y refl)
-    line_settles (L.Copy to from) y = copy_line x g rest to from y (free (L.Copy to from) y refl)
-    line_settles (L.Narrow to from values) y = narrow_line x traps g rest to from values y (free (L.Narrow to from values) y refl)
-    line_settles (L.Unary to operator from) y = unary_line x traps g rest operator to from y (free (L.Unary to operator from) y refl)
-    line_settles (L.Binary to operator left right) y =
-        binary_line x traps g rest operator to left right y (free (L.Binary to operator left right) y refl)
-    line_settles (L.Compare to operator left right) y =
-        compare_line x traps g rest operator to left right y (free (L.Compare to operator left right) y refl)
-    line_settles (L.Make to parts) y = make_line x g rest to parts y (free (L.Make to parts) y refl)
-    line_settles (L.Construct to ty parts) y = construct_line x alike_parts g rest to ty parts y (free (L.Construct to ty parts) y refl)
-    line_settles (L.Fetch to n global) y = fetch_line x g rest to n global y (free (L.Fetch to n global) y refl)
-    line_settles (L.Store n global from) y = store_line x g rest n global from y (free (L.Store n global from) y refl)
-    line_settles (L.Fill n from) y = fill_line x g rest n from y (free (L.Fill n from) y refl)
-    line_settles (L.Blank n ty) y = blank_line x g rest n ty y (free (L.Blank n ty) y refl)
-    line_settles (L.FillAt n from) y = fill_at_line x g rest n from y (free (L.FillAt n from) y refl)
-    line_settles (L.Root to n global) y = root_line x g rest to n global y
-    line_settles (L.Fresh to from) y = fresh_line x g rest to from y
-    line_settles (L.Part to from field) y = part_line x g rest to from field y
-    line_settles (L.Item to from index) y = item_line x g rest traps to from index y
-    line_settles (L.Get to from) y = get_line x g rest to from y (free (L.Get to from) y refl)
-    line_settles (L.Put at from) y = put_line x g rest at from y (free (L.Put at from) y refl)
-    line_settles (L.MoveOut to at ty) y = move_out_line x g rest to at ty y (free (L.MoveOut to at ty) y refl)
-    line_settles (L.Swap left right) y = swap_line x g rest left right y (free (L.Swap left right) y refl)
-    line_settles (L.Measure to m from) y = measure_line x g rest traps to m from y (free (L.Measure to m from) y refl)
-    line_settles (L.Still from len) y = still_line x g rest traps from len y (free (L.Still from len) y refl)
-    line_settles (L.Label name) y = label_line x g rest name y (free (L.Label name) y refl)
-    line_settles (L.Jump to) y = jump_line x g rest to y (free (L.Jump to) y refl)
-    line_settles (L.Unless from to) y = unless_line x g rest from to y (free (L.Unless from to) y refl)
-    line_settles (L.Fits from low high to) y = fits_line x g rest from to low high y (free (L.Fits from low high to) y refl)
-    line_settles (L.Uncovered to) y = uncovered_line x g rest to y (free (L.Uncovered to) y refl)
-    line_settles (L.Count counter last inclusive more) y =
-        count_line x traps g rest counter last inclusive more y (free (L.Count counter last inclusive more) y refl)
-    line_settles (L.Argument from) y = argument_line x g rest from y
-    line_settles (L.ArgumentAt from) y = argument_at_line x g rest from y
-    line_settles (L.Call to proc) y =
-        call_settles x traps g rest proc to y (λ h z. enters_line x traps h rest to proc z (callee x traps h rest to proc z).orderly)
-    line_settles (L.Return result) y = return_line x g rest result y (free (L.Return result) y refl)
-    line_settles (L.Write from ty) y = writes g rest from ty y (free (L.Write from ty) y refl)
-    line_settles (L.WriteText text) y = write_text_line x literals g rest text y (free (L.WriteText text) y refl)
-    line_settles (L.Quit status) y = quit_line x g rest status y (free (L.Quit status) y refl)
-    line_settles L.QuitZero y = quit_zero_line x g rest y (free L.QuitZero y refl)
-
-  -- each step of block code is followed
-  pub step_follows : (g : Both) → IsGood x g
-      → Follows x g (block_step block_label (block_does (known x)) (block_procs (known x) x.blocks) (high x.table x.blocks g))
-  step_follows g y = by g.rest y
-    where
-      by : (lines : List BlockLine) → IsGood x (with_rest g lines)
-          → Follows x (with_rest g lines) (block_step block_label (block_does (known x)) (block_procs (known x) x.blocks)
-          (high x.table x.blocks (with_rest g lines)))
-      by [] z = tt
-      by (block_line.Plain line ∷ rest) z = line_settles g rest line z
+  pub line_settles : (g : Both) (rest : List BlockLine) (line : BlockLine) (y : IsGood x (starts g line rest))
+      → Settles x (starts g line rest) rest (block_does (known x) (scene_of (high x.table x.blocks (starts g line rest))) line)
+  line_settles g rest (block_line.Plain (owned_line.Plain line)) y = line_followed g rest line y
+  line_settles g rest (block_line.Plain (owned_line.Take to from how act ty)) y = take_line x labels g rest to from how act ty y

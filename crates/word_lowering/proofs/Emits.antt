@@ -1,5 +1,5 @@
 -- Code behind code.
-use Rattle.std.proofs.Common.{◌≡◌, List, [], ◌∷◌, ◌++◌, append_assoc, Result, Ok, Err, OnOk, ap, ◌∙◌}
+use Rattle.std.proofs.Common.{◌≡◌, List, ◌++◌, Result, Ok, Err, OnOk, ap, ◌∙◌}
 use Rattle.word_lowering.specs.Emission.{Puts}
 
 pub then_puts : {A : Type 0} (f g : List A → List A) (old middle new : List A) → Puts old middle f → Puts middle new g → Puts old new (λ k. f (g k))
@@ -13,7 +13,3 @@ ok_as (Err e) f p = tt
 -- the same code in other words
 pub put_as : {A : Type 0} (old new : List A) (f g : List A → List A) → Puts old new f → ((k : List A) → f k ≡ g k) → Puts old new g
 put_as old new f g p e = λ k. p k ∙ ap (λ l. old ++ l) (e k)
-
--- one item more
-pub push_puts : {A : Type 0} (old new : List A) (p q : A) → new ≡ old ++ p ∷ [] → p ≡ q → Puts old new (λ k. q ∷ k)
-push_puts old new p q e f = λ k. ap (λ l. l ++ k) (e ∙ ap (λ x. old ++ x ∷ []) f) ∙ append_assoc old (q ∷ []) k

@@ -1,57 +1,92 @@
 -- Lines that end the program are followed.
-use Rattle.std.proofs.Common.{◌≡◌, ℕ, ◌%◌, List, [], ◌∷◌, Some, ap, subst, ◌∙◌, arith}
+use Rattle.std.proofs.Common.{◌≡◌, ℕ, ◌%◌, List, [], ◌∷◌, Option, Some, None, true, sym, ap, subst, ◌∙◌, arith, false}
 use Rattle.arc_base.specs.Behaviour.{no_objects}
 use Rattle.arc_base.specs.Stepping.{Ends}
 use Rattle.arc_base.specs.Simulation.{Stops}
-use Rattle.nim_core.specs.Ints.{low_byte}
-use Rattle.nim_core.specs.Values.{number_of}
-use Rattle.mid_code.specs.declared.block.BlockLine.{BlockLine}
-use Rattle.mid_code.specs.declared.line.Line.TheVariants as L
-use Rattle.mid_code.specs.declared.word.WordInstr.{WordInstr}
-use Rattle.mid_code.specs.declared.word.WordInstr.TheVariants.{Exit}
-use Rattle.mid_code.specs.Words.{Vars, put, WordState, settled as word_settled, using as word_using, Exits as WordExits}
-use Rattle.mid_code.specs.Scene.{Exits}
+use Rattle.std.proofs.lemmas.Bool.{and_parts}
+use Rattle.nim_program.specs.Ints.{low_byte}
+use Rattle.nim_meaning.specs.Values.{number_of, Given, value_of}
+use Rattle.nim_meaning.specs.Deeds.{end, costs, ◌>>=◌}
+use Rattle.nim_program.specs.declared.operation.Operation.TheVariants as O
+use Rattle.flat_code.specs.declared.block.BlockLine.{BlockLine}
+use Rattle.flat_code.specs.declared.line.From.{From}
+use Rattle.flat_code.specs.declared.line.From.TheVariants as F
+use Rattle.flat_code.specs.declared.line.Line.TheVariants as L
+use Rattle.word_code.specs.declared.word.WordInstr.{WordInstr}
+use Rattle.word_code.specs.declared.word.WordInstr.TheVariants.{Exit}
+use Rattle.word_code.specs.Words.{Vars, put, WordState, settled as word_settled, using as word_using, Exits as WordExits}
+use Rattle.word_code.proofs.ForCallers.{got, at, run_constant, ends_one, stops_on}
 use Rattle.word_lowering.specs.declared.homes.TheConstants.{FIRST}
 use Rattle.word_lowering.specs.Operations.{word}
-use Rattle.word_lowering.specs.LineCode.{variable_of, exit_code}
+use Rattle.word_lowering.specs.LineCode.{exit_code}
 use Rattle.word_lowering.proofs.Arithmetic.{exit_status}
-use Rattle.word_lowering.proofs.CopyRuns.{got}
-use Rattle.word_lowering.proofs.Runs.{at, run_constant}
-use Rattle.word_lowering.proofs.Scenes.{of_value, house}
-use Rattle.word_lowering.proofs.Related.{Both, body_of, procs, within, low, code_behind}
-use Rattle.word_lowering.proofs.Lines.{Basis, fits_here, starts, lower, using_settles}
-use Rattle.word_lowering.proofs.ControlLines.{FollowedHere, number_operand}
-use Rattle.word_lowering.proofs.Traps.{ends_one, stops_on}
+use Rattle.word_lowering.proofs.Related.{low, Both, body_of, high, within}
+use Rattle.flat_code.specs.Fits.{is_value}
+use Rattle.flat_code.specs.Lines.{gives}
+use Rattle.flat_code.specs.Running.{scene_of}
+use Rattle.nim_meaning.specs.Places.{made_by}
+use Rattle.nim_program.specs.Kinds.{is_int, kind_if, same_value}
+use Rattle.nim_program.specs.View.{if_type}
+use Rattle.nim_program.specs.declared.operation.Use.{Use}
+use Rattle.nim_types.specs.Table.{facts_in}
+use Rattle.word_lowering.proofs.ApplyFits.{applies}
+use Rattle.word_lowering.proofs.ControlLines.{FollowedHere, int_read, kind_at, plain, value_type}
+use Rattle.word_lowering.proofs.LineFits.{same_type}
+use Rattle.word_lowering.proofs.Lines.{Basis, all_procs, known, lower, mapped_settles, starts}
+use Rattle.word_lowering.proofs.NumberLines.{variable}
+use Rattle.word_lowering.proofs.Settling.{LabelsLead, code_next, stops_more}
+use Rattle.word_lowering.proofs.ShapeFacts.{never}
+use Rattle.word_lowering.proofs.ValueFacts.{type_in}
 
 module _ (x : Basis) (g : Both) where
   -- a line that ends
-  exits : (k : List WordInstr) (vars : Vars) (status a : ℕ) → vars status ≡ Some a
+  pub exits : (k : List WordInstr) (vars : Vars) (status a : ℕ) → vars status ≡ Some a
       → Stops (lower x) (at (within x.table x.blocks g) g.memory (Exit status ∷ k) vars g.words) [] 1 (a % 256) no_objects
   exits k vars status a e =
       let s : WordState = at (within x.table x.blocks g) g.memory (Exit status ∷ k) vars g.words in
       ends_one (lower x) s [] 1 (a % 256) no_objects
-      (ap (λ o. word_settled x.live (procs x.table x.blocks) s k (word_using o (λ b. WordExits (b % 256)))) e ∙ ap (λ l. Ends [] 1 (a % 256) l)
+      (ap (λ o. word_settled x.live (all_procs x) s k (word_using o (λ b. WordExits (b % 256)))) e ∙ ap (λ l. Ends [] 1 (a % 256) l)
       (x.none g.memory))
 
   pub zero_exits : (k : List WordInstr) → Stops (lower x) (at (within x.table x.blocks g) g.memory (exit_code k) g.call.vars g.words) [] 2 0 no_objects
   zero_exits k =
       let v1 : Vars = put g.call.vars FIRST 0 in
-      let r1 = run_constant x.live (procs x.table x.blocks) (within x.table x.blocks g) g.memory (Exit FIRST ∷ k) g.call.vars g.words FIRST 0 in
+      let r1 = run_constant x.live (all_procs x) (within x.table x.blocks g) g.memory (Exit FIRST ∷ k) g.call.vars g.words FIRST 0 in
       stops_on (lower x) 1 1 1 0 (at (within x.table x.blocks g) g.memory (exit_code k) g.call.vars g.words)
       (at (within x.table x.blocks g) g.memory (Exit FIRST ∷ k) v1 g.words) [] [] no_objects r1
       (exits k v1 FIRST 0 (got 0 (omega arith)))
 
-  module _ (rest : List BlockLine) where
-    pub quit_zero_line : FollowedHere x g rest L.QuitZero
-    quit_zero_line y free =
-        let s = zero_exits (code_behind x.table x.blocks (body_of g) rest) in
-        record { work = s.work; within = omega (arith, s.within); by = s.by }
+module _ (x : Basis) (labels : LabelsLead x) (g : Both) (rest : List BlockLine) (to : ℕ) (how : Use) where
+  quit_zero : FollowedHere x labels g rest (L.Apply to O.Quit how None [] [])
+  quit_zero y =
+      let line = plain (L.Apply to O.Quit how None [] []) in
+      stops_more (lower x) (low x.table x.blocks (starts g line rest)) 2 16 0 [] no_objects (omega arith)
+      (zero_exits x g (code_next x g line rest y))
 
-    pub quit_line : (status : ℕ) → FollowedHere x g rest (L.Quit status)
-    quit_line status y free =
-        using_settles x (starts g (L.Quit status) rest) rest (g.call.temps.values status) (λ v. Exits (low_byte (number_of v)))
-        (λ v e. let o = number_operand x g rest (L.Quit status) y status v (fits_here x.table x.blocks (body_of g) y.passed (L.Quit status) rest y.stands) e in
-        let s = exits (code_behind x.table x.blocks (body_of g) rest) g.call.vars (variable_of (house g.call.site (of_value status)))
-        (word (number_of v)) o.word_is in
-        subst (λ n. Stops (lower x) (low x.table x.blocks (starts g (L.Quit status) rest)) [] 16 n no_objects) (exit_status (number_of v) o.fits)
-        (record { work = s.work; within = omega (arith, s.within); by = s.by }))
+  quit_status : (a : Option ℕ) (status : ℕ) → FollowedHere x labels g rest (L.Apply to O.Quit how None (a ∷ []) (F.Value status ∷ []))
+  quit_status a status y =
+      let line = plain (L.Apply to O.Quit how None (a ∷ []) (F.Value status ∷ [])) in
+      let f = applies x g rest to O.Quit how None (a ∷ []) (F.Value status ∷ []) y in
+      let v = same_type (value_type x g line rest y status) (if_type (known x).types a)
+      (and_parts (same_value (value_type x g line rest y status) (if_type (known x).types a)) true f.typed).0 in
+      let k : is_int (kind_at x g line rest y status) ≡ true
+      = subst (λ o. is_int (kind_if (facts_in x.table) o) ≡ true) (sym v) f.row in
+      mapped_settles x (starts g line rest) rest (g.call.temps.values status) Given
+      (λ z. gives (scene_of (high x.table x.blocks (starts g line rest))) to
+      (costs 1 (end (low_byte (number_of (value_of z)))) >>= made_by false how))
+      (λ v e. let o = int_read x g line rest y status v k e in
+      let s = exits x g (code_next x g line rest y) g.call.vars (variable x g line rest y status) (word (number_of v)) o.word_is in
+      subst (λ n. Stops (lower x) (low x.table x.blocks (starts g line rest)) [] 16 n no_objects) (exit_status (number_of v) o.fits)
+      (stops_more (lower x) (low x.table x.blocks (starts g line rest)) 1 16 (word (number_of v) % 256) [] no_objects (omega arith) s))
+
+  pub quit_line : (ty : Option ℕ) (of : List (Option ℕ)) (from : List From) → FollowedHere x labels g rest (L.Apply to O.Quit how ty of from)
+  quit_line None [] [] y = quit_zero y
+  quit_line None (a ∷ []) (F.Value status ∷ []) y = quit_status a status y
+  quit_line (Some ty) of from y = never (applies x g rest to O.Quit how (Some ty) of from y).row
+  quit_line None [] (other ∷ from) y = never (applies x g rest to O.Quit how None [] (other ∷ from) y).typed
+  quit_line None (a ∷ b ∷ of) from y = never (applies x g rest to O.Quit how None (a ∷ b ∷ of) from y).row
+  quit_line None (a ∷ []) [] y = never (applies x g rest to O.Quit how None (a ∷ []) [] y).typed
+  quit_line None (a ∷ []) (F.Place t ∷ others) y = never (applies x g rest to O.Quit how None (a ∷ []) (F.Place t ∷ others) y).placed
+  quit_line None (a ∷ []) (F.Value status ∷ other ∷ others) y =
+      never (and_parts (same_value (type_in x is_value (body_of g) status) (if_type (known x).types a)) false
+      (applies x g rest to O.Quit how None (a ∷ []) (F.Value status ∷ other ∷ others) y).typed).1

@@ -1,33 +1,30 @@
 -- What word code does that calls a procedure with lines, up to the first line of that one.
 use Rattle.std.proofs.Common.{◌≡◌, ℕ, suc, ◌+◌, ◌%◌, ◌^◌, ◌≤◌, List, [], ◌∷◌, length, map}
-use Rattle.std.proofs.Common.{Option, Some, None, Bool, true, false}
-use Rattle.std.proofs.Common.{refl, sym, ap, ap₂, subst, ◌∙◌, arith}
+use Rattle.std.proofs.Common.{Option, Some, None, Bool, true, false, refl, sym, ap, ap₂, subst, ◌∙◌, arith}
 use Rattle.std.specs.Prelude.{nat_le, if◌then◌else◌}
 use Rattle.std.proofs.lemmas.Bool.{and_right, cond-false, lt-leb}
 use Rattle.arc_base.specs.Stepping.{Goes, Faults}
 use Rattle.arc_base.specs.Simulation.{Steps}
-use Rattle.mid_code.specs.declared.block.BlockLine.{BlockLine}
-use Rattle.mid_code.specs.declared.line.Line.TheVariants as L
-use Rattle.mid_code.specs.declared.place.HookOf.{HookOf}
-use Rattle.mid_code.specs.declared.word.WordInstr.{WordInstr}
-use Rattle.mid_code.specs.declared.word.WordInstr.TheVariants.{Argument, Call}
-use Rattle.mid_code.specs.declared.word.WordProc.{WordProc}
-use Rattle.mid_code.specs.Running.{seen_call as block_seen}
-use Rattle.mid_code.specs.Words.{Vars, no_words, put, params_of, WordFrame, WordState, seen_call, is_counted, counted, most_calls, is_full, scene_of, entered}
+use Rattle.nim_program.specs.declared.program.HookOf.{HookOf}
+use Rattle.nim_meaning.specs.Meaning.{seen_call as block_seen}
+use Rattle.flat_code.specs.declared.block.BlockLine.{BlockLine}
+use Rattle.flat_code.specs.Fits.{Signature}
+use Rattle.word_code.specs.declared.word.WordInstr.{WordInstr}
+use Rattle.word_code.specs.declared.word.WordInstr.TheVariants.{Argument, Call}
+use Rattle.word_code.specs.declared.word.WordProc.{WordProc}
+use Rattle.word_code.specs.Joined.{all_moved}
+use Rattle.word_code.specs.Words.{Vars, no_words, put, params_of, WordFrame, WordState, seen_call, is_counted, counted, most_calls, is_full, scene_of, entered}
+use Rattle.word_code.proofs.ForCallers.{Within, at, one, on, run_argument, found_first}
 use Rattle.word_lowering.specs.declared.homes.TheConstants.{LEFT, FIRST}
 use Rattle.word_lowering.specs.declared.spots.Spot.{Spot}
 use Rattle.word_lowering.specs.declared.spots.Spot.TheVariants.{Held, Lies}
+use Rattle.word_lowering.specs.LineCode.{given_code, entered_code, value, proc_number}
+use Rattle.word_lowering.specs.Lowered.{kind_of, kind_in, lowered}
 use Rattle.word_lowering.specs.Spots.{spot_of}
-use Rattle.word_lowering.specs.LineCode.{called_code, given_code, entered_code, value, proc_number}
-use Rattle.word_lowering.specs.Lowered.{kind_of, kind_in}
-use Rattle.word_lowering.proofs.Runs.{Within, at, one, on, run_argument}
-use Rattle.word_lowering.proofs.Sites.{room, around, word_of}
 use Rattle.word_lowering.proofs.Callees.{Callee}
-use Rattle.word_lowering.proofs.Related.{Both, Waits, called_by, body_of, sites_of, procs, within, code_behind, awaits_in, awaits_for, goes_on, left_for}
-use Rattle.word_lowering.proofs.Related.{frame_of}
-use Rattle.word_lowering.proofs.Lines.{Basis, starts, IsGood, lower}
-use Rattle.word_lowering.proofs.OrdinalLines.{TrapsStop}
-use Rattle.word_lowering.proofs.CallLines.{call_fit, callee, code_called}
+use Rattle.word_lowering.proofs.Lines.{Basis, all_procs, starts, IsGood, lower}
+use Rattle.word_lowering.proofs.Related.{Both, Waits, called_by, body_of, sites_of, within, code_behind, awaits_in, awaits_for, goes_on, left_for, frame_of}
+use Rattle.word_lowering.proofs.Sites.{room, around, word_of}
 
 -- calls that count are calls
 counted_most : (frames : List WordFrame) → counted frames ≤ length frames
@@ -44,31 +41,30 @@ module _ {A B : Type 0} (f : A → B) where
   map_length (x ∷ xs) = ap suc (map_length xs)
 
 -- the same is seen of both
-pub seen_same : (hook : Option HookOf) → seen_call (kind_of hook) ≡ block_seen hook
+seen_same : (hook : Option HookOf) → seen_call (kind_of hook) ≡ block_seen hook
 seen_same None = refl
 seen_same (Some hook) = refl
 
-module _ (x : Basis) (traps : TrapsStop x) (g : Both) (rest : List BlockLine) (to : Option ℕ) (proc : ℕ)
-    (y : IsGood x (starts g (L.Call to proc) rest)) where
-  abbrev c : Callee x.table x.blocks proc (call_fit x traps g rest to proc y).signature
-  c = callee x traps g rest to proc y
-
+module _ (x : Basis) (g : Both) (line : BlockLine) (rest : List BlockLine) (y : IsGood x (starts g line rest)) {proc : ℕ} {s : Signature}
+    (c : Callee x.table x.blocks proc s) (to : ℕ) where
   abbrev k : List WordInstr
   k = code_behind x.table x.blocks (body_of g) rest
 
-  -- the call that waits then
-  abbrev pub waits_then : Waits
+  -- the code behind the check
+  abbrev pub code_called : List WordInstr
+  code_called = Argument LEFT FIRST ∷ given_code (around x.table x.blocks (body_of g)) proc to k
+
+  abbrev waits_then : Waits
   waits_then = record { call = g.call; rest = rest; to = to; proc = proc }
 
-  given_is : (to : Option ℕ) → given_code (around x.table x.blocks (body_of g)) proc to k
+  given_is : given_code (around x.table x.blocks (body_of g)) proc to k
       ≡ Call (awaits_for x.table x.blocks (body_of g) to) (proc_number proc) ∷ left_for x.table x.blocks (body_of g) to proc k
-  given_is None = refl
-  given_is (Some t) = by (spot_of (value (around x.table x.blocks (body_of g)) t))
+  given_is = by (spot_of (value (around x.table x.blocks (body_of g)) to))
     where
-      by : (s : Spot) → entered_code (around x.table x.blocks (body_of g)) proc (value (around x.table x.blocks (body_of g)) t) s
+      by : (p : Spot) → entered_code (around x.table x.blocks (body_of g)) proc (value (around x.table x.blocks (body_of g)) to) p
           (code_behind x.table x.blocks (body_of g) rest)
-          ≡ Call (awaits_in x.table x.blocks s) (proc_number proc)
-          ∷ goes_on x.table x.blocks (body_of g) (value (around x.table x.blocks (body_of g)) t) s proc (code_behind x.table x.blocks (body_of g) rest)
+          ≡ Call (awaits_in x.table x.blocks p) (proc_number proc)
+          ∷ goes_on x.table x.blocks (body_of g) (value (around x.table x.blocks (body_of g)) to) p proc (code_behind x.table x.blocks (body_of g) rest)
       by (Held v) = refl
       by (Lies home) = refl
 
@@ -84,41 +80,38 @@ module _ (x : Basis) (traps : TrapsStop x) (g : Both) (rest : List BlockLine) (t
 
   -- to its first line
   pub record Entered (left : ℕ) : Type 0 where
-    pub steps : Steps (lower x) 2 (at (within x.table x.blocks g) g.memory (code_called x traps g rest to proc y) g.call.vars g.words)
-        (block_seen c.body.proc.hook) 2
+    pub steps : Steps (lower x) 2 (at (within x.table x.blocks g) g.memory code_called g.call.vars g.words) (block_seen c.body.proc.hook) 2
         (at within_then g.memory (word_of x.table x.blocks c.body).lines
         (params_of (word_of x.table x.blocks c.body) (put g.words LEFT left)) no_words)
 
-  pub enters : (left : ℕ) → g.call.site.left ≡ suc left → g.call.vars FIRST ≡ Some left → c.body.own.runs ≡ true
-      → Entered left
+  pub enters : (left : ℕ) → g.call.site.left ≡ suc left → g.call.vars FIRST ≡ Some left → c.body.own.runs ≡ true → Entered left
   enters left e first runs =
       let p : WordProc = word_of x.table x.blocks c.body in
       let to_variable : ℕ = awaits_for x.table x.blocks (body_of g) to in
       let after : List WordInstr = left_for x.table x.blocks (body_of g) to proc k in
       let l1 : List WordInstr = Call to_variable (proc_number proc) ∷ after in
-      let code : code_called x traps g rest to proc y ≡ Argument LEFT FIRST ∷ l1
-      = ap (λ b. called_code (around x.table x.blocks (body_of g)) proc to b k) (ap (λ l. l.runs) c.layout ∙ runs)
-      ∙ ap (λ l. Argument LEFT FIRST ∷ l) (given_is to) in
+      let code : code_called ≡ Argument LEFT FIRST ∷ l1 = ap (λ l. Argument LEFT FIRST ∷ l) given_is in
       let words : Vars = put g.words LEFT left in
-      let s : WordState = at (within x.table x.blocks g) g.memory l1 g.call.vars words in
+      let u : WordState = at (within x.table x.blocks g) g.memory l1 g.call.vars words in
       let t : WordState = at within_then g.memory p.lines (params_of p words) no_words in
-      let r1 = run_argument x.live (procs x.table x.blocks) (within x.table x.blocks g) g.memory l1 g.call.vars g.words LEFT
-      FIRST first in
+      let r1 = run_argument x.live (all_procs x) (within x.table x.blocks g) g.memory l1 g.call.vars g.words LEFT FIRST first in
       let found = c.found runs in
+      let there = found_first (proc_number proc) (lowered x.table x.blocks).procs
+      (all_moved (length (lowered x.table x.blocks).statics) x.runtime.procs) p found.0 found.1 in
       let many = map_length (frame_of x.table x.blocks) g.waiting in
       let levels = sites_many in
-      let least = counted_most (s.frame ∷ s.callers) in
-      let full : is_full p (s.frame ∷ s.callers) ≡ false
-      = and_right (is_counted p.kind) (nat_le most_calls (counted (s.frame ∷ s.callers)))
-      (lt-leb most_calls (counted (s.frame ∷ s.callers)) (omega (arith, many, levels, least, e, y.linked.3))) in
+      let least = counted_most (u.frame ∷ u.callers) in
+      let full : is_full p (u.frame ∷ u.callers) ≡ false
+      = and_right (is_counted p.kind) (nat_le most_calls (counted (u.frame ∷ u.callers)))
+      (lt-leb most_calls (counted (u.frame ∷ u.callers)) (omega (arith, many, levels, least, e, y.linked.3))) in
       let shown : seen_call p.kind ≡ block_seen c.body.proc.hook
       = ap (λ b. seen_call (kind_in b c.body.proc.hook)) c.start ∙ seen_same c.body.proc.hook in
       let near = x.places in
       let enough = x.enough (sites_of g) y.linked in
       let base : (g.call.site.base + room (body_of g)) % 2 ^ 32 ≡ g.call.site.base + room (body_of g) = omega (arith, near, enough) in
-      let r2 : Steps (lower x) 1 s (block_seen c.body.proc.hook) 1 t
-      = one (lower x) (ap (entered s after (scene_of s) to_variable) found.1
-      ∙ cond-false (is_full p (s.frame ∷ s.callers)) Faults (Goes (seen_call p.kind) 1
+      let r2 : Steps (lower x) 1 u (block_seen c.body.proc.hook) 1 t
+      = one (lower x) (ap (entered u after (scene_of u) to_variable) there
+      ∙ cond-false (is_full p (u.frame ∷ u.callers)) Faults (Goes (seen_call p.kind) 1
       (record t { frame = record t.frame { base = (g.call.site.base + room (body_of g)) % 2 ^ 32 } })) full
       ∙ ap₂ (λ es b. Goes es 1 (record t { frame = record t.frame { base = b } })) shown base) in
       record {

@@ -1,7 +1,7 @@
 -- The memory at the start: zeros, but for texts and names in the data.
 use Rattle.std.proofs.Common.{◌≡◌, inl, inr, ℕ, zero, suc, ◌+◌, ◌-◌, ◌%◌, ◌<◌, ◌≤◌, List, []}
 use Rattle.std.proofs.Common.{◌∷◌, ◌++◌, length, take, drop, replicate, Some, None, Err, true, false}
-use Rattle.std.proofs.Common.{refl, sym, ap, ap₂, subst, ◌∙◌, arith, append_assoc, append-nil, length-append, codes}
+use Rattle.std.proofs.Common.{refl, sym, ap, ap₂, subst, ◌∙◌, arith, append_assoc, append-nil, length-append, length-drop, codes, Option, le-leb, ne_eqb}
 use Rattle.std.specs.Prelude.{◌==◌, ◌||◌, nat_le}
 use Rattle.std.proofs.lemmas.Bool.{and_parts, and_from, leb-true, eq-eqb, cond-true, cond-false, false_from_ne_true}
 use Rattle.rv32_isa.specs.declared.machine.FaultKind.TheVariants.{Misaligned}
@@ -12,20 +12,23 @@ use Rattle.rv32_isa.specs.State.{lies_in, part_of, or_else, writable}
 use Rattle.rv32_isa.specs.Steps.{number_of}
 use Rattle.rv32_isa.proofs.ForCallers.{length-word_bytes}
 use Rattle.nim_types.specs.declared.types.TypeDef.{TypeDef}
-use Rattle.nim_core.specs.Traps.{Overflow, DivisionByZero, IndexOutOfBounds, OutOfRange, LengthChanged, CallDepth}
-use Rattle.mid_code.specs.declared.block.Blocks.{Blocks}
-use Rattle.mid_code.specs.declared.word.WordCode.{WordCode}
-use Rattle.mid_code.specs.Memory.{Memory, as_state, bytes_at, own_data_at, data_of as whole_data}
-use Rattle.mid_code.specs.Words.{places_size}
+use Rattle.flat_code.specs.declared.block.BlockLine.{BlockLine}
+use Rattle.flat_code.specs.declared.code.Code.{Code}
+use Rattle.word_code.specs.declared.word.WordCode.{WordCode}
+use Rattle.word_code.specs.Memory.{Memory, as_state, may_put, bytes_at, may_fill, own_data_at, data_of as whole_data}
+use Rattle.word_code.specs.declared.routine.TheConstants.{RUNTIME_DATA, SCRATCH_BYTES}
+use Rattle.word_code.specs.Joined.{joined}
+use Rattle.word_code.specs.Routines.{HasData}
+use Rattle.rv32_isa.specs.declared.micro_op.Size.TheVariants.{Byte}
+use Rattle.std.proofs.lemmas.List.{drop-append-le, take-append-le}
+use Rattle.word_code.specs.Words.{places_size}
+use Rattle.word_code.specs.RoutineTable.{Cell}
+use Rattle.word_code.proofs.ForCallers.{Sized, sizes_same}
 use Rattle.word_lowering.specs.declared.texts.TheConstants.{FIXED_BYTES}
 use Rattle.word_lowering.specs.declared.may_lower.TheConstants.{MOST_DATA}
-use Rattle.word_lowering.specs.Texts.{missing, fixed_texts, all_names, ends_from, joined_all, texts_in, data_in, trap_line}
+use Rattle.word_lowering.specs.Texts.{missing, fixed_texts, all_names, ends_from, joined_all, texts_in, data_in}
 use Rattle.word_lowering.specs.Lowered.{data_of, globals_end, lowered}
-use Rattle.word_lowering.proofs.Cells.{Sized}
-use Rattle.word_lowering.proofs.Areas.{Cell}
-use Rattle.word_lowering.proofs.DigitBytes.{bytes_here, lies_here, no_code}
-use Rattle.word_lowering.proofs.Related.{procs, IsOpen, MemoryGood}
-use Rattle.word_lowering.proofs.Traps.{TrapTexts}
+use Rattle.word_lowering.proofs.Related.{procs, routines, IsOpen, MemoryGood}
 
 -- ---- zeros in lists
 
@@ -40,9 +43,43 @@ zeros_in zero j (suc n) rest h = absurd (omega (arith, h))
 zeros_in (suc k) zero (suc n) rest h = ap (λ l. 0 ∷ l) (zeros_in k 0 n rest (omega (arith, h)))
 zeros_in (suc k) (suc j) (suc n) rest h = zeros_in k j (suc n) rest (omega (arith, h))
 
+-- what lies in the first of two lists
+in_front : (i n : ℕ) (xs ys : List ℕ) → i + n ≤ length xs → take n (drop i (xs ++ ys)) ≡ take n (drop i xs)
+in_front i n xs ys within =
+    let d = length-drop i xs in
+    ap (take n) (drop-append-le i xs ys (omega (arith, within))) ∙ take-append-le n (drop i xs) ys (omega (arith, within, d))
+
+all_taken : (xs : List ℕ) → take (length xs) xs ≡ xs
+all_taken [] = refl
+all_taken (x ∷ xs) = ap (λ l. x ∷ l) (all_taken xs)
+
 pub zeros_length : (n : ℕ) → length {A = ℕ} (replicate n 0) ≡ n
 zeros_length zero = refl
 zeros_length (suc n) = ap suc (zeros_length n)
+
+-- ---- bytes of the data
+
+no_code : (at n : ℕ) → statics_at ≤ at → 0 < n → lies_in code_at [] at n ≡ false
+no_code at n far some = false_from_ne_true (lies_in code_at [] at n) (λ e.
+    let p = and_parts (nat_le code_at at) (nat_le (at + n) (code_at + 0)) e in
+    let l : at + n ≤ code_at + 0 = leb-true (at + n) (code_at + 0) p.1 in
+    absurd (omega (arith, l, far, some)))
+
+lies_here : (base : ℕ) (s : List ℕ) (i n : ℕ) → i + n ≤ length s → lies_in base s (base + i) n ≡ true
+lies_here base s i n within = and_from (nat_le base (base + i)) (nat_le (base + i + n) (base + length s)) (le-leb base (base + i) (omega arith))
+    (le-leb (base + i + n) (base + length s) (omega (arith, within)))
+
+module _ (m : Memory) where
+  bytes_here : (i n : ℕ) → 0 < n → i + n ≤ length m.statics → bytes_at m (statics_at + i) n ≡ Some (take n (drop i m.statics))
+  bytes_here i n some within =
+      let at : ℕ = statics_at + i in
+      let lies : lies_in statics_at m.statics at n ≡ true = lies_here statics_at m.statics i n within in
+      let place : at - statics_at ≡ i = omega arith in
+      let rest : Option (List ℕ) = or_else (part_of heap_at m.heap at n) (part_of stack_at m.places at n) in
+      cond-false (n == 0) (Some []) _ (ne_eqb n 0 (λ e. omega (arith, some, e)))
+      ∙ ap (λ o. or_else o (or_else (part_of statics_at m.statics at n) rest)) (cond-false (lies_in code_at [] at n) _ None (no_code at n (omega arith) some))
+      ∙ ap (λ o. or_else o rest) (cond-true (lies_in statics_at m.statics at n) _ None lies)
+      ∙ ap (λ j. Some (take n (drop j m.statics))) place
 
 -- ---- the data of the machine, before the code's own
 
@@ -51,8 +88,8 @@ unfolding word_bytes
 whole_drop heap stack i d =
     let e : 8 + i ≡ suc (suc (suc (suc (suc (suc (suc (suc i))))))) = omega arith in ap (λ k. drop k (whole_data heap stack d)) e
 
-whole_length : (heap stack : ℕ) (d : List ℕ) → length (whole_data heap stack d) ≡ 8 + length d
-whole_length heap stack d =
+data_length : (heap stack : ℕ) (d : List ℕ) → length (whole_data heap stack d) ≡ 8 + length d
+data_length heap stack d =
     let a = length-append (word_bytes heap) (word_bytes stack ++ d) in
     let b = length-append (word_bytes stack) d in
     let p = length-word_bytes heap in
@@ -69,9 +106,9 @@ module _ (code : WordCode) (heap stack : ℕ) where
 
   pub first_reads : (i n : ℕ) → 0 < n → i + n ≤ length code.statics → bytes_at first (own_data_at + i) n ≡ Some (take n (drop i code.statics))
   first_reads i n some within =
-      let long = whole_length heap stack code.statics in
+      let long = data_length heap stack code.statics in
       let place : own_data_at + i ≡ statics_at + (8 + i) = omega arith in
-      ap (λ a. bytes_at first a n) place ∙ bytes_here first first.statics (8 + i) n some (omega (arith, within, long))
+      ap (λ a. bytes_at first a n) place ∙ bytes_here first (8 + i) n some (omega (arith, within, long))
       ∙ ap (λ l. Some (take n l)) (whole_drop heap stack i code.statics)
 
   -- a word of zeros in the data
@@ -79,7 +116,7 @@ module _ (code : WordCode) (heap stack : ℕ) where
       → Cell first (own_data_at + i)
   first_cell i whole within zeros =
       let a : ℕ = own_data_at + i in
-      let long = whole_length heap stack code.statics in
+      let long = data_length heap stack code.statics in
       let place : statics_at + (8 + i) ≡ a = omega arith in
       let lies : lies_in statics_at first.statics a 4 ≡ true
       = ap (λ b. lies_in statics_at first.statics b 4) (sym place) ∙ lies_here statics_at first.statics (8 + i) 4 (omega (arith, within, long)) in
@@ -130,7 +167,7 @@ module _ (code : WordCode) (heap stack : ℕ) where
 
 -- ---- the code's own data
 
-module _ (table : List TypeDef) (blocks : Blocks) where
+module _ (table : List TypeDef) (blocks : Code BlockLine) where
   abbrev pub own : List ℕ
   own = data_of table blocks.procs
 
@@ -138,7 +175,7 @@ module _ (table : List TypeDef) (blocks : Blocks) where
   globals = globals_end table blocks.procs
 
   abbrev pub fixed : List ℕ
-  fixed = replicate 16 0 ++ fixed_texts
+  fixed = replicate 4 0 ++ fixed_texts
 
   abbrev pub behind : List ℕ
   behind = ends_from 0 (all_names table) ++ (joined_all (all_names table) ++ texts_in blocks.procs)
@@ -148,86 +185,124 @@ module _ (table : List TypeDef) (blocks : Blocks) where
 
   pub own_is : own ≡ fixed ++ (replicate (globals - FIXED_BYTES) 0 ++ (behind ++ pad))
   own_is =
-      append_assoc (replicate 16 0) (fixed_texts ++ (replicate (globals - FIXED_BYTES) 0 ++ behind)) pad
-      ∙ ap (λ l. replicate 16 0 ++ l) (append_assoc fixed_texts (replicate (globals - FIXED_BYTES) 0 ++ behind) pad
+      append_assoc (replicate 4 0) (fixed_texts ++ (replicate (globals - FIXED_BYTES) 0 ++ behind)) pad
+      ∙ ap (λ l. replicate 4 0 ++ l) (append_assoc fixed_texts (replicate (globals - FIXED_BYTES) 0 ++ behind) pad
       ∙ ap (λ l. fixed_texts ++ l) (append_assoc (replicate (globals - FIXED_BYTES) 0) behind pad))
-      ∙ sym (append_assoc (replicate 16 0) fixed_texts (replicate (globals - FIXED_BYTES) 0 ++ (behind ++ pad)))
+      ∙ sym (append_assoc (replicate 4 0) fixed_texts (replicate (globals - FIXED_BYTES) 0 ++ (behind ++ pad)))
 
-  pub own_length : length own ≡ 176 + ((globals - 176) + length (behind ++ pad))
+  pub own_length : length own ≡ 20 + ((globals - 20) + length (behind ++ pad))
   own_length =
       let a = length-append fixed (replicate (globals - FIXED_BYTES) 0 ++ (behind ++ pad)) in
       let b = length-append (replicate (globals - FIXED_BYTES) 0) (behind ++ pad) in
-      let z : length {A = ℕ} (replicate (globals - FIXED_BYTES) 0) ≡ globals - 176 = zeros_length (globals - FIXED_BYTES) in
-      let f : length fixed ≡ 176 = refl in
+      let z : length {A = ℕ} (replicate (globals - FIXED_BYTES) 0) ≡ globals - 20 = zeros_length (globals - FIXED_BYTES) in
+      let f : length fixed ≡ 20 = refl in
       let o = ap length own_is in
       omega (arith, a, b, z, f, o)
 
   -- globals are zeros
-  globals_zero : (i : ℕ) → 176 ≤ i → i + 4 ≤ globals → take 4 (drop i own) ≡ replicate 4 0
+  globals_zero : (i : ℕ) → 20 ≤ i → i + 4 ≤ globals → take 4 (drop i own) ≡ replicate 4 0
   globals_zero i low high =
-      let j : ℕ = i - 176 in
-      let f : length fixed ≡ 176 = refl in
+      let j : ℕ = i - 20 in
+      let f : length fixed ≡ 20 = refl in
       let e : i ≡ length fixed + j = omega (arith, f, low) in
       ap₂ (λ l k. take 4 (drop k l)) own_is e ∙ ap (take 4) (drop_past fixed (replicate (globals - FIXED_BYTES) 0 ++ (behind ++ pad)) j)
       ∙ zeros_in (globals - FIXED_BYTES) j 4 (behind ++ pad) (omega (arith, low, high))
 
-  module _ (heap stack : ℕ) (sized : Sized (first_memory (lowered table blocks) heap stack)) where
-    abbrev start : Memory
-    start = first_memory (lowered table blocks) heap stack
+  module _ (runtime : WordCode) (heap stack : ℕ) where
+    abbrev code : WordCode
+    code = joined (lowered table blocks) runtime
 
-    pub good_first : MemoryGood table blocks start start
-    good_first = record { sized = sized; cells = cells; texts = λ b n h. refl }
+    abbrev start : Memory
+    start = first_memory code heap stack
+
+    whole_length : length code.statics ≡ length own + length runtime.statics
+    whole_length = length-append own runtime.statics
+
+    -- what is read of it
+    pub own_reads : (i n : ℕ) → 0 < n → i + n ≤ length own → bytes_at start (own_data_at + i) n ≡ Some (take n (drop i own))
+    own_reads i n some within =
+        let l = whole_length in
+        first_reads code heap stack i n some (omega (arith, within, l)) ∙ ap Some (in_front i n own runtime.statics within)
+
+    -- the data of routines stands behind it
+    pub routines_given : SCRATCH_BYTES ≤ length runtime.statics → HasData (routines table blocks) runtime.statics start
+    routines_given least =
+        let n : ℕ = length own in
+        let l = whole_length in
+        let place : own_data_at + n ≡ statics_at + (8 + n) = omega arith in
+        let long = data_length heap stack code.statics in
+        let may : may_fill start (statics_at + (8 + n)) SCRATCH_BYTES ≡ true
+        = ap (λ b. b || (lies_in heap_at start.heap (statics_at + (8 + n)) SCRATCH_BYTES || lies_in stack_at start.places (statics_at + (8 + n)) SCRATCH_BYTES))
+        (lies_here statics_at start.statics (8 + n) SCRATCH_BYTES (omega (arith, long, l, least))) in record {
+          scratch = ap (λ a. may_fill start a SCRATCH_BYTES) place ∙ may;
+          fixed = fixed_there (drop SCRATCH_BYTES runtime.statics) refl;
+        }
       where
-        cells : (a : ℕ) → a % 4 ≡ 0 → IsOpen table blocks a → Cell start a
-        cells a whole (inl h) =
-            let l = own_length in
-            let e : own_data_at + 12 ≡ a = omega (arith, h.0, h.1) in
-            subst (Cell start) e (first_cell (lowered table blocks) heap stack 12 refl (omega (arith, l)) refl)
-        cells a whole (inr (inl h)) =
-            let l = own_length in
-            let i : ℕ = a - own_data_at in
-            let e : own_data_at + i ≡ a = omega (arith, h.0) in
-            let g : i + 4 ≤ globals = omega (arith, h.0, h.1) in
-            subst (Cell start) e (first_cell (lowered table blocks) heap stack i (omega (arith, e, whole)) (omega (arith, l, g, h.0))
-            (globals_zero i (omega (arith, h.0)) g))
-        cells a whole (inr (inr h)) =
-            let i : ℕ = a - stack_at in
-            let e : stack_at + i ≡ a = omega (arith, h.0) in
-            subst (Cell start) e (place_cell (lowered table blocks) heap stack sized i (omega (arith, e, whole)) (omega (arith, h.0, h.1)))
+        fixed_there : (bytes : List ℕ) → drop SCRATCH_BYTES runtime.statics ≡ bytes
+            → bytes_at start (routines table blocks + SCRATCH_BYTES) (length bytes) ≡ Some bytes
+        fixed_there [] e = refl
+        fixed_there (b ∷ bytes) e =
+            let n : ℕ = length own in
+            let l = whole_length in
+            let d = length-drop SCRATCH_BYTES runtime.statics in
+            let many = ap length e in
+            let place : routines table blocks + SCRATCH_BYTES ≡ own_data_at + (n + SCRATCH_BYTES) = omega arith in
+            ap (λ a. bytes_at start a (length (b ∷ bytes))) place
+            ∙ first_reads code heap stack (n + SCRATCH_BYTES) (length (b ∷ bytes)) (omega arith) (omega (arith, l, d, many))
+            ∙ ap (λ k. Some (take (length (b ∷ bytes)) k)) (drop_past own runtime.statics SCRATCH_BYTES ∙ e) ∙ ap Some (all_taken (b ∷ bytes))
+
+    -- a character may be put
+    pub letter_first : may_put start own_data_at Byte ≡ true
+    letter_first =
+        let l = own_length in
+        let w = whole_length in
+        let long = data_length heap stack code.statics in
+        ap (λ b. b || (lies_in heap_at start.heap own_data_at 1 || lies_in stack_at start.places own_data_at 1))
+        (lies_here statics_at start.statics 8 1 (omega (arith, long, w, l)))
+
+    module _ (sized : Sized start) (places : places_size (procs table blocks) ≤ places_size code.procs) where
+      pub good_first : MemoryGood table blocks start start
+      good_first = record { sized = sized; sizes = sizes_same start; cells = cells; texts = λ b n h. refl }
+        where
+          cells : (a : ℕ) → a % 4 ≡ 0 → IsOpen table blocks a → Cell start a
+          cells a whole (inl h) =
+              let l = own_length in
+              let w = whole_length in
+              let i : ℕ = a - own_data_at in
+              let e : own_data_at + i ≡ a = omega (arith, h.0) in
+              let g : i + 4 ≤ globals = omega (arith, h.0, h.1) in
+              let within : i + 4 ≤ length own = omega (arith, l, g, h.0) in
+              subst (Cell start) e (first_cell code heap stack i (omega (arith, e, whole)) (omega (arith, w, within))
+              (in_front i 4 own runtime.statics within ∙ globals_zero i (omega (arith, h.0)) g))
+          cells a whole (inr h) =
+              let i : ℕ = a - stack_at in
+              let e : stack_at + i ≡ a = omega (arith, h.0) in
+              subst (Cell start) e (place_cell code heap stack sized i (omega (arith, e, whole)) (omega (arith, h.0, h.1, places)))
 
     -- texts that each program has
-    fixed_text : (i : ℕ) (text : List ℕ) → 0 < length text → i + length text ≤ 176 → take (length text) (drop i own) ≡ text
+    fixed_text : (i : ℕ) (text : List ℕ) → 0 < length text → i + length text ≤ 20 → take (length text) (drop i own) ≡ text
         → bytes_at start (own_data_at + i) (length text) ≡ Some text
-    fixed_text i text some within is =
-        let l = own_length in first_reads (lowered table blocks) heap stack i (length text) some (omega (arith, l, within)) ∙ ap Some is
+    fixed_text i text some within is = let l = own_length in own_reads i (length text) some (omega (arith, l, within)) ∙ ap Some is
 
-    pub traps_first : TrapTexts start
-    traps_first Overflow = fixed_text 32 (trap_line Overflow) (omega arith) (omega arith) refl
-    traps_first DivisionByZero = fixed_text 48 (trap_line DivisionByZero) (omega arith) (omega arith) refl
-    traps_first IndexOutOfBounds = fixed_text 72 (trap_line IndexOutOfBounds) (omega arith) (omega arith) refl
-    traps_first OutOfRange = fixed_text 100 (trap_line OutOfRange) (omega arith) (omega arith) refl
-    traps_first LengthChanged = fixed_text 128 (trap_line LengthChanged) (omega arith) (omega arith) refl
-    traps_first CallDepth = fixed_text 152 (trap_line CallDepth) (omega arith) (omega arith) refl
+    pub line_end_first : bytes_at start (own_data_at + 4) 1 ≡ Some (10 ∷ [])
+    line_end_first = fixed_text 4 (10 ∷ []) (omega arith) (omega arith) refl
 
-    pub line_end_first : bytes_at start (own_data_at + 16) 1 ≡ Some (10 ∷ [])
-    line_end_first = fixed_text 16 (10 ∷ []) (omega arith) (omega arith) refl
+    pub false_first : bytes_at start (own_data_at + 8) 5 ≡ Some (codes "false")
+    false_first = fixed_text 8 (codes "false") (omega arith) (omega arith) refl
 
-    pub false_first : bytes_at start (own_data_at + 20) 5 ≡ Some (codes "false")
-    false_first = fixed_text 20 (codes "false") (omega arith) (omega arith) refl
+    pub true_first : bytes_at start (own_data_at + 16) 4 ≡ Some (codes "true")
+    true_first = fixed_text 16 (codes "true") (omega arith) (omega arith) refl
 
-    pub true_first : bytes_at start (own_data_at + 28) 4 ≡ Some (codes "true")
-    true_first = fixed_text 28 (codes "true") (omega arith) (omega arith) refl
-
--- its regions are as large as the machine's
-pub sized_first : (table : List TypeDef) (blocks : Blocks) (heap stack : ℕ) → heap ≤ 16777216 → places_size (procs table blocks) ≤ 268435456
-    → length (own table blocks) ≤ MOST_DATA → Sized (first_memory (lowered table blocks) heap stack)
-sized_first table blocks heap stack heap_most places_most data_most =
-    let l = whole_length heap stack (own table blocks) in
-    let h = zeros_length heap in
-    let p = zeros_length (places_size (procs table blocks)) in
-    record {
-      code_most = omega arith;
-      statics_most = omega (arith, l, data_most);
-      heap_most = omega (arith, h, heap_most);
-      stack_most = omega (arith, p, places_most);
-    }
+    -- its regions are as large as the machine's
+    pub sized_first : heap ≤ 16777216 → places_size code.procs ≤ 268435456 → length own ≤ MOST_DATA → length runtime.statics ≤ RUNTIME_DATA → Sized start
+    sized_first heap_most places_most data_most runtime_most =
+        let l = data_length heap stack code.statics in
+        let w = whole_length in
+        let h = zeros_length heap in
+        let p = zeros_length (places_size code.procs) in
+        record {
+          code_most = omega arith;
+          statics_most = omega (arith, l, w, data_most, runtime_most);
+          heap_most = omega (arith, h, heap_most);
+          stack_most = omega (arith, p, places_most);
+        }

@@ -10,13 +10,16 @@ use Rattle.rv32_isa.specs.Words.{word_bytes}
 use Rattle.rv32_isa.specs.Steps.{number_of}
 use Rattle.rv32_isa.proofs.ForCallers.{length-word_bytes, little-word_bytes}
 use Rattle.nim_types.specs.declared.types.TypeDef.{TypeDef}
-use Rattle.mid_code.specs.declared.block.Blocks.{Blocks}
-use Rattle.mid_code.specs.Memory.{Memory, number_at, own_data_at}
+use Rattle.flat_code.specs.declared.block.BlockLine.{BlockLine}
+use Rattle.flat_code.specs.declared.code.Code.{Code}
+use Rattle.word_code.specs.declared.word.WordCode.{WordCode}
+use Rattle.word_code.specs.Joined.{joined}
+use Rattle.word_code.specs.Memory.{Memory, number_at, own_data_at}
 use Rattle.word_lowering.specs.declared.texts.TheConstants.{FIXED_BYTES}
 use Rattle.word_lowering.specs.declared.may_lower.TheConstants.{MOST_DATA}
 use Rattle.word_lowering.specs.Texts.{members_of, all_names, names_before, joined_all, starts_from, ends_from, texts_in}
 use Rattle.word_lowering.specs.Lowered.{lowered}
-use Rattle.word_lowering.proofs.FirstMemory.{drop_past, zeros_length, first_memory, first_reads, own, globals, fixed, behind, pad, own_is, own_length}
+use Rattle.word_lowering.proofs.FirstMemory.{drop_past, zeros_length, first_memory, own_reads, own, globals, fixed, behind, pad, own_is, own_length}
 
 -- ---- lists
 
@@ -147,10 +150,10 @@ name_most (x ∷ names) (suc i) =
     let b = length-append x (joined_all names) in
     omega (arith, r, a, b)
 
-module _ (table : List TypeDef) (blocks : Blocks) (heap stack : ℕ) (least : FIXED_BYTES ≤ globals table blocks) (whole : globals table blocks % 4 ≡ 0)
-    (most : length (own table blocks) ≤ MOST_DATA) where
+module _ (table : List TypeDef) (blocks : Code BlockLine) (runtime : WordCode) (heap stack : ℕ) (least : FIXED_BYTES ≤ globals table blocks)
+    (whole : globals table blocks % 4 ≡ 0) (most : length (own table blocks) ≤ MOST_DATA) where
   abbrev start : Memory
-  start = first_memory (lowered table blocks) heap stack
+  start = first_memory (joined (lowered table blocks) runtime) heap stack
 
   abbrev names : List (List ℕ)
   names = all_names table
@@ -195,5 +198,5 @@ module _ (table : List TypeDef) (blocks : Blocks) (heap stack : ℕ) (least : FI
       = ap (take 4) (past_globals (4 * i) ∙ ap (drop (4 * i)) behind_is)
       ∙ ends_are 0 (0 + length (joined_all names)) names i (joined_all names ++ (texts ++ pad table blocks)) refl h ∙ ap word_bytes none in
       cond-true (a % 4 == 0) _ (Err Misaligned) even
-      ∙ ap number_of (first_reads (lowered table blocks) heap stack (globals table blocks + 4 * i) 4 (omega arith) (omega (arith, l, h)) ∙ ap Some bytes)
+      ∙ ap number_of (own_reads table blocks runtime heap stack (globals table blocks + 4 * i) 4 (omega arith) (omega (arith, l, h)) ∙ ap Some bytes)
       ∙ ap Ok (little-word_bytes (joined_before names i) (omega (arith, l, m, most)))

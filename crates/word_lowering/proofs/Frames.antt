@@ -1,10 +1,10 @@
 -- Slots of places, in a world where one place gets another slot.
 use Rattle.std.proofs.Common.{◌≡◌, ◌≢◌, ◌⊎◌, inl, inr, ℕ, zero, suc, ◌+◌, ◌-◌, ◌<◌, ◌≤◌, List, [], ◌∷◌, length}
-use Rattle.std.proofs.Common.{Some, refl, sym, ap, subst, ◌∙◌, arith}
+use Rattle.std.proofs.Common.{Option, Some, refl, sym, ap, subst, ◌∙◌, arith}
 use Rattle.std.specs.Prelude.{slice_get, slice_set}
 use Rattle.std.proofs.lemmas.Bool.{cases_order}
-use Rattle.nim_core.specs.Values.{Slot}
-use Rattle.nim_core.specs.State.{Frame, World, frame_in, frame_at, slot_in, slot_of, with_slot_of, slot_at, with_slot}
+use Rattle.nim_meaning.specs.Values.{Slot}
+use Rattle.nim_meaning.specs.State.{Frame, World, frame_in, frame_at, joined, slot_of, with_slot_of, slot_at, with_slot}
 use Rattle.word_lowering.proofs.Options.{none_some}
 
 module _ {A : Type 0} where
@@ -37,7 +37,7 @@ pub record IsFrame (w : World) (level first span : ℕ) : Type 0 where
   pub begins : frame.first ≡ first
   pub slots : length frame.slots ≡ span
 
-module _ (w : World) (level number : ℕ) (slot : Slot) where
+module _ (w : World) (level number : ℕ) (slot : Option Slot) where
   -- frames stay
   pub frame_kept : (other first span : ℕ) → IsFrame w other first span → IsFrame (with_slot w level number slot) other first span
   frame_kept other first span f = by (cases_order other level)
@@ -79,7 +79,7 @@ module _ (w : World) (level number : ℕ) (slot : Slot) where
       let long : length (frame_at w level).slots ≡ span = ap (λ x. length x.slots) is ∙ f.slots in
       let frame : Frame = with_slot_of (frame_at w level) number slot in
       ap (λ o. slot_of (frame_in o) number) (get_set w.frames level frame (get_inside w.frames level f.frame f.there))
-      ∙ ap slot_in (get_set (frame_at w level).slots (number - (frame_at w level).first) slot (omega (arith, begins, long, low, high)))
+      ∙ ap joined (get_set (frame_at w level).slots (number - (frame_at w level).first) slot (omega (arith, begins, long, low, high)))
 
   -- and all others are as before
   pub slot_elsewhere : (other place first span : ℕ) → IsFrame w level first span → first ≤ number
@@ -98,7 +98,7 @@ module _ (w : World) (level number : ℕ) (slot : Slot) where
       same : other ≡ level → slot_at (with_slot w level number slot) other place ≡ slot_at w other place
       same e = subst (λ l. slot_at (with_slot w level number slot) l place ≡ slot_at w l place) (sym e)
           (ap (λ o. slot_of (frame_in o) place) (get_set w.frames level frame (get_inside w.frames level f.frame f.there))
-          ∙ ap slot_in (get_other (frame_at w level).slots (number - (frame_at w level).first) slot (place - (frame_at w level).first)
+          ∙ ap joined (get_other (frame_at w level).slots (number - (frame_at w level).first) slot (place - (frame_at w level).first)
           (λ d. h.1 (omega (arith, begins, low, h.0, d)))))
 
       apart : other ≢ level → slot_at (with_slot w level number slot) other place ≡ slot_at w other place

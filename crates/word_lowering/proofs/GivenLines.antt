@@ -1,414 +1,312 @@
--- Lines that give arguments for the next call are followed.
-use Rattle.std.proofs.Common.{◌≡◌, ◌≢◌, inl, inr, ℕ, suc, ◌+◌, ◌%◌, List, [], ◌∷◌, ◌++◌, map, Option, Some, None, Bool, true}
-use Rattle.std.proofs.Common.{false, refl, sym, ap, subst, ◌∙◌, arith, append_assoc}
-use Rattle.std.proofs.lemmas.Bool.{and_parts}
-use Rattle.nim_core.specs.Values.{Value, bytes, Location, Slot, Holds, Stands}
-use Rattle.mid_code.specs.declared.block.BlockLine.{BlockLine}
-use Rattle.mid_code.specs.declared.block.BlockLine.TheVariants as block_line
-use Rattle.mid_code.specs.declared.line.Line.{Line}
-use Rattle.mid_code.specs.declared.line.Line.TheVariants as L
-use Rattle.mid_code.specs.declared.word.WordInstr.{WordInstr}
-use Rattle.mid_code.specs.Codes.{block_plain, block_label}
-use Rattle.mid_code.specs.Memory.{Memory}
-use Rattle.mid_code.specs.Words.{Vars, put}
-use Rattle.mid_code.specs.Scene.{Where, Located, Within, Passes}
-use Rattle.mid_code.specs.Lines.{located, does}
-use Rattle.mid_code.specs.Shapes.{Shape, has_shape}
-use Rattle.mid_code.specs.Fits.{Passed, Signature, is_value, is_location, shape_named, all_pass, passes_by, may_get, alike, is_there}
-use Rattle.mid_code.specs.Running.{scene_of}
-use Rattle.mid_code.specs.Whole.{is_followed, all_lead}
-use Rattle.mid_code.proofs.ForCallers.{never, bytes_is, value_wider}
+-- An argument of a call is given to its parameter: what is true then.
+use Rattle.std.proofs.Common.{◌≡◌, inl, inr, ℕ, suc, ◌+◌, ◌*◌, ◌%◌, ◌^◌, ◌<◌, ◌≤◌, List, [], ◌∷◌, map, Some, true, false}
+use Rattle.std.proofs.Common.{refl, sym, ap, subst, ◌∙◌, arith}
+use Rattle.nim_meaning.specs.Values.{Value, bytes, Location, Slot, Holds, Stands}
+use Rattle.flat_code.specs.declared.block.BlockLine.{BlockLine}
+use Rattle.flat_code.specs.Codes.{block_plain}
+use Rattle.flat_code.specs.Fits.{Signature, is_value, is_location, is_standing, if_kind, place_named}
+use Rattle.flat_code.specs.Scene.{Where, location_at}
+use Rattle.flat_code.specs.Shapes.{has_shape}
+use Rattle.word_code.specs.declared.word.TheConstants.{SPARE_ROOM}
+use Rattle.word_code.specs.declared.word.WordInstr.{WordInstr}
+use Rattle.word_code.specs.declared.word.WordInstr.TheVariants.{Argument}
+use Rattle.word_code.specs.Memory.{Memory}
+use Rattle.word_code.specs.Words.{Vars, put, from_label}
+use Rattle.word_code.proofs.ForCallers.{Changed, Runs, at, got, run_argument, then_runs}
+use Rattle.word_lowering.specs.declared.homes.TheConstants.{FIRST}
 use Rattle.word_lowering.specs.declared.homes.Home.{Home}
-use Rattle.word_lowering.specs.declared.homes.Home.TheVariants.{Variable, Placed}
+use Rattle.word_lowering.specs.declared.homes.Home.TheVariants.{Variable, Placed, Static}
 use Rattle.word_lowering.specs.declared.homes.Housed.{Housed}
 use Rattle.word_lowering.specs.declared.texts.TheConstants.{FIXED_BYTES}
-use Rattle.word_lowering.specs.Layouts.{params_in, is_address, param_before}
-use Rattle.word_lowering.specs.LineCode.{callee_behind, arguments_behind, param_for, argument_code, variable_of, label_before}
-use Rattle.word_lowering.proofs.LineFits.{single_is}
-use Rattle.word_lowering.proofs.InMemory.{IsAt}
-use Rattle.word_lowering.proofs.Copied.{Changed}
-use Rattle.word_lowering.proofs.Runs.{Runs, at, run_argument}
-use Rattle.word_lowering.proofs.OrdinalRuns.{put_here as put_same, AllSame}
-use Rattle.word_lowering.proofs.Moves.{is_single, single_word, all_same}
-use Rattle.word_lowering.proofs.HomesApart.{AllApart}
-use Rattle.word_lowering.proofs.Sites.{room, looks, Among, Housing, in_variable, by_address, in_places, in_data, Site, AmongSites, IsHoused, data_end, around}
-use Rattle.word_lowering.proofs.Sites.{sigs, globals_of}
-use Rattle.word_lowering.proofs.SitesApart.{site_at}
-use Rattle.word_lowering.proofs.Scenes.{At, Call, site_of, of_value, of_location, house, looked, FromPlace}
-use Rattle.word_lowering.proofs.Keeping.{AmongCalls, call, Edit, nowhere, beyond, Kept, worlds_same, holding_kept, all_kept}
-use Rattle.word_lowering.proofs.Related.{Both, body_of, called_by, procs, within, low, high, code_behind, MemoryGood, GivenAt, Gave, GaveSlot, params_for}
-use Rattle.word_lowering.proofs.Related.{StandAt}
-use Rattle.word_lowering.proofs.NextCalls.{NextCall, next_behind, ParamFor, param_for_is, param_found, followed}
+use Rattle.word_lowering.specs.Aliases.{handed_by, places_in, is_among}
+use Rattle.word_lowering.specs.Layouts.{params_in, is_address}
+use Rattle.word_lowering.specs.LineCode.{Around, argument_code, word_argument, location}
+use Rattle.word_lowering.proofs.AddressFacts.{AtAddress, handed_at}
+use Rattle.word_lowering.proofs.Arguments.{Gives, to_variable, to_place}
 use Rattle.word_lowering.proofs.Callees.{Callee}
-use Rattle.word_lowering.proofs.Arguments.{params_apart, before_apart, Gives, to_variable, to_place, gave_more}
-use Rattle.word_lowering.proofs.Lines.{Basis, fits_here, stands_next, starts, IsGood, known, Settles, using_settles, goes_on, all_sites}
-use Rattle.word_lowering.proofs.ValueFacts.{in_word}
+use Rattle.word_lowering.proofs.FirstPlaces.{GivenAt, GaveSlot}
 use Rattle.word_lowering.proofs.Gets.{high_variable}
-use Rattle.word_lowering.proofs.MoveLines.{Read, read_value, value_shaped}
-use Rattle.word_lowering.proofs.PlaceReads.{place_near}
 use Rattle.word_lowering.proofs.HandedLines.{next_at, spare_beyond, memory_beyond, hands_value}
+use Rattle.word_lowering.proofs.InMemory.{IsAt, bytes_some}
+use Rattle.word_lowering.proofs.Keeping.{AmongCalls, Edit, nowhere, beyond, Kept, worlds_same}
+use Rattle.word_lowering.proofs.LineFits.{single_is}
+use Rattle.word_lowering.proofs.Lines.{Basis, IsGood, all_procs, all_sites, changed, good_changed, starts}
+use Rattle.word_lowering.proofs.MovedLines.{value_read}
+use Rattle.word_lowering.proofs.Moves.{is_single, single_word, all_same, same_first, address_runs}
+use Rattle.word_lowering.proofs.OrdinalRuns.{put_here as put_same, AllSame}
+use Rattle.word_lowering.proofs.OutPlaces.{WrittenAt, written_at}
+use Rattle.word_lowering.proofs.ReadFacts.{ValueRead, place_near}
+use Rattle.word_lowering.proofs.Related.{Both, body_of, called_by, within, MemoryGood}
+use Rattle.word_lowering.proofs.Scenes.{At, Call, site_of, of_value, of_location, house, looked, FromPlace, Leads, Points}
+use Rattle.word_lowering.proofs.ShapeFacts.{never, bytes_is, values_of_numbers}
+use Rattle.word_lowering.proofs.Sites.{room, looks, type_of, Among, AmongSites, Housing, in_variable, by_address, in_places, in_data, Site, IsHoused}
+use Rattle.word_lowering.proofs.Sites.{around, data_end, is_one_word, word_of}
+use Rattle.word_lowering.proofs.SitesApart.{site_at}
+use Rattle.word_lowering.proofs.Targets.{Pointed, pointed}
+use Rattle.word_lowering.proofs.ValueFacts.{InWord, in_word, numbers_there, type_in}
 
-among_middle : (before : List Housed) (h : Housed) (after : List Housed) → Among h (before ++ h ∷ after)
-among_middle [] h after = inl refl
-among_middle (b ∷ before) h after = inr (among_middle before h after)
-
-module _ (x : Basis) (g : Both) (line : Line) (rest : List BlockLine) (y : IsGood x (starts g line rest)) where
+module _ (x : Basis) (g : Both) (line : BlockLine) (rest : List BlockLine) (y : IsGood x (starts g line rest)) where
   abbrev sites : List Site
   sites = all_sites x g line rest y
 
-  -- with one more argument
-  abbrev pub given_more : Slot → Vars → Memory → (words : Vars) → Both
-  given_more slot vars m words = record {
-    memory = m;
-    input = g.input;
-    world = g.world;
-    has = g.has;
-    call = call g.call.site g.call.temps vars;
-    rest = rest;
-    given = g.given ++ slot ∷ [];
-    words = words;
-    awaits = g.awaits;
-    waiting = g.waiting;
-  }
+  abbrev here : Around
+  here = around x.table x.blocks (body_of g)
+
+  -- ---- with other words and memory, and variables for what comes between
+
+  abbrev pub between : Vars → Memory → (words : Vars) → Both
+  between vars m words = changed g rest g.call.temps vars m words g.awaits g.world
 
   -- the place of no call
   abbrev above : Site
   above = record g.call.site { level = suc g.call.site.level }
 
-  abbrev lines_behind : List Line
-  lines_behind = map block_plain rest
-
-  pub good_given : (slot : Slot) (q : Passed) (vars : Vars) (m : Memory) (words : Vars) → MemoryGood x.table x.blocks x.first m
+  pub good_between : (vars : Vars) (m : Memory) (words : Vars) → MemoryGood x.table x.blocks x.first m
       → Edit x.table x.blocks x.small sites y.linked above (of_value 0) g.memory m → AllSame g.call.vars vars
-      → StandAt x.table x.blocks (body_of g) (y.passed ++ q ∷ []) rest
-      → Gave x.table x.blocks m sites g.has words (next_at x g line rest y) (g.given ++ slot ∷ []) (y.passed ++ q ∷ [])
-      (params_for x.table x.blocks (body_of g) (callee_behind lines_behind))
-      → IsGood x (given_more slot vars m words)
-  good_given slot q vars m words memory edit same stand gave = record {
-    linked = y.linked;
-    memory = memory;
-    hold = (
-      holding_kept x.table x.blocks x.small sites y.linked above (of_value 0) g.memory m edit g.world g.world g.has g.has
-          (worlds_same x.table x.blocks x.small sites y.linked above (of_value 0) g.world g.has) sites g.call.site g.call.temps g.call.temps
-          g.call.vars vars (inl refl) (λ r j. j) kept (λ e. absurd (omega (arith, e))) y.hold.0,
-      all_kept x.table x.blocks x.small sites y.linked above (of_value 0) g.memory m edit g.world g.world g.has g.has
-          (worlds_same x.table x.blocks x.small sites y.linked above (of_value 0) g.world g.has) (map called_by g.waiting)
-          (λ s i. inr i) (λ c from i e. absurd (lower c i e)) y.hold.1,
-    );
-    frames = y.frames;
-    levels = y.levels;
-    passed = y.passed ++ q ∷ [];
-    stands = stand;
-    gave = gave;
-    waits = y.waits;
-    answers = y.answers;
-  }
+      → IsGood x (starts (between vars m words) line rest)
+  good_between vars m words memory edit same =
+      good_changed x g line rest y (line ∷ rest) above (of_value 0) g.call.temps vars m words g.awaits g.world memory edit
+      (worlds_same x.table x.blocks x.small sites y.linked above (of_value 0) g.world) kept (λ e. absurd (omega (arith, e)))
+      (λ c from i e. absurd (too_high c i e)) y.frames y.levels y.stands
     where
-      kept : Kept x.table x.blocks x.small (all_sites x g line rest y) y.linked (record g.call.site { level = suc g.call.site.level })
-          (of_value 0) g.call.site g.call.temps g.call.temps g.call.vars vars
+      kept : Kept x.table x.blocks x.small (all_sites x g line rest y) y.linked (record g.call.site { level = suc g.call.site.level }) (of_value 0)
+          g.call.site g.call.temps g.call.temps g.call.vars vars
       kept = record {
-        values = λ t a. refl;
-        locations = λ t a. refl;
+        values = λ t i a. refl;
+        places = λ t a. refl;
+        texts = λ t n k i e a. refl;
         still = λ t v h. (v, h);
         variables = λ f u there a home. same.others u (high_variable x g line rest y f u there home);
         left = same.left;
       }
 
-      lower : (c : Call) → AmongCalls c (map called_by g.waiting) → c.site.level ≢ suc g.call.site.level
-      lower c i e = let z = site_at x.table x.blocks (map site_of (map called_by g.waiting)) c.site y.linked.5 (sites_among (map called_by g.waiting) c i) in
-          omega (arith, z.level, y.linked.2, e)
+      too_high : (c : Call) → AmongCalls c (map called_by g.waiting) → c.site.level ≡ suc g.call.site.level → ⊥
+      too_high c i e =
+          let z = site_at x.table x.blocks (map site_of (map called_by g.waiting)) c.site y.linked.5 (sites_among (map called_by g.waiting) c i) in
+          let l = z.level in let m = y.linked.2 in omega (arith, l, m, e)
         where
           sites_among : (cs : List Call) (c : Call) → AmongCalls c cs → AmongSites c.site (map site_of cs)
           sites_among [] c i = absurd i
           sites_among (d ∷ cs) c (inl e) = inl (ap site_of e)
           sites_among (d ∷ cs) c (inr i) = inr (sites_among cs c i)
 
-  -- ---- the parameter
+  -- ---- one argument
 
-  pub record ParamHere (q : Passed) : Type 0 where
-    pub proc : ℕ
-    pub signature : Signature
-    pub callee : Callee x.table x.blocks proc signature
-    pub more : List Passed
-    pub way : ParamFor x.table (params_in callee.body.own.all) y.passed q more
-    pub params_is : params_for x.table x.blocks (body_of g) (callee_behind lines_behind) ≡ params_in callee.body.own.all
-    pub param_is : param_for (around x.table x.blocks (body_of g)) (callee_behind lines_behind) (arguments_behind lines_behind) ≡ way.param
+  -- what code does that gives it, before other code
+  pub record Argued (lines k : List WordInstr) (slot : Slot) (h : Housed) (most : ℕ) : Type 0 where
+    pub vars : Vars
+    pub memory : Memory
+    pub words : Vars
+    pub same : AllSame g.call.vars vars
+    pub good : IsGood x (starts (between vars memory words) line rest)
+    pub gives : Gives x.table sites g.world (next_at x g line rest y) g.memory memory g.words words h
+    pub gave : GaveSlot x.table memory sites g.world words (next_at x g line rest y) slot h
+    pub steps : ℕ
+    pub few : steps ≤ most
+    pub runs : Runs x.live (all_procs x) steps (at (within x.table x.blocks g) g.memory lines g.call.vars g.words)
+        (at (within x.table x.blocks g) memory k vars words)
 
-  pub param_here : (q : Passed) → NextCall (known x) (sigs x.table x.blocks) (globals_of x.table x.blocks) (body_of g).proc.places
-      (y.passed ++ q ∷ []) lines_behind → ParamHere q
-  param_here q n =
-      let c : Callee x.table x.blocks n.proc n.signature = x.callees n.proc n.signature n.known_by in
-      let f = param_for_is x.table (params_in c.body.own.all) n.signature.takes y.passed q n.more c.params
-      (subst (λ l. all_pass n.signature.takes l ≡ true) (append_assoc y.passed (q ∷ []) n.more) n.pass) in
-      record {
-        proc = n.proc;
-        signature = n.signature;
-        callee = c;
-        more = n.more;
-        way = f;
-        params_is = ap (params_for x.table x.blocks (body_of g)) n.callee ∙ ap (λ l. params_in l.all) c.layout;
-        param_is = ap (λ o. param_for (around x.table x.blocks (body_of g)) o (arguments_behind lines_behind)) n.callee
-            ∙ ap (λ l. param_before (arguments_behind lines_behind) l.all) c.layout
-            ∙ ap (λ k. param_before k c.body.own.all) (sym (f.back ∙ n.count))
-            ∙ param_found c.body.own.all f.before f.param f.after f.is;
-      }
+  module _ {proc : ℕ} {s : Signature} (c : Callee x.table x.blocks proc s) (h : Housed) (among : Among h (params_in c.body.own.all)) (label : ℕ)
+      (k : List WordInstr) where
+    housed : IsHoused x.table x.blocks c.body h
+    housed = c.is.housed h (c.among h among) (c.homes h among)
 
-  module _ (q : Passed) (p : ParamHere q) where
-    pub param_among : Among p.way.param (params_in p.callee.body.own.all)
-    param_among = subst (Among p.way.param) (sym p.way.is) (among_middle p.way.before p.way.param p.way.after)
+    -- ---- a value
 
-    pub param_housed : IsHoused x.table x.blocks p.callee.body p.way.param
-    param_housed = p.callee.is.housed p.way.param (p.callee.among p.way.param param_among)
+    module _ (t : ℕ) (v : Value) (e : g.call.temps.values t ≡ Some v) (plain : is_address h.kind ≡ false)
+        (typed : type_in x is_value (body_of g) t ≡ Some (type_of x.table h)) where
+      abbrev value_house : Housed
+      value_house = house g.call.site (of_value t)
 
-    -- what is given then
-    pub gave_here : (slot : Slot) (m : Memory) (words : Vars) → Gives x.table x.blocks g.memory m sites g.has g.words words
-        (next_at x g line rest y) p.way.param
-        → GaveSlot x.table x.blocks m sites g.has words (next_at x g line rest y) slot q p.way.param
-        → callee_behind (line ∷ lines_behind) ≡ callee_behind lines_behind
-        → Gave x.table x.blocks m sites g.has words (next_at x g line rest y) (g.given ++ slot ∷ []) (y.passed ++ q ∷ [])
-        (params_for x.table x.blocks (body_of g) (callee_behind lines_behind))
-    gave_here slot m words gives new same_callee =
-        let is : params_for x.table x.blocks (body_of g) (callee_behind lines_behind) ≡ p.way.before ++ p.way.param ∷ p.way.after = p.params_is
-        ∙ p.way.is in
-        subst (Gave x.table x.blocks m sites g.has words (next_at x g line rest y) (g.given ++ slot ∷ []) (y.passed ++ q ∷ [])) (sym is)
-        (gave_more x.table x.blocks g.memory m sites g.has g.words words
-        (next_at x g line rest y) p.way.before p.way.param p.way.after g.given y.passed slot q p.way.front
-        (before_apart p.way.before p.way.param p.way.after (subst AllApart p.way.is (params_apart p.callee.body.own.all p.callee.is.apart))) gives new
-        (subst (Gave x.table x.blocks g.memory sites g.has g.words (next_at x g line rest y) g.given y.passed)
-        (ap (params_for x.table x.blocks (body_of g)) same_callee ∙ is) y.gave))
+      abbrev ArguedValue : Type 0
+      ArguedValue = Argued (argument_code here label h.home value_house k) k (Holds v) h (16 * bytes v)
 
--- a shape that is there
-there_shape : (o : Option Shape) → is_there o ≡ true → (s : Shape) × (o ≡ Some s)
-there_shape (Some s) h = (s, refl)
-there_shape None h = never h
+      read : ValueRead x g line rest y t v × (has_shape v (looks x.table h) ≡ true)
+      read = value_read x g line rest y t v (type_of x.table h) typed housed.numbers e
 
--- an argument is passed as its parameter wants it
-by_value : (b : Bool) (s t : Option Shape) → passes_by b false s t ≡ true → (b ≡ false) × (may_get s t ≡ true)
-by_value true s t h = never h
-by_value false s t h = (refl, h)
+      size : bytes v ≡ h.bytes
+      size = bytes_is v (looks x.table h) housed.numbers read.1 ∙ housed.bytes
 
-by_location : (b : Bool) (s t : Option Shape) → passes_by b true s t ≡ true → (b ≡ true) × (alike s t ≡ true)
-by_location true s t h = (refl, h)
-by_location false s t h = never h
+      some : 4 ≤ bytes v
+      some = bytes_some v (values_of_numbers v (looks x.table h) housed.numbers read.1)
 
-module _ (x : Basis) (g : Both) (rest : List BlockLine) where
-  module _ (from : ℕ) (y : IsGood x (starts g (L.Argument from) rest)) where
-    abbrev value_line : Line
-    value_line = L.Argument from
-
-    abbrev value_passed : Passed
-    value_passed = record { by_location = false; shape = shape_named (known x) is_value (body_of g).proc.places from }
-
-    value_stand : StandAt x.table x.blocks (body_of g) (y.passed ++ value_passed ∷ []) rest
-    value_stand = stands_next x.table x.blocks (body_of g) y.passed value_line rest y.stands
-
-    value_param : ParamHere x g value_line rest y value_passed
-    value_param =
-        let l = and_parts (is_followed true rest) (all_lead block_label block_plain (body_of g).proc.lines rest) y.stands.leads in
-        param_here x g value_line rest y value_passed
-        (next_behind (known x) (sigs x.table x.blocks) (globals_of x.table x.blocks) (body_of g).proc.places (body_of g).proc.lines y.passed value_passed rest
-        value_stand.fits value_stand.leads (followed (known x) (sigs x.table x.blocks) (globals_of x.table x.blocks) (body_of g).proc.places rest l.0))
-
-    -- what is known of the value and its parameter
-    module _ (v : Value) (e : g.call.temps.values from ≡ Some v) where
-      abbrev p : ParamHere x g value_line rest y value_passed
-      p = value_param
-
-      abbrev k : List WordInstr
-      k = code_behind x.table x.blocks (body_of g) rest
-
-      abbrev held : Housed
-      held = house g.call.site (of_value from)
-
-      shape_here : (s : Shape) × (shape_named (known x) is_value (body_of g).proc.places from ≡ Some s)
-      shape_here = there_shape (shape_named (known x) is_value (body_of g).proc.places from)
-          (fits_here x.table x.blocks (body_of g) y.passed value_line rest y.stands)
-
-      passes_value : (is_address p.way.param.kind ≡ false) × (may_get (Some (looks x.table p.way.param))
-          (shape_named (known x) is_value (body_of g).proc.places from) ≡ true)
-      passes_value = by_value (is_address p.way.param.kind) (Some (looks x.table p.way.param))
-          (shape_named (known x) is_value (body_of g).proc.places from) p.way.passes_it
-
-      value_has : has_shape v shape_here.0 ≡ true
-      value_has = value_shaped x g rest value_line y from v shape_here.0 shape_here.1 e
-
-      wider : has_shape v (looks x.table p.way.param) ≡ true
-      wider =
-          let m : may_get (Some (looks x.table p.way.param)) (Some shape_here.0) ≡ true
-          = subst (λ o. may_get (Some (looks x.table p.way.param)) o ≡ true) shape_here.1 passes_value.1 in
-          value_wider v (looks x.table p.way.param) shape_here.0 m value_has
-
-      param_there : IsHoused x.table x.blocks p.callee.body p.way.param
-      param_there = param_housed x g value_line rest y value_passed p
-
-      size : bytes v ≡ p.way.param.bytes
-      size = bytes_is v (looks x.table p.way.param) wider ∙ param_there.bytes
-
-      read : Read x g rest value_line y true held v
-      read = read_value x g rest value_line y from v e
-
-      -- the code, by where the parameter is
-      code_is : (home : Home) → p.way.param.home ≡ home → code_behind x.table x.blocks (body_of g) (block_line.Plain value_line ∷ rest)
-          ≡ argument_code (around x.table x.blocks (body_of g)) (label_before (map block_plain rest)) home held k
-      code_is home is =
-          ap (λ h. argument_code (around x.table x.blocks (body_of g)) (label_before (map block_plain rest)) h held k) (ap (λ h. h.home) p.param_is ∙ is)
-
-      abbrev Goes : Type 0
-      Goes = Settles x (starts g value_line rest) rest (Passes [] (suc (bytes v))
-          (record (scene_of (high x.table x.blocks (starts g value_line rest))) { given = g.given ++ Holds v ∷ [] }))
-
-      to_variable_goes : (u : ℕ) → p.way.param.home ≡ Variable u → p.way.param.is_word ≡ true → Goes
-      to_variable_goes u home word_here =
-          let single : is_single v ≡ true = single_is v (looks x.table p.way.param) wider ∙ param_there.word ∙ word_here in
-          let item = y.hold.0.items (of_value from) v e in
-          let z = in_word x g.call.site from y.linked.0 item.there (sym (single_is v (looked x.table x.blocks g.call.site (of_value from)) item.shaped)
-          ∙ single) in
-          let has : g.call.vars (variable_of held) ≡ Some (single_word v)
-          = ap g.call.vars z.is ∙ subst (λ s. At g.memory g.call.site.base g.call.vars s v) z.spot item.at in
+      value_to_variable : (u : ℕ) → h.home ≡ Variable u → h.is_word ≡ true → ArguedValue
+      value_to_variable u home is_word =
+          let r = read in
+          let single : is_single v ≡ true = single_is v (looks x.table h) housed.numbers r.1 ∙ housed.word ∙ is_word in
+          let one : is_one_word (looked x.table g.call.site (of_value t)) ≡ true
+          = sym (single_is v (looked x.table g.call.site (of_value t)) (numbers_there x g.call.site (of_value t) y.linked.0 r.0.there) r.0.shaped)
+          ∙ single in
+          let z : InWord value_house = in_word x g.call.site t y.linked.0 r.0.there one in
+          let item = y.hold.0.items (of_value t) v r.0.there e in
+          let has : g.call.vars z.variable ≡ Some (single_word v) = subst (λ p. At g.memory g.call.site.base g.call.vars p v) z.spot item.at in
           let words : Vars = put g.words u (single_word v) in
-          let given : words u ≡ Some (single_word v) = put_same g.words u (single_word v) read.small in
-          let good = good_given x g value_line rest y (Holds v) value_passed g.call.vars g.memory words y.memory (nowhere refl)
-          (all_same g.call.vars) value_stand
-          (gave_here x g value_line rest y value_passed p (Holds v) g.memory words (to_variable u (single_word v) home refl refl) (record {
-            by_value = refl;
-            shape = shape_here.0;
-            is = shape_here.1;
-            shaped = value_has;
-            size = size;
-            given = subst (λ h. GivenAt x.table x.blocks g.memory (all_sites x g value_line rest y) g.has words (next_at x g value_line rest y) h v)
-                (sym home) given;
-          }) refl) in
-          goes_on x (starts g value_line rest) (given_more x g value_line rest y (Holds v) g.call.vars g.memory words) rest good 1 (suc (bytes v))
-          (record (scene_of (high x.table x.blocks (starts g value_line rest))) { given = g.given ++ Holds v ∷ [] })
-          (subst (λ c. Runs x.live (procs x.table x.blocks) 1 (at (within x.table x.blocks g) g.memory c g.call.vars g.words)
-          (at (within x.table x.blocks g) g.memory k g.call.vars words))
-          (sym (code_is (Variable u) home))
-          (run_argument x.live (procs x.table x.blocks) (within x.table x.blocks g) g.memory k g.call.vars g.words u (variable_of held) has))
-          (omega arith) (omega arith) refl
+          let code : argument_code here label h.home value_house k ≡ Argument u z.variable ∷ k
+          = ap (λ p. argument_code here label p value_house k) home ∙ ap (λ p. word_argument u p k) z.home in
+          let given : words u ≡ Some (single_word v) = put_same g.words u (single_word v) r.0.read.small in
+          let b = some in
+          record {
+            vars = g.call.vars;
+            memory = g.memory;
+            words = words;
+            same = all_same g.call.vars;
+            good = good_between g.call.vars g.memory words y.memory (nowhere refl) (all_same g.call.vars);
+            gives = to_variable u (single_word v) home refl refl;
+            gave = record {
+              plain = plain;
+              shaped = r.1;
+              size = size;
+              given = subst (λ p. GivenAt x.table g.memory sites g.world words (next_at x g line rest y) p v) (sym home) given;
+            };
+            steps = 1;
+            few = omega (arith, b);
+            runs = subst (λ l. Runs x.live (all_procs x) 1 (at (within x.table x.blocks g) g.memory l g.call.vars g.words)
+                (at (within x.table x.blocks g) g.memory k g.call.vars words)) (sym code)
+                (run_argument x.live (all_procs x) (within x.table x.blocks g) g.memory k g.call.vars g.words u z.variable has);
+          }
 
-      to_place_goes : (n : ℕ) → p.way.param.home ≡ Placed n → n % 4 ≡ 0 → Goes
-      to_place_goes n home whole =
-          let spare = p.callee.spare p.way.param n (param_among x g value_line rest y value_passed p) home in
-          let a : ℕ = g.call.site.base + (room (body_of g) + n) in
-          let code = code_is (Placed n) home in
-          let h = hands_value x g value_line rest y n whole k held v read (omega (arith, spare, size)) code in
-          let far = spare_beyond x g value_line rest y n (bytes v) whole (omega (arith, spare, size)) in
-          let there : a ≡ next_at x g value_line rest y + n = omega arith in
-          let ch : Changed g.memory h.memory (next_at x g value_line rest y + n) (bytes v) = subst
-          (λ b. Changed g.memory h.memory b (bytes v)) there h.changed in
-          let good = good_given x g value_line rest y (Holds v) value_passed h.vars h.memory g.words
-          (memory_beyond x g value_line rest y h.memory (next_at x g value_line rest y + n) (bytes v) ch far)
-          (beyond (next_at x g value_line rest y + n) (bytes v) ch far) h.same value_stand
-          (gave_here x g value_line rest y value_passed p (Holds v) h.memory g.words (to_place n (bytes v) home size ch refl) (record {
-            by_value = refl;
-            shape = shape_here.0;
-            is = shape_here.1;
-            shaped = value_has;
-            size = size;
-            given = subst (λ k. GivenAt x.table x.blocks h.memory (all_sites x g value_line rest y) g.has g.words (next_at x g value_line rest y) k v)
-                (sym home)
-                (subst (λ b. IsAt h.memory b v) there h.there);
-          }) refl) in
-          goes_on x (starts g value_line rest) (given_more x g value_line rest y (Holds v) h.vars h.memory g.words) rest good h.steps (suc (bytes v))
-          (record (scene_of (high x.table x.blocks (starts g value_line rest))) { given = g.given ++ Holds v ∷ [] })
-          (subst (λ c. Runs x.live (procs x.table x.blocks) h.steps (at (within x.table x.blocks g) g.memory c g.call.vars g.words)
-          (at (within x.table x.blocks g) h.memory k h.vars g.words))
-          (sym code) h.runs)
-          h.some (let f = h.few in omega (arith, f)) refl
+      value_to_place : (n : ℕ) → h.home ≡ Placed n → n % 4 ≡ 0
+          → from_label label (word_of x.table x.blocks (body_of g)).lines ≡ from_label label (argument_code here label h.home value_house k) → ArguedValue
+      value_to_place n home whole found =
+          let r = read in
+          let spare = c.spare h n among home in
+          let code : argument_code here label h.home value_house k ≡ argument_code here label (Placed n) value_house k
+          = ap (λ p. argument_code here label p value_house k) home in
+          let fits_in : n + bytes v ≤ SPARE_ROOM = omega (arith, spare, size) in
+          let q = hands_value x g line rest y label n whole k value_house v r.0.read fits_in (found ∙ ap (from_label label) code) in
+          let far = spare_beyond x g line rest y n (bytes v) whole fits_in in
+          let there : g.call.site.base + (room (body_of g) + n) ≡ next_at x g line rest y + n = omega arith in
+          let ch : Changed g.memory q.memory (next_at x g line rest y + n) (bytes v) = subst (λ a. Changed g.memory q.memory a (bytes v)) there q.changed in
+          let b = some in
+          record {
+            vars = q.vars;
+            memory = q.memory;
+            words = g.words;
+            same = q.same;
+            good = good_between q.vars q.memory g.words
+                (memory_beyond x g line rest y q.memory (next_at x g line rest y + n) (bytes v) ch far)
+                (beyond (next_at x g line rest y + n) (bytes v) ch far) q.same;
+            gives = to_place n (bytes v) home size ch refl;
+            gave = record {
+              plain = plain;
+              shaped = r.1;
+              size = size;
+              given = subst (λ p. GivenAt x.table q.memory sites g.world g.words (next_at x g line rest y) p v) (sym home)
+                  (subst (λ a. IsAt q.memory a v) there q.there);
+            };
+            steps = q.steps;
+            few = (let f = q.few in omega (arith, f, b));
+            runs = subst (λ l. Runs x.live (all_procs x) q.steps (at (within x.table x.blocks g) g.memory l g.call.vars g.words)
+                (at (within x.table x.blocks g) q.memory k q.vars g.words)) (sym code) q.runs;
+          }
 
-      value_goes : Goes
-      value_goes = by param_there.where_is
+      pub value_argument : from_label label (word_of x.table x.blocks (body_of g)).lines ≡ from_label label (argument_code here label h.home value_house k)
+          → ArguedValue
+      value_argument found = by housed.where_is
         where
-          by : Housing (room value_param.callee.body) FIXED_BYTES (data_end x.table x.blocks) value_param.callee.body.start value_param.way.param
-              → Settles x (starts g (L.Argument from) rest) rest
-              (Passes [] (suc (bytes v)) (record (scene_of (high x.table x.blocks (starts g (L.Argument from) rest))) { given = g.given ++ Holds v ∷ [] }))
-          by (in_variable u home plain low w) = to_variable_goes u home w
-          by (by_address u home address low) = never (sym passes_value.0 ∙ address)
-          by (in_places n home plain whole within) = to_place_goes n home whole
-          by (in_data n home plain whole low within start) = never (sym value_param.callee.start ∙ start)
+          by : Housing (room c.body) FIXED_BYTES (data_end x.table x.blocks) c.body.start h
+              → Argued (argument_code (around x.table x.blocks (body_of g)) label h.home (house g.call.site (of_value t)) k) k (Holds v) h (16 * bytes v)
+          by (in_variable u home p low w) = value_to_variable u home w
+          by (by_address u home address low) = never (sym plain ∙ address)
+          by (in_places n home p whole within) = value_to_place n home whole found
+          by (in_data n home p whole low within start) = never (sym c.start ∙ start)
 
-    pub argument_line : Settles x (starts g (L.Argument from) rest) rest
-        (does (known x) (scene_of (high x.table x.blocks (starts g (L.Argument from) rest))) (L.Argument from))
-    argument_line = using_settles x (starts g (L.Argument from) rest) rest (g.call.temps.values from)
-        (λ v. Passes [] (suc (bytes v)) (record (scene_of (high x.table x.blocks (starts g (L.Argument from) rest))) { given = g.given ++ Holds v ∷ [] }))
-        (λ v e. value_goes v e)
+    -- ---- a location
 
-  module _ (from : ℕ) (y : IsGood x (starts g (L.ArgumentAt from) rest)) where
-    abbrev at_line : Line
-    at_line = L.ArgumentAt from
+    -- the address in FIRST or a variable is given
+    record Told (u a : ℕ) (lines : List WordInstr) : Type 0 where
+      vars : Vars
+      same : AllSame g.call.vars vars
+      steps : ℕ
+      few : steps ≤ 2
+      runs : Runs x.live (all_procs x) steps (at (within x.table x.blocks g) g.memory lines g.call.vars g.words)
+          (at (within x.table x.blocks g) g.memory k vars (put g.words u a))
 
-    abbrev at_passed : Passed
-    at_passed = record { by_location = true; shape = shape_named (known x) is_location (body_of g).proc.places from }
+    told_behind : (u a : ℕ) (home : Home) → a < 2 ^ 32 → (l : WordInstr)
+        → Runs x.live (all_procs x) 1 (at (within x.table x.blocks g) g.memory (l ∷ Argument u FIRST ∷ k) g.call.vars g.words)
+        (at (within x.table x.blocks g) g.memory (Argument u FIRST ∷ k) (put g.call.vars FIRST a) g.words)
+        → Told u a (l ∷ Argument u FIRST ∷ k)
+    told_behind u a home small l r1 = record {
+      vars = put g.call.vars FIRST a;
+      same = same_first g.call.vars a;
+      steps = 2;
+      few = omega arith;
+      runs = then_runs x.live (all_procs x) r1
+          (run_argument x.live (all_procs x) (within x.table x.blocks g) g.memory k (put g.call.vars FIRST a) g.words u FIRST (got a small));
+    }
 
-    at_stand : StandAt x.table x.blocks (body_of g) (y.passed ++ at_passed ∷ []) rest
-    at_stand = stands_next x.table x.blocks (body_of g) y.passed at_line rest y.stands
+    told : (u a : ℕ) (home : Home) → a < 2 ^ 32 → Points g.call.site.base g.call.vars home a → Told u a (word_argument u home k)
+    told u a (Variable v) small points = record {
+      vars = g.call.vars;
+      same = all_same g.call.vars;
+      steps = 1;
+      few = omega arith;
+      runs = run_argument x.live (all_procs x) (within x.table x.blocks g) g.memory k g.call.vars g.words u v points;
+    }
+    told u a (Placed n) small points = told_behind u a (Placed n) small _
+        (address_runs x.law x.live (all_procs x) (within x.table x.blocks g) refl g.words g.memory (Argument u FIRST ∷ k) g.call.vars FIRST (Placed n) a points)
+    told u a (Static n) small points = told_behind u a (Static n) small _
+        (address_runs x.law x.live (all_procs x) (within x.table x.blocks g) refl g.words g.memory (Argument u FIRST ∷ k) g.call.vars FIRST (Static n) a points)
 
-    at_param : ParamHere x g at_line rest y at_passed
-    at_param =
-        let l = and_parts (is_followed true rest) (all_lead block_label block_plain (body_of g).proc.lines rest) y.stands.leads in
-        param_here x g at_line rest y at_passed
-        (next_behind (known x) (sigs x.table x.blocks) (globals_of x.table x.blocks) (body_of g).proc.places (body_of g).proc.lines y.passed at_passed rest
-        at_stand.fits at_stand.leads (followed (known x) (sigs x.table x.blocks) (globals_of x.table x.blocks) (body_of g).proc.places rest l.0))
+    module _ (t : ℕ) (there : Where) (e : g.call.temps.places t ≡ Some there) (address : is_address h.kind ≡ true)
+        (typed : type_in x is_location (body_of g) t ≡ Some (type_of x.table h))
+        (may : if_kind is_standing (place_named is_location (body_of g).proc.places t) ≡ true)
+        (handed : is_among t (places_in (handed_by (block_plain line))) ≡ true) where
+      abbrev ArguedLocation : Location → Type 0
+      ArguedLocation l = Argued (argument_code here label h.home (location here t) k) k (Stands l) h 64
 
-    passes_location : (is_address at_param.way.param.kind ≡ true) ×
-        (alike (Some (looks x.table at_param.way.param)) (shape_named (known x) is_location (body_of g).proc.places from) ≡ true)
-    passes_location = by_location (is_address at_param.way.param.kind) (Some (looks x.table at_param.way.param))
-        (shape_named (known x) is_location (body_of g).proc.places from) at_param.way.passes_it
+      names : Pointed x g line rest y t (type_of x.table h)
+      names = pointed x g line rest y t (type_of x.table h) typed
 
-    at_shape : (s : Shape) × (shape_named (known x) is_location (body_of g).proc.places from ≡ Some s)
-    at_shape = there_shape (shape_named (known x) is_location (body_of g).proc.places from)
-        (fits_here x.table x.blocks (body_of g) y.passed at_line rest y.stands)
+      stands_at : WrittenAt x g line rest y t there
+      stands_at = written_at x g line rest y t there names.named (y.linked.0.standing t may) e
 
-    at_goes : (l : Location) → g.call.temps.locations from ≡ Some (Located l) → (u : ℕ) → at_param.way.param.home ≡ Variable u
-        → Settles x (starts g at_line rest) rest (Passes [] 1 (record
-        (scene_of (high x.table x.blocks (starts g at_line rest))) { given = g.given ++ Stands l ∷ [] }))
-    at_goes l e u home =
-        let led = y.hold.0.led from (Located l) e in
-        let look : looked x.table x.blocks g.call.site (of_location from) ≡ at_shape.0 = (y.linked.0.named is_location from at_shape.0 at_shape.1).shape in
-        let words : Vars = put g.words u led.address in
-        let near = place_near x (all_sites x g at_line rest y) y.linked (all_sites x g at_line rest y) g.has l led.address
-        (looked x.table x.blocks g.call.site (of_location from)) (λ s i. i) led.leads in
-        let given : words u ≡ Some led.address = put_same g.words u led.address (omega (arith, near)) in
-        let good = good_given x g at_line rest y (Stands l) at_passed g.call.vars g.memory words y.memory (nowhere refl) (all_same g.call.vars) at_stand
-        (gave_here x g at_line rest y at_passed at_param (Stands l) g.memory words (to_variable u led.address home refl refl) (record {
-          by_location = refl;
-          shape = at_shape.0;
-          is = at_shape.1;
-          variable = u;
-          home = home;
-          address = led.address;
-          given = given;
-          leads = subst (FromPlace x.table x.blocks (all_sites x g at_line rest y) g.has l led.address) look led.leads;
-        }) refl) in
-        goes_on x (starts g at_line rest) (given_more x g at_line rest y (Stands l) g.call.vars g.memory words) rest good 1 1
-        (record (scene_of (high x.table x.blocks (starts g at_line rest))) { given = g.given ++ Stands l ∷ [] })
-        (subst (λ c. Runs x.live (procs x.table x.blocks) 1 (at (within x.table x.blocks g) g.memory c g.call.vars g.words)
-        (at (within x.table x.blocks g) g.memory (code_behind x.table x.blocks (body_of g) rest) g.call.vars words))
-        (sym (ap (λ h. argument_code (around x.table x.blocks (body_of g)) (label_before (map block_plain rest)) h (house g.call.site (of_location from))
-        (code_behind x.table x.blocks (body_of g) rest))
-        (ap (λ h. h.home) at_param.param_is ∙ home)))
-        (run_argument x.live (procs x.table x.blocks) (within x.table x.blocks g) g.memory (code_behind x.table x.blocks (body_of g) rest) g.call.vars g.words u
-        (variable_of (house g.call.site (of_location from))) led.holds))
-        (omega arith) (omega arith) refl
+      addressed : AtAddress x g line rest y (location here t) there (looked x.table g.call.site (of_location t))
+      addressed = handed_at x g line rest y t there names.named e (y.linked.0.standing t may) handed
 
-    pub argument_at_line : Settles x (starts g (L.ArgumentAt from) rest) rest
-        (does (known x) (scene_of (high x.table x.blocks (starts g (L.ArgumentAt from) rest))) (L.ArgumentAt from))
-    argument_at_line = using_settles x (starts g (L.ArgumentAt from) rest) rest (g.call.temps.locations from)
-        (λ there. located there (λ l. Passes [] 1 (record (scene_of (high x.table x.blocks (starts g (L.ArgumentAt from) rest)))
-        { given = g.given ++ Stands l ∷ [] })))
-        by
-      where
-        housed_in : (l : Location) → g.call.temps.locations from ≡ Some (Located l)
-            → Housing (room at_param.callee.body) FIXED_BYTES (data_end x.table x.blocks) at_param.callee.body.start at_param.way.param
-            → Settles x (starts g (L.ArgumentAt from) rest) rest (Passes [] 1
-            (record (scene_of (high x.table x.blocks (starts g (L.ArgumentAt from) rest))) { given = g.given ++ Stands l ∷ [] }))
-        housed_in l e (in_variable u home plain low w) = never (sym plain ∙ passes_location.0)
-        housed_in l e (by_address u home address low) = at_goes l e u home
-        housed_in l e (in_places n home plain whole within) = never (sym plain ∙ passes_location.0)
-        housed_in l e (in_data n home plain whole low within start) = never (sym plain ∙ passes_location.0)
+      location_to_variable : (u : ℕ) → h.home ≡ Variable u → ArguedLocation stands_at.location_is
+      location_to_variable u home =
+          let p = names in
+          let w = stands_at in
+          let q = addressed in
+          let leads : FromPlace x.table sites g.world w.location_is q.address (looks x.table h)
+          = subst (FromPlace x.table sites g.world w.location_is q.address) p.look
+          (subst (λ z. Leads x.table sites g.world g.call.site g.call.temps z q.address (looked x.table g.call.site (of_location t))) w.is q.leads_to) in
+          let near = place_near x sites y.linked sites g.world w.location_is q.address (looks x.table h) (λ s i. i) leads in
+          let small : q.address < 2 ^ 32 = omega (arith, near) in
+          let words : Vars = put g.words u q.address in
+          let r = told u q.address q.home small q.points in
+          let code : argument_code here label h.home (location here t) k ≡ word_argument u q.home k
+          = ap (λ p. argument_code here label p (location here t) k) home ∙ ap (λ p. word_argument u p k) q.home_is in
+          record {
+            vars = r.vars;
+            memory = g.memory;
+            words = words;
+            same = r.same;
+            good = good_between r.vars g.memory words y.memory (nowhere refl) r.same;
+            gives = to_variable u q.address home refl refl;
+            gave = record {
+              by_address = address;
+              variable = u;
+              home = home;
+              address = q.address;
+              given = put_same g.words u q.address small;
+              leads = leads;
+            };
+            steps = r.steps;
+            few = (let f = r.few in omega (arith, f));
+            runs = subst (λ l. Runs x.live (all_procs x) r.steps (at (within x.table x.blocks g) g.memory l g.call.vars g.words)
+                (at (within x.table x.blocks g) g.memory k r.vars words)) (sym code) r.runs;
+          }
 
-        by : (there : Where) → g.call.temps.locations from ≡ Some there → Settles x (starts g (L.ArgumentAt from) rest) rest
-            (located there (λ l. Passes [] 1 (record (scene_of (high x.table x.blocks (starts g (L.ArgumentAt from) rest)))
-            { given = g.given ++ Stands l ∷ [] })))
-        by (Within t path) e = tt
-        by (Located l) e = housed_in l e (param_housed x g (L.ArgumentAt from) rest y at_passed at_param).where_is
+      pub location_argument : ArguedLocation (location_at g.call.temps there)
+      location_argument = subst (λ l. Argued (argument_code here label h.home (location here t) k) k (Stands l) h 64)
+          (sym (ap (location_at g.call.temps) stands_at.is)) (by housed.where_is)
+        where
+          by : Housing (room c.body) FIXED_BYTES (data_end x.table x.blocks) c.body.start h
+              → Argued (argument_code (around x.table x.blocks (body_of g)) label h.home (location (around x.table x.blocks (body_of g)) t) k) k
+              (Stands stands_at.location_is) h 64
+          by (in_variable u home plain low w) = never (sym plain ∙ address)
+          by (by_address u home p low) = location_to_variable u home
+          by (in_places n home plain whole within) = never (sym plain ∙ address)
+          by (in_data n home plain whole low within start) = never (sym plain ∙ address)

@@ -6,20 +6,19 @@ use Rattle.std.proofs.lemmas.Bool.{eq-eqb, ne_eqb}
 use Rattle.rv32_isa.specs.declared.micro_op.Size.TheVariants.{Word as whole}
 use Rattle.rv32_isa.specs.Machine.{Lives}
 use Rattle.rv32_isa.specs.Values.{added}
-use Rattle.mid_code.specs.declared.word.WordOperation.TheVariants as operation
-use Rattle.mid_code.specs.declared.word.Test.TheVariants as test
-use Rattle.mid_code.specs.declared.word.WordInstr.{WordInstr}
-use Rattle.mid_code.specs.declared.word.WordInstr.TheVariants.{Label, Load, Store, Compute, Branch, Constant}
-use Rattle.mid_code.specs.declared.word.WordProc.{WordProc}
-use Rattle.mid_code.specs.Memory.{Memory, number_at, with_number}
-use Rattle.mid_code.specs.Words.{Vars, put, from_label}
+use Rattle.word_code.specs.declared.word.WordOperation.TheVariants as operation
+use Rattle.word_code.specs.declared.word.Test.TheVariants as test
+use Rattle.word_code.specs.declared.word.WordInstr.{WordInstr}
+use Rattle.word_code.specs.declared.word.WordInstr.TheVariants.{Label, Load, Store, Compute, Branch, Constant}
+use Rattle.word_code.specs.declared.word.WordProc.{WordProc}
+use Rattle.word_code.specs.Memory.{Memory, number_at, with_number}
+use Rattle.word_code.specs.Words.{Vars, put, from_label}
+use Rattle.word_code.specs.RoutineTable.{Cell, Area}
+use Rattle.word_code.proofs.ForCallers.{MemoryLaw, Sized, put_sized, put_area, word_in, with_copied, Runs, then_runs, Within, at, run_label, run_load}
+use Rattle.word_code.proofs.ForCallers.{run_store, run_compute, run_constant, run_past, run_off, got, got_sum}
 use Rattle.word_lowering.specs.declared.homes.Home.{Home}
 use Rattle.word_lowering.specs.declared.homes.TheConstants.{FIRST, SECOND, THIRD, FOURTH, FIFTH}
 use Rattle.word_lowering.specs.Spots.{address, copied_here}
-use Rattle.word_lowering.proofs.Cells.{MemoryLaw, Sized, put_sized}
-use Rattle.word_lowering.proofs.Areas.{Cell, Area, put_area, word_in, with_copied}
-use Rattle.word_lowering.proofs.Runs.{Runs, then_runs, Within, at, run_label, run_load, run_store, run_compute, run_constant, run_past, run_off}
-use Rattle.word_lowering.proofs.CopyRuns.{got, got_sum}
 use Rattle.word_lowering.proofs.OrdinalRuns.{AllSame}
 use Rattle.word_lowering.proofs.OpRuns.{same_put}
 use Rattle.word_lowering.proofs.Moves.{same_more, address_runs}

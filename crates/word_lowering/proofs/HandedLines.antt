@@ -1,50 +1,43 @@
 -- A value is put where the places of the next call will be: what the code does.
-use Rattle.std.proofs.Common.{◌≡◌, inl, inr, ℕ, suc, ◌+◌, ◌*◌, ◌%◌, ◌^◌, ◌<◌, ◌≤◌, List, ◌∷◌, map, Some, true, refl}
+use Rattle.std.proofs.Common.{◌≡◌, inl, inr, ℕ, suc, ◌+◌, ◌*◌, ◌%◌, ◌^◌, ◌<◌, ◌≤◌, List, ◌∷◌, Some, true, refl}
 use Rattle.std.proofs.Common.{sym, ap, subst, ◌∙◌, arith}
 use Rattle.std.specs.Prelude.{◌==◌}
 use Rattle.std.proofs.lemmas.Bool.{eq-eqb, cond-true}
 use Rattle.rv32_isa.specs.declared.micro_op.Size.TheVariants.{Word as whole}
-use Rattle.nim_core.specs.Values.{Value, Number, Parts, bytes}
-use Rattle.mid_code.specs.declared.block.BlockLine.{BlockLine}
-use Rattle.mid_code.specs.declared.block.BlockLine.TheVariants as block_line
-use Rattle.mid_code.specs.declared.line.Line.{Line}
-use Rattle.mid_code.specs.declared.word.TheConstants.{SPARE_ROOM}
-use Rattle.mid_code.specs.declared.word.WordInstr.{WordInstr}
-use Rattle.mid_code.specs.declared.word.WordInstr.TheVariants.{Place, Store}
-use Rattle.mid_code.specs.Memory.{Memory, with_number}
-use Rattle.mid_code.specs.Codes.{block_plain}
-use Rattle.mid_code.specs.Words.{Vars, put, from_label}
+use Rattle.nim_meaning.specs.Values.{Value, Number, Parts, Handle, Fixed, Ref, Resource, Gone, Vacant, bytes}
+use Rattle.flat_code.specs.declared.block.BlockLine.{BlockLine}
+use Rattle.word_code.specs.declared.word.TheConstants.{SPARE_ROOM}
+use Rattle.word_code.specs.declared.word.WordInstr.{WordInstr}
+use Rattle.word_code.specs.declared.word.WordInstr.TheVariants.{Place, Store}
+use Rattle.word_code.specs.Memory.{Memory, with_number}
+use Rattle.word_code.specs.Words.{Vars, put, from_label}
+use Rattle.word_code.specs.RoutineTable.{Cell}
+use Rattle.word_code.proofs.ForCallers.{with_copied, put_here, Changed, span, span_is, copied_to, changed_word, Runs, at, run_place, run_store, then_runs}
+use Rattle.word_code.proofs.ForCallers.{sizes_more, got}
 use Rattle.word_lowering.specs.declared.homes.Home.{Home}
 use Rattle.word_lowering.specs.declared.homes.Housed.{Housed}
 use Rattle.word_lowering.specs.declared.homes.TheConstants.{FIRST, SECOND}
 use Rattle.word_lowering.specs.declared.spots.Spot.TheVariants.{Held}
 use Rattle.word_lowering.specs.Spots.{spot_of, handed, copied_here}
-use Rattle.word_lowering.specs.LineCode.{label_before}
-use Rattle.word_lowering.proofs.Areas.{Cell, with_copied}
-use Rattle.word_lowering.proofs.Cells.{put_here}
-use Rattle.word_lowering.proofs.InMemory.{IsAt, bytes_whole, bytes_some, carried}
-use Rattle.word_lowering.proofs.Copied.{Changed, span, span_is, copied_to, changed_word}
-use Rattle.word_lowering.proofs.Runs.{Runs, at, run_place, run_store, then_runs}
-use Rattle.word_lowering.proofs.CopyRuns.{got}
+use Rattle.word_lowering.proofs.InMemory.{IsAt, bytes_whole, bytes_some, carried, of_numbers}
 use Rattle.word_lowering.proofs.OrdinalRuns.{AllSame}
 use Rattle.word_lowering.proofs.Moves.{single_word, IsHigh, MaySpot, IsArea, words_of, same_first, same_more, points_same}
-use Rattle.word_lowering.proofs.Labels.{quiet_address}
-use Rattle.word_lowering.proofs.LabelsHere.{own_label_here}
+use Rattle.word_lowering.proofs.CallLabels.{past_address}
 use Rattle.word_lowering.proofs.HandRuns.{hand_loop, handed_here}
-use Rattle.word_lowering.proofs.Sites.{room, Site, next_base}
+use Rattle.word_lowering.proofs.Sites.{room, Site, next_base, word_of}
 use Rattle.word_lowering.proofs.Scenes.{Points}
 use Rattle.word_lowering.proofs.SitesApart.{InRange, SiteAt, site_at, next_whole}
-use Rattle.word_lowering.proofs.Related.{Both, body_of, procs, within, code_behind, MemoryGood, IsText}
-use Rattle.word_lowering.proofs.Lines.{Basis, starts, IsGood, all_sites}
+use Rattle.word_lowering.proofs.Related.{Both, body_of, within, MemoryGood, IsClosed}
+use Rattle.word_lowering.proofs.Lines.{Basis, all_procs, starts, IsGood, all_sites}
 use Rattle.word_lowering.proofs.Sources.{area_by, Lying, lying_range, lying_area, lying_near, Source, held_in, lies_at}
-use Rattle.word_lowering.proofs.MoveLines.{Read}
+use Rattle.word_lowering.proofs.ReadFacts.{Read}
 
--- the own label of a line is found in it
+-- the label of its code is found in it
 pub hand_label : (label bytes : ℕ) (home : Home) (n : ℕ) (k : List WordInstr)
     → from_label label (Place FIRST n ∷ copied_here label bytes home k) ≡ Some (hand_loop label k)
-hand_label label bytes home n k = quiet_address label SECOND home _ ∙ cond-true (label == label) _ _ (eq-eqb label label refl)
+hand_label label bytes home n k = past_address label SECOND home _ ∙ cond-true (label == label) _ _ (eq-eqb label label refl)
 
-module _ (x : Basis) (g : Both) (line : Line) (rest : List BlockLine) (y : IsGood x (starts g line rest)) where
+module _ (x : Basis) (g : Both) (line : BlockLine) (rest : List BlockLine) (y : IsGood x (starts g line rest)) where
   abbrev sites : List Site
   sites = all_sites x g line rest y
 
@@ -57,7 +50,7 @@ module _ (x : Basis) (g : Both) (line : Line) (rest : List BlockLine) (y : IsGoo
     spare_cell b low high is =
         let s = site_at x.table x.blocks sites g.call.site y.linked (inl refl) in
         let room_here = x.spare sites y.linked in
-        y.memory.cells b is (inr (inr (omega (arith, s.least, low), omega (arith, high, small, room_here))))
+        y.memory.cells b is (inr (omega (arith, s.least, low), omega (arith, high, small, room_here)))
 
     pub spare_area : IsArea g.memory (next_at + at_next) n
     spare_area k le =
@@ -74,14 +67,15 @@ module _ (x : Basis) (g : Both) (line : Line) (rest : List BlockLine) (y : IsGoo
   pub memory_beyond : (m : Memory) (a n : ℕ) → Changed g.memory m a n → next_base sites ≤ a → MemoryGood x.table x.blocks x.first m
   memory_beyond m a n ch far = record {
     sized = ch.sized;
+    sizes = sizes_more x.first g.memory m y.memory.sizes ch.sizes;
     cells = λ b is open_word. ch.cells b (y.memory.cells b is open_word);
-    texts = λ b k text. ch.beside b k (inl (below b k text)) ∙ y.memory.texts b k text;
+    texts = λ b k text. ch.beside b k (inl (below b k text.0)) ∙ y.memory.texts b k text;
   }
     where
       s : SiteAt x.table x.blocks (all_sites x g line rest y) g.call.site
       s = site_at x.table x.blocks (all_sites x g line rest y) g.call.site y.linked (inl refl)
 
-      below : (b k : ℕ) → IsText x.table x.blocks b k → b + k ≤ a
+      below : (b k : ℕ) → IsClosed x.table x.blocks b k → b + k ≤ a
       below b k (inl t) = omega (arith, s.least, far, t.1)
       below b k (inr t) = omega (arith, s.least, far, t.1)
 
@@ -95,13 +89,10 @@ module _ (x : Basis) (g : Both) (line : Line) (rest : List BlockLine) (y : IsGoo
     pub steps : ℕ
     pub some : 0 < steps
     pub few : steps ≤ 8 + 2 * bytes v
-    pub runs : Runs x.live (procs x.table x.blocks) steps (at (within x.table x.blocks g) g.memory lines g.call.vars g.words)
+    pub runs : Runs x.live (all_procs x) steps (at (within x.table x.blocks g) g.memory lines g.call.vars g.words)
         (at (within x.table x.blocks g) memory k vars g.words)
 
-  abbrev label : ℕ
-  label = label_before (map block_plain rest)
-
-  module _ (at_next : ℕ) (whole_at : at_next % 4 ≡ 0) (k : List WordInstr) where
+  module _ (label at_next : ℕ) (whole_at : at_next % 4 ≡ 0) (k : List WordInstr) where
     -- the address, as the code has it
     abbrev a : ℕ
     a = g.call.site.base + (room (body_of g) + at_next)
@@ -109,25 +100,31 @@ module _ (x : Basis) (g : Both) (line : Line) (rest : List BlockLine) (y : IsGoo
     abbrev vars_at : Vars
     vars_at = put g.call.vars FIRST a
 
-    to_place : (l : List WordInstr) → Runs x.live (procs x.table x.blocks) 1
+    to_place : (l : List WordInstr) → Runs x.live (all_procs x) 1
         (at (within x.table x.blocks g) g.memory (Place FIRST (room (body_of g) + at_next) ∷ l) g.call.vars g.words)
         (at (within x.table x.blocks g) g.memory l vars_at g.words)
-    to_place l = run_place x.live (procs x.table x.blocks) (within x.table x.blocks g) g.memory l g.call.vars g.words FIRST (room (body_of g) + at_next)
+    to_place l = run_place x.live (all_procs x) (within x.table x.blocks g) g.memory l g.call.vars g.words FIRST (room (body_of g) + at_next)
 
     -- a word
     hands_word : (v : Value) (u : ℕ) → MaySpot (Held u) v → single_word v < 2 ^ 32 → g.call.vars u ≡ Some (single_word v)
         → at_next + bytes v ≤ SPARE_ROOM
         → Hands (Place FIRST (room (body_of g) + at_next) ∷ Store FIRST u whole ∷ k) k v a
     hands_word (Parts vs) u may small e le = absurd may
+    hands_word (Handle n j) u may small e le = absurd may
+    hands_word (Fixed text) u may small e le = absurd may
+    hands_word (Ref object) u may small e le = absurd may
+    hands_word (Resource all n) u may small e le = absurd may
+    hands_word (Gone value final) u may small e le = absurd may
+    hands_word Vacant u may small e le = absurd may
     hands_word (Number z) u may small e le =
         let near = spare_near at_next 4 whole_at le in
         let cell : Cell g.memory a = subst (Cell g.memory) (omega arith) (spare_area at_next 4 whole_at le 1 (omega arith)).0 in
         let v1 : Vars = put g.call.vars FIRST a in
         let same : AllSame g.call.vars v1 = same_first g.call.vars a in
         let held : v1 u ≡ Some (single_word (Number z)) = same.others u may ∙ e in
-        let r1 : Runs x.live (procs x.table x.blocks) 1 (at (within x.table x.blocks g) g.memory (Store FIRST u whole ∷ k) v1 g.words)
+        let r1 : Runs x.live (all_procs x) 1 (at (within x.table x.blocks g) g.memory (Store FIRST u whole ∷ k) v1 g.words)
         (at (within x.table x.blocks g) (with_number g.memory a whole (single_word (Number z))) k v1 g.words)
-        = run_store x.live (procs x.table x.blocks) (within x.table x.blocks g) g.memory k v1 g.words FIRST u whole
+        = run_store x.live (all_procs x) (within x.table x.blocks g) g.memory k v1 g.words FIRST u whole
         (got a (omega (arith, near))) held cell.may in
         record {
           vars = v1;
@@ -138,25 +135,22 @@ module _ (x : Basis) (g : Both) (line : Line) (rest : List BlockLine) (y : IsGoo
           steps = 2;
           some = omega arith;
           few = omega arith;
-          runs = then_runs x.live (procs x.table x.blocks) (to_place (Store FIRST u whole ∷ k)) r1;
+          runs = then_runs x.live (all_procs x) (to_place (Store FIRST u whole ∷ k)) r1;
         }
 
     -- word by word
     hands_words : (v : Value) (home : Home) → IsHigh home → (from : ℕ) → Points g.call.site.base g.call.vars home from → IsAt g.memory from v
         → Lying x sites y.linked from (bytes v) → at_next + bytes v ≤ SPARE_ROOM
-        → from_label label (code_behind x.table x.blocks (body_of g) (block_line.Plain line ∷ rest)) ≡ Some (hand_loop label k)
+        → from_label label (word_of x.table x.blocks (body_of g)).lines ≡ Some (hand_loop label k)
         → Hands (Place FIRST (room (body_of g) + at_next) ∷ copied_here label (bytes v) home k) k v a
-    hands_words v home high from points is_at lying le found = by (bytes v) refl (words_of (bytes v) (bytes_whole v) (bytes_some v))
+    hands_words v home high from points is_at lying le stands =
+        by (bytes v) refl (words_of (bytes v) (bytes_whole v) (bytes_some v (of_numbers g.memory from v is_at)))
       where
         near : next_at + at_next + bytes v < 2 ^ 32
         near = spare_near at_next (bytes v) whole_at le
 
-        stands : from_label (label_before (map block_plain rest)) (within x.table x.blocks g).proc.lines ≡ Some
-            (hand_loop (label_before (map block_plain rest)) k)
-        stands = own_label_here x.table x.blocks (body_of g) y.passed line rest y.stands ∙ found
-
         by : (n : ℕ) → bytes v ≡ n → (j : ℕ) × (n ≡ 4 * suc j)
-            → Hands (Place FIRST (room (body_of g) + at_next) ∷ copied_here (label_before (map block_plain rest)) (bytes v) home k) k v
+            → Hands (Place FIRST (room (body_of g) + at_next) ∷ copied_here label (bytes v) home k) k v
             (g.call.site.base + (room (body_of g) + at_next))
         by n size (j, four) =
             let long : bytes v ≡ 4 * suc j = size ∙ four in
@@ -166,10 +160,10 @@ module _ (x : Basis) (g : Both) (line : Line) (rest : List BlockLine) (y : IsGoo
             let small : from + bytes v < 2 ^ 32 = lying_near x (all_sites x g line rest y) y.linked from (bytes v) lying in
             let there = subst (λ b. IsArea g.memory b (bytes v)) (omega arith) (spare_area at_next (bytes v) whole_at le) (suc j) (omega (arith, long)) in
             let here = lying_area x (all_sites x g line rest y) y.linked g.memory from (bytes v) y.memory lying (suc j) (omega (arith, long)) in
-            let h = handed_here x.law x.live (procs x.table x.blocks) (within x.table x.blocks g) g.words
-            (label_before (map block_plain rest)) k stands refl j g.memory to from home v1
+            let h = handed_here x.law x.live (all_procs x) (within x.table x.blocks g) g.words
+            label k stands refl j g.memory to from home v1
             (got to (omega (arith, near)))
-            (points_same x.law x.live (procs x.table x.blocks) (within x.table x.blocks g) refl g.words g.call.vars v1 home from high same points)
+            (points_same x.law x.live (all_procs x) (within x.table x.blocks g) refl g.words g.call.vars v1 home from high same points)
             (omega (arith, near, long)) (omega (arith, small, long)) y.memory.sized there here in
             let c = copied_to x.law (suc j) g.memory to from y.memory.sized there here (inr (inr (apart to refl))) in
             let span_size = span_is (suc j) in
@@ -183,9 +177,9 @@ module _ (x : Basis) (g : Both) (line : Line) (rest : List BlockLine) (y : IsGoo
               steps = 1 + (4 + 6 * suc j);
               some = omega arith;
               few = omega (arith, long);
-              runs = then_runs x.live (procs x.table x.blocks) (to_place (copied_here (label_before (map block_plain rest)) (bytes v) home k))
-                  (subst (λ b. Runs x.live (procs x.table x.blocks) (4 + 6 * suc j)
-                  (at (within x.table x.blocks g) g.memory (copied_here (label_before (map block_plain rest)) b home k) v1 g.words)
+              runs = then_runs x.live (all_procs x) (to_place (copied_here label (bytes v) home k))
+                  (subst (λ b. Runs x.live (all_procs x) (4 + 6 * suc j)
+                  (at (within x.table x.blocks g) g.memory (copied_here label b home k) v1 g.words)
                   (at (within x.table x.blocks g) (with_copied (suc j) g.memory to from) k h.vars g.words)) (sym long) h.runs);
             }
           where
@@ -204,24 +198,24 @@ module _ (x : Basis) (g : Both) (line : Line) (rest : List BlockLine) (y : IsGoo
                 below (inr r) = omega (arith, r.1, s.most, size, four, span_is (suc j), e)
 
     -- a value that is somewhere
-    pub hands_value : (from : Housed) (v : Value) → Read x g rest line y true from v → at_next + bytes v ≤ SPARE_ROOM
-        → code_behind x.table x.blocks (body_of g) (block_line.Plain line ∷ rest)
-        ≡ Place FIRST (room (body_of g) + at_next) ∷ handed label from.bytes (spot_of from) k
+    pub hands_value : (from : Housed) (v : Value) → Read x g line rest y true from v → at_next + bytes v ≤ SPARE_ROOM
+        → from_label label (word_of x.table x.blocks (body_of g)).lines
+        ≡ from_label label (Place FIRST (room (body_of g) + at_next) ∷ handed label from.bytes (spot_of from) k)
         → Hands (Place FIRST (room (body_of g) + at_next) ∷ handed label from.bytes (spot_of from) k) k v a
-    hands_value from v r le code = by r.source
+    hands_value from v r le found = by r.source
       where
         by : Source x (all_sites x g line rest y) y.linked g.memory g.call.site.base g.call.vars true from v
-            → Hands (Place FIRST (room (body_of g) + at_next) ∷ handed (label_before (map block_plain rest)) from.bytes (spot_of from) k) k v
+            → Hands (Place FIRST (room (body_of g) + at_next) ∷ handed label from.bytes (spot_of from) k) k v
             (g.call.site.base + (room (body_of g) + at_next))
         by (held_in u spot may e) =
-            subst (λ p. Hands (Place FIRST (room (body_of g) + at_next) ∷ handed (label_before (map block_plain rest)) from.bytes p k) k v
+            subst (λ p. Hands (Place FIRST (room (body_of g) + at_next) ∷ handed label from.bytes p k) k v
             (g.call.site.base + (room (body_of g) + at_next))) (sym spot) (hands_word v u may r.small e le)
         by (lies_at home spot high b points is_at lying is_all) =
-            let code_is : handed (label_before (map block_plain rest)) from.bytes (spot_of from) k ≡ copied_here (label_before (map block_plain rest))
+            let code_is : handed label from.bytes (spot_of from) k ≡ copied_here label
             (bytes v) home k
-            = ap (λ n. handed (label_before (map block_plain rest)) n (spot_of from) k) r.size
-            ∙ ap (λ p. handed (label_before (map block_plain rest)) (bytes v) p k) spot in
+            = ap (λ n. handed label n (spot_of from) k) r.size
+            ∙ ap (λ p. handed label (bytes v) p k) spot in
             subst (λ l. Hands (Place FIRST (room (body_of g) + at_next) ∷ l) k v (g.call.site.base + (room (body_of g) + at_next))) (sym code_is)
             (hands_words v home high b points is_at lying le
-            (ap (from_label (label_before (map block_plain rest))) (code ∙ ap (λ l. Place FIRST (room (body_of g) + at_next) ∷ l) code_is)
-            ∙ hand_label (label_before (map block_plain rest)) (bytes v) home (room (body_of g) + at_next) k))
+            (found ∙ ap (λ l. from_label label (Place FIRST (room (body_of g) + at_next) ∷ l)) code_is
+            ∙ hand_label label (bytes v) home (room (body_of g) + at_next) k))

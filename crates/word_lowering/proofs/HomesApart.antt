@@ -1,12 +1,15 @@
 -- Places of a layout have homes that don't overlap.
-use Rattle.std.proofs.Common.{◌≢◌, ℕ, ◌+◌, ◌≤◌, ◌<◌, List, [], ◌∷◌, Bool, true, false, arith}
+use Rattle.std.proofs.Common.{◌≡◌, ◌≢◌, ℕ, ◌+◌, ◌≤◌, ◌<◌, List, [], ◌∷◌, Bool, true, false, sym, subst, arith}
 use Rattle.nim_types.specs.declared.types.TypeDef.{TypeDef}
-use Rattle.mid_code.specs.declared.place.FlatPlace.{FlatPlace}
+use Rattle.flat_code.specs.declared.line.Line.{Line}
+use Rattle.flat_code.specs.declared.place.FlatPlace.{FlatPlace}
+use Rattle.word_lowering.specs.declared.homes.Alias.{Alias}
+use Rattle.word_lowering.specs.declared.homes.Alias.TheVariants.{Own, Place, Value, Text}
 use Rattle.word_lowering.specs.declared.homes.Home.{Home}
 use Rattle.word_lowering.specs.declared.homes.Home.TheVariants.{Variable, Placed, Static}
 use Rattle.word_lowering.specs.declared.homes.Housed.{Housed}
 use Rattle.word_lowering.specs.declared.homes.Free.{Free}
-use Rattle.word_lowering.specs.Layouts.{is_static, home_at, free_behind, place_bytes, place_kept, behind, all_housed, behind_all}
+use Rattle.word_lowering.specs.Layouts.{is_static, home_at, home_by, free_behind, free_by, place_bytes, place_kept, place_alias, behind, all_housed, behind_all}
 
 -- homes of so many bytes each that don't overlap
 abbrev pub Apart : Home → ℕ → Home → ℕ → Type 0
@@ -24,10 +27,14 @@ abbrev pub Each : (Housed → Type 0) → List Housed → Type 0
 Each P [] = Unit {0}
 Each P (h ∷ hs) = P h × Each P hs
 
+-- where both have homes
+abbrev pub Parted : Housed → Housed → Type 0
+Parted h k = h.alias ≡ Own → k.alias ≡ Own → Apart h.home h.bytes k.home k.bytes
+
 -- each is apart from all behind it
 abbrev pub AllApart : List Housed → Type 0
 AllApart [] = Unit {0}
-AllApart (h ∷ hs) = Each (λ other. Apart h.home h.bytes other.home other.bytes) hs × AllApart hs
+AllApart (h ∷ hs) = Each (Parted h) hs × AllApart hs
 
 -- a home takes nothing that isn't free, and nothing beyond what is free behind it
 abbrev pub IsBetween : Free → Free → ℕ → Home → Type 0
@@ -79,35 +86,61 @@ pub each_as : {P Q : Housed → Type 0} → ((h : Housed) → P h → Q h) → (
 each_as f [] e = tt
 each_as f (h ∷ hs) e = (f h e.0, each_as f hs e.1)
 
-module _ (table : List TypeDef) (start : Bool) (roots : List ℕ) where
-  pub grows_all : (free : Free) (ps : List FlatPlace) → Grows free (behind_all table start roots free ps)
+-- another name takes nothing
+grows_by : (alias : Alias) (low high : Free) → Grows low high → Grows low (free_by alias low high)
+grows_by Own low high g = g
+grows_by (Place p global) low high g = record { variable = omega arith; byte = omega arith; datum = omega arith }
+grows_by (Value t) low high g = record { variable = omega arith; byte = omega arith; datum = omega arith }
+grows_by (Text behind bytes) low high g = record { variable = omega arith; byte = omega arith; datum = omega arith }
+
+module _ (table : List TypeDef) (start : Bool) (lines : List Line) where
+  pub grows_next : (free : Free) (p : FlatPlace) → Grows free (behind table start lines free p)
+  grows_next free p =
+      grows_by (place_alias table start lines p) free
+      (free_behind (is_static start p.kind) (place_kept table start lines p) (place_bytes table start lines p) free)
+      (grows_behind (is_static start p.kind) (place_kept table start lines p) (place_bytes table start lines p) free)
+
+  pub grows_all : (free : Free) (ps : List FlatPlace) → Grows free (behind_all table start lines free ps)
   grows_all free [] = record { variable = omega arith; byte = omega arith; datum = omega arith }
   grows_all free (p ∷ ps) =
-      let next : Free = behind table start roots free p in
-      grows_more free next (behind_all table start roots next ps)
-      (grows_behind (is_static start p.kind) (place_kept table start roots p) (place_bytes table start roots p) free) (grows_all next ps)
+      let next : Free = behind table start lines free p in
+      grows_more free next (behind_all table start lines next ps) (grows_next free p) (grows_all next ps)
+
+  -- a place with a home is between what is free before and what is free behind it
+  abbrev pub Within : Free → Free → Housed → Type 0
+  Within low high h = h.alias ≡ Own → IsBetween low high h.bytes h.home
 
   -- all are between what is free before and what is free behind them
-  pub all_between : (free : Free) (ps : List FlatPlace)
-      → Each (λ h. IsBetween free (behind_all table start roots free ps) h.bytes h.home) (all_housed table start roots free ps)
+  pub all_between : (free : Free) (ps : List FlatPlace) → Each (Within free (behind_all table start lines free ps)) (all_housed table start lines free ps)
   all_between free [] = tt
   all_between free (p ∷ ps) =
-      let next : Free = behind table start roots free p in
-      let high : Free = behind_all table start roots next ps in
-      let x : Grows free next = grows_behind (is_static start p.kind) (place_kept table start roots p) (place_bytes table start roots p) free in
+      let next : Free = behind table start lines free p in
+      let high : Free = behind_all table start lines next ps in
       let same : Grows high high = record { variable = omega arith; byte = omega arith; datum = omega arith } in
-      let none : Grows free free = record { variable = omega arith; byte = omega arith; datum = omega arith } in (
-        between_more free free next high (place_bytes table start roots p) (home_at (is_static start p.kind) (place_kept table start roots p) free) none
-            (grows_all next ps) (home_between (is_static start p.kind) (place_kept table start roots p) (place_bytes table start roots p) free),
-        each_as (λ h i. between_more free next high high h.bytes h.home x same i) (all_housed table start roots next ps) (all_between next ps),
+      let none : Grows free free = record { variable = omega arith; byte = omega arith; datum = omega arith } in
+      let static : Bool = is_static start p.kind in
+      let kept : Bool = place_kept table start lines p in
+      let bytes : ℕ = place_bytes table start lines p in (
+        (λ own. subst (λ a. IsBetween free (behind_all table start lines (free_by a free (free_behind static kept bytes free)) ps) bytes
+            (home_by a (home_at static kept free))) (sym own)
+            (between_more free free (free_behind static kept bytes free)
+            (behind_all table start lines (free_behind static kept bytes free) ps) bytes (home_at static kept free) none
+            (grows_all (free_behind static kept bytes free) ps) (home_between static kept bytes free))),
+        each_as (λ h i own. between_more free next high high h.bytes h.home (grows_next free p) same (i own)) (all_housed table start lines next ps)
+            (all_between next ps),
       )
 
-  pub all_apart : (free : Free) (ps : List FlatPlace) → AllApart (all_housed table start roots free ps)
+  pub all_apart : (free : Free) (ps : List FlatPlace) → AllApart (all_housed table start lines free ps)
   all_apart free [] = tt
   all_apart free (p ∷ ps) =
-      let next : Free = behind table start roots free p in (
-        each_as (λ h i. apart_from (is_static start p.kind) (place_kept table start roots p) (place_bytes table start roots p) free
-            (behind_all table start roots next ps) h.bytes h.home i)
-            (all_housed table start roots next ps) (all_between next ps),
+      let next : Free = behind table start lines free p in
+      let high : Free = behind_all table start lines next ps in
+      let static : Bool = is_static start p.kind in
+      let kept : Bool = place_kept table start lines p in
+      let bytes : ℕ = place_bytes table start lines p in (
+        each_as (λ k i own other. subst (λ a. Apart (home_by a (home_at static kept free)) bytes k.home k.bytes) (sym own)
+            (apart_from static kept bytes free high k.bytes k.home
+            (subst (λ a. IsBetween (free_by a free (free_behind static kept bytes free)) high k.bytes k.home) own (i other))))
+            (all_housed table start lines next ps) (all_between next ps),
         all_apart next ps,
       )

@@ -3,20 +3,25 @@ use Rattle.std.proofs.Common.{◌≡◌, ◌≢◌, ◌⊎◌, inl, inr, ℕ, �
 use Rattle.std.proofs.Common.{sym, ap, ap₂, subst, ◌∙◌, arith}
 use Rattle.std.proofs.lemmas.Bool.{cases_order}
 use Rattle.nim_types.specs.declared.types.TypeDef.{TypeDef}
-use Rattle.nim_core.specs.Values.{Value, bytes, Location}
-use Rattle.nim_core.specs.State.{World, slot_at}
-use Rattle.mid_code.specs.declared.place.PlaceKind.{PlaceKind}
-use Rattle.mid_code.specs.declared.place.PlaceKind.TheVariants as K
-use Rattle.nim_core.specs.declared.program.Mode.TheVariants.{Var}
-use Rattle.mid_code.specs.Fits.{is_location, is_declared, is_own}
-use Rattle.mid_code.specs.declared.block.Blocks.{Blocks}
+use Rattle.nim_meaning.specs.Values.{Value, bytes, Location, Standing}
+use Rattle.nim_meaning.specs.Places.{root_of}
+use Rattle.nim_meaning.specs.State.{World, slot_at}
+use Rattle.flat_code.specs.declared.place.PlaceKind.{PlaceKind}
+use Rattle.flat_code.specs.declared.place.PlaceKind.TheVariants as K
+use Rattle.nim_program.specs.declared.program.Mode.TheVariants.{Var}
+use Rattle.flat_code.specs.Fits.{is_location, is_declared, is_own}
+use Rattle.flat_code.specs.declared.block.BlockLine.{BlockLine}
+use Rattle.flat_code.specs.declared.code.Code.{Code}
 use Rattle.rv32_isa.specs.declared.micro_op.Size.TheVariants.{Word}
-use Rattle.mid_code.specs.Memory.{Memory, number_at, own_data_at}
-use Rattle.mid_code.specs.Words.{Vars}
-use Rattle.mid_code.specs.Scene.{Where, Located, Within, Temps, Filled}
-use Rattle.mid_code.specs.Shapes.{Shape}
-use Rattle.mid_code.proofs.ForCallers.{never, bytes_is}
+use Rattle.word_code.specs.Memory.{Memory, number_at}
+use Rattle.word_code.proofs.ForCallers.{Apart, SameOutside, Changed}
+use Rattle.word_code.specs.Words.{Vars}
+use Rattle.flat_code.specs.Scene.{Where, Located, Within, Temps}
+use Rattle.flat_code.specs.Shapes.{Shape}
+use Rattle.word_lowering.proofs.ShapeFacts.{never, bytes_is}
 use Rattle.word_lowering.specs.declared.homes.TheConstants.{LEFT}
+use Rattle.word_lowering.specs.declared.homes.Alias.{Alias}
+use Rattle.word_lowering.specs.declared.homes.Alias.TheVariants as alias
 use Rattle.word_lowering.specs.declared.homes.Home.{Home}
 use Rattle.word_lowering.specs.declared.homes.Home.TheVariants.{Variable, Placed, Static}
 use Rattle.word_lowering.specs.declared.homes.Housed.{Housed}
@@ -27,11 +32,12 @@ use Rattle.word_lowering.specs.Layouts.{is_address}
 use Rattle.word_lowering.specs.Spots.{spot_by, spot_of}
 use Rattle.word_lowering.specs.LineCode.{variable_in, variable_of}
 use Rattle.word_lowering.proofs.InMemory.{IsAt, carried}
-use Rattle.word_lowering.proofs.Copied.{Apart, SameOutside, Changed}
 use Rattle.word_lowering.proofs.Sites.{room, Housing, in_variable, by_address, in_places, in_data, InMemory, Site, next_base, AmongSites, data_end, Linked}
-use Rattle.word_lowering.proofs.Scenes.{address_of, Points, At, Name, of_value, of_location, of_place, number_in, Call, house, HasValue}
-use Rattle.word_lowering.proofs.Scenes.{IsThere, looked, IsItem, FromPlace, Leads, IsLed, IsFilled, Holding, site_of, AllHold}
-use Rattle.word_lowering.proofs.SitesApart.{Beside, InRange, in_range, houses, ranges_apart, SiteAt, site_at}
+use Rattle.word_lowering.proofs.Scenes.{address_of, Points, At, Name, of_value, of_location, of_place, number_in, Call, house, Filled, HasValue}
+use Rattle.word_lowering.proofs.Scenes.{IsThere, IsNamed, IsLiteral, looked, IsItem, FromPlace, Leads, IsLedBy, IsLed}
+use Rattle.word_lowering.proofs.Scenes.{IsFilled, Holding}
+use Rattle.word_lowering.proofs.Scenes.{site_of, AllHold}
+use Rattle.word_lowering.proofs.SitesApart.{Beside, InRange, in_range, houses, ranges_apart, SiteAt, site_at, IsPlace}
 
 -- ---- spots of places
 
@@ -145,6 +151,7 @@ false_true h = never h
 
 pub location_address : (k : PlaceKind) → is_location k ≡ true → is_address k ≡ true
 location_address K.Location h = refl
+location_address K.Within h = refl
 location_address k h = never h
 
 -- a place without a value of its own is one that stands for a location
@@ -153,13 +160,21 @@ declared_address (K.Param Var) h g = refl
 declared_address K.Temp h g = never h
 declared_address K.Counter h g = never h
 declared_address K.Location h g = never h
+declared_address K.Within h g = never h
 declared_address k h g = never (sym g)
+
+-- what has a home is no other name for a text
+pub own_text : {A : Type 0} (s : Site) (name : Name) (behind size : ℕ) → IsThere s name → (house s name).alias ≡ alias.Text behind size → A
+own_text s name behind size there text = absurd (no_text behind size (sym there.own ∙ text))
+  where
+    no_text : (behind size : ℕ) → alias.Own ≡ alias.Text behind size → ⊥
+    no_text behind size e = cc
 
 -- a call with these temporaries and variables
 abbrev pub call : Site → Temps → Vars → Call
 call s temps vars = record { site = s; temps = temps; vars = vars }
 
-module _ (table : List TypeDef) (blocks : Blocks) (small : data_end table blocks ≤ MOST_DATA) (sites : List Site) (linked : Linked table blocks sites)
+module _ (table : List TypeDef) (blocks : Code BlockLine) (small : data_end table blocks ≤ MOST_DATA) (sites : List Site) (linked : Linked table blocks sites)
     (lo : Site) (e : Name) where
   -- another place than the one that changes
   abbrev pub Away : Site → Name → Type 0
@@ -173,53 +188,58 @@ module _ (table : List TypeDef) (blocks : Blocks) (small : data_end table blocks
       by (inl x) (inr ne) = inr (inr ne)
       by (inr ne) y = inr (inl ne)
 
-  -- memory changes nowhere, in the range of the place, beyond all places, or before them
+  -- memory changes nowhere, in the range of the place, beyond all places, or beside them
   pub data Edit (m m' : Memory) : Type 0 where
     nowhere : m ≡ m' → Edit m m'
-    somewhere : (at n : ℕ) → SameOutside m m' at n → AmongSites lo sites → IsThere table blocks lo e → InMemory (house lo e).home
+    somewhere : (at n : ℕ) → SameOutside m m' at n → AmongSites lo sites → IsThere lo e → InMemory (house lo e).home
         → address_of lo.base (house lo e).home ≤ at → at + n ≤ address_of lo.base (house lo e).home + (house lo e).bytes → Edit m m'
     -- where the places of the next call will be
     beyond : (at n : ℕ) → Changed m m' at n → next_base sites ≤ at → Edit m m'
-    -- where the digits of a number come to stand
-    sooner : ((a : ℕ) → own_data_at + FIXED_BYTES ≤ a → number_at m' a Word ≡ number_at m a Word) → Edit m m'
+    -- beside globals and all that stands among the places of calls
+    aside : ((a : ℕ) → IsPlace table blocks a → number_at m' a Word ≡ number_at m a Word) → Edit m m'
 
   -- worlds in which at most that place differs
-  pub record Worlds (w w' : World) (has has' : Filled) : Type 0 where
-    pub slots : (s : Site) (n : ℕ) → AmongSites s sites → IsThere table blocks s (of_place n) → Away s (of_place n)
-        → slot_at w' s.level n ≡ slot_at w s.level n
-    pub filled : (s : Site) (n : ℕ) → AmongSites s sites → Away s (of_place n) → has' s.level n ≡ has s.level n
-    pub more : (s : Site) (n : ℕ) → AmongSites s sites → has s.level n ≡ true → has' s.level n ≡ true
+  pub record Worlds (w w' : World) : Type 0 where
+    pub slots : (s : Site) (n : ℕ) → AmongSites s sites → IsThere s (of_place n) → Away s (of_place n) → slot_at w' s.level n ≡ slot_at w s.level n
+    pub more : (s : Site) (n : ℕ) → AmongSites s sites → IsThere s (of_place n) → Filled w s.level n → Filled w' s.level n
+    -- where a path begins that goes from a place
+    pub roots : (s : Site) (n : ℕ) → AmongSites s sites → IsThere s (of_place n) → Filled w s.level n
+        → root_of (Standing s.level n) w' ≡ root_of (Standing s.level n) w
 
-  pub worlds_same : (w : World) (has : Filled) → Worlds w w has has
-  worlds_same w has = record { slots = λ s n i x a. refl; filled = λ s n i a. refl; more = λ s n i h. h }
+  pub worlds_same : (w : World) → Worlds w w
+  worlds_same w = record { slots = λ s n i x a. refl; more = λ s n i x h. h; roots = λ s n i x h. refl }
 
   -- temporaries and variables of a call, of which at most that place's differs
   pub record Kept (s : Site) (temps temps' : Temps) (vars vars' : Vars) : Type 0 where
-    pub values : (t : ℕ) → Away s (of_value t) → temps'.values t ≡ temps.values t
-    pub locations : (t : ℕ) → Away s (of_location t) → temps'.locations t ≡ temps.locations t
+    pub values : (t : ℕ) → IsThere s (of_value t) → Away s (of_value t) → temps'.values t ≡ temps.values t
+    pub places : (t : ℕ) → Away s (of_location t) → temps'.places t ≡ temps.places t
+    pub texts : (t behind bytes : ℕ) → IsNamed s (of_value t) → (house s (of_value t)).alias ≡ alias.Text behind bytes → Away s (of_value t)
+        → temps'.values t ≡ temps.values t
     pub still : (t : ℕ) (x : Value) → temps.values t ≡ Some x → (y : Value) × (temps'.values t ≡ Some y)
-    pub variables : (f : Name) (u : ℕ) → IsThere table blocks s f → Away s f → (house s f).home ≡ Variable u → vars' u ≡ vars u
+    pub variables : (f : Name) (u : ℕ) → IsThere s f → Away s f → (house s f).home ≡ Variable u → vars' u ≡ vars u
     pub left : vars' LEFT ≡ vars LEFT
 
   pub kept_same : (s : Site) (temps : Temps) (vars : Vars) → Kept s temps temps vars vars
   kept_same s temps vars = record {
-    values = λ t a. refl;
-    locations = λ t a. refl;
+    values = λ t i a. refl;
+    places = λ t a. refl;
+    texts = λ t n k i e a. refl;
     still = λ t x h. (x, h);
     variables = λ f u x a is. refl;
     left = refl;
   }
 
   -- what is new of the place itself
-  pub record New (m : Memory) (w : World) (has : Filled) (from : List Site) (c : Call) : Type 0 where
-    pub item : (x : Value) → HasValue w has c e x → IsItem table blocks m c e x
-    pub led : (t : ℕ) (there : Where) → of_location t ≡ e → c.temps.locations t ≡ Some there → IsLed table blocks from has c t there
-    pub known : (n : ℕ) → of_place n ≡ e → has c.site.level n ≡ true → IsThere table blocks c.site (of_place n)
-    pub filled : (n : ℕ) → of_place n ≡ e → has c.site.level n ≡ true → IsFilled table blocks from w has c n
+  pub record New (m : Memory) (w : World) (from : List Site) (c : Call) : Type 0 where
+    pub item : (x : Value) → IsThere c.site e → HasValue w c e x → IsItem table m c e x
+    pub text : (t behind bytes : ℕ) (x : Value) → of_value t ≡ e → (house c.site (of_value t)).alias ≡ alias.Text behind bytes
+        → c.temps.values t ≡ Some x → IsLiteral c.site.body behind bytes x
+    pub led : (t : ℕ) (there : Where) → of_location t ≡ e → IsNamed c.site (of_location t) → c.temps.places t ≡ Some there → IsLed table from w c t there
+    pub filled : (n : ℕ) → of_place n ≡ e → Filled w c.site.level n → IsFilled table from w c n
 
-  module _ (m m' : Memory) (edit : Edit m m') (w w' : World) (has has' : Filled) (worlds : Worlds w w' has has') where
+  module _ (m m' : Memory) (edit : Edit m m') (w w' : World) (worlds : Worlds w w') where
     -- a value in memory
-    at_away : (s : Site) (f : Name) (x : Value) → AmongSites s sites → IsThere table blocks s f → InMemory (house s f).home
+    at_away : (s : Site) (f : Name) (x : Value) → AmongSites s sites → IsThere s f → InMemory (house s f).home
         → bytes x ≡ (house s f).bytes → Away s f → IsAt m (address_of s.base (house s f).home) x → IsAt m' (address_of s.base (house s f).home) x
     at_away s f x i y inside size away at = by edit
       where
@@ -243,21 +263,21 @@ module _ (table : List TypeDef) (blocks : Blocks) (small : data_end table blocks
             below_next : InRange table blocks s (address_of s.base (house s f).home) (house s f).bytes → address_of s.base (house s f).home + bytes x ≤ a
             below_next (inl r) = let l = here.least in let m = here.most in omega (arith, r.2, small, l, m, far, size)
             below_next (inr r) = let m = here.most in omega (arith, r.1, m, far, size)
-        by (sooner same) =
+        by (aside same) =
             let a : ℕ = address_of s.base (house s f).home in
-            let low : own_data_at + FIXED_BYTES ≤ a = beyond_texts (in_range table blocks s (house s f) (houses table blocks s f here.body y) inside) in
-            carried m m' a a x (λ o within is. same (a + o) (omega (arith, low))) at
+            let range : InRange table blocks s a (house s f).bytes = in_range table blocks s (house s f) (houses table blocks s f here.body y) inside in
+            carried m m' a a x (λ o within is. same (a + o) (place_in range o within)) at
           where
             here : SiteAt table blocks sites s
             here = site_at table blocks sites s linked i
 
-            beyond_texts : InRange table blocks s (address_of s.base (house s f).home) (house s f).bytes
-                → own_data_at + FIXED_BYTES ≤ address_of s.base (house s f).home
-            beyond_texts (inl r) = r.1
-            beyond_texts (inr r) = let l = here.least in omega (arith, r.0, l)
+            place_in : InRange table blocks s (address_of s.base (house s f).home) (house s f).bytes → (o : ℕ) → o + 4 ≤ bytes x
+                → IsPlace table blocks (address_of s.base (house s f).home + o)
+            place_in (inl r) o within = inl (omega (arith, r.1), omega (arith, r.2, within, size))
+            place_in (inr r) o within = let l = here.least in inr (omega (arith, r.0, l))
 
     pub item_kept : (s : Site) (temps temps' : Temps) (vars vars' : Vars) (f : Name) (x : Value) → AmongSites s sites
-        → Kept s temps temps' vars vars' → Away s f → IsItem table blocks m (call s temps vars) f x → IsItem table blocks m' (call s temps' vars') f x
+        → Kept s temps temps' vars vars' → Away s f → IsItem table m (call s temps vars) f x → IsItem table m' (call s temps' vars') f x
     item_kept s temps temps' vars vars' f x i k away item = record {
       there = item.there;
       plain = item.plain;
@@ -266,7 +286,8 @@ module _ (table : List TypeDef) (blocks : Blocks) (small : data_end table blocks
     }
       where
         size : bytes x ≡ (house s f).bytes
-        size = bytes_is x (looked table blocks s f) item.shaped ∙ (houses table blocks s f (site_at table blocks sites s linked i).body item.there).bytes
+        size = bytes_is x (looked table s f) (houses table blocks s f (site_at table blocks sites s linked i).body item.there).numbers item.shaped ∙
+            (houses table blocks s f (site_at table blocks sites s linked i).body item.there).bytes
 
         stays : InMemory (house s f).home → At m' s.base vars' (spot_of (house s f)) x
         stays inside = to_memory m' s.base vars' (house s f) x item.plain inside
@@ -282,13 +303,13 @@ module _ (table : List TypeDef) (blocks : Blocks) (small : data_end table blocks
         by (in_data a is plain whole low within start) = stays (subst InMemory (sym is) tt)
 
     from_kept : (from : List Site) → ((r : Site) → AmongSites r from → AmongSites r sites) → (location : Location) (a : ℕ) (t : Shape)
-        → FromPlace table blocks from has location a t → FromPlace table blocks from has' location a t
+        → FromPlace table from w location a t → FromPlace table from w' location a t
     from_kept from up location a t x = record {
       site = x.site;
       among = x.among;
       number = x.number;
       base = x.base;
-      filled = worlds.more x.site x.number (up x.site x.among) x.filled;
+      filled = worlds.more x.site x.number (up x.site x.among) x.there x.filled;
       there = x.there;
       home = x.home;
       offset = x.offset;
@@ -298,7 +319,7 @@ module _ (table : List TypeDef) (blocks : Blocks) (small : data_end table blocks
 
     leads_kept : (from : List Site) → ((r : Site) → AmongSites r from → AmongSites r sites) → (s : Site) (temps temps' : Temps) (vars vars' : Vars)
         → Kept s temps temps' vars vars'
-        → (there : Where) (a : ℕ) (t : Shape) → Leads table blocks from has s temps there a t → Leads table blocks from has' s temps' there a t
+        → (there : Where) (a : ℕ) (t : Shape) → Leads table from w s temps there a t → Leads table from w' s temps' there a t
     leads_kept from up s temps temps' vars vars' k (Located location) a t x = from_kept from up location a t x
     leads_kept from up s temps temps' vars vars' k (Within temp path) a t x =
         let y = k.still temp x.value x.has in
@@ -314,7 +335,7 @@ module _ (table : List TypeDef) (blocks : Blocks) (small : data_end table blocks
 
     -- the variable of a place that has an address
     variable_kept : (s : Site) (temps temps' : Temps) (vars vars' : Vars) (f : Name) (a : ℕ) → AmongSites s sites → Kept s temps temps' vars vars'
-        → Away s f → IsThere table blocks s f → is_address (house s f).kind ≡ true → vars (variable_of (house s f)) ≡ Some a
+        → Away s f → IsThere s f → is_address (house s f).kind ≡ true → vars (variable_of (house s f)) ≡ Some a
         → vars' (variable_of (house s f)) ≡ Some a
     variable_kept s temps temps' vars vars' f a i k away there address h =
         by (houses table blocks s f (site_at table blocks sites s linked i).body there).where_is
@@ -326,65 +347,80 @@ module _ (table : List TypeDef) (blocks : Blocks) (small : data_end table blocks
         by (in_places at is plain whole within) = absurd (false_true (sym plain ∙ address))
         by (in_data at is plain whole low within start) = absurd (false_true (sym plain ∙ address))
 
+    led_kept : (from : List Site) → ((r : Site) → AmongSites r from → AmongSites r sites) → (s : Site) (temps temps' : Temps) (vars vars' : Vars)
+        → AmongSites s sites → Kept s temps temps' vars vars' → (t : ℕ) (there : Where) → IsNamed s (of_location t) → Away s (of_location t)
+        → IsLed table from w (call s temps vars) t there → IsLed table from w' (call s temps' vars') t there
+    led_kept from up s temps temps' vars vars' i k t there named away led = by (house s (of_location t)).alias refl led
+      where
+        by : (a : Alias) → (house s (of_location t)).alias ≡ a → IsLedBy table a from w (call s temps vars) t there
+            → IsLedBy table a from w' (call s temps' vars') t there
+        by alias.Own own x = record {
+          standing = x.standing;
+          address = x.address;
+          holds = variable_kept s temps temps' vars vars' (of_location t) x.address i k away
+              (record { among = named.among; number = named.number; kind = named.kind; own = own })
+              (location_address (house s (of_location t)).kind named.kind) x.holds;
+          leads = leads_kept from up s temps temps' vars vars' k there x.address (looked table s (of_location t)) x.leads;
+        }
+        by (alias.Place p global) e x = record {
+          site = x.site;
+          among = x.among;
+          level = x.level;
+          is_there = x.is_there;
+          filled = worlds.more x.site p (up x.site x.among) x.is_there x.filled;
+          is = x.is ∙ ap Located (sym (worlds.roots x.site p (up x.site x.among) x.is_there x.filled));
+        }
+        by (alias.Value u) e x = let y = k.still u x.value x.has in record { is = x.is; value = y.0; has = y.1 }
+        by (alias.Text behind size) e x = absurd x
+
     pub holding_kept : (from : List Site) (s : Site) (temps temps' : Temps) (vars vars' : Vars) → AmongSites s sites
         → ((r : Site) → AmongSites r from → AmongSites r sites)
-        → Kept s temps temps' vars vars' → (s.level ≡ lo.level → New m' w' has' from (call s temps' vars'))
-        → Holding table blocks m w has from (call s temps vars) → Holding table blocks m' w' has' from (call s temps' vars')
+        → Kept s temps temps' vars vars' → (s.level ≡ lo.level → New m' w' from (call s temps' vars'))
+        → Holding table m w from (call s temps vars) → Holding table m' w' from (call s temps' vars')
     holding_kept from s temps temps' vars vars' i up k new old = record {
       items = items;
+      texts = texts;
       led = led;
-      known = known;
       filled = filled;
       left = λ h. k.left ∙ old.left h;
     }
       where
-        back : (f : Name) (x : Value) → Away s f → HasValue w' has' (call s temps' vars') f x → HasValue w has (call s temps vars) f x
-        back (of_value t) x away h = sym (k.values t away) ∙ h
-        back (of_location t) x away h = absurd h
-        back (of_place n) x away h =
-            let was : has s.level n ≡ true = sym (worlds.filled s n i away) ∙ h.0 in
-            (was, sym (worlds.slots s n i (old.known n was) away) ∙ h.1)
+        back : (f : Name) (x : Value) → IsThere s f → Away s f → HasValue w' (call s temps' vars') f x → HasValue w (call s temps vars) f x
+        back (of_value t) x there away h = sym (k.values t there away) ∙ h
+        back (of_location t) x there away h = absurd h
+        back (of_place n) x there away h = sym (worlds.slots s n i there away) ∙ h
 
-        items : (f : Name) (x : Value) → HasValue w' has' (call s temps' vars') f x → IsItem table blocks m' (call s temps' vars') f x
-        items f x h = by (away_cases s f)
+        items : (f : Name) (x : Value) → IsThere s f → HasValue w' (call s temps' vars') f x → IsItem table m' (call s temps' vars') f x
+        items f x there h = by (away_cases s f)
           where
-            by : ((s.level ≡ lo.level) × (f ≡ e)) ⊎ Away s f → IsItem table blocks m' (call s temps' vars') f x
-            by (inl y) = subst (λ g. IsItem table blocks m' (call s temps' vars') g x) (sym y.1)
-                ((new y.0).item x (subst (λ g. HasValue w' has' (call s temps' vars') g x) y.1 h))
-            by (inr away) = item_kept s temps temps' vars vars' f x i k away (old.items f x (back f x away h))
+            by : ((s.level ≡ lo.level) × (f ≡ e)) ⊎ Away s f → IsItem table m' (call s temps' vars') f x
+            by (inl y) = subst (λ g. IsItem table m' (call s temps' vars') g x) (sym y.1)
+                ((new y.0).item x (subst (λ g. IsThere s g) y.1 there) (subst (λ g. HasValue w' (call s temps' vars') g x) y.1 h))
+            by (inr away) = item_kept s temps temps' vars vars' f x i k away (old.items f x there (back f x there away h))
 
-        led : (t : ℕ) (there : Where) → temps'.locations t ≡ Some there → IsLed table blocks from has' (call s temps' vars') t there
-        led t there h = by (away_cases s (of_location t))
+        texts : (t behind bytes : ℕ) (x : Value) → IsNamed s (of_value t) → (house s (of_value t)).alias ≡ alias.Text behind bytes
+            → temps'.values t ≡ Some x → IsLiteral s.body behind bytes x
+        texts t behind bytes x named text h = by (away_cases s (of_value t))
           where
-            by : ((s.level ≡ lo.level) × (of_location t ≡ e)) ⊎ Away s (of_location t) → IsLed table blocks from has' (call s temps' vars') t there
-            by (inl y) = (new y.0).led t there y.1 h
-            by (inr away) =
-                let x = old.led t there (sym (k.locations t away) ∙ h) in
-                record {
-                  is_there = x.is_there;
-                  address = x.address;
-                  holds = variable_kept s temps temps' vars vars' (of_location t) x.address i k away x.is_there
-                      (location_address (house s (of_location t)).kind x.is_there.kind) x.holds;
-                  leads = leads_kept from up s temps temps' vars vars' k there x.address (looked table blocks s (of_location t)) x.leads;
-                }
+            by : ((s.level ≡ lo.level) × (of_value t ≡ e)) ⊎ Away s (of_value t) → IsLiteral s.body behind bytes x
+            by (inl y) = (new y.0).text t behind bytes x y.1 text h
+            by (inr away) = old.texts t behind bytes x named text (sym (k.texts t behind bytes named text away) ∙ h)
 
-        known : (n : ℕ) → has' s.level n ≡ true → IsThere table blocks s (of_place n)
-        known n h = by (away_cases s (of_place n))
+        led : (t : ℕ) (there : Where) → IsNamed s (of_location t) → temps'.places t ≡ Some there → IsLed table from w' (call s temps' vars') t there
+        led t there named h = by (away_cases s (of_location t))
           where
-            by : ((s.level ≡ lo.level) × (of_place n ≡ e)) ⊎ Away s (of_place n) → IsThere table blocks s (of_place n)
-            by (inl y) = (new y.0).known n y.1 h
-            by (inr away) = old.known n (sym (worlds.filled s n i away) ∙ h)
+            by : ((s.level ≡ lo.level) × (of_location t ≡ e)) ⊎ Away s (of_location t) → IsLed table from w' (call s temps' vars') t there
+            by (inl y) = (new y.0).led t there y.1 named h
+            by (inr away) = led_kept from up s temps temps' vars vars' i k t there named away (old.led t there named (sym (k.places t away) ∙ h))
 
-        filled : (n : ℕ) → has' s.level n ≡ true → IsFilled table blocks from w' has' (call s temps' vars') n
-        filled n h = by (away_cases s (of_place n))
+        filled : (n : ℕ) → IsThere s (of_place n) → Filled w' s.level n → IsFilled table from w' (call s temps' vars') n
+        filled n there h = by (away_cases s (of_place n))
           where
-            by : ((s.level ≡ lo.level) × (of_place n ≡ e)) ⊎ Away s (of_place n) → IsFilled table blocks from w' has' (call s temps' vars') n
+            by : ((s.level ≡ lo.level) × (of_place n ≡ e)) ⊎ Away s (of_place n) → IsFilled table from w' (call s temps' vars') n
             by (inl y) = (new y.0).filled n y.1 h
             by (inr away) =
-                let was : has s.level n ≡ true = sym (worlds.filled s n i away) ∙ h in
-                let there = old.known n was in
-                let x = old.filled n was in
                 let slots = worlds.slots s n i there away in
+                let x = old.filled n there (h.0, sym slots ∙ h.1) in
                 record {
                   own = λ own. let y = x.own own in (y.0, slots ∙ y.1);
                   other = λ other. let y = x.other other in record {
@@ -393,14 +429,14 @@ module _ (table : List TypeDef) (blocks : Blocks) (small : data_end table blocks
                     address = y.address;
                     holds = variable_kept s temps temps' vars vars' (of_place n) y.address i k away there
                         (declared_address (house s (of_place n)).kind there.kind other) y.holds;
-                    leads = from_kept from up y.location y.address (looked table blocks s (of_place n)) y.leads;
+                    leads = from_kept from up y.location y.address (looked table s (of_place n)) y.leads;
                   };
                 }
 
     -- calls that wait
     pub all_kept : (cs : List Call) → ((s : Site) → AmongSites s (map site_of cs) → AmongSites s sites)
-        → ((c : Call) (from : List Site) → AmongCalls c cs → c.site.level ≡ lo.level → New m' w' has' from c)
-        → AllHold table blocks m w has cs → AllHold table blocks m' w' has' cs
+        → ((c : Call) (from : List Site) → AmongCalls c cs → c.site.level ≡ lo.level → New m' w' from c)
+        → AllHold table m w cs → AllHold table m' w' cs
     all_kept [] i new all = tt
     all_kept (c ∷ cs) i new all = (
       holding_kept (map site_of (c ∷ cs)) c.site c.temps c.temps c.vars c.vars (i c.site (inl refl)) i (kept_same c.site c.temps c.vars)

@@ -1,25 +1,22 @@
 -- What is at locations.
 use Rattle.std.proofs.Common.{◌≡◌, ◌⊎◌, inl, inr, ℕ, ◌+◌, List, [], ◌∷◌, map, Some, true, false, sym, ap, subst, ◌∙◌, arith}
-use Rattle.std.specs.Prelude.{option_map}
 use Rattle.std.proofs.lemmas.Bool.{cases_Bool}
-use Rattle.nim_core.specs.Values.{Value, bytes, Location, Holds, value_in, part}
-use Rattle.nim_core.specs.State.{World, whole_at, load, slot_at}
-use Rattle.mid_code.specs.Memory.{Memory}
-use Rattle.mid_code.specs.Words.{Vars}
-use Rattle.mid_code.specs.Scene.{Where, Located, Within, Temps, Filled, Scene}
-use Rattle.mid_code.specs.Lines.{value_at}
-use Rattle.mid_code.specs.Shapes.{Shape, has_shape}
-use Rattle.mid_code.specs.Fits.{is_own}
-use Rattle.mid_code.proofs.ForCallers.{never, bytes_is}
+use Rattle.nim_meaning.specs.Values.{Value, bytes, Location, Holds, part}
+use Rattle.nim_meaning.specs.State.{World, held, whole_at, load, slot_at}
+use Rattle.word_code.specs.Memory.{Memory}
+use Rattle.word_code.specs.Words.{Vars}
+use Rattle.flat_code.specs.Scene.{Where, Located, Within, Temps, if_value, location_at}
+use Rattle.flat_code.specs.Shapes.{Shape, has_shape}
+use Rattle.flat_code.specs.Fits.{is_own}
+use Rattle.word_lowering.proofs.ShapeFacts.{never, of_numbers, bytes_is}
 use Rattle.word_lowering.specs.declared.texts.TheConstants.{FIXED_BYTES}
 use Rattle.word_lowering.specs.Layouts.{is_address}
-use Rattle.word_lowering.proofs.Options.{some_same}
-use Rattle.word_lowering.proofs.InMemory.{IsAt}
+use Rattle.word_lowering.proofs.InMemory.{IsAt, of_numbers as are_numbers}
 use Rattle.word_lowering.proofs.PartsInMemory.{offset, part_within, offset_whole, part_at}
-use Rattle.word_lowering.proofs.ShapePaths.{PathTo, path_in}
+use Rattle.word_lowering.proofs.ShapePaths.{PathTo, path_in, path_numbers}
 use Rattle.word_lowering.proofs.Sites.{room, Housing, in_variable, by_address, in_places, in_data, InMemory, Site, AmongSites, data_end, Linked}
 use Rattle.word_lowering.proofs.Scenes.{address_of, Name, of_value, of_place, Call, site_of, house, HasValue, IsThere, looked, IsItem, FromPlace, FromValue}
-use Rattle.word_lowering.proofs.Scenes.{Leads, Holding, AllHold}
+use Rattle.word_lowering.proofs.Scenes.{Filled, Leads, Holding, AllHold}
 use Rattle.word_lowering.proofs.SitesApart.{houses, site_at}
 use Rattle.word_lowering.proofs.Keeping.{declared_address, from_memory}
 use Rattle.word_lowering.proofs.Lines.{Basis}
@@ -30,26 +27,28 @@ module _ (x : Basis) (sites : List Site) (linked : Linked x.table x.blocks sites
   pub record IsThereAt (m : Memory) (v : Value) (a : ℕ) (t : Shape) : Type 0 where
     pub is_at : IsAt m a v
     pub shaped : has_shape v t ≡ true
+    pub numbers : of_numbers t ≡ true
     pub lying : Lying x sites linked a (bytes v)
 
   -- a part of a value that is in memory
   pub part_there : (m : Memory) (c : Call) (f : Name) (v : Value) (path : List ℕ) (o : ℕ) (a : ℕ) (t : Shape) → AmongSites c.site sites
-      → IsItem x.table x.blocks m c f v → InMemory (house c.site f).home → PathTo (looked x.table x.blocks c.site f) path o t
+      → IsItem x.table m c f v → InMemory (house c.site f).home → PathTo (looked x.table c.site f) path o t
       → a ≡ address_of c.site.base (house c.site f).home + o → IsThereAt m (part v path) a t
   part_there m c f v path o a t i item inside to is =
-      let p = path_in v (looked x.table x.blocks c.site f) path o t item.shaped to in
+      let place = houses x.table x.blocks c.site f (site_at x.table x.blocks sites c.site linked i).body item.there in
+      let p = path_in v (looked x.table c.site f) path o t place.numbers item.shaped to in
       let at = from_memory m c.site.base c.vars (house c.site f) v item.plain inside item.at in
       let address : address_of c.site.base (house c.site f).home + offset v path ≡ a = ap (λ n. address_of c.site.base (house c.site f).home + n) p.1
       ∙ sym is in
-      let within = part_within v path p.0 in
-      let size = bytes_is v (looked x.table x.blocks c.site f) item.shaped in
-      let place = houses x.table x.blocks c.site f (site_at x.table x.blocks sites c.site linked i).body item.there in
+      let within = part_within v path (are_numbers m (address_of c.site.base (house c.site f).home) v at) p.0 in
+      let size = bytes_is v (looked x.table c.site f) place.numbers item.shaped in
       let size' = place.bytes in
       let whole = address_whole x sites linked c.site f i item.there inside in
       let whole' = offset_whole v path in
       record {
         is_at = subst (λ n. IsAt m n (part v path)) address (part_at m (address_of c.site.base (house c.site f).home) v path p.0 at);
         shaped = p.2;
+        numbers = path_numbers (looked x.table c.site f) path o t place.numbers to;
         lying = record {
           site = c.site;
           name = f;
@@ -63,7 +62,7 @@ module _ (x : Basis) (sites : List Site) (linked : Linked x.table x.blocks sites
       }
 
   -- a place in memory has a value of its own
-  pub own_place : (s : Site) (n : ℕ) → AmongSites s sites → IsThere x.table x.blocks s (of_place n) → InMemory (house s (of_place n)).home
+  pub own_place : (s : Site) (n : ℕ) → AmongSites s sites → IsThere s (of_place n) → InMemory (house s (of_place n)).home
       → is_own (house s (of_place n)).kind ≡ true
   own_place s n i there inside = by (cases_Bool (is_own (house s (of_place n)).kind))
     where
@@ -81,65 +80,61 @@ module _ (x : Basis) (sites : List Site) (linked : Linked x.table x.blocks sites
       by (inr h) = other (declared_address (house s (of_place n)).kind there.kind h)
 
   -- a call at a site
-  pub record CallAt (m : Memory) (w : World) (has : Filled) (s : Site) : Type 0 where
+  pub record CallAt (m : Memory) (w : World) (s : Site) : Type 0 where
     pub call : Call
     pub site : call.site ≡ s
     pub from : List Site
-    pub holding : Holding x.table x.blocks m w has from call
+    pub holding : Holding x.table m w from call
 
-  pub call_at : (m : Memory) (w : World) (has : Filled) (cs : List Call) (s : Site) → AllHold x.table x.blocks m w has cs → AmongSites s (map site_of cs)
-      → CallAt m w has s
-  call_at m w has [] s all i = absurd i
-  call_at m w has (c ∷ cs) s all (inl e) = record { call = c; site = e; from = map site_of (c ∷ cs); holding = all.0 }
-  call_at m w has (c ∷ cs) s all (inr i) = call_at m w has cs s all.1 i
+  pub call_at : (m : Memory) (w : World) (cs : List Call) (s : Site) → AllHold x.table m w cs → AmongSites s (map site_of cs)
+      → CallAt m w s
+  call_at m w [] s all i = absurd i
+  call_at m w (c ∷ cs) s all (inl e) = record { call = c; site = e; from = map site_of (c ∷ cs); holding = all.0 }
+  call_at m w (c ∷ cs) s all (inr i) = call_at m w cs s all.1 i
 
   -- the value of a place that a location begins at
   pub record RootAt (m : Memory) (w : World) (s : Site) (n : ℕ) : Type 0 where
     pub vars : Vars
     pub temps : Temps
     pub value : Value
-    pub slot : slot_at w s.level n ≡ Holds value
-    pub item : IsItem x.table x.blocks m (record { site = s; temps = temps; vars = vars }) (of_place n) value
+    pub slot : slot_at w s.level n ≡ Some (Holds value)
+    pub item : IsItem x.table m (record { site = s; temps = temps; vars = vars }) (of_place n) value
 
-  pub root_at : (m : Memory) (w : World) (has : Filled) (s : Site) (n : ℕ) → AmongSites s sites → CallAt m w has s → has s.level n ≡ true
-      → IsThere x.table x.blocks s (of_place n)
+  pub root_at : (m : Memory) (w : World) (s : Site) (n : ℕ) → AmongSites s sites → CallAt m w s → Filled w s.level n → IsThere s (of_place n)
       → InMemory (house s (of_place n)).home → RootAt m w s n
-  root_at m w has s n i k filled there inside = by k.call k.site k.holding
+  root_at m w s n i k filled there inside = by k.call k.site k.holding
     where
-      by : (c : Call) → c.site ≡ s → Holding x.table x.blocks m w has k.from c → RootAt m w s n
+      by : (c : Call) → c.site ≡ s → Holding x.table m w k.from c → RootAt m w s n
       by c e h =
-          let was : has c.site.level n ≡ true = subst (λ z. has z.level n ≡ true) (sym e) filled in
+          let was : Filled w c.site.level n = subst (λ z. Filled w z.level n) (sym e) filled in
+          let here : IsThere c.site (of_place n) = subst (λ z. IsThere z (of_place n)) (sym e) there in
           let own : is_own (house c.site (of_place n)).kind ≡ true = subst (λ z. is_own (house z (of_place n)).kind ≡ true) (sym e)
           (own_place s n i there inside) in
-          let v = (h.filled n was).own own in
-          let item = h.items (of_place n) v.0 (was, v.1) in
+          let v = (h.filled n here was).own own in
+          let item = h.items (of_place n) v.0 here v.1 in
           subst (λ z. RootAt m w z n) e (record { vars = c.vars; temps = c.temps; value = v.0; slot = v.1; item = item })
 
   -- ---- at a location
 
-  module _ (m : Memory) (w : World) (has : Filled) (each : (s : Site) → AmongSites s sites → CallAt m w has s) where
-    pub place_located : (location : Location) (a : ℕ) (t : Shape) → FromPlace x.table x.blocks sites has location a t → IsThereAt m (load w location) a t
+  module _ (m : Memory) (w : World) (each : (s : Site) → AmongSites s sites → CallAt m w s) where
+    pub place_located : (location : Location) (a : ℕ) (t : Shape) → FromPlace x.table sites w location a t → IsThereAt m (load w location) a t
     place_located location a t f =
-        let r = root_at m w has f.site f.number f.among (each f.site f.among) f.filled f.there f.home in
-        let value : whole_at w location.base ≡ r.value = ap (whole_at w) f.base ∙ ap value_in r.slot in
+        let r = root_at m w f.site f.number f.among (each f.site f.among) f.filled f.there f.home in
+        let value : whole_at w location.base ≡ r.value = ap (whole_at w) f.base ∙ ap held r.slot in
         subst (λ y. IsThereAt m (part y location.path) a t) (sym value)
         (part_there m (record { site = f.site; temps = r.temps; vars = r.vars })
         (of_place f.number) r.value location.path f.offset a t f.among r.item f.home f.path f.address)
 
     pub value_located : (c : Call) (temp : ℕ) (path : List ℕ) (a : ℕ) (t : Shape) → AmongSites c.site sites
-        → ((f : Name) (v : Value) → HasValue w has c f v → IsItem x.table x.blocks m c f v)
-        → FromValue x.table x.blocks c.site c.temps temp path a t → (v : Value) → c.temps.values temp ≡ Some v → IsThereAt m (part v path) a t
+        → ((f : Name) (v : Value) → IsThere c.site f → HasValue w c f v → IsItem x.table m c f v)
+        → FromValue x.table c.site c.temps temp path a t → (v : Value) → c.temps.values temp ≡ Some v → IsThereAt m (part v path) a t
     value_located c temp path a t i items f v e =
-        part_there m c (of_value temp) v path f.offset a t i (items (of_value temp) v e) f.home f.leads f.address
+        part_there m c (of_value temp) v path f.offset a t i (items (of_value temp) v f.there e) f.home f.leads f.address
 
     -- what a line reads at a location
-    pub led_located : (c : Call) (y : Scene) → y.world ≡ w → y.temps ≡ c.temps → AmongSites c.site sites
-        → ((f : Name) (v : Value) → HasValue w has c f v → IsItem x.table x.blocks m c f v)
-        → (there : Where) (a : ℕ) (t : Shape) → Leads x.table x.blocks sites has c.site c.temps there a t → (v : Value) → value_at y there ≡ Some v
-        → IsThereAt m v a t
-    led_located c y world temps i items (Located location) a t l v e =
-        subst (λ u. IsThereAt m u a t) (ap (λ z. load z location) (sym world) ∙ some_same (load y.world location) v e) (place_located location a t l)
-    led_located c y world temps i items (Within temp path) a t l v e =
-        let known : y.temps.values temp ≡ Some l.value = ap (λ z. z.values temp) temps ∙ l.has in
-        let is : part l.value path ≡ v = some_same (part l.value path) v (sym (ap (option_map (λ u. part u path)) known) ∙ e) in
-        subst (λ u. IsThereAt m u a t) is (value_located c temp path a t i items l l.value l.has)
+    pub led_located : (c : Call) → AmongSites c.site sites
+        → ((f : Name) (v : Value) → IsThere c.site f → HasValue w c f v → IsItem x.table m c f v)
+        → (there : Where) (a : ℕ) (t : Shape) → Leads x.table sites w c.site c.temps there a t → IsThereAt m (load w (location_at c.temps there)) a t
+    led_located c i items (Located location) a t l = place_located location a t l
+    led_located c i items (Within temp path) a t l =
+        subst (λ o. IsThereAt m (part (if_value o) path) a t) (sym l.has) (value_located c temp path a t i items l l.value l.has)

@@ -1,237 +1,235 @@
 -- A value that is made of parts: what the line does is followed.
-use Rattle.std.proofs.Common.{◌≡◌, ◌≢◌, inl, ℕ, zero, suc, ◌+◌, ◌*◌, ◌<◌, ◌≤◌, List, [], ◌∷◌}
+use Rattle.std.proofs.Common.{◌≡◌, inl, ℕ, zero, suc, ◌+◌, ◌*◌, ◌<◌, ◌≤◌, List, [], ◌∷◌, length, map}
 use Rattle.std.proofs.Common.{Option, Some, None, true, false, refl, sym}
 use Rattle.std.proofs.Common.{ap, subst, ◌∙◌, arith}
-use Rattle.std.proofs.lemmas.Bool.{and_parts, and_from}
-use Rattle.nim_types.specs.Forms.{or_word}
-use Rattle.nim_core.specs.Values.{Value, Parts, Values, Nil, More, bytes, bytes_all}
-use Rattle.mid_code.specs.declared.block.BlockLine.{BlockLine}
-use Rattle.mid_code.specs.declared.block.BlockLine.TheVariants as block_line
-use Rattle.mid_code.specs.declared.line.Line.{Line}
-use Rattle.mid_code.specs.declared.line.Line.TheVariants as L
-use Rattle.mid_code.specs.declared.word.WordInstr.{WordInstr}
-use Rattle.mid_code.specs.declared.word.WordInstr.TheVariants.{Label}
-use Rattle.mid_code.specs.Scene.{Did, with_value}
-use Rattle.mid_code.specs.Lines.{using_all, gives_whole}
-use Rattle.mid_code.specs.Shapes.{Shape, number, reference, block, elements, row, parts, Shapes, no_shapes, shapes, takes, has_shape, are_rows, have_shapes}
-use Rattle.mid_code.specs.Fits.{is_value, shape_named, may_get, row_of, parts_of, made_of}
-use Rattle.mid_code.specs.Running.{scene_of}
-use Rattle.mid_code.proofs.ForCallers.{never, same_is, value_wider}
+use Rattle.std.specs.Prelude.{◌&&◌}
+use Rattle.std.proofs.lemmas.Bool.{and_parts, and_from, eqb-true}
+use Rattle.nim_types.specs.Types as type
+use Rattle.nim_types.specs.Types.{Ty, Tys, no_types, types, Facts, Fact, fact_of}
+use Rattle.nim_types.specs.Table.{facts_in}
+use Rattle.nim_program.specs.declared.operation.Operation.TheVariants as O
+use Rattle.nim_program.specs.declared.operation.Use.{Use}
+use Rattle.nim_program.specs.Fitting.{are_parts}
+use Rattle.nim_program.specs.Kinds as kind
+use Rattle.nim_program.specs.Kinds.{TypeKind, count_types, declared_kind, has_parts, is_made, is_of, kind_if, kind_of, nth_type, part_at, same_value}
+use Rattle.nim_program.specs.View.{if_type}
+use Rattle.nim_meaning.specs.Values.{Value, Parts, Values, Nil, More, bytes, bytes_all, Operand, value_of, values_in}
+use Rattle.nim_meaning.specs.Deeds.{Answers, costs, give, ◌>>=◌}
+use Rattle.nim_meaning.specs.Here.{gives_hooked}
+use Rattle.nim_meaning.specs.Places.{made_by}
+use Rattle.flat_code.specs.declared.block.BlockLine.{BlockLine}
+use Rattle.flat_code.specs.declared.line.From.{From}
+use Rattle.flat_code.specs.declared.line.From.TheVariants as F
+use Rattle.flat_code.specs.declared.line.Line.TheVariants as L
+use Rattle.flat_code.specs.Fits.{are_placed}
+use Rattle.flat_code.specs.Fits as fit
+use Rattle.flat_code.specs.Lines.{gives}
+use Rattle.flat_code.specs.Running.{scene_of}
+use Rattle.flat_code.specs.Scene.{Passes, with_value}
+use Rattle.flat_code.specs.Shapes.{Shape, row, Shapes, shapes_in, shape_within, has_shape, are_rows, have_shapes, shape_of}
+use Rattle.word_code.specs.declared.word.WordInstr.{WordInstr}
+use Rattle.word_code.specs.declared.word.WordInstr.TheVariants.{Label}
+use Rattle.word_code.proofs.ForCallers.{Changed, at, none as no_run, run_label}
 use Rattle.word_lowering.specs.declared.homes.Housed.{Housed}
-use Rattle.word_lowering.specs.declared.texts.TheConstants.{FIXED_BYTES}
 use Rattle.word_lowering.specs.Layouts.{is_address}
-use Rattle.word_lowering.proofs.Options.{some_same}
-use Rattle.word_lowering.proofs.InMemory.{bytes_some, parts_bytes}
-use Rattle.word_lowering.proofs.Copied.{Changed}
-use Rattle.word_lowering.proofs.Runs.{none as no_run, run_label}
-use Rattle.word_lowering.proofs.Moves.{all_same}
-use Rattle.word_lowering.proofs.LineFits.{may_get_some}
-use Rattle.word_lowering.proofs.Sites.{room, Housing, in_variable, by_address, in_places, in_data, InMemory, data_end, sigs, globals_of}
-use Rattle.word_lowering.proofs.SitesApart.{houses}
-use Rattle.word_lowering.proofs.Scenes.{address_of, of_value, house, IsThere, looked}
-use Rattle.word_lowering.proofs.Keeping.{nowhere, to_memory}
-use Rattle.word_lowering.proofs.Related.{Both, body_of, procs, within, low, high, code_behind, StandAt}
-use Rattle.word_lowering.proofs.Lines.{Basis, fits_here, stands_next, changed, starts, IsGood, known, Settles, using_settles, stays_on, lower, all_sites}
-use Rattle.word_lowering.proofs.ValueFacts.{named_value, value_plain}
-use Rattle.word_lowering.proofs.ControlLines.{FollowedHere}
-use Rattle.word_lowering.proofs.Sources.{size_is, word_is, address_whole}
+use Rattle.word_lowering.specs.LineCode.{operands, parts_code}
+use Rattle.word_lowering.proofs.AddressFacts.{in_memory}
+use Rattle.word_lowering.proofs.AllOperands.{Have, using_all_settles}
+use Rattle.word_lowering.proofs.ApplyFits.{applies}
+use Rattle.word_lowering.proofs.ControlLines.{FollowedHere, plain, value_type}
 use Rattle.word_lowering.proofs.Gets.{Gets, gets_bytes, good_value, value_settles}
-use Rattle.word_lowering.proofs.MoveLines.{value_shaped}
-use Rattle.word_lowering.proofs.PartRuns.{changed_same, Sofar, Come, parts_moved}
+use Rattle.word_lowering.proofs.InMemory.{bytes_some, parts_bytes}
+use Rattle.word_lowering.proofs.Keeping.{nowhere, to_memory}
+use Rattle.word_lowering.proofs.LineFits.{declared_other, same_type, some_kind}
+use Rattle.word_lowering.proofs.Lines.{Basis, IsGood, Settles, all_procs, all_sites, changed, known, lower, starts, stands_next, stays_on}
+use Rattle.word_lowering.proofs.Moves.{all_same}
+use Rattle.word_lowering.proofs.OperandLines.{value_type_by}
+use Rattle.word_lowering.proofs.PartRuns.{Come, Sofar, changed_same, parts_moved}
+use Rattle.word_lowering.proofs.PartShapes.{part_comes}
+use Rattle.word_lowering.proofs.ShapeDepth.{depth, depths}
+use Rattle.word_lowering.proofs.Related.{Both, body_of, high, low, within}
+use Rattle.word_lowering.proofs.Scenes.{IsThere, address_of, house, looked, of_value}
+use Rattle.word_lowering.proofs.Settling.{LabelsLead, code_here, code_next}
+use Rattle.word_lowering.proofs.ShapeFacts.{all_of_numbers, fewer_numbers, never, of_numbers, values_of_numbers}
+use Rattle.word_lowering.proofs.Sites.{InMemory, around, globals_of, is_one_word, sigs}
+use Rattle.word_lowering.proofs.Sources.{address_whole, size_is}
+use Rattle.word_lowering.proofs.Targets.{target}
+use Rattle.word_lowering.proofs.ValueFacts.{value_plain}
 
--- ---- no shape is one of its own parts
+-- ---- operands that are parts
 
-abbrev mutual
-  pub depth : Shape → ℕ
-  depth (number values) = 0
-  depth reference = 0
-  depth block = 0
-  depth (elements s) = suc (depth s)
-  depth (row n s) = suc (depth s)
-  depth (parts ss) = suc (depths ss)
+-- no declared type is made of parts
+declared_no_made : (facts : Facts) (ty : Ty) → is_made (declared_kind (fact_of facts ty)) ≡ true → ⊥
+declared_no_made facts ty h =
+    never (sym (declared_other is_made (λ n. refl) (λ own ts. refl) (λ t. refl) refl refl (fact_of facts ty)) ∙ h)
 
-  pub depths : Shapes → ℕ
-  depths no_shapes = 0
-  depths (shapes s ss) = depth s + depths ss
+module _ (x : Basis) (g : Both) (line : BlockLine) (rest : List BlockLine) (y : IsGood x (starts g line rest)) (to : ℕ) where
+  abbrev whole : Shape
+  whole = looked x.table g.call.site (of_value to)
 
-takes_depth : (s t : Shape) → takes s t ≡ true → depth s ≡ depth t
-takes_depth (number m) (number n) h = refl
-takes_depth (number m) reference h = never h
-takes_depth (number m) block h = never h
-takes_depth (number m) (elements t) h = never h
-takes_depth (number m) (row n t) h = never h
-takes_depth (number m) (parts ts) h = never h
-takes_depth reference t h = ap depth (same_is reference t h)
-takes_depth block t h = ap depth (same_is block t h)
-takes_depth (elements s) t h = ap depth (same_is (elements s) t h)
-takes_depth (row n s) t h = ap depth (same_is (row n s) t h)
-takes_depth (parts ss) t h = ap depth (same_is (parts ss) t h)
+  abbrev Typed : List (Option Ty) → List From → Type 0
+  Typed wants from = fit.are_of (known x) (sigs x.table x.blocks) (globals_of x.table x.blocks) (body_of g).proc.places wants from ≡ true
 
-pub or_word_least : (n : ℕ) → n ≤ or_word n
-or_word_least zero = omega arith
-or_word_least (suc n) = omega arith
+  abbrev Has : List From → List Operand → Type 0
+  Has from xs = Have g.call.temps from xs
 
--- ---- what temporaries have
+  abbrev Parts_come : List From → List Operand → Type 0
+  Parts_come from xs = Come x g line rest y to from (values_in xs)
 
-abbrev pub shape_of_value : (x : Basis) (g : Both) → ℕ → Option Shape
-shape_of_value x g t = shape_named (known x) is_value (body_of g).proc.places t
-
-abbrev pub Have : (ℕ → Option Value) → List ℕ → Values → Type 0
-Have values [] Nil = Unit {0}
-Have values (t ∷ ts) (More v vs) = (values t ≡ Some v) × Have values ts vs
-Have values ts vs = ⊥
-
-module _ (x : Basis) (g : Both) (line : Line) (rest : List BlockLine) (y : IsGood x (starts g line rest)) where
-  pub using_all_settles : (ts : List ℕ) (go : Values → Did) → ((vs : Values) → Have g.call.temps.values ts vs → Settles x
-      (starts g line rest) rest (go vs))
-      → Settles x (starts g line rest) rest (using_all g.call.temps.values ts go)
-  using_all_settles [] go h = h Nil tt
-  using_all_settles (t ∷ ts) go h = using_settles x (starts g line rest) rest (g.call.temps.values t)
-      (λ v. using_all g.call.temps.values ts (λ vs. go (More v vs)))
-      (λ v e. using_all_settles ts (λ vs. go (More v vs)) (λ vs all. h (More v vs) (e, all)))
-
-  -- a part fits, and is another temporary than what is made of it
-  module _ (to : ℕ) (whole : Shape) (is : shape_of_value x g to ≡ Some whole) where
-    pub other_than : (s : Shape) (t : ℕ) → may_get (Some s) (shape_of_value x g t) ≡ true → depth s < depth whole → t ≢ to
-    other_than s t fit less same =
-        let m = may_get_some (Some s) (shape_of_value x g t) fit in
-        let d : depth m.shape ≡ depth m.other = takes_depth m.shape m.other m.takes_it in
-        let e : depth s ≡ depth m.shape = ap depth (some_same s m.shape m.is) in
-        let f : depth m.other ≡ depth whole = ap depth (some_same m.other whole (sym m.is_other ∙ ap (shape_of_value x g) same ∙ is)) in
-        absurd (omega (arith, d, e, f, less))
-
-    pub part_shaped : (s : Shape) (t : ℕ) (v : Value) → may_get (Some s) (shape_of_value x g t) ≡ true → g.call.temps.values t ≡ Some v
-        → has_shape v s ≡ true
-    part_shaped s t v fit e =
-        let m = may_get_some (Some s) (shape_of_value x g t) fit in
-        subst (λ u. has_shape v u ≡ true) (sym (some_same s m.shape m.is))
-        (value_wider v m.shape m.other m.takes_it (value_shaped x g rest line y t v m.other m.is_other e))
-
-  module _ (to : ℕ) (whole : Shape) (is : shape_of_value x g to ≡ Some whole) where
-    abbrev Coming : List ℕ → Values → Type 0
-    Coming ts vs = Come g.call.temps.values to ts vs
-
-    rows_come : (s : Shape) (n : ℕ) (ts : List ℕ) (vs : Values) → depth s < depth whole
-        → row_of (known x) (sigs x.table x.blocks) (globals_of x.table x.blocks) (body_of g).proc.places s n ts ≡ true → Have g.call.temps.values ts vs
-        → Coming ts vs × (are_rows vs n s ≡ true)
-    rows_come s zero [] Nil less fit all = (tt, refl)
-    rows_come s zero [] (More v vs) less fit all = absurd all
-    rows_come s (suc n) [] vs less fit all = never fit
-    rows_come s zero (t ∷ ts) vs less fit all = never fit
-    rows_come s (suc n) (t ∷ ts) Nil less fit all = absurd all
-    rows_come s (suc n) (t ∷ ts) (More v vs) less fit all =
-        let p = and_parts (may_get (Some s) (shape_of_value x g t))
-        (row_of (known x) (sigs x.table x.blocks) (globals_of x.table x.blocks) (body_of g).proc.places s n ts) fit in
-        let r = rows_come s n ts vs less p.1 all.1 in (
-          (all.0, other_than to whole is s t p.0 less, r.0),
-          and_from (has_shape v s) (are_rows vs n s) (part_shaped to whole is s t v p.0 all.0) r.1,
-        )
-
-    parts_come : (ss : Shapes) (ts : List ℕ) (vs : Values) → depths ss < depth whole
-        → parts_of (known x) (sigs x.table x.blocks) (globals_of x.table x.blocks) (body_of g).proc.places ss ts ≡ true → Have g.call.temps.values ts vs
-        → Coming ts vs × (have_shapes vs ss ≡ true)
-    parts_come no_shapes [] Nil less fit all = (tt, refl)
-    parts_come no_shapes [] (More v vs) less fit all = absurd all
-    parts_come (shapes s ss) [] vs less fit all = never fit
-    parts_come no_shapes (t ∷ ts) vs less fit all = never fit
-    parts_come (shapes s ss) (t ∷ ts) Nil less fit all = absurd all
-    parts_come (shapes s ss) (t ∷ ts) (More v vs) less fit all =
-        let p = and_parts (may_get (Some s) (shape_of_value x g t))
-        (parts_of (known x) (sigs x.table x.blocks) (globals_of x.table x.blocks) (body_of g).proc.places ss ts) fit in
-        let r = parts_come ss ts vs (omega (arith, less)) p.1 all.1 in (
-          (all.0, other_than to whole is s t p.0 (omega (arith, less)), r.0),
-          and_from (has_shape v s) (have_shapes vs ss) (part_shaped to whole is s t v p.0 all.0) r.1,
-        )
-
-    made_come : (ts : List ℕ) (vs : Values) → made_of (known x) (sigs x.table x.blocks) (globals_of x.table x.blocks) (body_of g).proc.places
-        (Some whole) ts
-        ≡ true → Have g.call.temps.values ts vs → Coming ts vs × (has_shape (Parts vs) whole ≡ true)
-    made_come ts vs fit all = by whole refl fit
-      where
-        by : (s : Shape) → whole ≡ s → made_of (known x) (sigs x.table x.blocks) (globals_of x.table x.blocks) (body_of g).proc.places
-            (Some s) ts ≡ true
-            → Come g.call.temps.values to ts vs × (has_shape (Parts vs) whole ≡ true)
-        by (number values) e h = never h
-        by reference e h = never h
-        by block e h = never h
-        by (elements s) e h = never h
-        by (row n s) e h =
-            let r = rows_come s n ts vs (subst (λ u. depth s < depth u) (sym e) (omega arith)) h all in
-            (r.0, subst (λ u. has_shape (Parts vs) u ≡ true) (sym e) r.1)
-        by (parts ss) e h =
-            let r = parts_come ss ts vs (subst (λ u. depths ss < depth u) (sym e) (omega arith)) h all in
-            (r.0, subst (λ u. has_shape (Parts vs) u ≡ true) (sym e) r.1)
-
-  -- a value with parts is in memory
-  pub parts_inside : (to : ℕ) (vs : Values) → IsThere x.table x.blocks g.call.site (of_value to)
-      → has_shape (Parts vs) (looked x.table x.blocks g.call.site (of_value to)) ≡ true → InMemory (house g.call.site (of_value to)).home
-  parts_inside to vs there shaped = by (houses x.table x.blocks g.call.site (of_value to) y.linked.0 there).where_is
+  -- the first operand, by its type and that of the part
+  first_typed : (t : ℕ) (a p : Option Ty) (u : Ty) (from : List From) (wants : List (Option Ty)) → Typed (a ∷ wants) (F.Value t ∷ from) → is_of a p ≡ true
+      → p ≡ Some u → value_type x g line rest y t ≡ Some u
+  first_typed t a p u from wants typed is there =
+      same_type (value_type x g line rest y t) (Some u)
+      (subst (λ o. same_value (value_type x g line rest y t) o ≡ true) (of_part a p u is there)
+      (and_parts (same_value (value_type x g line rest y t) a) _ typed).0)
     where
-      plain : is_address (house g.call.site (of_value to)).kind ≡ false
-      plain = value_plain (house g.call.site (of_value to)).kind there.kind
+      of_part : (a p : Option Ty) (u : Ty) → is_of a p ≡ true → p ≡ Some u → a ≡ Some u
+      of_part None p u h e = never h
+      of_part (Some s) None u h e = never h
+      of_part (Some s) (Some t) u h e = same_type (Some s) (Some t) h ∙ e
 
-      single : (house g.call.site (of_value to)).is_word ≡ false
-      single = word_is x (all_sites x g line rest y) y.linked g.call (inl refl) (of_value to) there plain (Parts vs) shaped
+  rows_come : (e : Ty) (m n i : ℕ) (wants : List (Option Ty)) (from : List From) (xs : List Operand) → n ≡ length wants
+      → are_parts (kind.array m e) i wants ≡ true → Typed wants from → are_placed 0 from ≡ true → Has from xs
+      → of_numbers (row n (shape_of (facts_in x.table) e)) ≡ true → depth (shape_of (facts_in x.table) e) < depth whole
+      → Parts_come from xs × (are_rows (values_in xs) n (shape_of (facts_in x.table) e) ≡ true)
+  rows_come e m zero i [] [] [] is are typed placed has numbers less = (tt, refl)
+  rows_come e m zero i [] [] (z ∷ xs) is are typed placed has numbers less = absurd has
+  rows_come e m zero i [] (f ∷ from) xs is are typed placed has numbers less = never typed
+  rows_come e m zero i (a ∷ wants) from xs is are typed placed has numbers less = absurd (omega (arith, is))
+  rows_come e m (suc n) i [] from xs is are typed placed has numbers less = absurd (omega (arith, is))
+  rows_come e m (suc n) i (a ∷ wants) [] xs is are typed placed has numbers less = never typed
+  rows_come e m (suc n) i (a ∷ wants) (F.Place t ∷ from) xs is are typed placed has numbers less = never placed
+  rows_come e m (suc n) i (a ∷ wants) (F.Value t ∷ from) [] is are typed placed has numbers less = absurd has
+  rows_come e m (suc n) i (a ∷ wants) (F.Value t ∷ from) (z ∷ xs) is are typed placed has numbers less =
+      let p = and_parts (is_of a (Some e)) (are_parts (kind.array m e) (suc i) wants) are in
+      let q = and_parts (same_value (value_type x g line rest y t) a) _ typed in
+      let part = part_comes x g line rest y to t z e has.0 (first_typed t a (Some e) e from wants typed p.0 refl) numbers less in
+      let r = rows_come e m n (suc i) wants from xs (omega (arith, is)) p.1 q.1 placed has.1 (fewer_numbers n (shape_of (facts_in x.table) e) numbers) less in (
+        ((shape_of (facts_in x.table) e, part), r.0),
+        and_from (has_shape (value_of z) (shape_of (facts_in x.table) e)) _ part.shaped r.1,
+      )
 
-      by : Housing (room (body_of g)) FIXED_BYTES (data_end x.table x.blocks) (body_of g).start (house g.call.site (of_value to))
-          → InMemory (house g.call.site (of_value to)).home
-      by (in_variable u e p low is_word) = never (sym single ∙ is_word)
-      by (by_address u e address low) = never (sym plain ∙ address)
-      by (in_places n e p whole within) = subst InMemory (sym e) tt
-      by (in_data n e p whole low within start) = subst InMemory (sym e) tt
+  abbrev shapes_of : Tys → Shapes
+  shapes_of ts = shapes_in (shape_within (length (facts_in x.table)) (facts_in x.table)) ts
 
-module _ (x : Basis) (g : Both) (rest : List BlockLine) (to : ℕ) where
-  abbrev code_next : List WordInstr
-  code_next = code_behind x.table x.blocks (body_of g) rest
+  fields_come : (ts after : Tys) (i : ℕ) → ((j : ℕ) → nth_type ts (j + i) ≡ nth_type after j) → (wants : List (Option Ty)) (from : List From)
+      (xs : List Operand) → count_types after ≡ length wants → are_parts (kind.tuple ts) i wants ≡ true
+      → Typed wants from → are_placed 0 from ≡ true → Has from xs
+      → all_of_numbers (shapes_of after) ≡ true → depths (shapes_of after) < depth whole
+      → Parts_come from xs × (have_shapes (values_in xs) (shapes_of after) ≡ true)
+  fields_come ts no_types i nth [] [] [] is are typed placed has numbers less = (tt, refl)
+  fields_come ts no_types i nth [] [] (z ∷ xs) is are typed placed has numbers less = absurd has
+  fields_come ts no_types i nth [] (f ∷ from) xs is are typed placed has numbers less = never typed
+  fields_come ts no_types i nth (a ∷ wants) from xs is are typed placed has numbers less = absurd (omega (arith, is))
+  fields_come ts (types u us) i nth [] from xs is are typed placed has numbers less = absurd (omega (arith, is))
+  fields_come ts (types u us) i nth (a ∷ wants) [] xs is are typed placed has numbers less = never typed
+  fields_come ts (types u us) i nth (a ∷ wants) (F.Place t ∷ from) xs is are typed placed has numbers less = never placed
+  fields_come ts (types u us) i nth (a ∷ wants) (F.Value t ∷ from) [] is are typed placed has numbers less = absurd has
+  fields_come ts (types u us) i nth (a ∷ wants) (F.Value t ∷ from) (z ∷ xs) is are typed placed has numbers less =
+      let p = and_parts (is_of a (nth_type ts i)) (are_parts (kind.tuple ts) (suc i) wants) are in
+      let q = and_parts (same_value (value_type x g line rest y t) a) _ typed in
+      let n = and_parts (of_numbers (shape_of (facts_in x.table) u)) (all_of_numbers (shapes_of us)) numbers in
+      let part = part_comes x g line rest y to t z u has.0
+      (first_typed t a (nth_type ts i) u from wants typed p.0 (ap (nth_type ts) (omega arith) ∙ nth 0)) n.0 (omega (arith, less)) in
+      let r = fields_come ts us (suc i) (λ j. ap (nth_type ts) (omega arith) ∙ nth (suc j)) wants from xs (omega (arith, is)) p.1 q.1 placed has.1 n.1
+      (omega (arith, less)) in (
+        ((shape_of (facts_in x.table) u, part), r.0),
+        and_from (has_shape (value_of z) (shape_of (facts_in x.table) u)) _ part.shaped r.1,
+      )
+
+  -- all operands of a value that is made
+  abbrev Made_of : Ty → List From → List Operand → Type 0
+  Made_of ty from xs = Parts_come from xs × (has_shape (Parts (values_in xs)) (shape_of (facts_in x.table) ty) ≡ true)
+      × (is_one_word (shape_of (facts_in x.table) ty) ≡ false)
+
+  abbrev Comes_of : Ty → Type 0
+  Comes_of ty = (wants : List (Option Ty)) (from : List From) (xs : List Operand) → is_made (kind_of (facts_in x.table) ty) ≡ true
+      → has_parts (kind_of (facts_in x.table) ty) (length wants) ≡ true → are_parts (kind_of (facts_in x.table) ty) 0 wants ≡ true → Typed wants from
+      → are_placed 0 from ≡ true → Has from xs → of_numbers (shape_of (facts_in x.table) ty) ≡ true → whole ≡ shape_of (facts_in x.table) ty
+      → Made_of ty from xs
+
+  all_come : (ty : Ty) → Comes_of ty
+  all_come (type.array n e) wants from xs made long are typed placed has numbers look =
+      let d : depth whole ≡ suc (depth (shape_of (facts_in x.table) e)) = ap depth look in
+      let r = rows_come e n n 0 wants from xs (eqb-true n (length wants) long) are typed placed has numbers (omega (arith, d)) in (r.0, r.1, refl)
+  all_come (type.tuple names ts) wants from xs made long are typed placed has numbers look =
+      let d : depth whole ≡ suc (depths (shapes_of ts)) = ap depth look in
+      let r = fields_come ts ts 0 (λ j. ap (nth_type ts) (omega arith)) wants from xs
+      (eqb-true (count_types ts) (length wants) long) are typed placed has numbers
+      (omega (arith, d)) in (r.0, r.1, refl)
+  all_come type.int wants from xs made long are typed placed has numbers look = never made
+  all_come type.bool wants from xs made long are typed placed has numbers look = never made
+  all_come type.char wants from xs made long are typed placed has numbers look = never made
+  all_come type.text wants from xs made long are typed placed has numbers look = never made
+  all_come (type.sequence t) wants from xs made long are typed placed has numbers look = never made
+  all_come (type.parameter n) wants from xs made long are typed placed has numbers look = never made
+  all_come (type.ref name t) wants from xs made long are typed placed has numbers look = never made
+  all_come (type.enum key) wants from xs made long are typed placed has numbers look = absurd (declared_no_made (facts_in x.table) (type.enum key) made)
+  all_come (type.object key arguments) wants from xs made long are typed placed has numbers look =
+      absurd (declared_no_made (facts_in x.table) (type.object key arguments) made)
+  all_come (type.distinct key) wants from xs made long are typed placed has numbers look =
+      absurd (declared_no_made (facts_in x.table) (type.distinct key) made)
+  all_come (type.exception key) wants from xs made long are typed placed has numbers look =
+      absurd (declared_no_made (facts_in x.table) (type.exception key) made)
+
+-- ---- the line
+
+module _ (x : Basis) (labels : LabelsLead x) (g : Both) (rest : List BlockLine) (to : ℕ) (how : Use) (ty : Option ℕ) (of : List (Option ℕ))
+    (from : List From) where
+  abbrev making : BlockLine
+  making = plain (L.Apply to O.Make how ty of from)
 
   abbrev into : Housed
   into = house g.call.site (of_value to)
 
-  abbrev Made : List ℕ → Values → Type 0
-  Made ts vs = Settles x (starts g (L.Make to ts) rest) rest
-      (gives_whole (scene_of (high x.table x.blocks (starts g (L.Make to ts) rest))) to (Parts vs))
+  abbrev Made : IsGood x (starts g making rest) → Values → Type 0
+  Made y vs = Settles x (starts g making rest) rest
+      (Passes (Answers [] (1 + (bytes (Parts vs) + 0)) (with_value to g.call.temps (Parts vs)) g.world))
 
-  module _ (there : IsThere x.table x.blocks g.call.site (of_value to)) (inside : InMemory (house g.call.site (of_value to)).home) where
-    plain : is_address (house g.call.site (of_value to)).kind ≡ false
-    plain = value_plain (house g.call.site (of_value to)).kind there.kind
+  module _ (y : IsGood x (starts g making rest)) (there : IsThere g.call.site (of_value to)) (inside : InMemory into.home) where
+    plain_is : is_address into.kind ≡ false
+    plain_is = value_plain into.kind there.kind
+
+    abbrev next : List WordInstr
+    next = code_next x g making rest y
 
     -- no code
-    no_parts : (y : IsGood x (starts g (L.Make to []) rest)) → y.passed ≡ [] → StandAt x.table x.blocks (body_of g) y.passed rest
-        → has_shape (Parts Nil) (looked x.table x.blocks g.call.site (of_value to)) ≡ true → Made [] Nil
-    no_parts y free stand shaped =
-        let gets : Gets x g (L.Make to []) rest y (Label 0 ∷ code_next) code_next (of_value to) (Parts Nil) 1 = record {
+    no_parts : code_here x g making rest y ≡ next → has_shape (Parts Nil) (looked x.table g.call.site (of_value to)) ≡ true → Made y Nil
+    no_parts none shaped =
+        let gets : Gets x g making rest y (Label 0 ∷ next) next (of_value to) (Parts Nil) 1 = record {
           vars = g.call.vars;
           memory = g.memory;
           words = g.words;
           awaits = g.awaits;
           good = y.memory;
           edit = nowhere refl;
-          variables = λ h u other ne is. refl;
+          variables = λ h u i ne is. refl;
           left = refl;
-          at_place = to_memory g.memory g.call.site.base g.call.vars (house g.call.site (of_value to)) (Parts Nil) plain inside tt;
+          at_place = to_memory g.memory g.call.site.base g.call.vars into (Parts Nil) plain_is inside tt;
           steps = 1;
           some = omega arith;
           few = omega arith;
-          runs = run_label x.live (procs x.table x.blocks) (within x.table x.blocks g) g.memory code_next g.call.vars g.words 0;
+          runs = run_label x.live (all_procs x) (within x.table x.blocks g) g.memory next g.call.vars g.words 0;
         } in
-        stays_on x (starts g (L.Make to []) rest) (changed g rest (with_value g.call.temps to (Parts Nil)) g.call.vars g.memory g.words g.awaits g.world g.has)
-        rest (good_value x g (L.Make to []) rest y free stand (Label 0 ∷ code_next) code_next to (Parts Nil) 1 there shaped gets) 5
-        (record (scene_of (high x.table x.blocks (starts g (L.Make to []) rest))) { temps = with_value g.call.temps to (Parts Nil) }) refl refl (omega arith)
+        stays_on x (starts g making rest) (changed g rest (with_value to g.call.temps (Parts Nil)) g.call.vars g.memory g.words g.awaits g.world)
+        rest (good_value x g making rest y rest (stands_next x.table x.blocks (body_of g) making rest y.stands) (Label 0 ∷ next) next to (Parts Nil) 1
+        there shaped gets)
+        (1 + (bytes (Parts Nil) + 0)) (with_value to g.call.temps (Parts Nil)) g.world
+        (ap (λ k. at (within x.table x.blocks g) g.memory k g.call.vars g.words) (sym none)) refl (omega arith)
 
-    some_parts : (ts : List ℕ) (v : Value) (vs : Values) (y : IsGood x (starts g (L.Make to ts) rest)) → y.passed ≡ []
-        → StandAt x.table x.blocks (body_of g) y.passed rest
-        → has_shape (Parts (More v vs)) (looked x.table x.blocks g.call.site (of_value to)) ≡ true
-        → Come g.call.temps.values to ts (More v vs) → Made ts (More v vs)
-    some_parts ts v vs y free stand shaped come =
-        let line : Line = L.Make to ts in
-        let code_here : List WordInstr = code_behind x.table x.blocks (body_of g) (block_line.Plain (L.Make to ts) ∷ rest) in
+    some_parts : (v : Value) (vs : Values) → has_shape (Parts (More v vs)) (looked x.table g.call.site (of_value to)) ≡ true
+        → of_numbers (looked x.table g.call.site (of_value to)) ≡ true → Come x g making rest y to from (More v vs) → Made y (More v vs)
+    some_parts v vs shaped numbers come =
+        let here : List WordInstr = code_here x g making rest y in
         let all : ℕ = bytes_all (More v vs) in
         let start : ℕ = address_of g.call.site.base into.home in
         let size : into.bytes ≡ bytes (Parts (More v vs))
-        = size_is x (all_sites x g line rest y) y.linked g.call (inl refl) (of_value to) there plain (Parts (More v vs)) shaped in
-        let is_all : bytes (Parts (More v vs)) ≡ all = parts_bytes v vs in
-        let least : 4 ≤ bytes v = bytes_some v in
-        let s0 : Sofar x g line rest y to there inside code_here code_here 0 = record {
+        = size_is x (all_sites x g making rest y) y.linked g.call (inl refl) (of_value to) there plain_is (Parts (More v vs)) shaped in
+        let are = values_of_numbers (Parts (More v vs)) (looked x.table g.call.site (of_value to)) numbers shaped in
+        let is_all : bytes (Parts (More v vs)) ≡ all = parts_bytes v vs are.0 in
+        let least : 4 ≤ bytes v = bytes_some v are.0 in
+        let s0 : Sofar x g making rest y to there inside here here 0 = record {
           memory = g.memory;
           vars = g.call.vars;
           words = g.words;
@@ -241,12 +239,13 @@ module _ (x : Basis) (g : Both) (rest : List BlockLine) (to : ℕ) where
           same = all_same g.call.vars;
           steps = 0;
           few = omega arith;
-          runs = no_run (lower x) (low x.table x.blocks (starts g line rest));
+          runs = no_run (lower x) (low x.table x.blocks (starts g making rest));
         } in
-        let done = parts_moved x g line rest y to there inside ts (More v vs) come into.home inside start refl (omega arith) (omega (arith, size, is_all))
-        (address_whole x (all_sites x g line rest y) y.linked g.call.site (of_value to) (inl refl) there inside) code_here code_next 0 s0 in
-        value_settles x g line rest y free stand to (Parts (More v vs)) (5 * all) there shaped
-        (gets_bytes x g line rest y (of_value to) there plain (Parts (More v vs)) shaped code_here code_next (5 * all) inside (record {
+        let done = parts_moved x g making rest y to there inside from (More v vs) come into.home inside start refl (omega arith)
+        (omega (arith, size, is_all))
+        (address_whole x (all_sites x g making rest y) y.linked g.call.site (of_value to) (inl refl) there inside) here next 0 s0 in
+        value_settles x g making rest y to (Parts (More v vs)) (5 * all) (1 + (bytes (Parts (More v vs)) + 0)) there shaped
+        (gets_bytes x g making rest y (of_value to) there plain_is (Parts (More v vs)) shaped here next (5 * all) inside (record {
           memory = done.sofar.memory;
           vars = done.sofar.vars;
           words = done.sofar.words;
@@ -260,31 +259,37 @@ module _ (x : Basis) (g : Both) (rest : List BlockLine) (to : ℕ) where
           runs = done.sofar.runs;
         })) (omega (arith, is_all))
 
-    made : (ts : List ℕ) (vs : Values) (y : IsGood x (starts g (L.Make to ts) rest)) → y.passed ≡ [] → StandAt x.table x.blocks
-        (body_of g) y.passed rest
-        → has_shape (Parts vs) (looked x.table x.blocks g.call.site (of_value to)) ≡ true
-        → Come g.call.temps.values to ts vs → Made ts vs
-    made [] Nil y free stand shaped come = no_parts y free stand shaped
-    made [] (More v vs) y free stand shaped come = absurd come
-    made (t ∷ ts) Nil y free stand shaped come = absurd come
-    made (t ∷ ts) (More v vs) y free stand shaped come = some_parts (t ∷ ts) v vs y free stand shaped come
+    made : (vs : Values) → has_shape (Parts vs) (looked x.table g.call.site (of_value to)) ≡ true
+        → of_numbers (looked x.table g.call.site (of_value to)) ≡ true → Come x g making rest y to from vs → Made y vs
+    made Nil shaped numbers come = no_parts (no_code from come) shaped
+      where
+        no_code : (from : List From) → Come x g making rest y to from Nil
+            → parts_code (house g.call.site (of_value to)).home (operands (around x.table x.blocks (body_of g)) from) (code_next x g making rest y)
+            ≡ code_next x g making rest y
+        no_code [] come = refl
+        no_code (F.Value t ∷ from) come = absurd come
+        no_code (F.Place t ∷ from) come = absurd come
+    made (More v vs) shaped numbers come = some_parts v vs shaped numbers come
 
-  whole_of : (o : Option Shape) (ts : List ℕ) → made_of (known x) (sigs x.table x.blocks) (globals_of x.table x.blocks)
-      (body_of g).proc.places o ts ≡ true
-      → (s : Shape) × (o ≡ Some s)
-  whole_of None ts h = never h
-  whole_of (Some s) ts h = (s, refl)
-
-  pub make_line : (ts : List ℕ) → FollowedHere x g rest (L.Make to ts)
-  make_line ts y free =
-      let line : Line = L.Make to ts in
-      let fit = fits_here x.table x.blocks (body_of g) y.passed line rest y.stands in
-      let w = whole_of (shape_of_value x g to) ts fit in
-      let n = named_value x g.call.site to w.0 y.linked.0 w.1 in
-      using_all_settles x g line rest y ts (λ vs. gives_whole (scene_of (high x.table x.blocks (starts g line rest))) to (Parts vs))
-      (λ vs all. let r = made_come x g line rest y to w.0 w.1 ts vs
-      (subst (λ o. made_of (known x) (sigs x.table x.blocks) (globals_of x.table x.blocks) (body_of g).proc.places o ts ≡ true) w.1 fit) all in
-      let shaped : has_shape (Parts vs) (looked x.table x.blocks g.call.site (of_value to)) ≡ true
-      = subst (λ s. has_shape (Parts vs) s ≡ true) (sym n.1) r.1 in
-      let inside = parts_inside x g line rest y to vs n.0 shaped in
-      made n.0 inside ts vs y free (stands_next x.table x.blocks (body_of g) y.passed line rest y.stands) shaped r.0)
+  pub make_line : FollowedHere x labels g rest (L.Apply to O.Make how ty of from)
+  make_line y =
+      let f = applies x g rest to O.Make how ty of from y in
+      let wants : List (Option Ty) = map (if_type (known x).types) of in
+      let k : TypeKind = kind_if (facts_in x.table) (if_type (known x).types ty) in
+      let p = and_parts (is_made k) (has_parts k (length wants) && are_parts k 0 wants) f.row in
+      let s = some_kind (facts_in x.table) (if_type (known x).types ty) is_made refl p.0 in
+      let typed = value_type_by (value_type x g making rest y to) (if_type (known x).types ty) s.0 f.given s.1 in
+      let t = target x g making rest y to s.0 refl refl typed in
+      let q = and_parts (has_parts (kind_of (facts_in x.table) s.0) (length wants)) (are_parts (kind_of (facts_in x.table) s.0) 0 wants)
+      (subst (λ o. (has_parts (kind_if (facts_in x.table) o) (length wants) && are_parts (kind_if (facts_in x.table) o) 0 wants) ≡ true) s.1 p.1) in
+      using_all_settles x (starts g making rest) rest g.call.temps from
+      (λ xs. gives (scene_of (high x.table x.blocks (starts g making rest))) to
+      (costs 1 (costs (bytes (Parts (values_in xs))) (give (Parts (values_in xs))))
+      >>= made_by (gives_hooked (facts_in x.table) (if_type (known x).types ty)) how))
+      (λ xs has. let c = all_come x g making rest y to s.0 wants from xs s.2 q.0 q.1 f.typed f.placed has t.numbers t.look in
+      let inside = in_memory x g making rest y (of_value to) t.there (value_plain into.kind t.there.kind) (ap is_one_word t.look ∙ c.2) in
+      subst (λ b. Settles x (starts g making rest) rest (gives (scene_of (high x.table x.blocks (starts g making rest))) to
+      (costs 1 (costs (bytes (Parts (values_in xs))) (give (Parts (values_in xs)))) >>= made_by b how)))
+      (sym (ap (gives_hooked (facts_in x.table)) s.1 ∙ t.unhooked))
+      (made y t.there inside (values_in xs) (subst (λ u. has_shape (Parts (values_in xs)) u ≡ true) (sym t.look) c.1)
+      (ap of_numbers t.look ∙ t.numbers) c.0))

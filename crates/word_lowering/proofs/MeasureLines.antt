@@ -1,71 +1,69 @@
--- Lines that ask how many elements there are, and that end the program, are followed.
-use Rattle.std.proofs.Common.{◌≡◌, ℕ, ◌+◌, ◌^◌, ◌<◌, ◌≤◌, List, [], ◌∷◌, Option, Some, None, ℤ, pos, true, refl, sym, ap}
-use Rattle.std.proofs.Common.{subst, ◌∙◌, arith}
-use Rattle.std.specs.Prelude.{not, ◌==◌}
-use Rattle.std.specs.Ordering.{int_eq}
+-- Lines about the lengths of arrays are followed.
+use Rattle.std.proofs.Common.{◌≡◌, ℕ, List, [], ◌∷◌, Option, true, ℤ, pos, refl, sym, ap, subst, ◌∙◌, arith, None, append-nil, length, Bool, Some, ◌^◌}
+use Rattle.std.proofs.Common.{◌<◌, ◌+◌, false}
 use Rattle.std.proofs.lemmas.Int.{ints}
 use Rattle.std.proofs.lemmas.Bool.{and_parts}
-use Rattle.std.proofs.lemmas.Bool.Decides.{same_from_decides, Decides-int_eq}
-use Rattle.nim_core.specs.Acts.{branch}
-use Rattle.nim_core.specs.declared.expr.Measure.{Measure}
-use Rattle.nim_core.specs.declared.expr.Measure.TheVariants.{Len, High}
-use Rattle.nim_core.specs.Traps.{LengthChanged}
-use Rattle.nim_core.specs.Ints.{fits as is_int_number}
-use Rattle.nim_core.specs.Values.{Value, Number, number_of, length_of}
-use Rattle.nim_core.specs.Meaning.{measured}
-use Rattle.mid_code.specs.declared.block.BlockLine.{BlockLine}
-use Rattle.mid_code.specs.declared.block.BlockLine.TheVariants as block_line
-use Rattle.mid_code.specs.declared.line.Line.TheVariants as L
-use Rattle.mid_code.specs.declared.word.Test.TheVariants as test
-use Rattle.mid_code.specs.declared.word.WordInstr.TheVariants.{Constant, Branch}
-use Rattle.mid_code.specs.Words.{put}
-use Rattle.mid_code.specs.Scene.{Passes, Traps}
-use Rattle.mid_code.specs.Lines.{using, using_number, value_at, gives}
-use Rattle.mid_code.specs.Shapes.{Shape, number, reference, block, elements, row, parts, has_shape}
-use Rattle.mid_code.specs.Fits.{is_value, is_location, shape_named, is_int, is_number, has_length}
-use Rattle.mid_code.specs.Running.{scene_of}
-use Rattle.mid_code.proofs.ForCallers.{never}
-use Rattle.word_lowering.specs.declared.homes.TheConstants.{FIRST, OWN_FROM}
-use Rattle.word_lowering.specs.Stored.{entry_at, count_in}
-use Rattle.word_lowering.specs.Operations.{word, trap_label}
-use Rattle.word_lowering.specs.LineCode.{variable_of, measure_word}
-use Rattle.word_lowering.proofs.Arithmetic.{fits_signed, signed_fits, word_small, equal_is}
-use Rattle.word_lowering.proofs.Runs.{none, at}
-use Rattle.word_lowering.proofs.CopyRuns.{got}
-use Rattle.word_lowering.proofs.OrdinalRuns.{put_low}
-use Rattle.word_lowering.proofs.OpRuns.{gives_constant, leads_constant, leads_past, leads_off}
+use Rattle.nim_meaning.specs.Deeds as deeds
+use Rattle.arc_base.specs.Event.{writes}
+use Rattle.arc_base.specs.declared.outside.Stream.TheVariants.{Err}
+use Rattle.word_code.specs.Words.{put, from_label}
+use Rattle.word_code.proofs.ForCallers.{at, none, got}
+use Rattle.flat_code.specs.declared.line.From.{From}
+use Rattle.flat_code.specs.Lines.{still, gives, acts, using_number}
+use Rattle.nim_meaning.specs.Deeds.{stop, Answers, costs, give, ◌>>=◌, looks, Finishes}
+use Rattle.nim_program.specs.declared.operation.Measure.{Measure}
+use Rattle.nim_program.specs.declared.operation.Measure.TheVariants.{Len, High}
+use Rattle.nim_program.specs.Ints.{fits as is_int_number}
+use Rattle.flat_code.specs.declared.block.BlockLine.{BlockLine}
+use Rattle.flat_code.specs.declared.line.From.TheVariants as F
+use Rattle.flat_code.specs.declared.line.Line.TheVariants as L
+use Rattle.nim_program.specs.declared.operation.Operation.TheVariants as O
+use Rattle.word_code.specs.declared.word.Test.TheVariants as test
+use Rattle.word_code.specs.declared.word.WordInstr.TheVariants.{Constant, Branch}
+use Rattle.flat_code.specs.Fits.{is_location}
+use Rattle.flat_code.specs.Running.{scene_of}
+use Rattle.flat_code.specs.Scene.{Passes, Where, location_at, with_value}
+use Rattle.nim_meaning.specs.Here.{gives_hooked}
+use Rattle.nim_meaning.specs.Places.{made_by}
+use Rattle.nim_meaning.specs.State.{load}
+use Rattle.nim_meaning.specs.Table.{measured}
+use Rattle.nim_meaning.specs.Values.{Number, length_of, At, location_of, Value, number_of, nothing}
+use Rattle.nim_program.specs.Kinds.{has_length, is_int, kind_if, same_value}
+use Rattle.nim_program.specs.View.{if_type}
+use Rattle.nim_program.specs.declared.operation.Use.{Use}
+use Rattle.nim_types.specs.Table.{facts_in}
+use Rattle.word_lowering.proofs.ApplyFits.{applies}
+use Rattle.word_lowering.proofs.Arithmetic.{fits_signed, signed_fits, equal_is}
+use Rattle.word_lowering.proofs.ControlLines.{FollowedHere, kind_at, plain, value_type, int_read}
+use Rattle.word_lowering.proofs.LineFits.{int_shape, same_type, some_kind}
+use Rattle.word_lowering.proofs.Lines.{Basis, IsGood, Settles, all_procs, fits_here, known, mapped_settles, starts, using_settles, lower}
+use Rattle.word_lowering.proofs.LocationHouses.{RowAt, row_at}
+use Rattle.word_lowering.proofs.NumberLines.{constant_given, getting, int_target, variable}
+use Rattle.word_lowering.proofs.OperandLines.{value_type_by}
 use Rattle.word_lowering.proofs.OperationRuns.{Given, Led}
+use Rattle.word_lowering.proofs.Related.{Both, body_of, high, within}
+use Rattle.word_lowering.proofs.Settling.{Getting, LabelsLead, code_here, code_next, gives_settles, Comes, TrapsStop, passes_settles, trap_settles}
+use Rattle.word_lowering.proofs.Sites.{around, word_of}
+use Rattle.word_lowering.proofs.Targets.{target}
+use Rattle.word_lowering.proofs.ValueFacts.{type_in, Operand}
+use Rattle.word_lowering.specs.LineCode.{location, measure_word}
+use Rattle.word_lowering.specs.Stored.{count_in, entry_at}
+use Rattle.word_lowering.specs.Operations.{word, trap_label}
+use Rattle.nim_meaning.specs.Acts.{line_of}
+use Rattle.nim_program.specs.Traps.{LengthChanged, trap_text}
+use Rattle.std.proofs.lemmas.Bool.Decides.{Decides-int_eq, same_from_decides}
+use Rattle.std.specs.Ordering.{int_eq}
+use Rattle.std.specs.Prelude.{not, ◌==◌}
+use Rattle.word_code.specs.declared.word.WordInstr.{WordInstr}
+use Rattle.word_lowering.proofs.Gets.{same_temps}
 use Rattle.word_lowering.proofs.Moves.{all_same}
-use Rattle.word_lowering.proofs.LineFits.{is_int_some}
-use Rattle.word_lowering.proofs.Sites.{is_one_word}
-use Rattle.word_lowering.proofs.Scenes.{of_value, of_location, house, IsThere, looked}
-use Rattle.word_lowering.proofs.SitesApart.{houses}
-use Rattle.word_lowering.proofs.Related.{Both, body_of, procs, within, high, code_behind}
-use Rattle.word_lowering.proofs.Lines.{Basis, fits_here, stands_next, starts, known, lower, Settles, using_settles, branch_settles}
-use Rattle.word_lowering.proofs.ValueFacts.{in_word, named_value, Operand}
-use Rattle.word_lowering.proofs.OrdinalLines.{TrapsStop, gives_settles, trap_settles}
-use Rattle.word_lowering.proofs.ControlLines.{FollowedHere, number_operand, passes_settles}
-use Rattle.word_lowering.proofs.MoveLines.{led_to}
-use Rattle.word_lowering.proofs.PlaceLines.{location_there}
-use Rattle.word_lowering.proofs.PartLines.{row_length}
+use Rattle.word_lowering.proofs.OpRuns.{leads_constant, leads_off, leads_past}
+use Rattle.word_lowering.proofs.OrdinalRuns.{put_low, Leads}
+use Rattle.word_lowering.specs.declared.homes.TheConstants.{FIRST}
+use Rattle.word_lowering.proofs.ShapeFacts.{never}
 
--- a row whose length is an int
-record RowOf (o : Option Shape) : Type 0 where
-  count : ℕ
-  of : Shape
-  is : o ≡ Some (row count of)
-  fits : is_int_number (pos count) ≡ true
+-- ---- words of lengths
 
-row_of : (o : Option Shape) → has_length o ≡ true → RowOf o
-row_of (Some (row n s)) h = record { count = n; of = s; is = refl; fits = h }
-row_of (Some (number values)) h = never h
-row_of (Some reference) h = never h
-row_of (Some block) h = never h
-row_of (Some (elements s)) h = never h
-row_of (Some (parts ss)) h = never h
-row_of None h = never h
-
--- `high` is one less
 measured_word : (m : Measure) (n : ℕ) → is_int_number (pos n) ≡ true → measure_word m n ≡ word (measured m n)
 measured_word Len n f = let h = fits_signed (pos n) f in omega (arith, ints)
 measured_word High n f = let h = fits_signed (pos n) f in omega (arith, ints)
@@ -74,159 +72,160 @@ measured_fits : (m : Measure) (n : ℕ) → is_int_number (pos n) ≡ true → i
 measured_fits Len n f = f
 measured_fits High n f = let h = fits_signed (pos n) f in signed_fits (measured High n) (omega (arith, ints))
 
-module _ (x : Basis) (g : Both) (rest : List BlockLine) where
-  abbrev shape_of_location : ℕ → Option Shape
-  shape_of_location t = shape_named (known x) is_location (body_of g).proc.places t
+module _ (x : Basis) (g : Both) (line : BlockLine) (rest : List BlockLine) (y : IsGood x (starts g line rest)) where
+  abbrev count_at_location : ℕ → ℕ
+  count_at_location from = count_in (entry_at x.table (location (around x.table x.blocks (body_of g)) from).ty)
 
-  abbrev shape_of_value : ℕ → Option Shape
-  shape_of_value t = shape_named (known x) is_value (body_of g).proc.places t
+  measured_settles : (to : ℕ) (m : Measure) (from : ℕ) (there : Where) (r : RowAt x g line rest y from there)
+      → Getting x g line rest y to (measured m r.count)
+      → code_here x g line rest y ≡ Constant (variable x g line rest y to) (measure_word m (count_at_location from)) ∷ code_next x g line rest y
+      → Settles x (starts g line rest) rest
+      (Passes (Answers [] 1 (with_value to g.call.temps (Number (measured m (length_of (load g.world (location_at g.call.temps there)))))) g.world))
+  measured_settles to m from there r n code =
+      let z : ℤ = measured m r.count in
+      let is : measure_word m (count_at_location from) ≡ word z = ap (measure_word m) r.count_is ∙ measured_word m r.count r.fits in
+      let lines : Constant (variable x g line rest y to) (word z) ∷ code_next x g line rest y ≡ code_here x g line rest y
+      = sym (code ∙ ap (λ k. Constant (variable x g line rest y to) k ∷ code_next x g line rest y) is) in
+      subst (λ k. Settles x (starts g line rest) rest (Passes (Answers [] 1 (with_value to g.call.temps (Number (measured m k))) g.world))) (sym r.long)
+      (gives_settles x g line rest y to z 1 (omega arith) n
+      (subst (λ l. Given x.live (all_procs x) (within x.table x.blocks g) g.memory g.words l g.call.vars (variable x g line rest y to) (word z)
+      (code_next x g line rest y)) lines (constant_given x g line rest y to z n)))
 
-  pub measure_line : (traps : TrapsStop x) (to : ℕ) (m : Measure) (from : ℕ) → FollowedHere x g rest (L.Measure to m from)
-  measure_line traps to m from y free =
-      using_settles x (starts g (L.Measure to m from) rest) rest (g.call.temps.locations from)
-      (λ there. using (value_at (scene_of (high x.table x.blocks (starts g (L.Measure to m from) rest))) there)
-      (λ v. gives (scene_of (high x.table x.blocks (starts g (L.Measure to m from) rest))) to (Number (measured m (length_of v)))))
-      (λ there e. using_settles x (starts g (L.Measure to m from) rest) rest
-      (value_at (scene_of (high x.table x.blocks (starts g (L.Measure to m from) rest))) there)
-      (λ v. gives (scene_of (high x.table x.blocks (starts g (L.Measure to m from) rest))) to (Number (measured m (length_of v))))
-      (λ v f. by v (led_to x g rest (L.Measure to m from) y from there v e f).at.shaped))
+module _ (x : Basis) (labels : LabelsLead x) (g : Both) (rest : List BlockLine) where
+  pub length_line : (to from : ℕ) → FollowedHere x labels g rest (L.Length to from)
+  length_line to from y =
+      let line = plain (L.Length to from) in
+      let kinds = and_parts (is_int (kind_at x g line rest y to)) (has_length (kind_if (facts_in x.table) (type_in x is_location (body_of g) from)))
+      (fits_here x.table x.blocks (body_of g) line rest y.stands) in
+      using_settles x (starts g line rest) rest (g.call.temps.places from)
+      (λ there. gives (scene_of (high x.table x.blocks (starts g line rest))) to
+      (costs 1 (looks (λ world. give (Number (pos (length_of (load world (location_at g.call.temps there)))))))))
+      (λ there e. let r = row_at x g line rest y from there kinds.1 e in
+      measured_settles x g line rest y to Len from there r (int_target x g line rest y to refl refl kinds.0 (pos r.count) r.fits) refl)
+
+  pub measure_line : (m : Measure) (to : ℕ) (how : Use) (ty a : Option ℕ) (from : ℕ)
+      → FollowedHere x labels g rest (L.Apply to (O.Measure m) how ty (a ∷ []) (F.Place from ∷ []))
+  measure_line m to how ty a from y =
+      let line = plain (L.Apply to (O.Measure m) how ty (a ∷ []) (F.Place from ∷ [])) in
+      let fit = applies x g rest to (O.Measure m) how ty (a ∷ []) (F.Place from ∷ []) y in
+      let kinds = and_parts (is_int (kind_if (facts_in x.table) (if_type (known x).types ty))) (has_length
+      (kind_if (facts_in x.table) (if_type (known x).types a))) fit.row in
+      let s = some_kind (facts_in x.table) (if_type (known x).types ty) is_int refl kinds.0 in
+      let typed = value_type_by (value_type x g line rest y to) (if_type (known x).types ty) s.0 fit.given s.1 in
+      let t = target x g line rest y to s.0 refl refl typed in
+      let v = same_type (type_in x is_location (body_of g) from) (if_type (known x).types a)
+      (and_parts (same_value (type_in x is_location (body_of g) from) (if_type (known x).types a)) true fit.typed).0 in
+      let long = subst (λ o. has_length (kind_if (facts_in x.table) o) ≡ true) (sym v) kinds.1 in
+      mapped_settles x (starts g line rest) rest (g.call.temps.places from) (λ place. At (location_at g.call.temps place))
+      (λ u. gives (scene_of (high x.table x.blocks (starts g line rest))) to
+      (costs 1 (looks (λ world. give (Number (measured m (length_of (load world (location_of u)))))))
+      >>= made_by (gives_hooked (facts_in x.table) (if_type (known x).types ty)) how))
+      (λ there e. let r = row_at x g line rest y from there long e in
+      subst (λ b. Settles x (starts g line rest) rest (gives (scene_of (high x.table x.blocks (starts g line rest))) to
+      (costs 1 (looks (λ world. give (Number (measured m (length_of (load world (location_at g.call.temps there)))))))
+      >>= made_by b how))) (sym (ap (gives_hooked (facts_in x.table)) s.1 ∙ t.unhooked))
+      (measured_settles x g line rest y to m from there r
+      (getting x g line rest y to s.0 None (measured m r.count) t (int_shape (facts_in x.table) s.0 s.2) (measured_fits m r.count r.fits)) refl))
+
+-- ---- a length that a loop checks
+
+turned : (a b : ℤ) → int_eq a b ≡ int_eq b a
+turned a b = same_from_decides (int_eq a b) (int_eq b a) (Decides-int_eq a b)
+    (λ e. sym ((Decides-int_eq b a).0 e), λ e. (Decides-int_eq b a).1 (sym e))
+
+module _ (x : Basis) (traps : TrapsStop x) (labels : LabelsLead x) (g : Both) (rest : List BlockLine) (from len : ℕ) where
+  abbrev still_here : BlockLine
+  still_here = plain (L.Still from len)
+
+  abbrev Still_does : (y : IsGood x (starts g still_here rest)) → Bool → Type 0
+  Still_does y b = Settles x (starts g still_here rest) rest
+      (acts (scene_of (high x.table x.blocks (starts g still_here rest))) (costs 1 (deeds.branch b (give nothing) (stop LengthChanged))))
+
+  module _ (y : IsGood x (starts g still_here rest)) (there : Where) (r : RowAt x g still_here rest y from there) (w : Value) (o : Operand x g.call len w)
     where
-      p : (is_int (shape_of_value to) ≡ true) × (has_length (shape_of_location from) ≡ true)
-      p = and_parts (is_int (shape_of_value to)) (has_length (shape_of_location from))
-          (fits_here x.table x.blocks (body_of g) y.passed (L.Measure to m from) rest y.stands)
+      abbrev k : List WordInstr
+      k = code_next x g still_here rest y
 
-      r : RowOf (shape_of_location from)
-      r = row_of (shape_of_location from) p.1
+      abbrev behind_count : List WordInstr
+      behind_count = Branch test.Unequal (variable x g still_here rest y len) FIRST (trap_label LengthChanged) ∷ k
 
-      u : IsThere x.table x.blocks g.call.site (of_location from) × (looked x.table x.blocks g.call.site (of_location from) ≡ row r.count r.of)
-      u = location_there x g rest (L.Measure to m from) y from (row r.count r.of) r.is
+      code_is : Constant FIRST r.count ∷ behind_count ≡ code_here x g still_here rest y
+      code_is = ap (λ n. Constant FIRST n ∷ behind_count) (sym r.count_is)
 
-      is : shape_of_value to ≡ Some (number None)
-      is = is_int_some (shape_of_value to) p.0
+      small : r.count < 2 ^ 32
+      small = let h = fits_signed (pos r.count) r.fits in omega (arith, ints)
 
-      n : IsThere x.table x.blocks g.call.site (of_value to) × (looked x.table x.blocks g.call.site (of_value to) ≡ number None)
-      n = named_value x g.call.site to (number None) y.linked.0 is
+      reads : put g.call.vars FIRST r.count (variable x g still_here rest y len) ≡ Some (word (number_of w))
+      reads = put_low g.call.vars FIRST r.count (variable x g still_here rest y len) (omega arith) o.high ∙ o.word_is
 
-      count_is : count_in (entry_at x.table (house g.call.site (of_location from)).ty) ≡ r.count
-      count_is = ((houses x.table x.blocks g.call.site (of_location from) y.linked.0 u.0).rows r.count r.of u.1).0
+      test_is : (word (number_of w) == r.count) ≡ int_eq (pos r.count) (number_of w)
+      test_is =
+          let c : r.count ≡ word (pos r.count) = (let h = fits_signed (pos r.count) r.fits in omega (arith, ints)) in
+          ap (λ n. word (number_of w) == n) c ∙ equal_is (number_of w) (pos r.count) o.fits r.fits ∙ turned (number_of w) (pos r.count)
 
-      by : (v : Value) → has_shape v (looked x.table x.blocks g.call.site (of_location from)) ≡ true → Settles x
-          (starts g (L.Measure to m from) rest) rest
-          (gives (scene_of (high x.table x.blocks (starts g (L.Measure to m from) rest))) to (Number (measured m (length_of v))))
-      by v shaped =
-          let long : length_of v ≡ r.count = row_length x g rest v r.count r.of (subst (λ s. has_shape v s ≡ true) u.1 shaped) in
-          let f : is_int_number (measured m r.count) ≡ true = measured_fits m r.count r.fits in
-          let w = in_word x g.call.site to y.linked.0 n.0 (ap is_one_word n.1) in
-          let given = gives_constant x.live (procs x.table x.blocks) (within x.table x.blocks g) g.memory g.words
-          (code_behind x.table x.blocks (body_of g) rest) g.call.vars
-          (variable_of (house g.call.site (of_value to))) (word (measured m r.count)) (subst (λ k. OWN_FROM ≤ k) (sym w.is) w.high)
-          (word_small (measured m r.count) f) in
-          subst (λ k. Settles x (starts g (L.Measure to m from) rest) rest
-          (gives (scene_of (high x.table x.blocks (starts g (L.Measure to m from) rest))) to (Number (measured m k)))) (sym long)
-          (gives_settles x traps g (L.Measure to m from) rest y free (stands_next x.table x.blocks (body_of g) y.passed (L.Measure to m from) rest y.stands) to
-          (number None) is (measured m r.count) f
-          (subst (λ l. Given x.live (procs x.table x.blocks) (within x.table x.blocks g) g.memory g.words l g.call.vars
-          (variable_of (house g.call.site (of_value to))) (word (measured m r.count))
-          (code_behind x.table x.blocks (body_of g) rest))
-          (ap (λ k. Constant (variable_of (house g.call.site (of_value to))) k ∷ code_behind x.table x.blocks (body_of g) rest)
-          (sym (measured_word m r.count r.fits) ∙ ap (measure_word m) (sym count_is)))
-          (record { steps = 1; some = omega arith; few = omega arith; gives = given })))
+      stays : Leads x.live (all_procs x) (within x.table x.blocks g) g.memory g.words k (put g.call.vars FIRST r.count) k 0
+      stays = record {
+        vars = put g.call.vars FIRST r.count;
+        same = all_same (put g.call.vars FIRST r.count);
+        runs = none (lower x) (at (within x.table x.blocks g) g.memory k (put g.call.vars FIRST r.count) g.words);
+      }
 
-  pub still_line : (traps : TrapsStop x) (from len : ℕ) → FollowedHere x g rest (L.Still from len)
-  still_line traps from len y free =
-      using_settles x (starts g (L.Still from len) rest) rest (g.call.temps.locations from)
-      (λ there. using (value_at (scene_of (high x.table x.blocks (starts g (L.Still from len) rest))) there)
-      (λ v. using_number (scene_of (high x.table x.blocks (starts g (L.Still from len) rest))) len
-      (λ n. branch (int_eq (pos (length_of v)) n) (Passes [] 1 (scene_of (high x.table x.blocks (starts g (L.Still from len) rest)))) (Traps LengthChanged))))
-      (λ there e. using_settles x (starts g (L.Still from len) rest) rest
-      (value_at (scene_of (high x.table x.blocks (starts g (L.Still from len) rest))) there)
-      (λ v. using_number (scene_of (high x.table x.blocks (starts g (L.Still from len) rest))) len
-      (λ n. branch (int_eq (pos (length_of v)) n) (Passes [] 1 (scene_of (high x.table x.blocks (starts g (L.Still from len) rest)))) (Traps LengthChanged)))
-      (λ v f. using_settles x (starts g (L.Still from len) rest) rest (g.call.temps.values len)
-      (λ w. branch (int_eq (pos (length_of v)) (number_of w)) (Passes [] 1 (scene_of (high x.table x.blocks (starts g (L.Still from len) rest))))
-      (Traps LengthChanged))
-      (λ w h. by v w (led_to x g rest (L.Still from len) y from there v e f).at.shaped (number_operand x g rest (L.Still from len) y len w p.1 h))))
-    where
-      p : (has_length (shape_of_location from) ≡ true) × (is_number (shape_of_value len) ≡ true)
-      p = and_parts (has_length (shape_of_location from)) (is_number (shape_of_value len))
-          (fits_here x.table x.blocks (body_of g) y.passed (L.Still from len) rest y.stands)
+      passes : int_eq (pos r.count) (number_of w) ≡ true → Comes x g still_here rest y k
+      passes h = subst (λ l. Led x.live (all_procs x) (within x.table x.blocks g) g.memory g.words l g.call.vars k) code_is (record {
+        steps = 1 + (1 + 0);
+        some = omega arith;
+        few = omega arith;
+        leads = leads_constant x.live (all_procs x) (within x.table x.blocks g) g.memory g.words behind_count k g.call.vars (1 + 0) FIRST r.count
+            (omega arith) (omega arith)
+            (leads_past x.live (all_procs x) (within x.table x.blocks g) g.memory g.words k k (put g.call.vars FIRST r.count) 0 test.Unequal
+            (variable x g still_here rest y len) FIRST (trap_label LengthChanged) (word (number_of w)) r.count reads (got r.count small)
+            (ap not (test_is ∙ h)) stays);
+      })
 
-      r : RowOf (shape_of_location from)
-      r = row_of (shape_of_location from) p.0
+      leads_away : int_eq (pos r.count) (number_of w) ≡ false → (there : List WordInstr)
+          → from_label (trap_label LengthChanged) (word_of x.table x.blocks (body_of g)).lines ≡ Some there → Comes x g still_here rest y there
+      leads_away h there stands = subst (λ l. Led x.live (all_procs x) (within x.table x.blocks g) g.memory g.words l g.call.vars there) code_is (record {
+        steps = 1 + 1;
+        some = omega arith;
+        few = omega arith;
+        leads = leads_constant x.live (all_procs x) (within x.table x.blocks g) g.memory g.words behind_count there g.call.vars 1 FIRST r.count
+            (omega arith) (omega arith)
+            (leads_off x.live (all_procs x) (within x.table x.blocks g) g.memory g.words k there (put g.call.vars FIRST r.count) test.Unequal
+            (variable x g still_here rest y len) FIRST (trap_label LengthChanged) (word (number_of w)) r.count reads (got r.count small)
+            (ap not (test_is ∙ h)) stands);
+      })
 
-      u : IsThere x.table x.blocks g.call.site (of_location from) × (looked x.table x.blocks g.call.site (of_location from) ≡ row r.count r.of)
-      u = location_there x g rest (L.Still from len) y from (row r.count r.of) r.is
+      still_by : (b : Bool) → int_eq (pos r.count) (number_of w) ≡ b → Still_does y b
+      still_by true h = passes_settles x g still_here rest y g.call.temps (same_temps x g still_here rest y) 1 (omega arith) (passes h)
+      still_by false h =
+          subst (λ d. Settles x (starts g still_here rest) rest d)
+          (ap (λ es. Passes (Finishes es (1 + length (line_of (trap_text LengthChanged))) 1 g.world))
+          (sym (append-nil (writes Err (line_of (trap_text LengthChanged))))))
+          (trap_settles x g still_here rest y traps LengthChanged 1 (omega arith) (λ l. refl) (leads_away h))
 
-      count_is : count_in (entry_at x.table (house g.call.site (of_location from)).ty) ≡ r.count
-      count_is = ((houses x.table x.blocks g.call.site (of_location from) y.linked.0 u.0).rows r.count r.of u.1).0
+  pub still_line : FollowedHere x labels g rest (L.Still from len)
+  still_line y =
+      let kinds = and_parts (has_length (kind_if (facts_in x.table) (type_in x is_location (body_of g) from))) (is_int (kind_at x g still_here rest y len))
+      (fits_here x.table x.blocks (body_of g) still_here rest y.stands) in
+      using_settles x (starts g still_here rest) rest (g.call.temps.places from)
+      (λ there. using_number g.call.temps len (λ n. acts (scene_of (high x.table x.blocks (starts g still_here rest)))
+      (costs 1 (still (location_at g.call.temps there) n))))
+      (λ there e. using_settles x (starts g still_here rest) rest (g.call.temps.values len)
+      (λ w. acts (scene_of (high x.table x.blocks (starts g still_here rest))) (costs 1 (still (location_at g.call.temps there) (number_of w))))
+      (λ w f. let r = row_at x g still_here rest y from there kinds.0 e in
+      subst (λ n. Still_does y (int_eq (pos n) (number_of w))) (sym r.long)
+      (still_by y there r w (int_read x g still_here rest y len w kinds.1 f) (int_eq (pos r.count) (number_of w)) refl)))
 
-      code_is : Constant FIRST r.count ∷ Branch test.Unequal (variable_of (house g.call.site (of_value len))) FIRST
-          (trap_label LengthChanged) ∷ code_behind x.table x.blocks (body_of g) rest
-          ≡ code_behind x.table x.blocks (body_of g) (block_line.Plain (L.Still from len) ∷ rest)
-      code_is = ap (λ k. Constant FIRST k ∷ Branch test.Unequal (variable_of (house g.call.site (of_value len))) FIRST
-          (trap_label LengthChanged) ∷ code_behind x.table x.blocks (body_of g) rest) (sym count_is)
+-- ---- the row, whatever stands in the line
 
-      by : (v w : Value) → has_shape v (looked x.table x.blocks g.call.site (of_location from)) ≡ true → Operand x g.call len w → Settles x
-          (starts g (L.Still from len) rest) rest
-          (branch (int_eq (pos (length_of v)) (number_of w)) (Passes [] 1 (scene_of (high x.table x.blocks (starts g (L.Still from len) rest))))
-          (Traps LengthChanged))
-      by v w shaped o =
-          branch_settles x (starts g (L.Still from len) rest) rest (int_eq (pos (length_of v)) (number_of w))
-          (Passes [] 1 (scene_of (high x.table x.blocks (starts g (L.Still from len) rest))))
-          (Traps LengthChanged)
-          (λ h. passes_settles x g rest (L.Still from len) y free (stands_next x.table x.blocks (body_of g) y.passed (L.Still from len) rest y.stands)
-          (subst (λ l. Led x.live (procs x.table x.blocks) (within x.table x.blocks g) g.memory g.words l g.call.vars
-          (code_behind x.table x.blocks (body_of g) rest)) code_is (record {
-            steps = 1 + (1 + 0);
-            some = omega arith;
-            few = omega arith;
-            leads = leads_constant x.live (procs x.table x.blocks) (within x.table x.blocks g) g.memory g.words
-                (Branch test.Unequal (variable_of (house g.call.site (of_value len))) FIRST (trap_label LengthChanged) ∷ code_behind x.table x.blocks
-                (body_of g) rest)
-                (code_behind x.table x.blocks (body_of g) rest) g.call.vars (1 + 0) FIRST r.count (omega arith) (omega arith)
-                (leads_past x.live (procs x.table x.blocks) (within x.table x.blocks g) g.memory g.words (code_behind x.table x.blocks (body_of g) rest)
-                (code_behind x.table x.blocks (body_of g) rest)
-                (put g.call.vars FIRST r.count) 0 test.Unequal (variable_of (house g.call.site (of_value len))) FIRST (trap_label LengthChanged)
-                (word (number_of w)) r.count (reads o)
-                (got r.count small) (ap not (test_is o ∙ h))
-                (record {
-                  vars = put g.call.vars FIRST r.count;
-                  same = all_same (put g.call.vars FIRST r.count);
-                  runs = none (lower x) (at (within x.table x.blocks g) g.memory (code_behind x.table x.blocks (body_of g) rest)
-                      (put g.call.vars FIRST r.count) g.words);
-                }));
-          })))
-          (λ h. trap_settles x traps g (L.Still from len) rest y LengthChanged refl
-          (λ target stands. subst (λ l. Led x.live (procs x.table x.blocks) (within x.table x.blocks g) g.memory g.words l g.call.vars target) code_is
-          (record {
-            steps = 1 + 1;
-            some = omega arith;
-            few = omega arith;
-            leads = leads_constant x.live (procs x.table x.blocks) (within x.table x.blocks g) g.memory g.words
-                (Branch test.Unequal (variable_of (house g.call.site (of_value len))) FIRST (trap_label LengthChanged) ∷ code_behind x.table x.blocks
-                (body_of g) rest)
-                target g.call.vars 1 FIRST r.count (omega arith) (omega arith)
-                (leads_off x.live (procs x.table x.blocks) (within x.table x.blocks g) g.memory g.words (code_behind x.table x.blocks (body_of g) rest) target
-                (put g.call.vars FIRST r.count) test.Unequal (variable_of (house g.call.site (of_value len))) FIRST (trap_label LengthChanged)
-                (word (number_of w)) r.count (reads o)
-                (got r.count small) (ap not (test_is o ∙ h)) stands);
-          })))
-        where
-          long : length_of v ≡ r.count
-          long = row_length x g rest v r.count r.of (subst (λ s. has_shape v s ≡ true) u.1 shaped)
-
-          small : r.count < 2 ^ 32
-          small = let h = fits_signed (pos r.count) r.fits in omega (arith, ints)
-
-          reads : Operand x g.call len w → put g.call.vars FIRST r.count (variable_of (house g.call.site (of_value len))) ≡ Some (word (number_of w))
-          reads o = put_low g.call.vars FIRST r.count (variable_of (house g.call.site (of_value len))) (omega arith) o.high ∙ o.word_is
-
-          turned : (a b : ℤ) → int_eq a b ≡ int_eq b a
-          turned a b = same_from_decides (int_eq a b) (int_eq b a) (Decides-int_eq a b)
-              (λ e. sym ((Decides-int_eq b a).0 e), λ e. (Decides-int_eq b a).1 (sym e))
-
-          test_is : Operand x g.call len w → (word (number_of w) == r.count) ≡ int_eq (pos (length_of v)) (number_of w)
-          test_is o =
-              let c : r.count ≡ word (pos r.count) = (let h = fits_signed (pos r.count) r.fits in omega (arith, ints)) in
-              ap (λ k. word (number_of w) == k) c ∙ equal_is (number_of w) (pos r.count) o.fits r.fits ∙ turned (number_of w) (pos r.count) ∙ ap
-              (λ k. int_eq (pos k) (number_of w)) (sym long)
+module _ (x : Basis) (labels : LabelsLead x) (g : Both) (rest : List BlockLine) where
+  pub measure_row : (m : Measure) (to : ℕ) (how : Use) (ty : Option ℕ) (of : List (Option ℕ)) (from : List From)
+      → FollowedHere x labels g rest (L.Apply to (O.Measure m) how ty of from)
+  measure_row m to how ty (a ∷ []) (F.Place from ∷ []) y = measure_line x labels g rest m to how ty a from y
+  measure_row m to how ty [] from y = never (applies x g rest to (O.Measure m) how ty [] from y).row
+  measure_row m to how ty (a ∷ b ∷ of) from y = never (applies x g rest to (O.Measure m) how ty (a ∷ b ∷ of) from y).row
+  measure_row m to how ty (a ∷ []) [] y = never (applies x g rest to (O.Measure m) how ty (a ∷ []) [] y).typed
+  measure_row m to how ty (a ∷ []) (F.Value t ∷ others) y = never (applies x g rest to (O.Measure m) how ty (a ∷ []) (F.Value t ∷ others) y).placed
+  measure_row m to how ty (a ∷ []) (F.Place from ∷ other ∷ others) y =
+      never (and_parts (same_value (type_in x is_location (body_of g) from) (if_type (known x).types a)) false
+      (applies x g rest to (O.Measure m) how ty (a ∷ []) (F.Place from ∷ other ∷ others) y).typed).1

@@ -3,29 +3,27 @@ use Rattle.std.proofs.Common.{◌≡◌, ℕ, zero, suc, ◌+◌, ◌*◌, ◌%�
 use Rattle.std.proofs.Common.{false, refl, sym, subst, ◌∙◌, arith}
 use Rattle.rv32_isa.specs.declared.micro_op.Size.TheVariants.{Word as whole}
 use Rattle.rv32_isa.specs.Machine.{Lives}
-use Rattle.nim_core.specs.Values.{Value, Number, Parts, Values, bytes, number_of}
-use Rattle.mid_code.specs.declared.word.WordInstr.{WordInstr}
-use Rattle.mid_code.specs.declared.word.WordInstr.TheVariants.{Constant, Place, Datum, Load, Store}
-use Rattle.mid_code.specs.declared.word.WordProc.{WordProc}
-use Rattle.mid_code.specs.Memory.{Memory, with_number}
-use Rattle.mid_code.specs.Words.{Vars, no_words, put, from_proc}
+use Rattle.nim_meaning.specs.Values.{Value, Number, Parts, Values, bytes, number_of}
+use Rattle.word_code.specs.declared.word.WordInstr.{WordInstr}
+use Rattle.word_code.specs.declared.word.WordInstr.TheVariants.{Constant, Place, Datum, Load, Store}
+use Rattle.word_code.specs.declared.word.WordProc.{WordProc}
+use Rattle.word_code.specs.Memory.{Memory, with_number}
+use Rattle.word_code.specs.Words.{Vars, no_words, put}
+use Rattle.word_code.specs.RoutineTable.{Cell, Area, Separate}
+use Rattle.word_code.proofs.ForCallers.{MemoryLaw, Sized, put_here, Changed, changed_word}
+use Rattle.word_code.proofs.ForCallers.{Runs, then_runs, Within, at, run_constant, run_copy, run_place, run_datum, run_load, run_store, got}
 use Rattle.word_lowering.specs.declared.homes.TheConstants.{OWN_FROM, FIRST, SECOND, THIRD}
 use Rattle.word_lowering.specs.declared.homes.Home.{Home}
 use Rattle.word_lowering.specs.declared.homes.Home.TheVariants.{Variable, Placed, Static}
 use Rattle.word_lowering.specs.declared.spots.Spot.{Spot}
 use Rattle.word_lowering.specs.declared.spots.Spot.TheVariants.{Held, Lies}
-use Rattle.word_lowering.specs.declared.routines.TheConstants.{COPY, CLEAR}
-use Rattle.word_lowering.specs.Spots.{address, copied, moved, zeros, cleared}
+use Rattle.word_code.specs.Routines.{HasData}
+use Rattle.word_lowering.specs.declared.homes.Housed.{Housed}
+use Rattle.word_lowering.specs.Spots.{address, copied, moved, moves, passes, zeros, cleared, clears, starts}
 use Rattle.word_lowering.specs.Operations.{word}
-use Rattle.word_lowering.specs.Routines.{routine, copy_lines, clear_lines}
-use Rattle.word_lowering.proofs.Cells.{MemoryLaw, Sized, put_here}
-use Rattle.word_lowering.proofs.Areas.{Cell, Area, with_copied, with_zeros}
-use Rattle.word_lowering.proofs.InMemory.{IsAt, AllZero, bytes_whole, bytes_some, carried, zero_at}
-use Rattle.word_lowering.proofs.Copied.{span, span_is, Changed, Separate, changed_word, copied_to, cleared_at}
-use Rattle.word_lowering.proofs.Runs.{Runs, then_runs, Within, at, run_constant, run_copy, run_place, run_datum, run_load, run_store}
-use Rattle.word_lowering.proofs.CopyRuns.{got}
-use Rattle.word_lowering.proofs.RoutineCalls.{awaiting, copy_called, clear_called}
-use Rattle.word_lowering.proofs.OrdinalRuns.{put_here as var_here, put_low, AllBut, AllSame, but_one}
+use Rattle.word_lowering.proofs.InMemory.{IsAt, AllZero, bytes_whole, parts_some, carried, zero_at}
+use Rattle.word_lowering.proofs.RoutineCalls.{awaiting, Reaches, copy_called, clear_called}
+use Rattle.word_lowering.proofs.OrdinalRuns.{put_here as var_here, put_low, put_other, AllBut, AllSame, but_one}
 use Rattle.word_lowering.proofs.Scenes.{Points}
 
 -- ---- variables
@@ -53,7 +51,7 @@ same_third v n = record { others = λ u h. put_low v THIRD n u (omega arith) h; 
 -- one word
 abbrev pub is_single : Value → Bool
 is_single (Number z) = true
-is_single (Parts vs) = false
+is_single x = false
 
 abbrev pub single_word : Value → ℕ
 single_word x = word (number_of x)
@@ -64,9 +62,20 @@ IsHigh (Variable v) = OWN_FROM ≤ v
 IsHigh (Placed a) = Unit {0}
 IsHigh (Static a) = Unit {0}
 
+-- what a word in FIRST doesn't change
+abbrev pub IsBehind : Home → Type 0
+IsBehind (Variable v) = FIRST < v
+IsBehind (Placed a) = Unit {0}
+IsBehind (Static a) = Unit {0}
+
+pub high_behind : (home : Home) → IsHigh home → IsBehind home
+high_behind (Variable v) high = omega (arith, high)
+high_behind (Placed a) high = tt
+high_behind (Static a) high = tt
+
 abbrev pub MaySpot : Spot → Value → Type 0
 MaySpot (Held v) (Number z) = OWN_FROM ≤ v
-MaySpot (Held v) (Parts vs) = ⊥
+MaySpot (Held v) x = ⊥
 MaySpot (Lies home) x = IsHigh home
 
 -- words that may be read and written
@@ -77,6 +86,15 @@ IsArea m a bytes = (n : ℕ) → 4 * n ≤ bytes → Area m a n
 abbrev pub From : Memory → (base : ℕ) → Vars → Spot → Value → Type 0
 From m base v (Held u) x = v u ≡ Some (single_word x)
 From m base v (Lies home) x = (a : ℕ) × Points base v home a × IsAt m a x × (a + bytes x < 2 ^ 32) × IsArea m a (bytes x)
+
+-- what is there has bytes
+pub passes_there : (n : ℕ) (to from : Housed) (k : List WordInstr) → 4 ≤ n → passes n to from k ≡ moves to from k
+passes_there zero to from k h = absurd (omega (arith, h))
+passes_there (suc n) to from k h = refl
+
+pub starts_there : (n : ℕ) (to : Housed) (k : List WordInstr) → 4 ≤ n → starts n to k ≡ clears to k
+starts_there zero to k h = absurd (omega (arith, h))
+starts_there (suc n) to k h = refl
 
 -- whole words, of which there are some
 pub words_of : (n : ℕ) → n % 4 ≡ 0 → 4 ≤ n → (k : ℕ) × (n ≡ 4 * suc k)
@@ -110,6 +128,11 @@ module _ (law : MemoryLaw) (live : Lives) (procs : List WordProc) (c : Within) (
   points_same v w (Placed n) a high same p = p
   points_same v w (Static n) a high same p = p
 
+  points_behind : (v : Vars) (n : ℕ) (home : Home) (a : ℕ) → IsBehind home → Points c.base v home a → Points c.base (put v FIRST n) home a
+  points_behind v n (Variable u) a less p = put_other v FIRST n u (λ e. absurd (omega (arith, less, e))) ∙ p
+  points_behind v n (Placed m) a less p = p
+  points_behind v n (Static m) a less p = p
+
   -- ---- to a variable
 
   pub record ToVariable (m : Memory) (lines : List WordInstr) (v : Vars) (t : ℕ) (x : Value) (k : List WordInstr) : Type 0 where
@@ -122,9 +145,9 @@ module _ (law : MemoryLaw) (live : Lives) (procs : List WordProc) (c : Within) (
     pub runs : Runs live procs steps (at c m lines v g) (at c m k vars g)
 
   pub number_to_variable : (m : Memory) (k : List WordInstr) (v : Vars) (t : ℕ) → OWN_FROM ≤ t → (z : ℤ) → word z < 2 ^ 32
-      → (is_word : Bool) (n : ℕ) (from : Spot) → MaySpot from (Number z) → From m c.base v from (Number z)
+      → (is_word : Bool) (n : ℕ) (from : Spot) → From m c.base v from (Number z)
       → ToVariable m (moved is_word n (Held t) from k) v t (Number z) k
-  number_to_variable m k v t high z small is_word n (Held u) may e = record {
+  number_to_variable m k v t high z small is_word n (Held u) e = record {
     vars = put v t (word z);
     given = var_here v t (word z) small;
     but = but_one v v t (word z) high (all_same v);
@@ -133,7 +156,7 @@ module _ (law : MemoryLaw) (live : Lives) (procs : List WordProc) (c : Within) (
     few = omega arith;
     runs = run_copy live procs c m k v g t u e;
   }
-  number_to_variable m k v t high z small is_word n (Lies home) may e =
+  number_to_variable m k v t high z small is_word n (Lies home) e =
       let b : ℕ = e.0 in
       let v1 : Vars = put v SECOND b in
       let r1 : Runs live procs 1 (at c m (address SECOND home ∷ Load t SECOND whole ∷ k) v g) (at c m (Load t SECOND whole ∷ k) v1 g)
@@ -217,12 +240,12 @@ module _ (law : MemoryLaw) (live : Lives) (procs : List WordProc) (c : Within) (
           runs = then_runs live procs (then_runs live procs r1 r2) (then_runs live procs r3 r4);
         }
 
-    pub parts_to_memory : (others : List WordProc) → from_proc COPY procs ≡ routine COPY 3 5 copy_lines ∷ others
-        → (vs : Values) → IsArea m a (bytes (Parts vs)) → a + bytes (Parts vs) < 2 ^ 32 → (other : Home) → IsHigh other
-        → (source : From m c.base v (Lies other) (Parts vs)) → Separate law a source.0 (bytes (Parts vs))
+    pub parts_to_memory : (own : ℕ) (statics : List ℕ) → Reaches live procs own statics → HasData own statics m → (vs : Values)
+        → IsArea m a (bytes (Parts vs)) → a + bytes (Parts vs) < 2 ^ 32 → (other : Home) → IsBehind other
+        → (source : From m c.base v (Lies other) (Parts vs)) → Separate a source.0 (bytes (Parts vs))
         → ToMemory m (moved false (bytes (Parts vs)) (Lies home) (Lies other) k) v a (Parts vs) (10 + 2 * bytes (Parts vs)) k
-    parts_to_memory others stands vs area near other high source apart = by (bytes (Parts vs)) refl
-        (words_of (bytes (Parts vs)) (bytes_whole (Parts vs)) (bytes_some (Parts vs)))
+    parts_to_memory own statics reaches data_there vs area near other less source apart = by (bytes (Parts vs)) refl
+        (words_of (bytes (Parts vs)) (bytes_whole (Parts vs)) (parts_some vs))
       where
         b : ℕ
         b = source.0
@@ -232,36 +255,34 @@ module _ (law : MemoryLaw) (live : Lives) (procs : List WordProc) (c : Within) (
         by n size (j, is) =
             let there : Area m a (suc j) = area (suc j) (omega (arith, size, is)) in
             let here : Area m b (suc j) = source.4 (suc j) (omega (arith, size, is)) in
-            let all : span (suc j) ≡ bytes (Parts vs) = span_is (suc j) ∙ sym is ∙ sym size in
+            let all : 4 * suc j ≡ bytes (Parts vs) = sym is ∙ sym size in
             let v1 : Vars = put v FIRST a in
             let v2 : Vars = put v1 SECOND b in
             let k2 : List WordInstr = copied false n k in
             let r1 : Runs live procs 1 (at c m (address FIRST home ∷ address SECOND other ∷ k2) v g) (at c m (address SECOND other ∷ k2) v1 g)
             = address_runs m (address SECOND other ∷ k2) v FIRST home a points in
             let r2 : Runs live procs 1 (at c m (address SECOND other ∷ k2) v1 g) (at c m k2 v2 g)
-            = address_runs m k2 v1 SECOND other b (points_same v v1 other b high (same_first v a) source.1) in
-            let w : Vars = put (put v2 THIRD (4 * suc j)) FIRST 4 in
-            let r3 : Runs live procs (8 + 6 * suc j) (at c m (copied false (4 * suc j) k) v2 g)
-            (at (awaiting c FIRST) (with_copied (suc j) m a b) k w no_words)
-            = copy_called law live procs c k others stands j m a b v2 g (got a (omega (arith, near))) (got b (omega (arith, source.3)))
-            (omega (arith, near, size, is)) (omega (arith, source.3, size, is)) sized there here in
-            let copy = copied_to law (suc j) m a b sized there here (subst (Separate law a b) (sym all) apart) in
+            = address_runs m k2 v1 SECOND other b (points_behind v a other b less source.1) in
+            let r3 = copy_called law live procs own statics reaches c k j m a b v2 g (got a (omega (arith, near))) (got b (omega (arith, source.3)))
+            (omega (arith, near, size, is)) (omega (arith, source.3, size, is)) sized data_there there here (subst (Separate a b) (sym all) apart) in
+            let copy = r3.is in
+            let few = r3.few in
+            let w : Vars = put (put v2 THIRD (4 * suc j)) FIRST r3.word in
             record {
-              memory = with_copied (suc j) m a b;
+              memory = r3.memory;
               vars = w;
               words = no_words;
               awaits = FIRST;
               same = same_more v v1 w (same_first v a) (same_more v1 v2 w (same_second v1 b)
-                  (same_more v2 (put v2 THIRD (4 * suc j)) w (same_third v2 (4 * suc j)) (same_first (put v2 THIRD (4 * suc j)) 4)));
-              changed = subst (Changed m (with_copied (suc j) m a b) a) all copy.changed;
-              there = carried m (with_copied (suc j) m a b) b a (Parts vs)
-                  (λ o within is_whole. copy.same o (omega (arith, within, all)) is_whole) source.2;
-              steps = 2 + (8 + 6 * suc j);
+                  (same_more v2 (put v2 THIRD (4 * suc j)) w (same_third v2 (4 * suc j)) (same_first (put v2 THIRD (4 * suc j)) r3.word)));
+              changed = subst (Changed m r3.memory a) all copy.changed;
+              there = carried m r3.memory b a (Parts vs) (λ o within is_whole. copy.same o (omega (arith, within, all)) is_whole) source.2;
+              steps = 2 + (4 + r3.steps);
               some = omega arith;
-              few = omega (arith, size, is);
+              few = omega (arith, size, is, few);
               runs = then_runs live procs (then_runs live procs r1 r2)
-                  (subst (λ i. Runs live procs (8 + 6 * suc j) (at c m (copied false i k) v2 g)
-                  (at (awaiting c FIRST) (with_copied (suc j) m a b) k w no_words)) (sym is) r3);
+                  (subst (λ i. Runs live procs (4 + r3.steps) (at c m (copied false i k) v2 g) (at (awaiting c FIRST) r3.memory k w no_words)) (sym is)
+                  r3.runs);
             }
 
     -- ---- zeros
@@ -290,37 +311,38 @@ module _ (law : MemoryLaw) (live : Lives) (procs : List WordProc) (c : Within) (
           runs = then_runs live procs (then_runs live procs r1 r2) r3;
         }
 
-    pub zeros_to_memory : (others : List WordProc) → from_proc CLEAR procs ≡ routine CLEAR 2 4 clear_lines ∷ others
-        → (vs : Values) → AllZero (Parts vs) → IsArea m a (bytes (Parts vs)) → a + bytes (Parts vs) < 2 ^ 32
+    pub zeros_to_memory : (own : ℕ) (statics : List ℕ) → Reaches live procs own statics → HasData own statics m → (vs : Values)
+        → AllZero (Parts vs) → IsArea m a (bytes (Parts vs)) → a + bytes (Parts vs) < 2 ^ 32
         → ToMemory m (cleared false (bytes (Parts vs)) (Lies home) k) v a (Parts vs) (9 + bytes (Parts vs)) k
-    zeros_to_memory others stands vs blank area near = by (bytes (Parts vs)) refl (words_of (bytes (Parts vs)) (bytes_whole (Parts vs)) (bytes_some (Parts vs)))
+    zeros_to_memory own statics reaches data_there vs blank area near =
+        by (bytes (Parts vs)) refl (words_of (bytes (Parts vs)) (bytes_whole (Parts vs)) (parts_some vs))
       where
         by : (n : ℕ) → bytes (Parts vs) ≡ n → (j : ℕ) × (n ≡ 4 * suc j)
             → ToMemory m (cleared false n (Lies home) k) v a (Parts vs) (9 + bytes (Parts vs)) k
         by n size (j, is) =
             let there : Area m a (suc j) = area (suc j) (omega (arith, size, is)) in
-            let all : span (suc j) ≡ bytes (Parts vs) = span_is (suc j) ∙ sym is ∙ sym size in
+            let all : 4 * suc j ≡ bytes (Parts vs) = sym is ∙ sym size in
             let v1 : Vars = put v FIRST a in
             let k2 : List WordInstr = zeros false n k in
             let r1 : Runs live procs 1 (at c m (address FIRST home ∷ k2) v g) (at c m k2 v1 g) = address_runs m k2 v FIRST home a points in
-            let w : Vars = put (put v1 SECOND (4 * suc j)) FIRST 4 in
-            let r2 : Runs live procs (8 + 4 * suc j) (at c m (zeros false (4 * suc j) k) v1 g)
-            (at (awaiting c FIRST) (with_zeros (suc j) m a) k w no_words)
-            = clear_called law live procs c k others stands j m a v1 g (got a (omega (arith, near))) (omega (arith, near, size, is)) sized there in
-            let clear = cleared_at law (suc j) m a sized there in
+            let r2 = clear_called law live procs own statics reaches c k j m a v1 g (got a (omega (arith, near))) (omega (arith, near, size, is)) sized
+            data_there there in
+            let clear = r2.is in
+            let few = r2.few in
+            let w : Vars = put (put v1 SECOND (4 * suc j)) FIRST r2.word in
             record {
-              memory = with_zeros (suc j) m a;
+              memory = r2.memory;
               vars = w;
               words = no_words;
               awaits = FIRST;
               same = same_more v v1 w (same_first v a)
-                  (same_more v1 (put v1 SECOND (4 * suc j)) w (same_second v1 (4 * suc j)) (same_first (put v1 SECOND (4 * suc j)) 4));
-              changed = subst (Changed m (with_zeros (suc j) m a) a) all clear.changed;
-              there = zero_at (with_zeros (suc j) m a) a (Parts vs) blank (λ o within is_whole. clear.zeros o (omega (arith, within, all)) is_whole);
-              steps = 1 + (8 + 4 * suc j);
+                  (same_more v1 (put v1 SECOND (4 * suc j)) w (same_second v1 (4 * suc j)) (same_first (put v1 SECOND (4 * suc j)) r2.word));
+              changed = subst (Changed m r2.memory a) all clear.changed;
+              there = zero_at r2.memory a (Parts vs) blank (λ o within is_whole. clear.zeros o (omega (arith, within, all)) is_whole);
+              steps = 1 + (3 + r2.steps);
               some = omega arith;
-              few = omega (arith, size, is);
+              few = omega (arith, size, is, few);
               runs = then_runs live procs r1
-                  (subst (λ i. Runs live procs (8 + 4 * suc j) (at c m (zeros false i k) v1 g) (at (awaiting c FIRST) (with_zeros (suc j) m a) k w no_words))
-                  (sym is) r2);
+                  (subst (λ i. Runs live procs (3 + r2.steps) (at c m (zeros false i k) v1 g) (at (awaiting c FIRST) r2.memory k w no_words)) (sym is)
+                  r2.runs);
             }

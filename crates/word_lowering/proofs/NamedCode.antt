@@ -1,26 +1,26 @@
 -- Word code names variables of its procedure alone.
-use Rattle.std.proofs.Common.{◌≡◌, ℕ, ◌≤◌, ◌<◌, ℤ, List, [], ◌∷◌, Bool, true, false}
+use Rattle.std.proofs.Common.{◌≡◌, ℕ, ◌≤◌, ◌<◌, ℤ, List, [], ◌∷◌, ◌++◌, Bool, true, false}
 use Rattle.std.proofs.Common.{refl, if◌then◌else◌, arith}
 use Rattle.std.proofs.Common.{int_lt, ◌-ℤ◌, unsigned_abs}
 use Rattle.std.specs.Ordering.{int_eq}
 use Rattle.std.proofs.lemmas.Bool.{and_from, lt-ltb}
 use Rattle.arc_base.specs.declared.outside.Stream.{Stream}
 use Rattle.rv32_isa.specs.declared.micro_op.Size.{Size}
-use Rattle.nim_core.specs.declared.expr.UnaryOperator.{UnaryOperator}
-use Rattle.nim_core.specs.declared.expr.UnaryOperator.TheVariants as unary
-use Rattle.nim_core.specs.declared.expr.Operator.{Operator}
-use Rattle.nim_core.specs.declared.expr.Operator.TheVariants as binary
-use Rattle.nim_core.specs.declared.expr.Comparison.{Comparison}
-use Rattle.nim_core.specs.declared.expr.Comparison.TheVariants as comparison
-use Rattle.mid_code.specs.declared.word.TheConstants.{MOST_ARGUMENTS}
-use Rattle.mid_code.specs.declared.word.Test.{Test}
-use Rattle.mid_code.specs.declared.word.Test.TheVariants as test
-use Rattle.mid_code.specs.declared.word.WordOperation.{WordOperation}
-use Rattle.mid_code.specs.declared.word.WordOperation.TheVariants as operation
-use Rattle.mid_code.specs.declared.word.WordInstr.{WordInstr}
-use Rattle.mid_code.specs.declared.word.WordInstr.TheVariants.{Label, Constant, Copy, Compute, Sum, Place, Datum, Load, Store, Jump, Branch}
-use Rattle.mid_code.specs.declared.word.WordInstr.TheVariants.{Argument, Call, Return, Write, Exit}
-use Rattle.mid_code.specs.Words.{are_named, all_named}
+use Rattle.nim_program.specs.declared.operation.UnaryOperator.{UnaryOperator}
+use Rattle.nim_program.specs.declared.operation.UnaryOperator.TheVariants as unary
+use Rattle.nim_program.specs.declared.operation.Operator.{Operator}
+use Rattle.nim_program.specs.declared.operation.Operator.TheVariants as binary
+use Rattle.nim_program.specs.declared.operation.Comparison.{Comparison}
+use Rattle.nim_program.specs.declared.operation.Comparison.TheVariants as comparison
+use Rattle.word_code.specs.declared.word.TheConstants.{MOST_ARGUMENTS}
+use Rattle.word_code.specs.declared.word.Test.{Test}
+use Rattle.word_code.specs.declared.word.Test.TheVariants as test
+use Rattle.word_code.specs.declared.word.WordOperation.{WordOperation}
+use Rattle.word_code.specs.declared.word.WordOperation.TheVariants as operation
+use Rattle.word_code.specs.declared.word.WordInstr.{WordInstr}
+use Rattle.word_code.specs.declared.word.WordInstr.TheVariants.{Label, Constant, Copy, Compute, Sum, Place, Datum, Load, Store, Jump, Branch}
+use Rattle.word_code.specs.declared.word.WordInstr.TheVariants.{Argument, Call, Return, Write, Exit}
+use Rattle.word_code.specs.Words.{are_named, all_named}
 use Rattle.word_lowering.specs.declared.homes.TheConstants.{LEFT, FIRST, SECOND, THIRD, FOURTH, FIFTH, OWN_FROM}
 use Rattle.word_lowering.specs.declared.homes.Home.{Home}
 use Rattle.word_lowering.specs.declared.homes.Home.TheVariants.{Variable, Placed, Static}
@@ -237,13 +237,24 @@ module _ (vars : ℕ) (many : OWN_FROM ≤ vars) where
       by false true = constant first_is (branch f first_is rest)
       by false false = constant first_is (compute first_is f first_is (constant second_is (branch second_is first_is rest)))
 
-  below_named : (inclusive : Bool) (counter last : ℕ) {k : List WordInstr} → counter < vars → last < vars → AllNamed vars k
-      → AllNamed vars (operations.below_code inclusive counter last k)
-  below_named true counter last c l rest = compute first_is c l rest
-  below_named false counter last c l rest = compute first_is c l (compute second_is l first_is (compute first_is c second_is rest))
+  pub if_named : (from to : ℕ) {k : List WordInstr} → from < vars → AllNamed vars k → AllNamed vars (operations.if_code from to k)
+  if_named from to f rest = constant first_is (branch f first_is rest)
 
-  pub count_named : (label_here counter last : ℕ) (inclusive : Bool) (more : ℕ) {k : List WordInstr} → counter < vars → last < vars → more < vars
-      → AllNamed vars k → AllNamed vars (operations.count_code label_here counter last inclusive more k)
-  count_named n counter last inclusive more c l m rest =
-      below_named inclusive counter last c l
-      (compute c c first_is (constant second_is (branch first_is second_is (constant m (label rest)))))
+  pub beyond_named : (inclusive : Bool) (counter last to : ℕ) {k : List WordInstr} → counter < vars → last < vars → AllNamed vars k
+      → AllNamed vars (operations.beyond_code inclusive counter last to k)
+  beyond_named true counter last to c l rest = branch l c rest
+  beyond_named false counter last to c l rest = branch c l rest
+
+  less_named : (inclusive : Bool) (counter last to : ℕ) {k : List WordInstr} → counter < vars → last < vars → AllNamed vars k
+      → AllNamed vars (operations.unless_less inclusive counter last to k)
+  less_named true counter last to c l rest = branch c l rest
+  less_named false counter last to c l rest = compute first_is c l (compute second_is l first_is (branch c second_is rest))
+
+  pub turn_named : (own counter last : ℕ) (inclusive : Bool) (to : ℕ) {k : List WordInstr} → counter < vars → last < vars → AllNamed vars k
+      → AllNamed vars (operations.turn_code own counter last inclusive to k)
+  turn_named own counter last inclusive to c l rest = less_named inclusive counter last own c l (sum c c (jump (label rest)))
+
+-- lines behind lines
+pub named_on : {vars : ℕ} {k l : List WordInstr} → AllNamed vars k → AllNamed vars l → AllNamed vars (k ++ l)
+named_on none_named m = m
+named_on (more_named e rest) m = more_named e (named_on rest m)

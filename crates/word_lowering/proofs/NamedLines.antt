@@ -1,34 +1,41 @@
 -- The word code of lines names variables of its procedure alone.
-use Rattle.std.proofs.Common.{ℕ, zero, suc, ◌≤◌, ◌<◌, List, [], ◌∷◌, length, Bool, true, false, Option, Some}
-use Rattle.std.proofs.Common.{None, if◌then◌else◌, arith}
+use Rattle.std.proofs.Common.{ℕ, zero, suc, ◌+◌, ◌≤◌, ◌<◌, List, [], ◌∷◌, Bool, true, false, Option, Some}
+use Rattle.std.proofs.Common.{None, arith}
 use Rattle.nim_types.specs.declared.types.TypeDef.{TypeDef}
 use Rattle.nim_types.specs.declared.types.TypeDef.TheVariants as D
-use Rattle.mid_code.specs.declared.word.TheConstants.{MOST_ARGUMENTS}
-use Rattle.mid_code.specs.declared.line.Line.{Line}
-use Rattle.mid_code.specs.declared.line.Line.TheVariants as L
-use Rattle.mid_code.specs.declared.line.Piece.{Piece}
-use Rattle.mid_code.specs.declared.line.Piece.TheVariants as P
-use Rattle.mid_code.specs.declared.line.FieldFrom.{FieldFrom}
-use Rattle.mid_code.specs.declared.word.WordInstr.{WordInstr}
-use Rattle.mid_code.specs.Fits.{is_value, is_location, is_own, is_declared}
-use Rattle.word_lowering.specs.declared.homes.TheConstants.{FIRST, SECOND, THIRD, OWN_FROM}
+use Rattle.word_code.specs.declared.word.TheConstants.{MOST_ARGUMENTS}
+use Rattle.nim_program.specs.declared.operation.Operation.{Operation}
+use Rattle.nim_program.specs.declared.operation.Operation.TheVariants as O
+use Rattle.nim_program.specs.declared.operation.Operator.{Operator}
+use Rattle.flat_code.specs.declared.line.Line.{Line}
+use Rattle.flat_code.specs.declared.line.Line.TheVariants as L
+use Rattle.flat_code.specs.declared.line.Piece.{Piece}
+use Rattle.flat_code.specs.declared.line.Piece.TheVariants as P
+use Rattle.flat_code.specs.declared.line.From.{From}
+use Rattle.flat_code.specs.declared.line.From.TheVariants as F
+use Rattle.word_code.specs.declared.word.WordInstr.{WordInstr}
+use Rattle.flat_code.specs.Fits.{is_value, is_location, is_own, is_declared}
+use Rattle.word_lowering.specs.declared.homes.TheConstants.{FIRST, SECOND, THIRD, FIFTH, OWN_FROM}
+use Rattle.word_lowering.specs.declared.homes.Alias.{Alias}
+use Rattle.word_lowering.specs.declared.homes.Alias.TheVariants as alias
 use Rattle.word_lowering.specs.declared.homes.Home.{Home}
 use Rattle.word_lowering.specs.declared.homes.Home.TheVariants.{Variable, Placed, Static}
 use Rattle.word_lowering.specs.declared.homes.Housed.{Housed}
 use Rattle.word_lowering.specs.declared.spots.Spot.{Spot}
 use Rattle.word_lowering.specs.declared.spots.Spot.TheVariants.{Held, Lies}
-use Rattle.word_lowering.specs.Layouts.{result_in}
-use Rattle.word_lowering.specs.Spots.{spot_of, shifted, moves, clears}
-use Rattle.word_lowering.specs.Stored.{part_at, entry_at, base_at}
-use Rattle.mid_code.specs.Sizes.{is_line_end}
+use Rattle.word_lowering.specs.Layouts.{found, params_in, result_in}
+use Rattle.word_lowering.specs.Spots.{spot_of, shifted, moves, passes, clears, starts}
+use Rattle.word_lowering.specs.Stored.{part_at, entry_at, base_at, limit_at}
 use Rattle.word_lowering.specs.declared.texts.TheConstants.{LINE_END_AT}
+use Rattle.word_lowering.specs.Aliases.{text_in}
 use Rattle.word_lowering.specs.Operations.{word}
 use Rattle.word_lowering.specs.LineCode.{Around}
 use Rattle.word_lowering.specs.LineCode as lines
 use Rattle.word_lowering.proofs.HomesApart.{Each}
-use Rattle.word_lowering.proofs.LayoutBounds.{IsBelow, IsParamBelow, IsGlobalBelow, found_below, global_below, param_below}
-use Rattle.word_lowering.proofs.NamedCode.{AllNamed, IsSpotBelow, spot_below, shifted_below, first_is, second_is, third_is, left_is}
-use Rattle.word_lowering.proofs.NamedCode.{binary_named, unary_named, compare_named, narrow_named, unless_named, fits_named, count_named}
+use Rattle.word_lowering.proofs.LayoutBounds.{IsBelow, IsParamBelow, IsGlobalBelow, found_below, global_below, params_each}
+use Rattle.word_lowering.proofs.NamedCode.{AllNamed, IsSpotBelow, spot_below, shifted_below, first_is, second_is, third_is, fourth_is, fifth_is, left_is}
+use Rattle.word_lowering.proofs.NamedCode.{binary_named, unary_named, compare_named, narrow_named, unless_named, if_named}
+use Rattle.word_lowering.proofs.NamedCode.{fits_named, beyond_named, turn_named}
 use Rattle.word_lowering.proofs.NamedCode as named
 
 variable_below : (n : ℕ) (home : Home) → FIRST < n → IsBelow n home → lines.variable_in home < n
@@ -57,11 +64,49 @@ module _ (vars : ℕ) (many : OWN_FROM ≤ vars) where
       word_named to (word z) h (pieces_named (shifted 4 to) pieces (shifted_below vars 4 to h) rest)
   pieces_named to (P.Parts zero ∷ pieces) h rest = pieces_named (shifted 4 to) pieces (shifted_below vars 4 to h) rest
   pieces_named to (P.Parts (suc n) ∷ pieces) h rest = pieces_named to pieces h rest
+  pieces_named to (P.Text text ∷ pieces) h rest = pieces_named to pieces h rest
+  pieces_named to (P.Nil ∷ pieces) h rest = pieces_named to pieces h rest
+  pieces_named to (P.Elements zero ∷ pieces) h rest = pieces_named (shifted 4 to) pieces (shifted_below vars 4 to h) rest
+  pieces_named to (P.Elements (suc n) ∷ pieces) h rest = pieces_named to pieces h rest
 
-  constant_named : (to : Housed) (spot : Spot) (pieces : List Piece) {k : List WordInstr} → IsSpotBelow vars spot → AllNamed vars k
-      → AllNamed vars (lines.constant_code to spot pieces k)
-  constant_named to (Held v) pieces h rest = named.constant vars many h rest
-  constant_named to (Lies home) pieces h rest = named.cleared vars many to.is_word to.bytes (Lies home) h (pieces_named home pieces h rest)
+  spot_named : (to : Housed) (spot : Spot) (pieces : List Piece) {k : List WordInstr} → IsSpotBelow vars spot → AllNamed vars k
+      → AllNamed vars (lines.constant_at to spot pieces k)
+  spot_named to (Held v) pieces h rest = named.constant vars many h rest
+  spot_named to (Lies home) pieces h rest = named.cleared vars many to.is_word to.bytes (Lies home) h (pieces_named home pieces h rest)
+
+  constant_named : (text : Option (List ℕ)) (to : Housed) (pieces : List Piece) {k : List WordInstr} → IsBelow vars to.home → AllNamed vars k
+      → AllNamed vars (lines.constant_by text to pieces k)
+  constant_named None to pieces h rest = spot_named to (spot_of to) pieces (spot_below vars to h) rest
+  constant_named (Some text) to pieces h rest = rest
+
+  -- ---- addresses
+  part_named : (to : ℕ) (home : Home) (at : ℕ) {k : List WordInstr} → to < vars → IsBelow vars home → AllNamed vars k
+      → AllNamed vars (lines.part_code to home at k)
+  part_named to (Variable v) at t h rest = named.sum vars many t h rest
+  part_named to (Placed from) at t h rest = named.place vars many t rest
+  part_named to (Static from) at t h rest = named.datum vars many t rest
+
+  behind_named : (to : ℕ) (home : Home) {k : List WordInstr} → to < vars → IsBelow vars home → AllNamed vars k
+      → AllNamed vars (lines.behind_code to home k)
+  behind_named to (Variable v) t h rest = named.compute vars many t h (first_is vars many) rest
+  behind_named to (Placed at) t h rest =
+      named.place vars many (second_is vars many) (named.compute vars many t (second_is vars many) (first_is vars many) rest)
+  behind_named to (Static at) t h rest =
+      named.datum vars many (second_is vars many) (named.compute vars many t (second_is vars many) (first_is vars many) rest)
+
+  element_named : (to : ℕ) (home : Home) (index bytes : ℕ) {k : List WordInstr} → to < vars → IsBelow vars home → index < vars → AllNamed vars k
+      → AllNamed vars (lines.element_code to home index bytes k)
+  element_named to home index bytes t h i rest =
+      let a : FIRST < vars = first_is vars many in
+      named.constant vars many a (named.compute vars many a i a (behind_named to home t h rest))
+
+  word_argument_named : (index : ℕ) (home : Home) {k : List WordInstr} → index < MOST_ARGUMENTS → IsBelow vars home → AllNamed vars k
+      → AllNamed vars (lines.word_argument index home k)
+  word_argument_named index (Variable v) i h rest = named.argument vars many i h rest
+  word_argument_named index (Placed at) i h rest =
+      named.place vars many (first_is vars many) (named.argument vars many i (first_is vars many) rest)
+  word_argument_named index (Static at) i h rest =
+      named.datum vars many (first_is vars many) (named.argument vars many i (first_is vars many) rest)
 
   -- ---- returns, and what is written
   back_named : (is_word : Bool) (spot : Spot) {k : List WordInstr} → IsSpotBelow vars spot → AllNamed vars k
@@ -82,14 +127,14 @@ module _ (vars : ℕ) (many : OWN_FROM ≤ vars) where
   number_named from f rest = named.argument vars many (omega arith) f (named.call vars many (first_is vars many) rest)
 
   text_named : (at bytes : ℕ) {k : List WordInstr} → AllNamed vars k → AllNamed vars (lines.text_code at bytes k)
-  text_named at bytes rest = named.datum vars many (first_is vars many) (named.constant vars many (second_is vars many) (write_named rest))
+  text_named at zero rest = rest
+  text_named at (suc n) rest = named.datum vars many (first_is vars many) (named.constant vars many (second_is vars many) (write_named rest))
 
-  literal_named : (at : ℕ) (text : List ℕ) {k : List WordInstr} → AllNamed vars k → AllNamed vars (lines.literal_code at text k)
-  literal_named at text {k} rest = by (is_line_end text)
-    where
-      by : (b : Bool) → AllNamed vars (if b then lines.text_code LINE_END_AT 1 k else lines.text_code at (length text) k)
-      by true = text_named LINE_END_AT 1 rest
-      by false = text_named at (length text) rest
+  literal_named : (literals : ℕ) (other : Alias) {k : List WordInstr} → AllNamed vars k → AllNamed vars (lines.literal_code literals other k)
+  literal_named literals alias.Own rest = rest
+  literal_named literals (alias.Place p global) rest = rest
+  literal_named literals (alias.Value t) rest = rest
+  literal_named literals (alias.Text behind bytes) rest = text_named (literals + behind) bytes rest
 
   bool_named : (from : ℕ) {k : List WordInstr} → from < vars → AllNamed vars k → AllNamed vars (lines.bool_code from k)
   bool_named from f rest =
@@ -116,9 +161,6 @@ module _ (vars : ℕ) (many : OWN_FROM ≤ vars) where
     value_below : (t : ℕ) → IsBelow vars (lines.value x t).home
     value_below t = found_below vars (first_is vars many) is_value t x.own.all below.own
 
-    location_below : (t : ℕ) → IsBelow vars (lines.location x t).home
-    location_below t = found_below vars (first_is vars many) is_location t x.own.all below.own
-
     own_below : (p : ℕ) → IsBelow vars (lines.own_place x p).home
     own_below p = found_below vars (first_is vars many) is_own p x.own.all below.own
 
@@ -126,11 +168,41 @@ module _ (vars : ℕ) (many : OWN_FROM ≤ vars) where
     place_below p true = global_below vars (first_is vars many) p x.globals below.globals
     place_below p false = found_below vars (first_is vars many) is_declared p x.own.all below.own
 
+    named_below : (other : Alias) (own : Housed) → IsBelow vars own.home → IsBelow vars (lines.named x other own).home
+    named_below alias.Own own h = h
+    named_below (alias.Place p global) own h = place_below p global
+    named_below (alias.Value t) own h = value_below t
+    named_below (alias.Text behind bytes) own h = h
+
+    location_below : (t : ℕ) → IsBelow vars (lines.location x t).home
+    location_below t =
+        let own : Housed = found is_location t x.own.all in
+        named_below own.alias own (found_below vars (first_is vars many) is_location t x.own.all below.own)
+
+    operand_below : (from : From) → IsBelow vars (lines.operand x from).home
+    operand_below (F.Value t) = value_below t
+    operand_below (F.Place t) = location_below t
+
+    abbrev AllBelow : List Housed → Type 0
+    AllBelow hs = Each (λ h. IsBelow vars h.home) hs
+
+    operands_below : (from : List From) → AllBelow (lines.operands x from)
+    operands_below [] = tt
+    operands_below (f ∷ from) = (operand_below f, operands_below from)
+
+    at_below : (hs : List Housed) (i : ℕ) → AllBelow hs → IsBelow vars (lines.operand_at hs i).home
+    at_below [] i e = first_is vars many
+    at_below (h ∷ hs) zero e = e.0
+    at_below (h ∷ hs) (suc i) e = at_below hs i e.1
+
+    variable_is : (h : Housed) → IsBelow vars h.home → lines.variable_of h < vars
+    variable_is h e = variable_below vars h.home (first_is vars many) e
+
     held_below : (t : ℕ) → lines.held x t < vars
-    held_below t = variable_below vars (lines.value x t).home (first_is vars many) (value_below t)
+    held_below t = variable_is (lines.value x t) (value_below t)
 
     led_below : (t : ℕ) → lines.led x t < vars
-    led_below t = variable_below vars (lines.location x t).home (first_is vars many) (location_below t)
+    led_below t = variable_is (lines.location x t) (location_below t)
 
     moves_named : (to from : Housed) {k : List WordInstr} → IsBelow vars to.home → IsBelow vars from.home → AllNamed vars k
         → AllNamed vars (moves to from k)
@@ -140,33 +212,44 @@ module _ (vars : ℕ) (many : OWN_FROM ≤ vars) where
     clears_named : (to : Housed) {k : List WordInstr} → IsBelow vars to.home → AllNamed vars k → AllNamed vars (clears to k)
     clears_named to t rest = named.cleared vars many to.is_word to.bytes (spot_of to) (spot_below vars to t) rest
 
-    parts_named : (to : Home) (ts : List ℕ) {k : List WordInstr} → IsBelow vars to → AllNamed vars k → AllNamed vars (lines.parts_code x to ts k)
-    parts_named to [] h rest = rest
-    parts_named to (t ∷ ts) h rest =
-        let v : Housed = lines.value x t in
-        named.moved vars many v.is_word v.bytes (Lies to) (spot_of v) h (spot_below vars v (value_below t))
-        (parts_named (shifted v.bytes to) ts (shifted_below vars v.bytes to h) rest)
+    passes_named : (bytes : ℕ) (to from : Housed) {k : List WordInstr} → IsBelow vars to.home → IsBelow vars from.home → AllNamed vars k
+        → AllNamed vars (passes bytes to from k)
+    passes_named zero to from t f rest = rest
+    passes_named (suc n) to from t f rest = moves_named to from t f rest
 
-    fields_named : (to : Home) (ty : ℕ) (fs : List FieldFrom) {k : List WordInstr} → IsBelow vars to → AllNamed vars k
-        → AllNamed vars (lines.fields_code x to ty fs k)
-    fields_named to ty [] h rest = rest
-    fields_named to ty (f ∷ fs) h rest =
-        let v : Housed = lines.value x f.from in
-        let at : ℕ = part_at x.table ty f.field in
-        named.moved vars many v.is_word v.bytes (Lies (shifted at to)) (spot_of v) (shifted_below vars at to h) (spot_below vars v (value_below f.from))
-        (fields_named to ty fs h rest)
+    starts_named : (bytes : ℕ) (to : Housed) {k : List WordInstr} → IsBelow vars to.home → AllNamed vars k → AllNamed vars (starts bytes to k)
+    starts_named zero to t rest = rest
+    starts_named (suc n) to t rest = clears_named to t rest
+
+    parts_named : (to : Home) (hs : List Housed) {k : List WordInstr} → IsBelow vars to → AllBelow hs → AllNamed vars k
+        → AllNamed vars (lines.parts_code to hs k)
+    parts_named to [] h e rest = rest
+    parts_named to (v ∷ hs) h e rest =
+        named.moved vars many v.is_word v.bytes (Lies to) (spot_of v) h (spot_below vars v e.0)
+        (parts_named (shifted v.bytes to) hs (shifted_below vars v.bytes to h) e.1 rest)
+
+    fields_named : (to : Home) (ty : ℕ) (fields : List ℕ) (hs : List Housed) {k : List WordInstr} → IsBelow vars to → AllBelow hs → AllNamed vars k
+        → AllNamed vars (lines.fields_code x to ty fields hs k)
+    fields_named to ty [] hs h e rest = rest
+    fields_named to ty (field ∷ fields) [] h e rest = rest
+    fields_named to ty (field ∷ fields) (v ∷ hs) h e rest =
+        let at : ℕ = part_at x.table ty field in
+        named.moved vars many v.is_word v.bytes (Lies (shifted at to)) (spot_of v) (shifted_below vars at to h) (spot_below vars v e.0)
+        (fields_named to ty fields hs h e.1 rest)
 
     -- ---- calls
-    param_for_below : (callee : Option ℕ) (behind : ℕ) → IsBelow MOST_ARGUMENTS (lines.param_for x callee behind).home
-    param_for_below None behind = omega arith
-    param_for_below (Some proc) behind = param_below MOST_ARGUMENTS (omega arith) behind (lines.layout_at x proc).all (below.params proc)
-
     argument_named : (label : ℕ) (param : Home) (from : Housed) {k : List WordInstr} → IsBelow MOST_ARGUMENTS param → IsBelow vars from.home
         → AllNamed vars k → AllNamed vars (lines.argument_code x label param from k)
-    argument_named label (Variable v) from p f rest = named.argument vars many p (variable_below vars from.home (first_is vars many) f) rest
+    argument_named label (Variable v) from p f rest = word_argument_named v from.home p f rest
     argument_named label (Placed at) from p f rest =
         named.place vars many (first_is vars many) (named.handed vars many label from.bytes (spot_of from) (spot_below vars from f) rest)
     argument_named label (Static at) from p f rest = rest
+
+    arguments_named : (label : ℕ) (params hs : List Housed) {k : List WordInstr} → Each (λ h. IsBelow MOST_ARGUMENTS h.home) params → AllBelow hs
+        → AllNamed vars k → AllNamed vars (lines.arguments_code x label params hs k)
+    arguments_named label [] hs p e rest = rest
+    arguments_named label (q ∷ ps) [] p e rest = rest
+    arguments_named label (q ∷ ps) (h ∷ hs) p e rest = argument_named _ q.home h p.0 e.0 (arguments_named label ps hs p.1 e.1 rest)
 
     left_below : (room : ℕ) (home : Home) → IsBelow vars (lines.left_at room home)
     left_below room (Variable v) = tt
@@ -186,14 +269,13 @@ module _ (vars : ℕ) (many : OWN_FROM ≤ vars) where
     entered_named proc to (Lies home) t s rest =
         named.call vars many (first_is vars many) (result_named to (result_in (lines.layout_at x proc).all) t rest)
 
-    given_named : (proc : ℕ) (to : Option ℕ) {k : List WordInstr} → AllNamed vars k → AllNamed vars (lines.given_code x proc to k)
-    given_named proc None rest = named.call vars many (first_is vars many) rest
-    given_named proc (Some t) rest =
+    given_named : (proc to : ℕ) {k : List WordInstr} → AllNamed vars k → AllNamed vars (lines.given_code x proc to k)
+    given_named proc t rest =
         let v : Housed = lines.value x t in entered_named proc v (spot_of v) (value_below t) (spot_below vars v (value_below t)) rest
 
-    nothing_named : (to : Option ℕ) {k : List WordInstr} → AllNamed vars k → AllNamed vars (lines.nothing_code x to k)
-    nothing_named None rest = rest
-    nothing_named (Some t) rest = named.constant vars many (held_below t) rest
+    nothing_named : (ty : Option ℕ) (to : ℕ) {k : List WordInstr} → AllNamed vars k → AllNamed vars (lines.nothing_code x ty to k)
+    nothing_named None to rest = rest
+    nothing_named (Some ty) to rest = named.constant vars many (held_below to) rest
 
     checked_named : (start : Bool) {k : List WordInstr} → AllNamed vars k → AllNamed vars (lines.checked_code start k)
     checked_named true rest = named.constant vars many (first_is vars many) rest
@@ -201,9 +283,12 @@ module _ (vars : ℕ) (many : OWN_FROM ≤ vars) where
         named.copy vars many (second_is vars many) (left_is vars many)
         (named.sum vars many (first_is vars many) (second_is vars many) (named.branch vars many (second_is vars many) (first_is vars many) rest))
 
-    called_named : (proc : ℕ) (to : Option ℕ) (runs : Bool) {k : List WordInstr} → AllNamed vars k → AllNamed vars (lines.called_code x proc to runs k)
-    called_named proc to true rest = named.argument vars many (omega arith) (first_is vars many) (given_named proc to rest)
-    called_named proc to false rest = nothing_named to rest
+    called_named : (runs : Bool) (label proc : ℕ) (ty : Option ℕ) (to : ℕ) (hs : List Housed) {k : List WordInstr} → AllBelow hs → AllNamed vars k
+        → AllNamed vars (lines.called_code x runs label proc ty to hs k)
+    called_named true label proc ty to hs e rest =
+        arguments_named label (params_in (lines.layout_at x proc).all) hs (params_each MOST_ARGUMENTS (lines.layout_at x proc).all (below.params proc)) e
+        (checked_named x.setting.start (named.argument vars many (omega arith) (first_is vars many) (given_named proc to rest)))
+    called_named false label proc ty to hs e rest = checked_named x.setting.start (nothing_named ty to rest)
 
     return_named : (start : Bool) (result : Option ℕ) {k : List WordInstr} → AllNamed vars k → AllNamed vars (lines.return_code x start result k)
     return_named true result rest = exit_named rest
@@ -211,84 +296,166 @@ module _ (vars : ℕ) (many : OWN_FROM ≤ vars) where
     return_named false (Some p) rest =
         let h : Housed = lines.own_place x p in back_named h.is_word (spot_of h) (spot_below vars h (own_below p)) rest
 
-    ordinal_named : (def : Option TypeDef) (ty from : ℕ) {k : List WordInstr} → from < vars → AllNamed vars k
-        → AllNamed vars (lines.ordinal_code x def ty from k)
-    ordinal_named None ty from f rest = number_named from f rest
-    ordinal_named (Some D.Int) ty from f rest = number_named from f rest
-    ordinal_named (Some D.Bool) ty from f rest = bool_named from f rest
-    ordinal_named (Some D.Char) ty from f rest = char_named from f rest
-    ordinal_named (Some (D.Enum name at members)) ty from f rest = name_named _ x.setting.names from f rest
-    ordinal_named (Some D.Text) ty from f rest = rest
-    ordinal_named (Some (D.Seq i)) ty from f rest = rest
-    ordinal_named (Some (D.Param n)) ty from f rest = rest
-    ordinal_named (Some (D.Array n i)) ty from f rest = rest
-    ordinal_named (Some (D.Tuple names is)) ty from f rest = rest
-    ordinal_named (Some (D.Object name at is all own_hooks parts)) ty from f rest = rest
-    ordinal_named (Some (D.Distinct name at i)) ty from f rest = rest
-    ordinal_named (Some (D.Ref name i)) ty from f rest = rest
-    ordinal_named (Some (D.Exception name at parent)) ty from f rest = rest
+    -- ---- what is written
+    written_named : (def : Option TypeDef) (ty : ℕ) (from : Housed) {k : List WordInstr} → IsBelow vars from.home → AllNamed vars k
+        → AllNamed vars (lines.written_code x def ty from k)
+    written_named None ty from f rest = number_named _ (variable_is from f) rest
+    written_named (Some D.Int) ty from f rest = number_named _ (variable_is from f) rest
+    written_named (Some D.Bool) ty from f rest = bool_named _ (variable_is from f) rest
+    written_named (Some D.Char) ty from f rest = char_named _ (variable_is from f) rest
+    written_named (Some D.Text) ty from f rest = literal_named x.setting.literals from.alias rest
+    written_named (Some (D.Enum name at members)) ty from f rest = name_named _ x.setting.names _ (variable_is from f) rest
+    written_named (Some (D.Seq i)) ty from f rest = rest
+    written_named (Some (D.Param n)) ty from f rest = rest
+    written_named (Some (D.Array n i)) ty from f rest = rest
+    written_named (Some (D.Tuple names is)) ty from f rest = rest
+    written_named (Some (D.Object name at is all own_hooks parts)) ty from f rest = rest
+    written_named (Some (D.Distinct name at i)) ty from f rest = rest
+    written_named (Some (D.Ref name i)) ty from f rest = rest
+    written_named (Some (D.Exception name at parent)) ty from f rest = rest
+
+    typed_named : (ty : Option ℕ) (from : Housed) {k : List WordInstr} → IsBelow vars from.home → AllNamed vars k
+        → AllNamed vars (lines.typed_code x ty from k)
+    typed_named None from f rest = rest
+    typed_named (Some ty) from f rest = written_named (entry_at x.table ty) (base_at x.table ty) from f rest
+
+    texts_named : (of : List (Option ℕ)) (hs : List Housed) {k : List WordInstr} → AllBelow hs → AllNamed vars k
+        → AllNamed vars (lines.texts_code x of hs k)
+    texts_named [] hs e rest = rest
+    texts_named (ty ∷ tys) [] e rest = rest
+    texts_named (ty ∷ tys) (h ∷ hs) e rest = typed_named ty h e.0 (texts_named tys hs e.1 rest)
+
+    -- ---- operations
+    converted_named : (limit : Option ℕ) (to from : Housed) {k : List WordInstr} → IsBelow vars to.home → IsBelow vars from.home → AllNamed vars k
+        → AllNamed vars (lines.converted_code limit to from k)
+    converted_named None to from t f rest = moves_named to from t f rest
+    converted_named (Some values) to from t f rest = narrow_named vars many _ _ values (variable_is to t) (variable_is from f) rest
+
+    updated_named : (label : ℕ) (operator : Operator) (spot : Spot) (by : ℕ) {k : List WordInstr} → IsSpotBelow vars spot → by < vars
+        → AllNamed vars k → AllNamed vars (lines.updated_code label operator spot by k)
+    updated_named label operator (Held v) by s b rest = binary_named vars many label operator v v by s s b rest
+    updated_named label operator (Lies home) by s b rest =
+        let second : SECOND < vars = second_is vars many in
+        let fourth = fourth_is vars many in
+        named.address vars many SECOND home second s (named.load vars many fourth second
+        (binary_named vars many label operator _ _ by fourth fourth b
+        (named.address vars many FIRST home (first_is vars many) s (named.store vars many (first_is vars many) fourth rest))))
+
+    update_named : (label : ℕ) (operator : Operator) (hs : List Housed) {k : List WordInstr} → AllBelow hs → AllNamed vars k
+        → AllNamed vars (lines.update_code label operator hs k)
+    update_named label operator [] e rest = rest
+    update_named label operator (to ∷ []) e rest =
+        named.constant vars many (fifth_is vars many)
+        (updated_named label operator (spot_of to) FIFTH (spot_below vars to e.0) (fifth_is vars many) rest)
+    update_named label operator (to ∷ by ∷ hs) e rest =
+        updated_named label operator (spot_of to) (lines.variable_of by) (spot_below vars to e.0) (variable_is by e.1.0) rest
+
+    quit_named : (hs : List Housed) {k : List WordInstr} → AllBelow hs → AllNamed vars k → AllNamed vars (lines.quit_code hs k)
+    quit_named [] e rest = exit_named rest
+    quit_named (status ∷ hs) e rest = named.exit vars many (variable_is status e.0) rest
+
+    swap_named : (left right : Home) (bytes : ℕ) {k : List WordInstr} → IsBelow vars left → IsBelow vars right → AllNamed vars k
+        → AllNamed vars (lines.swap_code left right bytes k)
+    swap_named left right bytes l r rest =
+        word_argument_named 0 left (omega arith) l (word_argument_named 1 right (omega arith) r
+        (named.constant vars many (third_is vars many) (named.argument vars many (omega arith) (third_is vars many)
+        (named.call vars many (first_is vars many) rest))))
+
+    row_named : (operation : Operation) (label : ℕ) (ty : Option ℕ) (of : List (Option ℕ)) (to : Housed) (hs : List Housed) {k : List WordInstr}
+        → IsBelow vars to.home → AllBelow hs → AllNamed vars k → AllNamed vars (lines.row_code x operation label ty of to hs k)
+    row_named operation label ty of to hs {k} t e rest = by operation
+      where
+        a : IsBelow vars (lines.operand_at hs 0).home
+        a = at_below hs 0 e
+
+        b : IsBelow vars (lines.operand_at hs 1).home
+        b = at_below hs 1 e
+
+        is_to : lines.variable_of to < vars
+        is_to = variable_is to t
+
+        is_left : lines.variable_of (lines.operand_at hs 0) < vars
+        is_left = variable_is (lines.operand_at hs 0) a
+
+        is_right : lines.variable_of (lines.operand_at hs 1) < vars
+        is_right = variable_is (lines.operand_at hs 1) b
+
+        by : (o : Operation) → AllNamed vars (lines.row_code x o label ty of to hs k)
+        by O.Default = starts_named to.bytes to t rest
+        by (O.Unary operator) = unary_named vars many operator (lines.variable_of to) (lines.variable_of (lines.operand_at hs 0)) is_to is_left rest
+        by (O.Binary operator) = binary_named vars many label operator (lines.variable_of to) (lines.variable_of (lines.operand_at hs 0))
+            (lines.variable_of (lines.operand_at hs 1)) is_to is_left is_right rest
+        by (O.Compare c) = compare_named vars many c (lines.variable_of to) (lines.variable_of (lines.operand_at hs 0))
+            (lines.variable_of (lines.operand_at hs 1)) is_to is_left is_right rest
+        by O.Convert = converted_named (limit_at x.table ty) to (lines.operand_at hs 0) t a rest
+        by O.Join = rest
+        by O.Show = rest
+        by O.Make = parts_named to.home hs t e rest
+        by O.Sequence = rest
+        by O.NewSequence = rest
+        by (O.Measure measure) = named.constant vars many (variable_is to t) rest
+        by O.IsNil = rest
+        by O.Echo = texts_named of hs e (text_named LINE_END_AT 1 rest)
+        by O.Quit = quit_named hs e rest
+        by O.ReadLine = rest
+        by O.ReadLineInto = rest
+        by O.Assign = moves_named (lines.operand_at hs 0) (lines.operand_at hs 1) a b rest
+        by (O.Update operator) = update_named label operator hs e rest
+        by O.Add = rest
+        by O.Append = rest
+        by O.SetLength = rest
+        by O.Pop = rest
+        by O.Move = moves_named to (lines.operand_at hs 0) t a (clears_named (lines.operand_at hs 0) a rest)
+        by O.Swap = swap_named (lines.operand_at hs 0).home (lines.operand_at hs 1).home (lines.operand_at hs 0).bytes a b rest
+        by O.Discard = rest
+        by O.Destroy = rest
+        by O.Blank = rest
 
     -- ---- lines
-    line_named : (line : Line) (rest : List Line) {k : List WordInstr} → AllNamed vars k → AllNamed vars (lines.line_code x line rest k)
-    line_named L.Pass rest k = k
-    line_named (L.Ordinal to z) rest k = named.constant vars many (held_below to) k
-    line_named (L.Constant to pieces) rest k =
-        let v : Housed = lines.value x to in constant_named v (spot_of v) pieces (spot_below vars v (value_below to)) k
-    line_named (L.Default to ty) rest k = clears_named (lines.value x to) (value_below to) k
-    line_named (L.Copy to from) rest k = moves_named (lines.value x to) (lines.value x from) (value_below to) (value_below from) k
-    line_named (L.Narrow to from values) rest k = narrow_named vars many _ _ values (held_below to) (held_below from) k
-    line_named (L.Unary to operator from) rest k = unary_named vars many operator _ _ (held_below to) (held_below from) k
-    line_named (L.Binary to operator left right) rest k =
-        binary_named vars many (lines.label_before rest) operator _ _ _ (held_below to) (held_below left) (held_below right) k
-    line_named (L.Compare to comparison left right) rest k =
-        compare_named vars many comparison _ _ _ (held_below to) (held_below left) (held_below right) k
-    line_named (L.Make to ts) rest k = parts_named (lines.value x to).home ts (value_below to) k
-    line_named (L.Construct to ty fs) rest k =
-        clears_named (lines.value x to) (value_below to) (fields_named (lines.value x to).home ty fs (value_below to) k)
-    line_named (L.Fetch to p global) rest k = moves_named (lines.value x to) (lines.place x p global) (value_below to) (place_below p global) k
-    line_named (L.Store p global from) rest k = moves_named (lines.place x p global) (lines.value x from) (place_below p global) (value_below from) k
-    line_named (L.Fill p from) rest k = moves_named (lines.own_place x p) (lines.value x from) (own_below p) (value_below from) k
-    line_named (L.Blank p ty) rest k = clears_named (lines.own_place x p) (own_below p) k
-    line_named (L.FillAt p from) rest k = moves_named (lines.own_place x p) (lines.location x from) (own_below p) (location_below from) k
-    line_named (L.Root to p global) rest k = named.address vars many (lines.led x to) (lines.place x p global).home (led_below to) (place_below p global) k
-    line_named (L.Fresh to from) rest k = named.address vars many (lines.led x to) (lines.value x from).home (led_below to) (value_below from) k
-    line_named (L.Part to from field) rest k =
-        named.sum vars many (led_below to) (led_below from) k
-    line_named (L.Item to from index) rest k =
-        let a : FIRST < vars = first_is vars many in
-        named.constant vars many a (named.branch vars many (held_below index) a (named.constant vars many a
-        (named.compute vars many a (held_below index) a (named.compute vars many (led_below to) (led_below from) a k))))
-    line_named (L.Get to from) rest k = moves_named (lines.value x to) (lines.location x from) (value_below to) (location_below from) k
-    line_named (L.Put at from) rest k = moves_named (lines.location x at) (lines.value x from) (location_below at) (value_below from) k
-    line_named (L.MoveOut to at ty) rest k =
-        moves_named (lines.value x to) (lines.location x at) (value_below to) (location_below at) (clears_named (lines.location x at) (location_below at) k)
-    line_named (L.Swap left right) rest k =
-        named.constant vars many (third_is vars many) (named.argument vars many (omega arith) (led_below left)
-        (named.argument vars many (omega arith) (led_below right) (named.argument vars many (omega arith) (third_is vars many)
-        (named.call vars many (first_is vars many) k))))
-    line_named (L.Measure to measure from) rest k = named.constant vars many (held_below to) k
-    line_named (L.Still from len) rest k =
+    line_named : (line : Line) (label : ℕ) {k : List WordInstr} → AllNamed vars k → AllNamed vars (lines.line_code x line label k)
+    line_named (L.Apply to operation how ty of from) label k =
+        row_named operation label ty of (lines.value x to) (lines.operands x from) (value_below to) (operands_below from) k
+    line_named (L.Construct to how ty fields from) label k =
+        clears_named (lines.value x to) (value_below to)
+        (fields_named (lines.value x to).home ty fields (lines.operands x from) (value_below to) (operands_below from) k)
+    line_named (L.Constant to how ty pieces) label k = constant_named (text_in pieces) (lines.value x to) pieces (value_below to) k
+    line_named (L.Call to how ty proc from) label k =
+        called_named (lines.layout_at x proc).runs label proc ty to (lines.operands x from) (operands_below from) k
+    line_named (L.Get to from how site ty) label k = moves_named (lines.value x to) (lines.location x from) (value_below to) (location_below from) k
+    line_named (L.Look to from) label k = moves_named (lines.value x to) (lines.location x from) (value_below to) (location_below from) k
+    line_named (L.Root to p global) label k = k
+    line_named (L.Fresh to from) label k = k
+    line_named (L.Part to from field) label k = part_named _ _ _ (led_below to) (location_below from) k
+    line_named (L.Item to from index) label k =
+        named.constant vars many (first_is vars many) (named.branch vars many (held_below index) (first_is vars many)
+        (element_named _ _ _ _ (led_below to) (location_below from) (held_below index) k))
+    line_named (L.Object to from) label k = k
+    line_named (L.Pass to from how ty) label k = passes_named _ (lines.value x to) (lines.value x from) (value_below to) (value_below from) k
+    line_named (L.Truth to holds) label k = named.constant vars many (held_below to) k
+    line_named (L.Fill p from) label k = moves_named (lines.own_place x p) (lines.value x from) (own_below p) (value_below from) k
+    line_named (L.Blank p ty) label k = clears_named (lines.own_place x p) (own_below p) k
+    line_named (L.Give p from) label k = moves_named (lines.own_place x p) (lines.value x from) (own_below p) (value_below from) k
+    line_named (L.Zero to) label k = named.constant vars many (held_below to) k
+    line_named (L.Length to from) label k = named.constant vars many (held_below to) k
+    line_named (L.Still from len) label k =
         named.constant vars many (first_is vars many) (named.branch vars many (held_below len) (first_is vars many) k)
-    line_named (L.Label name) rest k = named.label vars many k
-    line_named (L.Jump to) rest k = named.jump vars many k
-    line_named (L.Unless from to) rest k = unless_named vars many _ (lines.own_label to) (held_below from) k
-    line_named (L.Fits from low high to) rest k = fits_named vars many _ (lines.own_label to) low high (held_below from) k
-    line_named (L.Uncovered to) rest k = named.jump vars many k
-    line_named (L.Count counter last inclusive more) rest k =
-        count_named vars many (lines.label_before rest) _ _ inclusive _ (held_below counter) (held_below last) (held_below more) k
-    line_named (L.Argument from) rest k =
-        argument_named (lines.label_before rest) _ (lines.value x from) (param_for_below (lines.callee_behind rest) (lines.arguments_behind rest))
-        (value_below from) k
-    line_named (L.ArgumentAt from) rest k =
-        argument_named (lines.label_before rest) _ (lines.location x from) (param_for_below (lines.callee_behind rest) (lines.arguments_behind rest))
-        (location_below from) k
-    line_named (L.Call to proc) rest k = checked_named x.setting.start (called_named proc to (lines.layout_at x proc).runs k)
-    line_named (L.Return result) rest k = return_named x.setting.start result k
-    line_named (L.Write from ty) rest k = ordinal_named (entry_at x.table ty) (base_at x.table ty) _ (held_below from) k
-    line_named (L.WriteText text) rest k = literal_named _ text k
-    line_named (L.Quit status) rest k = named.exit vars many (held_below status) k
-    line_named L.QuitZero rest k = exit_named k
+    line_named (L.Element to from index) label k =
+        let v : Housed = lines.value x to in
+        element_named FIFTH _ _ _ (fifth_is vars many) (location_below from) (held_below index)
+        (named.moved vars many v.is_word v.bytes (spot_of v) (Lies (Variable FIFTH)) (spot_below vars v (value_below to)) (fifth_is vars many) k)
+    line_named (L.Beyond counter last inclusive to) label k = beyond_named vars many inclusive _ _ _ (held_below counter) (held_below last) k
+    line_named (L.Next counter last) label k = named.sum vars many (held_below counter) (held_below counter) k
+    line_named (L.Label name) label k = named.label vars many k
+    line_named (L.Jump to) label k = named.jump vars many k
+    line_named (L.Unless from to) label k = unless_named vars many _ (lines.own_label to) (held_below from) k
+    line_named (L.Fits from low high to) label k = fits_named vars many _ (lines.own_label to) low high (held_below from) k
+    line_named L.Enter label k = k
+    line_named (L.Turn to) label k = named.jump vars many k
+    line_named (L.TurnIf from to) label k = if_named vars many _ (lines.own_label to) (held_below from) k
+    line_named (L.CountTurn counter last inclusive to) label k =
+        turn_named vars many label _ _ inclusive _ (held_below counter) (held_below last) k
+    line_named (L.Return result) label k = return_named x.setting.start result k
 
     pub lines_named : (all : List Line) {k : List WordInstr} → AllNamed vars k → AllNamed vars (lines.lines_code x all k)
     lines_named [] rest = rest
-    lines_named (line ∷ all) rest = line_named line all (lines_named all rest)
+    lines_named (line ∷ all) rest = line_named line (lines.label_before all) (lines_named all rest)

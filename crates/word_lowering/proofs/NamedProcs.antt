@@ -1,37 +1,42 @@
 -- Procedures of word code are well formed, and have numbers of their own.
-use Rattle.std.proofs.Common.{◌≡◌, ℕ, zero, suc, ◌+◌, ◌%◌, ◌≤◌, ◌<◌, List, [], ◌∷◌, length, map, Bool, true, false}
+use Rattle.std.proofs.Common.{◌≡◌, ◌⊎◌, inl, inr, ℕ, zero, suc, ◌+◌, ◌%◌, ◌≤◌, ◌<◌, List, [], ◌∷◌, length, map, Bool, true, false}
 use Rattle.std.proofs.Common.{not, ◌&&◌, nat_le}
-use Rattle.std.proofs.Common.{Option, Some, None, slice_get, ◌==◌, refl, ap, arith}
+use Rattle.std.proofs.Common.{Option, Some, None, slice_get, ◌==◌, refl, ap, arith, le_refl}
 use Rattle.std.proofs.lemmas.Bool.{and_parts, and_from, or_from, le-leb, leb-true, eq-eqb, ne_eqb}
 use Rattle.nim_types.specs.declared.types.TypeDef.{TypeDef}
-use Rattle.nim_core.specs.Traps.{Trap, Overflow, DivisionByZero, IndexOutOfBounds, OutOfRange, LengthChanged, CallDepth}
-use Rattle.mid_code.specs.declared.word.TheConstants.{MOST_ARGUMENTS, MOST_VARIABLES}
-use Rattle.mid_code.specs.declared.place.HookOf.{HookOf}
-use Rattle.mid_code.specs.declared.line.Line.{Line}
-use Rattle.mid_code.specs.declared.block.BlockProc.{BlockProc}
-use Rattle.mid_code.specs.declared.block.Blocks.{Blocks}
-use Rattle.mid_code.specs.declared.word.WordInstr.{WordInstr}
-use Rattle.mid_code.specs.declared.word.WordProc.{WordProc}
-use Rattle.mid_code.specs.Codes.{block_plain}
-use Rattle.mid_code.specs.Running.{last_of}
-use Rattle.mid_code.specs.Words.{is_kind, is_proc, has_number, are_procs, is_word_code}
+use Rattle.nim_program.specs.Traps.{Trap, Overflow, DivisionByZero, IndexOutOfBounds, OutOfRange, LengthChanged, CallDepth}
+use Rattle.word_code.specs.declared.word.TheConstants.{MOST_ARGUMENTS, MOST_VARIABLES}
+use Rattle.nim_program.specs.declared.program.HookOf.{HookOf}
+use Rattle.flat_code.specs.declared.line.Line.{Line}
+use Rattle.flat_code.specs.declared.block.BlockLine.{BlockLine}
+use Rattle.flat_code.specs.declared.code.CodeProc.{CodeProc}
+use Rattle.flat_code.specs.declared.code.Code.{Code}
+use Rattle.word_code.specs.declared.word.WordInstr.{WordInstr}
+use Rattle.word_code.specs.declared.word.WordProc.{WordProc}
+use Rattle.word_code.specs.declared.word.WordCode.{WordCode}
+use Rattle.flat_code.specs.Codes.{block_plain}
+use Rattle.flat_code.specs.Running.{last_of}
+use Rattle.word_code.specs.Joined.{joined, IsFree, AreApart}
+use Rattle.word_code.specs.Runtime.{AreRoutines}
+use Rattle.word_code.specs.Words.{is_kind, is_proc, has_number, are_procs, is_word_code}
+use Rattle.word_code.proofs.ForCallers.{joined_formed}
 use Rattle.word_lowering.specs.declared.homes.TheConstants.{OWN_FROM}
 use Rattle.word_lowering.specs.declared.homes.Housed.{Housed}
 use Rattle.word_lowering.specs.declared.homes.Layout.{Layout}
-use Rattle.word_lowering.specs.declared.routines.TheConstants.{PROCS_FROM}
+use Rattle.word_code.specs.declared.routine.TheConstants.{PROCS_FROM}
 use Rattle.word_lowering.specs.declared.texts.TheConstants.{FIXED_BYTES}
 use Rattle.word_lowering.specs.declared.may_lower.TheConstants.{MOST_ROOM, MOST_VARS}
-use Rattle.word_lowering.specs.Layouts.{is_empty, roots_in, free_at, layout_of, layouts, params_in, result_in, kept_in}
-use Rattle.word_lowering.specs.LineCode.{Around, no_layout, or_none, layout_at, proc_number}
+use Rattle.word_lowering.specs.Layouts.{is_empty, free_at, layout_of, layouts, params_in, result_in, kept_in}
+use Rattle.word_lowering.specs.LineCode.{Around, no_layout, or_none, layout_at, proc_number, lines_code}
 use Rattle.word_lowering.specs.Lowered as code
-use Rattle.word_lowering.specs.Routines.{trap_number, and_routines}
+use Rattle.word_code.specs.RoutineTable.{trap_number}
 use Rattle.word_lowering.specs.Operations.{trap_label}
 use Rattle.word_lowering.specs.Texts.{texts_in}
 use Rattle.word_lowering.specs.MayLower.{params_lead, all_plain, hook_may, places_may, sizes_may, proc_may, procs_may, may_lower}
-use Rattle.word_lowering.proofs.HomesApart.{Each, each_as}
+use Rattle.word_lowering.proofs.HomesApart.{Each, each_as, grows_all}
 use Rattle.word_lowering.proofs.LayoutBounds.{IsBelow, IsParamBelow, IsGlobalBelow, IfHoused, bound_more}
 use Rattle.word_lowering.proofs.LayoutBounds.{room_whole, all_below, kept_within, params_below, globals_below, result_each}
-use Rattle.word_lowering.proofs.NamedCode.{AllNamed, none_named, named_true, spot_below, first_is}
+use Rattle.word_lowering.proofs.NamedCode.{AllNamed, none_named, named_true, named_on, spot_below, first_is}
 use Rattle.word_lowering.proofs.NamedCode as named
 use Rattle.word_lowering.proofs.NamedLines.{IsAroundBelow, lines_named}
 
@@ -47,18 +52,19 @@ module _ (vars : ℕ) (many : OWN_FROM ≤ vars) where
   trap_named true label routine rest = named.label vars many (named.call vars many (first_is vars many) rest)
   trap_named false label routine rest = rest
 
-  end_named : (lines : List Line) (trap : Trap) {k : List WordInstr} → AllNamed vars k → AllNamed vars (code.trap_end lines trap k)
-  end_named lines trap rest = trap_named (code.lines_lead (trap_label trap) lines) (trap_label trap) (trap_number trap) rest
+  end_named : (lines : List WordInstr) (trap : Trap) {k : List WordInstr} → AllNamed vars k → AllNamed vars (code.trap_end lines trap k)
+  end_named lines trap rest = trap_named (code.any_branches (trap_label trap) lines) (trap_label trap) (trap_number trap) rest
 
-  last_named : (lines : List Line) {k : List WordInstr} → AllNamed vars k → AllNamed vars (code.last_code lines k)
-  last_named lines rest =
+  last_named : (lines : List WordInstr) → AllNamed vars (code.last_code lines)
+  last_named lines =
       end_named lines Overflow (end_named lines DivisionByZero (end_named lines IndexOutOfBounds
-      (end_named lines OutOfRange (end_named lines LengthChanged (end_named lines CallDepth rest)))))
+      (end_named lines OutOfRange (end_named lines LengthChanged (end_named lines CallDepth none_named)))))
 
   code_named : (x : Around) (lines : List Line) → IsAroundBelow vars x → AllNamed vars (code.code_of x lines)
   code_named x lines below =
-      result_named (result_in x.own.all) (result_each (λ h. IsBelow vars h.home) x.own.all below.own)
-      (lines_named vars many x below lines (last_named lines none_named))
+      named_on (result_named (result_in x.own.all) (result_each (λ h. IsBelow vars h.home) x.own.all below.own)
+      (lines_named vars many x below lines none_named))
+      (last_named (code.result_cleared (result_in x.own.all) (lines_code x lines [])))
 
 -- ---- a procedure
 
@@ -67,31 +73,33 @@ pub record IsLaid (own : Layout) : Type 0 where
   pub many : OWN_FROM + kept_in (params_in own.all) ≤ own.free.variable
   pub whole : own.free.byte % 4 ≡ 0
 
-pub laid : (table : List TypeDef) (start : Bool) (datum : ℕ) (p : BlockProc) → IsLaid (layout_of table start datum p)
+pub laid : (table : List TypeDef) (start : Bool) (datum : ℕ) (p : CodeProc BlockLine) → IsLaid (layout_of table start datum p)
 laid table start datum p =
-    let roots : List ℕ = roots_in (map block_plain p.lines) in
+    let lines : List Line = map block_plain p.lines in
+    let grown = (grows_all table start lines (free_at datum) p.places).variable in
     record {
-      below = all_below table start roots (free_at datum) p.places;
-      many = kept_within table start roots (free_at datum) p.places;
-      whole = room_whole table start roots (free_at datum) p.places refl;
+      below = all_below table start lines (free_at datum) p.places _ (omega (arith, grown)) (le_refl _);
+      many = kept_within table start lines (free_at datum) p.places;
+      whole = room_whole table start lines (free_at datum) p.places refl;
     }
 
 none_laid : IsLaid no_layout
 none_laid = record { below = tt; many = omega arith; whole = refl }
 
 -- what is tested of a procedure and its layout
-pub record Fits (own : Layout) (p : BlockProc) : Type 0 where
+pub record Fits (own : Layout) (p : CodeProc BlockLine) : Type 0 where
   pub lead : params_lead p.places ≡ true
   pub hook : hook_may p.hook ≡ true
   pub room : own.free.byte ≤ MOST_ROOM
   pub vars : own.free.variable ≤ MOST_VARS
   pub arguments : OWN_FROM + kept_in (params_in own.all) ≤ MOST_ARGUMENTS
 
-pub fits_by : (table : List TypeDef) (own : Layout) (p : BlockProc) → proc_may table own p ≡ true → Fits own p
+pub fits_by : (table : List TypeDef) (own : Layout) (p : CodeProc BlockLine) → proc_may table own p ≡ true → Fits own p
 fits_by table own p h =
-    let both = and_parts (places_may table p) (sizes_may own) h in
-    let places = and_parts (params_lead p.places) (all_plain table p.places && hook_may p.hook) both.0 in
-    let plain = and_parts (all_plain table p.places) (hook_may p.hook) places.1 in
+    let both = and_parts (places_may table own p) (sizes_may own) h in
+    let forms = and_parts (params_lead p.places && (all_plain table own.all && hook_may p.hook)) _ both.0 in
+    let places = and_parts (params_lead p.places) (all_plain table own.all && hook_may p.hook) forms.0 in
+    let plain = and_parts (all_plain table own.all) (hook_may p.hook) places.1 in
     let sizes = and_parts (nat_le own.free.byte MOST_ROOM) _ both.1 in
     let spare = and_parts _ (nat_le own.free.variable MOST_VARS && nat_le (OWN_FROM + kept_in (params_in own.all)) MOST_ARGUMENTS) sizes.1 in
     let vars = and_parts (nat_le own.free.variable MOST_VARS) (nat_le (OWN_FROM + kept_in (params_in own.all)) MOST_ARGUMENTS) spare.1 in
@@ -108,7 +116,7 @@ kind_fits true hook h = refl
 kind_fits false None h = refl
 kind_fits false (Some hook) h = h
 
-proc_formed : (x : Around) (number : ℕ) (p : BlockProc) → IsLaid x.own → IsAroundBelow x.own.free.variable x → x.own.free.variable ≤ MOST_VARS
+proc_formed : (x : Around) (number : ℕ) (p : CodeProc BlockLine) → IsLaid x.own → IsAroundBelow x.own.free.variable x → x.own.free.variable ≤ MOST_VARS
     → is_kind (code.kind_in x.setting.start p.hook) ≡ true → is_proc (code.word_proc x number p) ≡ true
 proc_formed x number p own below vars kind =
     let many : OWN_FROM ≤ x.own.free.variable = omega (arith, own.many) in
@@ -167,21 +175,21 @@ formed_if false p n next procs ok same behind rest =
 -- ---- what is around all
 
 module _ (table : List TypeDef) (datum : ℕ) where
-  last_laid : (none : Layout) (procs : List BlockProc) → IsLaid none → IsLaid (last_of none (layouts table datum procs))
+  last_laid : (none : Layout) (procs : List (CodeProc BlockLine)) → IsLaid none → IsLaid (last_of none (layouts table datum procs))
   last_laid none [] h = h
   last_laid none (p ∷ ps) h = last_laid (layout_of table (is_empty ps) datum p) ps (laid table (is_empty ps) datum p)
 
   -- the layout of the start code has its globals in the data
-  last_globals : (n : ℕ) (none : Layout) (p : BlockProc) (ps : List BlockProc)
+  last_globals : (n : ℕ) (none : Layout) (p : CodeProc BlockLine) (ps : List (CodeProc BlockLine))
       → Each (IsGlobalBelow n) (last_of none (layouts table datum (p ∷ ps))).all
-  last_globals n none p [] = globals_below table (roots_in (map block_plain p.lines)) n (free_at datum) p.places
+  last_globals n none p [] = globals_below table (map block_plain p.lines) n (free_at datum) p.places
   last_globals n none p (q ∷ ps) = last_globals n (layout_of table false datum p) q ps
 
-  start_globals : (n : ℕ) (procs : List BlockProc) → Each (IsGlobalBelow n) (last_of no_layout (layouts table datum procs)).all
+  start_globals : (n : ℕ) (procs : List (CodeProc BlockLine)) → Each (IsGlobalBelow n) (last_of no_layout (layouts table datum procs)).all
   start_globals n [] = tt
   start_globals n (p ∷ ps) = last_globals n no_layout p ps
 
-  last_vars : (none : Layout) (procs : List BlockProc) → none.free.variable ≤ MOST_VARS → procs_may table (layouts table datum procs) procs ≡ true
+  last_vars : (none : Layout) (procs : List (CodeProc BlockLine)) → none.free.variable ≤ MOST_VARS → procs_may table (layouts table datum procs) procs ≡ true
       → (last_of none (layouts table datum procs)).free.variable ≤ MOST_VARS
   last_vars none [] h may = h
   last_vars none (p ∷ ps) h may =
@@ -190,7 +198,7 @@ module _ (table : List TypeDef) (datum : ℕ) where
       last_vars own ps (fits_by table own p both.0).vars both.1
 
   -- parameters are among arguments
-  all_params : (procs : List BlockProc) → procs_may table (layouts table datum procs) procs ≡ true → (proc : ℕ)
+  all_params : (procs : List (CodeProc BlockLine)) → procs_may table (layouts table datum procs) procs ≡ true → (proc : ℕ)
       → Each (IsParamBelow MOST_ARGUMENTS) (or_none (slice_get (layouts table datum procs) proc)).all
   all_params [] h proc = tt
   all_params (p ∷ ps) h zero =
@@ -198,11 +206,11 @@ module _ (table : List TypeDef) (datum : ℕ) where
       let both = and_parts (proc_may table own p) (procs_may table (layouts table datum ps) ps) h in
       let fits : Fits own p = fits_by table own p both.0 in
       each_as (λ other i. λ e. bound_more (OWN_FROM + kept_in (params_in own.all)) MOST_ARGUMENTS other.home fits.arguments (i e)) own.all
-      (params_below table (is_empty ps) (roots_in (map block_plain p.lines)) (free_at datum) p.places fits.lead)
+      (params_below table (is_empty ps) (map block_plain p.lines) (free_at datum) p.places fits.lead)
   all_params (p ∷ ps) h (suc proc) =
       all_params ps (and_parts (proc_may table (layout_of table (is_empty ps) datum p) p) (procs_may table (layouts table datum ps) ps) h).1 proc
 
-  procs_formed : (x : Around) → IsShared x → (index : ℕ) (procs : List BlockProc) → procs_may table (layouts table datum procs) procs ≡ true
+  procs_formed : (x : Around) → IsShared x → (index : ℕ) (procs : List (CodeProc BlockLine)) → procs_may table (layouts table datum procs) procs ≡ true
       → AreFormed (proc_number index) (code.word_procs x index (layouts table datum procs) procs)
   procs_formed x shared index [] may = record { formed = refl; numbers = tt }
   procs_formed x shared index (p ∷ []) may = record { formed = refl; numbers = tt }
@@ -218,25 +226,53 @@ module _ (table : List TypeDef) (datum : ℕ) where
       formed_if own.runs (code.word_proc y (proc_number index) p) (proc_number index) (proc_number (suc index)) rest ok refl (omega arith)
       (procs_formed x shared (suc index) (q ∷ ps) both.1)
 
-routines_formed : (procs : List WordProc) → ((n : ℕ) → n < PROCS_FROM → not (has_number n procs) ≡ true) → are_procs procs ≡ true
-    → are_procs (and_routines procs) ≡ true
-routines_formed procs none h =
-    and_from _ _ (none 1 (omega arith)) (and_from _ _ (none 2 (omega arith)) (and_from _ _ (none 3 (omega arith)) (and_from _ _ (none 4 (omega arith))
-    (and_from _ _ (none 5 (omega arith)) (and_from _ _ (none 6 (omega arith)) (and_from _ _ (none 7 (omega arith)) (and_from _ _ (none 8 (omega arith))
-    (and_from _ _ (none 9 (omega arith)) (and_from _ _ (none 10 (omega arith)) h)))))))))
+-- the start code has the number 0, and the others none of a routine
+module _ (table : List TypeDef) (blocks : Code BlockLine) (may : may_lower table blocks ≡ true) where
+  abbrev procs : List (CodeProc BlockLine)
+  procs = blocks.procs
 
-pub is_formed : (table : List TypeDef) (blocks : Blocks) → may_lower table blocks ≡ true → is_word_code (code.lowered table blocks) ≡ true
-is_formed table blocks may =
-    let procs : List BlockProc = blocks.procs in
-    let all : List Layout = code.all_layouts table procs in
-    let each = (and_parts (procs_may table all procs) _ may).0 in
-    let x : Around = code.start_around table procs in
-    let shared : IsShared x =
-    record { globals = λ n. start_globals table FIXED_BYTES n procs; params = all_params table FIXED_BYTES procs each } in
-    let own : IsLaid x.own = last_laid table FIXED_BYTES no_layout procs none_laid in
-    let rest = procs_formed table FIXED_BYTES x shared 0 procs each in
-    let none : (n : ℕ) → n < PROCS_FROM → not (has_number n (code.word_procs x 0 all procs)) ≡ true =
-    λ n h. none_there n (proc_number 0) _ (omega (arith, h)) rest.numbers in
-    let ok = proc_formed x 0 (last_of code.no_proc procs) own (around_below x shared own)
-    (last_vars table FIXED_BYTES no_layout procs (omega arith) each) refl in
-    and_from _ _ (and_from _ _ ok (and_from _ _ (none 0 (omega arith)) (routines_formed _ none rest.formed))) refl
+  abbrev all : List Layout
+  all = code.all_layouts table procs
+
+  abbrev around : Around
+  around = code.start_around table procs
+
+  each : procs_may table all procs ≡ true
+  each = (and_parts (procs_may table all procs) _ may).0
+
+  shared : IsShared around
+  shared = record { globals = λ n. start_globals table FIXED_BYTES n procs; params = all_params table FIXED_BYTES procs each }
+
+  others_formed : AreFormed (proc_number 0) (code.word_procs around 0 all procs)
+  others_formed = procs_formed table FIXED_BYTES around shared 0 procs each
+
+  pub procs_are_formed : are_procs (code.lowered table blocks).procs ≡ true
+  procs_are_formed =
+      let own : IsLaid around.own = last_laid table FIXED_BYTES no_layout procs none_laid in
+      let ok = proc_formed around 0 (last_of code.no_proc procs) own (around_below around shared own)
+      (last_vars table FIXED_BYTES no_layout procs (omega arith) each) refl in
+      and_from _ _ ok (and_from _ _ (none_there 0 (proc_number 0) _ (omega arith) others_formed.numbers) others_formed.formed)
+
+  -- a number beyond those of routines is free among them
+  beyond : (n : ℕ) (rs : List WordProc) → AreRoutines rs → (n ≡ 0) ⊎ (PROCS_FROM ≤ n) → IsFree n rs
+  beyond n [] are h = tt
+  beyond n (r ∷ rs) are h = (λ e. by e h, beyond n rs are.1 h)
+    where
+      by : r.number ≡ n → (n ≡ 0) ⊎ (PROCS_FROM ≤ n) → ⊥
+      by e (inl z) = let first = are.0.first in absurd (omega (arith, first, e, z))
+      by e (inr far) = let last = are.0.last in absurd (omega (arith, last, e, far))
+
+  all_beyond : (ps rs : List WordProc) → AreRoutines rs → NumbersFrom (proc_number 0) ps → AreApart ps rs
+  all_beyond [] rs are numbers = tt
+  all_beyond (p ∷ ps) rs are numbers = (beyond p.number rs are (inr (omega (arith, numbers.0))), all_beyond ps rs are numbers.1)
+
+  -- so they are apart from those of a runtime
+  pub apart_from : (rs : List WordProc) → AreRoutines rs → AreApart (code.lowered table blocks).procs rs
+  apart_from rs are = (beyond 0 rs are (inl refl), all_beyond (code.word_procs around 0 all procs) rs are others_formed.numbers)
+
+-- with a runtime
+pub is_formed : (table : List TypeDef) (blocks : Code BlockLine) → may_lower table blocks ≡ true → (runtime : WordCode) → are_procs runtime.procs ≡ true
+    → AreRoutines runtime.procs → is_word_code (joined (code.lowered table blocks) runtime) ≡ true
+is_formed table blocks may runtime formed are =
+    and_from _ _ (joined_formed (length (code.lowered table blocks).statics) (code.lowered table blocks).procs runtime.procs
+    (apart_from table blocks may runtime.procs are) (procs_are_formed table blocks may) formed) refl

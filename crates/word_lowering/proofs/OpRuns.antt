@@ -1,15 +1,15 @@
 -- How the code of operations runs that give a word to the variable of a place, or lead to the label of a trap, put together line by line.
 use Rattle.std.proofs.Common.{◌≡◌, ℕ, ◌+◌, ◌^◌, ◌<◌, ◌≤◌, List, ◌∷◌, Some, true, false, subst, ◌∙◌, arith}
 use Rattle.rv32_isa.specs.Machine.{Lives}
-use Rattle.mid_code.specs.declared.word.WordOperation.{WordOperation}
-use Rattle.mid_code.specs.declared.word.Test.{Test}
-use Rattle.mid_code.specs.declared.word.WordInstr.{WordInstr}
-use Rattle.mid_code.specs.declared.word.WordInstr.TheVariants.{Label, Constant, Copy, Compute, Sum, Branch}
-use Rattle.mid_code.specs.declared.word.WordProc.{WordProc}
-use Rattle.mid_code.specs.Memory.{Memory}
-use Rattle.mid_code.specs.Words.{computed, holds, Vars, put, from_label}
+use Rattle.word_code.specs.declared.word.WordOperation.{WordOperation}
+use Rattle.word_code.specs.declared.word.Test.{Test}
+use Rattle.word_code.specs.declared.word.WordInstr.{WordInstr}
+use Rattle.word_code.specs.declared.word.WordInstr.TheVariants.{Label, Constant, Copy, Compute, Sum, Branch}
+use Rattle.word_code.specs.declared.word.WordProc.{WordProc}
+use Rattle.word_code.specs.Memory.{Memory}
+use Rattle.word_code.specs.Words.{computed, holds, Vars, put, from_label}
+use Rattle.word_code.proofs.ForCallers.{Runs, then_runs, Within, at, run_label, run_constant, run_copy, run_sum, run_compute, run_past, run_off}
 use Rattle.word_lowering.specs.declared.homes.TheConstants.{LEFT, FIRST, OWN_FROM}
-use Rattle.word_lowering.proofs.Runs.{Runs, then_runs, Within, at, run_label, run_constant, run_copy, run_sum, run_compute, run_past, run_off}
 use Rattle.word_lowering.proofs.OrdinalRuns.{put_here, put_other, put_low, AllBut, AllSame, but_one, Gives, Leads}
 use Rattle.word_lowering.proofs.Moves.{all_same, same_more}
 

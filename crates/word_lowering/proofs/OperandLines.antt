@@ -1,430 +1,468 @@
 -- Lines of operations on ordinals are followed.
-use Rattle.std.proofs.Common.{◌≡◌, ℕ, zero, suc, ◌≤◌, List, [], ◌∷◌, map, Option, Some, None, Bool, true, false, ℤ, refl, sym, ap, subst}
-use Rattle.std.proofs.Common.{◌∙◌, arith}
+use Rattle.std.proofs.Common.{map, append-nil, ◌≡◌, ℕ, zero, suc, ◌+◌, ◌≤◌, List, [], ◌∷◌, length, Option, Some, Bool, true, false, ℤ, refl, sym, subst}
+use Rattle.std.proofs.Common.{arith, pos, negsuc, None, ap, ◌∙◌, ◌++◌}
 use Rattle.std.proofs.lemmas.Int.{ints}
-use Rattle.std.proofs.lemmas.Bool.{and_parts, and_from}
-use Rattle.std.specs.Prelude.{pos, negsuc, ◌&&◌, int_lt, int_le, bit_and, bit_or, bit_xor, if◌then◌else◌}
-use Rattle.std.specs.Ordering.{int_eq}
-use Rattle.nim_core.specs.declared.expr.UnaryOperator.{UnaryOperator}
-use Rattle.nim_core.specs.declared.expr.UnaryOperator.TheVariants as unary
-use Rattle.nim_core.specs.declared.expr.Operator.{Operator}
-use Rattle.nim_core.specs.declared.expr.Operator.TheVariants as binary
-use Rattle.nim_core.specs.declared.expr.Comparison.{Comparison}
-use Rattle.nim_core.specs.Traps.{OutOfRange}
-use Rattle.nim_core.specs.Ints.{Checked, Fine, Trapped, fits as is_int_number, bits_of, signed as int_of, applied, applied_to, compared, truth, inside}
-use Rattle.nim_core.specs.Ints.{within as checked_within}
-use Rattle.nim_core.specs.Values.{Value, Number, Parts, number_of}
-use Rattle.mid_code.specs.declared.block.BlockLine.{BlockLine}
-use Rattle.mid_code.specs.declared.block.BlockLine.TheVariants as block_line
-use Rattle.mid_code.specs.declared.line.Line.{Line}
-use Rattle.mid_code.specs.declared.line.Line.TheVariants as L
-use Rattle.mid_code.specs.declared.word.WordInstr.{WordInstr}
-use Rattle.mid_code.specs.Lines.{gives, gives_checked, using_number}
-use Rattle.mid_code.specs.Shapes.{Shape, number, reference, block, elements, row, parts, takes, has_shape}
-use Rattle.mid_code.specs.Fits.{is_value, shape_named, is_number, is_int, is_truth, may_get, bitwise_fits}
-use Rattle.mid_code.specs.Running.{scene_of}
-use Rattle.mid_code.specs.Codes.{block_plain}
-use Rattle.mid_code.proofs.ForCallers.{never, value_wider}
-use Rattle.word_lowering.specs.declared.homes.TheConstants.{OWN_FROM}
-use Rattle.word_lowering.specs.LineCode.{variable_of, label_before}
-use Rattle.word_lowering.specs.Lowered.{line_leads}
-use Rattle.word_lowering.proofs.Options.{some_same}
+use Rattle.std.proofs.lemmas.Bool.{and_from, true≢false, and_parts}
+use Rattle.std.specs.Prelude.{option_map, ◌||◌, ◌+ℤ◌, ◌-ℤ◌, ◌*ℤ◌, neg_ℤ, int_div, int_rem, int_lt, int_le, bit_and, bit_or, bit_xor, ◌&&◌, if◌then◌else◌}
+use Rattle.arc_base.specs.Event.{writes}
+use Rattle.arc_base.specs.declared.outside.Stream.TheVariants.{Err}
+use Rattle.nim_program.specs.declared.operation.UnaryOperator.{UnaryOperator}
+use Rattle.nim_program.specs.declared.operation.UnaryOperator.TheVariants as unary
+use Rattle.nim_program.specs.declared.operation.Operator.{Operator}
+use Rattle.nim_program.specs.declared.operation.Operator.TheVariants as binary
+use Rattle.nim_program.specs.Traps.{Overflow, DivisionByZero, trap_text}
+use Rattle.nim_program.specs.Ints.{Checked, Fine, Trapped, fits as is_int_number, checked, unless_zero, bits_of, signed as int_of, applied, applied_to}
+use Rattle.nim_program.specs.Ints.{truth, inside}
+use Rattle.nim_program.specs.declared.operation.Operation.TheVariants as O
+use Rattle.nim_meaning.specs.Table.{outcome}
+use Rattle.flat_code.specs.declared.line.Line.TheVariants as L
+use Rattle.flat_code.specs.declared.line.From.{From}
+use Rattle.flat_code.specs.declared.line.From.TheVariants as F
+use Rattle.flat_code.specs.Codes.{block_does, block_plain}
+use Rattle.flat_code.specs.Running.{scene_of}
+use Rattle.flat_code.specs.Scene.{Did, Passes, with_value}
+use Rattle.flat_code.specs.Shapes.{has_shape, shape_of, number}
+use Rattle.flat_code.specs.declared.block.BlockLine.{BlockLine}
+use Rattle.nim_meaning.specs.Acts.{line_of}
+use Rattle.nim_meaning.specs.Deeds.{Answers, costs, ◌>>=◌, Finishes}
+use Rattle.nim_meaning.specs.Here.{gives_hooked}
+use Rattle.nim_meaning.specs.Places.{made_by}
+use Rattle.nim_meaning.specs.Values.{Given, value_of, Number, Value, number_of}
+use Rattle.nim_program.specs.View.{if_type}
+use Rattle.nim_program.specs.declared.operation.Use.{Use}
+use Rattle.nim_types.specs.Table.{facts_in}
+use Rattle.nim_types.specs.Types.{Ty}
+use Rattle.nim_program.specs.Kinds.{TypeKind, is_bool, is_int, is_of, kind_if, same_value}
+use Rattle.word_code.specs.declared.word.WordInstr.{WordInstr}
+use Rattle.word_lowering.proofs.ControlLines.{number_read, value_type, plain}
+use Rattle.word_lowering.proofs.LineFits.{value_type as value_is, number_value, are_of, bool_shape, int_shape, same_type}
+use Rattle.word_lowering.proofs.Lines.{Basis, IsGood, Settles, all_procs, known, starts, mapped_settles}
 use Rattle.word_lowering.proofs.OperationRuns.{Checks}
-use Rattle.word_lowering.proofs.OrdinalChecks.{unary_checks, narrow_checks, binary_checks, compare_given}
-use Rattle.word_lowering.proofs.LineFits.{MayGet, may_get_some, is_int_some}
+use Rattle.word_lowering.proofs.Related.{Both, high, within, body_of}
+use Rattle.word_lowering.proofs.Settling.{Getting, TrapsStop, code_here, code_next, code_of_line, gives_settles, trap_settles, OwnLabels}
+use Rattle.word_lowering.proofs.ShapeFacts.{never}
+use Rattle.word_lowering.specs.Lowered.{any_branches}
+use Rattle.word_lowering.specs.Operations.{binary_code, trap_label, unary_code}
+use Rattle.flat_code.specs.Fits.{operation_fits, is_value}
+use Rattle.word_lowering.proofs.OrdinalChecks.{unary_checks, binary_checks}
+use Rattle.word_lowering.proofs.Scenes.{of_value}
 use Rattle.word_lowering.proofs.Sites.{is_one_word}
-use Rattle.word_lowering.proofs.Scenes.{of_value, house}
-use Rattle.word_lowering.proofs.LabelsHere.{own_label_here}
-use Rattle.word_lowering.proofs.Related.{Both, body_of, procs, within, high, code_behind, StandAt}
-use Rattle.word_lowering.proofs.Lines.{Basis, fits_here, stands_next, starts, IsGood, known, Settles, using_settles}
-use Rattle.word_lowering.proofs.ValueFacts.{in_word, named_value, Operand}
-use Rattle.word_lowering.proofs.OrdinalLines.{MayTrap, binary_may, unary_may, TrapsStop, MayGive, gives_settles, checked_settles}
-use Rattle.word_lowering.proofs.ControlLines.{FollowedHere, number_operand}
+use Rattle.word_lowering.proofs.Targets.{Target, target}
+use Rattle.word_lowering.proofs.ValueFacts.{Operand, has_type, in_word, look_of, type_in}
+use Rattle.word_lowering.specs.declared.homes.TheConstants.{OWN_FROM}
+use Rattle.flat_code.specs.Lines.{gives, using}
+use Rattle.word_lowering.proofs.NumberLines.{getting, variable}
+use Rattle.std.specs.Ordering.{int_eq}
+use Rattle.word_lowering.proofs.ApplyFits.{applies}
+use Rattle.word_lowering.specs.LineCode.{label_before}
 
 -- ---- results of a shape
 
-pub truth_shaped : (shape : Shape) (b : Bool) → takes shape (number (Some 2)) ≡ true → has_shape (Number (truth b)) shape ≡ true
-truth_shaped shape true h = value_wider (Number (truth true)) shape (number (Some 2)) h refl
-truth_shaped shape false h = value_wider (Number (truth false)) shape (number (Some 2)) h refl
+pub truth_shaped : (b : Bool) → has_shape (Number (truth b)) (number (Some 2)) ≡ true
+truth_shaped true = refl
+truth_shaped false = refl
 
 -- 0 or 1
-pub data IsBit : ℤ → Type 0 where
+data IsBit : ℤ → Type 0 where
   bit_zero : IsBit (pos 0)
   bit_one : IsBit (pos 1)
 
 bit_of : (z : ℤ) → inside z 2 ≡ true → IsBit z
 bit_of (pos zero) h = bit_zero
 bit_of (pos (suc zero)) h = bit_one
-bit_of (pos (suc (suc n))) h = let p = and_parts (int_le (pos 0) (pos (suc (suc n)))) (int_lt (pos (suc (suc n))) (pos 2)) h in absurd
-    (omega (arith, ints, p.1))
+bit_of (pos (suc (suc n))) h =
+    let p = and_parts (int_le (pos 0) (pos (suc (suc n)))) (int_lt (pos (suc (suc n))) (pos 2)) h in absurd (omega (arith, ints, p.1))
 bit_of (negsuc n) h = never h
 
--- a truth is a bit
-pub truth_bit : (v : Value) (shape : Shape) → has_shape v shape ≡ true → takes (number (Some 2)) shape ≡ true → IsBit (number_of v)
-truth_bit v shape h t = by v (value_wider v (number (Some 2)) shape t h)
-  where
-    by : (v : Value) → has_shape v (number (Some 2)) ≡ true → IsBit (number_of v)
-    by (Number z) h = bit_of z (and_parts _ _ h).1
-    by (Parts vs) h = never h
+truth_bit : (v : Value) → has_shape v (number (Some 2)) ≡ true → IsBit (number_of v)
+truth_bit v h =
+    let n = number_value v (Some 2) h in
+    let p : has_shape (Number n.0) (number (Some 2)) ≡ true = subst (λ u. has_shape u (number (Some 2)) ≡ true) n.1 h in
+    subst (λ u. IsBit (number_of u)) (sym n.1) (bit_of n.0 (and_parts (is_int_number n.0) (inside n.0 2) p).1)
 
-abbrev pub BitResult : (ℕ → ℕ → ℕ) → ℤ → ℤ → Shape → Type 0
-BitResult f x y shape = has_shape (Number (int_of (f (bits_of x) (bits_of y)))) shape ≡ true
+-- what an operation on bits gives is a bit
+abbrev BitResult : (ℕ → ℕ → ℕ) → ℤ → ℤ → Type 0
+BitResult f a b = has_shape (Number (int_of (f (bits_of a) (bits_of b)))) (number (Some 2)) ≡ true
 
--- of bits, a bit
-bits_shaped : (f : ℕ → ℕ → ℕ) (shape : Shape) → takes shape (number (Some 2)) ≡ true
-    → ((a b : ℤ) → IsBit a → IsBit b → has_shape (Number (int_of (f (bits_of a) (bits_of b)))) (number (Some 2)) ≡ true)
-    → (x y : ℤ) → IsBit x → IsBit y → BitResult f x y shape
-bits_shaped f shape t each x y a b = value_wider (Number (int_of (f (bits_of x) (bits_of y)))) shape (number (Some 2)) t (each x y a b)
-
-and_bits : (a b : ℤ) → IsBit a → IsBit b → has_shape (Number (int_of (bit_and (bits_of a) (bits_of b)))) (number (Some 2)) ≡ true
+and_bits : (a b : ℤ) → IsBit a → IsBit b → BitResult bit_and a b
 and_bits _ _ bit_zero bit_zero = refl
 and_bits _ _ bit_zero bit_one = refl
 and_bits _ _ bit_one bit_zero = refl
 and_bits _ _ bit_one bit_one = refl
 
-or_bits : (a b : ℤ) → IsBit a → IsBit b → has_shape (Number (int_of (bit_or (bits_of a) (bits_of b)))) (number (Some 2)) ≡ true
+or_bits : (a b : ℤ) → IsBit a → IsBit b → BitResult bit_or a b
 or_bits _ _ bit_zero bit_zero = refl
 or_bits _ _ bit_zero bit_one = refl
 or_bits _ _ bit_one bit_zero = refl
 or_bits _ _ bit_one bit_one = refl
 
-xor_bits : (a b : ℤ) → IsBit a → IsBit b → has_shape (Number (int_of (bit_xor (bits_of a) (bits_of b)))) (number (Some 2)) ≡ true
+xor_bits : (a b : ℤ) → IsBit a → IsBit b → BitResult bit_xor a b
 xor_bits _ _ bit_zero bit_zero = refl
 xor_bits _ _ bit_zero bit_one = refl
 xor_bits _ _ bit_one bit_zero = refl
 xor_bits _ _ bit_one bit_one = refl
 
-module _ (x : Basis) (traps : TrapsStop x) (g : Both) (rest : List BlockLine) where
-  abbrev shape_of_value : ℕ → Option Shape
-  shape_of_value t = shape_named (known x) is_value (body_of g).proc.places t
+-- ---- which traps code may come to
 
-  abbrev variable : ℕ → ℕ
-  variable t = variable_of (house g.call.site (of_value t))
+abbrev pub MayTrap : (leads : ℕ → Type 0) → Checked → Type 0
+MayTrap leads (Fine z) = Unit {0}
+MayTrap leads (Trapped trap) = leads (trap_label trap)
 
-  -- the variable of what is given
-  target : (line : Line) (y : IsGood x (starts g line rest)) (to : ℕ) (shape : Shape) → shape_of_value to ≡ Some shape → is_one_word shape ≡ true
-      → OWN_FROM ≤ variable to
-  target line y to shape is one =
-      let n = named_value x g.call.site to shape y.linked.0 is in
-      let w = in_word x g.call.site to y.linked.0 n.0 (ap is_one_word n.1 ∙ one) in
-      subst (λ u. OWN_FROM ≤ u) (sym w.is) w.high
+checked_may : (leads : ℕ → Type 0) (z : ℤ) → leads (trap_label Overflow) → MayTrap leads (checked z)
+checked_may leads z h = by (is_int_number z)
+  where
+    by : (b : Bool) → MayTrap leads (if b then Fine z else Trapped Overflow)
+    by true = tt
+    by false = h
 
-  -- what gets a truth
-  record TruthTarget (to : ℕ) : Type 0 where
-    shape : Shape
-    is : shape_of_value to ≡ Some shape
-    takes_it : takes shape (number (Some 2)) ≡ true
-    one : is_one_word shape ≡ true
+divided_may : (leads : ℕ → Type 0) (y : ℤ) (r : Checked) → leads (trap_label DivisionByZero) → MayTrap leads r → MayTrap leads (unless_zero y r)
+divided_may leads (pos zero) r h f = h
+divided_may leads (pos (suc n)) r h f = f
+divided_may leads (negsuc n) r h f = f
 
-  truth_one : (shape : Shape) → takes shape (number (Some 2)) ≡ true → is_one_word shape ≡ true
-  truth_one (number values) h = refl
-  truth_one reference h = refl
-  truth_one block h = never h
-  truth_one (elements s) h = never h
-  truth_one (row n s) h = never h
-  truth_one (parts ss) h = never h
+some_true : (b : Bool) → (b || true) ≡ true
+some_true true = refl
+some_true false = refl
 
-  truth_target : (to : ℕ) → may_get (shape_of_value to) (Some (number (Some 2))) ≡ true → TruthTarget to
-  truth_target to h =
-      let m = may_get_some (shape_of_value to) (Some (number (Some 2))) h in
-      let t : takes m.shape (number (Some 2)) ≡ true = subst (λ s. takes m.shape s ≡ true)
-      (sym (some_same (number (Some 2)) m.other m.is_other)) m.takes_it in
-      record { shape = m.shape; is = m.is; takes_it = t; one = truth_one m.shape t }
+module _ (label to a b : ℕ) where
+  abbrev BinaryLeads : Operator → ℕ → Type 0
+  BinaryLeads operator trap = (k : List WordInstr) → any_branches trap (binary_code label operator to a b k) ≡ true
 
-  -- an int may be whatever comes out
-  int_given : (line : Line) (y : IsGood x (starts g line rest)) (free : y.passed ≡ []) (stand : StandAt x.table x.blocks (body_of g) y.passed rest)
-      (to : ℕ) (is : shape_of_value to ≡ Some (number None)) (r : Checked) (lines k : List WordInstr)
-      → Checks x.live (procs x.table x.blocks) (within x.table x.blocks g) g.memory g.words lines g.call.vars (variable to) k r
-      → MayGive x traps g line rest y free stand to (number None) is r
-  int_given line y free stand to is (Fine z) lines k h = h.0
-  int_given line y free stand to is (Trapped trap) lines k h = tt
+  pub binary_may : (operator : Operator) (u v : ℤ) → MayTrap (BinaryLeads operator) (applied operator u v)
+  binary_may binary.Add u v = checked_may (BinaryLeads binary.Add) (u +ℤ v) (λ k. refl)
+  binary_may binary.Subtract u v = checked_may (BinaryLeads binary.Subtract) (u -ℤ v) (λ k. refl)
+  binary_may binary.Multiply u v = checked_may (BinaryLeads binary.Multiply) (u *ℤ v) (λ k. refl)
+  binary_may binary.Divide u v =
+      divided_may (BinaryLeads binary.Divide) v (checked (int_div u v)) (λ k. refl) (checked_may (BinaryLeads binary.Divide) (int_div u v) (λ k. some_true _))
+  binary_may binary.Modulo u v = divided_may (BinaryLeads binary.Modulo) v (Fine (int_rem u v)) (λ k. refl) tt
+  binary_may binary.ShiftLeft u v = tt
+  binary_may binary.ShiftRight u v = tt
+  binary_may binary.BitAnd u v = tt
+  binary_may binary.BitOr u v = tt
+  binary_may binary.BitXor u v = tt
 
-  module _ (operator : UnaryOperator) (to from : ℕ) (y : IsGood x (starts g (L.Unary to operator from) rest)) (free : y.passed ≡ [])
-      (shape : Shape) (is : shape_of_value to ≡ Some shape) (one : is_one_word shape ≡ true) (fit : is_number (shape_of_value from) ≡ true) where
-    unary_stand : StandAt x.table x.blocks (body_of g) y.passed rest
-    unary_stand = stands_next x.table x.blocks (body_of g) y.passed (L.Unary to operator from) rest y.stands
+module _ (to a : ℕ) where
+  abbrev UnaryLeads : UnaryOperator → ℕ → Type 0
+  UnaryLeads operator trap = (k : List WordInstr) → any_branches trap (unary_code operator to a k) ≡ true
 
-    unary_followed : ((v : Value) → is_int_number (number_of v) ≡ true
-        → Checks x.live (procs x.table x.blocks) (within x.table x.blocks g) g.memory g.words
-        (code_behind x.table x.blocks (body_of g) (block_line.Plain (L.Unary to operator from) ∷ rest))
-        g.call.vars (variable to) (code_behind x.table x.blocks (body_of g) rest) (applied_to operator (number_of v))
-        → MayGive x traps g (L.Unary to operator from) rest y free unary_stand to shape is (applied_to operator (number_of v)))
-        → Settles x (starts g (L.Unary to operator from) rest) rest
-        (using_number (scene_of (high x.table x.blocks (starts g (L.Unary to operator from) rest))) from
-        (λ z. gives_checked (scene_of (high x.table x.blocks (starts g (L.Unary to operator from) rest))) to (applied_to operator z)))
-    unary_followed may =
-        using_settles x (starts g (L.Unary to operator from) rest) rest (g.call.temps.values from)
-        (λ v. gives_checked (scene_of (high x.table x.blocks (starts g (L.Unary to operator from) rest))) to (applied_to operator (number_of v)))
-        (λ v e. by v (number_operand x g rest (L.Unary to operator from) y from v fit e))
+  pub unary_may : (operator : UnaryOperator) (u : ℤ) → MayTrap (UnaryLeads operator) (applied_to operator u)
+  unary_may unary.Plus u = tt
+  unary_may unary.Negate u = checked_may (UnaryLeads unary.Negate) (neg_ℤ u) (λ k. refl)
+  unary_may unary.Complement u = tt
+  unary_may unary.Not u = tt
+
+-- ---- what is given is checked
+
+abbrev pub value_type_in : (x : Basis) → Both → ℕ → Option Ty
+value_type_in x g t = type_in x is_value (body_of g) t
+
+pub value_type_by : (o p : Option Ty) (t : Ty) → same_value o p ≡ true → p ≡ Some t → o ≡ Some t
+value_type_by o p t h e = value_is o t (subst (λ q. same_value o q ≡ true) e h)
+
+abbrev pub MayBe : (values : Option ℕ) → Checked → Type 0
+MayBe values (Fine z) = has_shape (Number z) (number values) ≡ true
+MayBe values (Trapped trap) = Unit {0}
+
+module _ (x : Basis) (traps : TrapsStop x) (g : Both) (line : BlockLine) (rest : List BlockLine) (y : IsGood x (starts g line rest)) (to : ℕ) where
+  abbrev pub answer : (work : ℕ) → Checked → Did
+  answer work (Fine z) = Passes (Answers [] work (with_value to g.call.temps (Number z)) g.world)
+  answer work (Trapped trap) = Passes (Finishes (writes Err (line_of (trap_text trap))) (1 + length (line_of (trap_text trap))) 1 g.world)
+
+  abbrev pub MayGive : Checked → Type 0
+  MayGive (Fine z) = Getting x g line rest y to z
+  MayGive (Trapped trap) = Unit {0}
+
+  abbrev LineLeads : ℕ → Type 0
+  LineLeads trap = (k : List WordInstr) → any_branches trap (code_of_line x g line rest k) ≡ true
+
+  pub checked_settles : (r : Checked) (work : ℕ) → 1 ≤ work → MayTrap LineLeads r → MayGive r
+      → Checks x.live (all_procs x) (within x.table x.blocks g) g.memory g.words (code_here x g line rest y) g.call.vars
+      (variable x g line rest y to) (code_next x g line rest y) r
+      → Settles x (starts g line rest) rest (answer work r)
+  checked_settles (Fine z) work some may give h = gives_settles x g line rest y to z work some give h.1
+  checked_settles (Trapped trap) work some may give h = trap_settles x g line rest y traps trap 1 (omega arith) may h
+
+  pub shaped_as : (from : ℕ) (t : Ty) (values : Option ℕ) (v : Value) → value_type x g line rest y from ≡ Some t
+      → shape_of (facts_in x.table) t ≡ number values → Operand x g.call from v → has_shape v (number values) ≡ true
+  shaped_as from t values v typed shape o =
+      subst (λ s. has_shape v s ≡ true) (look_of x g.call.site (of_value from) t (has_type x g.call.site (of_value from) t y.linked.0 typed) ∙ shape) o.shaped
+
+  -- which number may be given: one that fits, and of a bool a bit
+  pub getting_any : (t : Ty) (values : Option ℕ) → Target x g line rest y to t → shape_of (facts_in x.table) t ≡ number values
+      → OWN_FROM ≤ variable x g line rest y to
+  getting_any t values got shape =
+      let w = in_word x g.call.site to y.linked.0 got.there (ap is_one_word (got.look ∙ shape)) in subst (λ u. OWN_FROM ≤ u) (sym w.is) w.high
+
+  pub is_fitting : (r : Checked) → Checks x.live (all_procs x) (within x.table x.blocks g) g.memory g.words (code_here x g line rest y) g.call.vars
+      (variable x g line rest y to) (code_next x g line rest y) r → MayBe None r
+  is_fitting (Fine z) c = c.0
+  is_fitting (Trapped trap) c = tt
+
+  pub may_give : (t : Ty) (values : Option ℕ) → Target x g line rest y to t → shape_of (facts_in x.table) t ≡ number values → (r : Checked)
+      → MayBe values r → MayGive r
+  may_give t values got shape (Fine z) h = getting x g line rest y to t values z got shape h
+  may_give t values got shape (Trapped trap) h = tt
+
+  -- a value without hooks is what it is, however it is used
+  pub told : (hooked : Bool) (how : Use) → hooked ≡ false → (r : Checked)
+      → answer 1 r ≡ gives (scene_of (high x.table x.blocks (starts g line rest))) to (costs 1 (outcome r) >>= made_by hooked how)
+  told true how e r = absurd (true≢false e)
+  told false how e (Fine z) = refl
+  told false how e (Trapped trap) =
+      ap (λ es. Passes (Finishes es (1 + length (line_of (trap_text trap))) 1 g.world)) (sym (append-nil (writes Err (line_of (trap_text trap)))))
+      ∙ ap (λ n. Passes (Finishes (writes Err (line_of (trap_text trap)) ++ []) n 1 g.world)) (no_more (length (line_of (trap_text trap))))
+    where
+      no_more : (n : ℕ) → 1 + n ≡ 1 + (n + 0)
+      no_more n = omega arith
+
+-- ---- one operand
+
+module _ (x : Basis) (traps : TrapsStop x) (own : OwnLabels x) (g : Both) (rest : List BlockLine) (to : ℕ) (how : Use) (ty : Option ℕ) where
+  module _ (operator : UnaryOperator) (a : Option ℕ) (from : ℕ) where
+    abbrev one : BlockLine
+    one = plain (L.Apply to (O.Unary operator) how ty (a ∷ []) (F.Value from ∷ []))
+
+    one_followed : (y : IsGood x (starts g one rest)) (values : Option ℕ) (t : Ty) → if_type (known x).types ty ≡ Some t
+        → value_type x g one rest y to ≡ Some t → value_type x g one rest y from ≡ Some t → shape_of (facts_in x.table) t ≡ number values
+        → ((v : Value) → has_shape v (number values) ≡ true → MayBe None (applied_to operator (number_of v)) → MayBe values (applied_to operator (number_of v)))
+        → Settles x (starts g one rest) rest (block_does (known x) (scene_of (high x.table x.blocks (starts g one rest))) one)
+    one_followed y values t types typed from_typed shape may =
+        let got = target x g one rest y to t refl refl typed in
+        mapped_settles x (starts g one rest) rest (g.call.temps.values from) Given
+        (λ u. gives (scene_of (high x.table x.blocks (starts g one rest))) to
+        (costs 1 (outcome (applied_to operator (number_of (value_of u)))) >>= made_by (gives_hooked (facts_in x.table) (if_type (known x).types ty)) how))
+        (λ v e. let o = number_read x g one rest y from v t values from_typed shape e in
+        let z = getting_any x traps g one rest y to t values got shape in
+        let checks = unary_checks x.live (all_procs x) (within x.table x.blocks g) g.memory g.words g.call.vars (variable x g one rest y to)
+        (variable x g one rest y from) z o.high (number_of v) o.fits o.word_is (code_next x g one rest y) operator in
+        subst (λ d. Settles x (starts g one rest) rest d)
+        (told x traps g one rest y to (gives_hooked (facts_in x.table) (if_type (known x).types ty)) how
+        (ap (gives_hooked (facts_in x.table)) types ∙ got.unhooked) (applied_to operator (number_of v)))
+        (checked_settles x traps g one rest y to (applied_to operator (number_of v)) 1 (omega arith)
+        (unary_may (variable x g one rest y to) (variable x g one rest y from) operator (number_of v))
+        (may_give x traps g one rest y to t values got shape (applied_to operator (number_of v))
+        (may v (shaped_as x traps g one rest y to from t values v from_typed shape o) (is_fitting x traps g one rest y to (applied_to operator (number_of
+        v)) checks)))
+        checks))
+
+    -- the types of its operand and its value
+    record OneTyped (y : IsGood x (starts g one rest)) : Type 0 where
+      ty_is : Ty
+      types : if_type (known x).types ty ≡ Some ty_is
+      typed : value_type x g one rest y to ≡ Some ty_is
+      from_typed : value_type x g one rest y from ≡ Some ty_is
+
+    one_typed : (y : IsGood x (starts g one rest)) → is_of (if_type (known x).types a) (if_type (known x).types ty) ≡ true → OneTyped y
+    one_typed y same =
+        let p = applies x g rest to (O.Unary operator) how ty (a ∷ []) (F.Value from ∷ []) y in
+        let s = and_parts (same_value (value_type x g one rest y from) (if_type (known x).types a)) true p.typed in
+        let v = same_type (value_type x g one rest y from) (if_type (known x).types a) s.0 in
+        let w = are_of (if_type (known x).types a) (if_type (known x).types ty) same in
+        record {
+          ty_is = w.ty;
+          types = w.is_other;
+          typed = value_type_by (value_type x g one rest y to) (if_type (known x).types ty) w.ty p.given w.is_other;
+          from_typed = v ∙ w.is;
+        }
+
+    one_int : (y : IsGood x (starts g one rest)) → is_int (kind_if (facts_in x.table) (if_type (known x).types ty)) ≡ true
+        → is_of (if_type (known x).types a) (if_type (known x).types ty) ≡ true
+        → Settles x (starts g one rest) rest (block_does (known x) (scene_of (high x.table x.blocks (starts g one rest))) one)
+    one_int y k same =
+        let t = one_typed y same in
+        one_followed y None t.ty_is t.types t.typed t.from_typed
+        (int_shape (facts_in x.table) t.ty_is (sym (ap (λ o. is_int (kind_if (facts_in x.table) o)) t.types) ∙ k)) (λ v s h. h)
+
+  abbrev OneDoes : UnaryOperator → List (Option ℕ) → List From → Type 0
+  OneDoes operator of from = (y : IsGood x (starts g (plain (L.Apply to (O.Unary operator) how ty of from)) rest))
+      → Settles x (starts g (plain (L.Apply to (O.Unary operator) how ty of from)) rest) rest
+      (block_does (known x) (scene_of (high x.table x.blocks (starts g (plain (L.Apply to (O.Unary operator) how ty of from)) rest)))
+      (plain (L.Apply to (O.Unary operator) how ty of from)))
+
+  one_line : (operator : UnaryOperator) (a : Option ℕ) (from : ℕ) → OneDoes operator (a ∷ []) (F.Value from ∷ [])
+  one_line unary.Plus a from y =
+      let f = and_parts (is_int (kind_if (facts_in x.table) (if_type (known x).types ty))) (is_of (if_type (known x).types a) (if_type (known x).types ty))
+      (applies x g rest to (O.Unary unary.Plus) how ty (a ∷ []) (F.Value from ∷ []) y).row in
+      one_int unary.Plus a from y f.0 f.1
+  one_line unary.Negate a from y =
+      let f = and_parts (is_int (kind_if (facts_in x.table) (if_type (known x).types ty))) (is_of (if_type (known x).types a) (if_type (known x).types ty))
+      (applies x g rest to (O.Unary unary.Negate) how ty (a ∷ []) (F.Value from ∷ []) y).row in
+      one_int unary.Negate a from y f.0 f.1
+  one_line unary.Complement a from y =
+      let f = and_parts (is_int (kind_if (facts_in x.table) (if_type (known x).types ty))) (is_of (if_type (known x).types a) (if_type (known x).types ty))
+      (applies x g rest to (O.Unary unary.Complement) how ty (a ∷ []) (F.Value from ∷ []) y).row in
+      one_int unary.Complement a from y f.0 f.1
+  one_line unary.Not a from y =
+      let f = and_parts (is_bool (kind_if (facts_in x.table) (if_type (known x).types ty))) (is_of (if_type (known x).types a) (if_type (known x).types ty))
+      (applies x g rest to (O.Unary unary.Not) how ty (a ∷ []) (F.Value from ∷ []) y).row in
+      let t = one_typed unary.Not a from y f.1 in
+      one_followed unary.Not a from y (Some 2) t.ty_is t.types t.typed t.from_typed
+      (bool_shape (facts_in x.table) t.ty_is (sym (ap (λ o. is_bool (kind_if (facts_in x.table) o)) t.types) ∙ f.0))
+      (λ v s h. truth_shaped (int_eq (number_of v) (pos 0)))
+
+  pub unary_line : (operator : UnaryOperator) (of : List (Option ℕ)) (from : List From) → OneDoes operator of from
+  unary_line operator (a ∷ []) (F.Value from ∷ []) y = one_line operator a from y
+  unary_line operator [] from y = never (applies x g rest to (O.Unary operator) how ty [] from y).row
+  unary_line operator (a ∷ b ∷ of) from y = never (applies x g rest to (O.Unary operator) how ty (a ∷ b ∷ of) from y).row
+  unary_line operator (a ∷ []) [] y = never (applies x g rest to (O.Unary operator) how ty (a ∷ []) [] y).typed
+  unary_line operator (a ∷ []) (F.Value from ∷ other ∷ others) y =
+      never (and_parts (same_value (value_type_in x g from) (if_type (known x).types a)) false
+      (applies x g rest to (O.Unary operator) how ty (a ∷ []) (F.Value from ∷ other ∷ others) y).typed).1
+  unary_line operator (a ∷ []) (F.Place from ∷ others) y =
+      never (applies x g rest to (O.Unary operator) how ty (a ∷ []) (F.Place from ∷ others) y).placed
+
+-- ---- two operands
+
+module _ (x : Basis) (traps : TrapsStop x) (own : OwnLabels x) (g : Both) (rest : List BlockLine) (to : ℕ) (how : Use) (ty : Option ℕ) where
+  module _ (operator : Operator) (a b : Option ℕ) (left right : ℕ) where
+    abbrev two : BlockLine
+    two = plain (L.Apply to (O.Binary operator) how ty (a ∷ b ∷ []) (F.Value left ∷ F.Value right ∷ []))
+
+    two_followed : (y : IsGood x (starts g two rest)) (values : Option ℕ) (t : Ty) → if_type (known x).types ty ≡ Some t
+        → value_type x g two rest y to ≡ Some t → value_type x g two rest y left ≡ Some t → value_type x g two rest y right ≡ Some t
+        → shape_of (facts_in x.table) t ≡ number values
+        → ((v w : Value) → has_shape v (number values) ≡ true → has_shape w (number values) ≡ true
+        → MayBe None (applied operator (number_of v) (number_of w)) → MayBe values (applied operator (number_of v) (number_of w)))
+        → Settles x (starts g two rest) rest (block_does (known x) (scene_of (high x.table x.blocks (starts g two rest))) two)
+    two_followed y values t types typed left_typed right_typed shape may =
+        let got = target x g two rest y to t refl refl typed in
+        let gives_it : Value → Value → Did = λ v w. gives (scene_of (high x.table x.blocks (starts g two rest))) to
+        (costs 1 (outcome (applied operator (number_of v) (number_of w))) >>= made_by (gives_hooked (facts_in x.table) (if_type (known x).types ty)) how) in
+        mapped_settles x (starts g two rest) rest (g.call.temps.values left) Given
+        (λ u. using (option_map Given (g.call.temps.values right)) (λ z. gives_it (value_of u) (value_of z)))
+        (λ v e. mapped_settles x (starts g two rest) rest (g.call.temps.values right) Given (λ z. gives_it v (value_of z))
+        (λ w f.
+        let o = number_read x g two rest y left v t values left_typed shape e in
+        let p = number_read x g two rest y right w t values right_typed shape f in
+        let r : Checked = applied operator (number_of v) (number_of w) in
+        let checks = binary_checks x.live (all_procs x) (within x.table x.blocks g) g.memory g.words g.call.vars (variable x g two rest y to)
+        (variable x g two rest y left) (getting_any x traps g two rest y to t values got shape) o.high (number_of v) o.fits o.word_is
+        (code_next x g two rest y) (variable x g two rest y right) p.high (number_of w) p.fits p.word_is (label_before (map block_plain rest)) operator
+        (own g two rest y) in
+        subst (λ d. Settles x (starts g two rest) rest d)
+        (told x traps g two rest y to (gives_hooked (facts_in x.table) (if_type (known x).types ty)) how
+        (ap (gives_hooked (facts_in x.table)) types ∙ got.unhooked) r)
+        (checked_settles x traps g two rest y to r 1 (omega arith)
+        (binary_may (label_before (map block_plain rest)) (variable x g two rest y to) (variable x g two rest y left) (variable x g two rest y right)
+        operator (number_of v) (number_of w))
+        (may_give x traps g two rest y to t values got shape r
+        (may v w (shaped_as x traps g two rest y to left t values v left_typed shape o)
+        (shaped_as x traps g two rest y to right t values w right_typed shape p) (is_fitting x traps g two rest y to r checks))) checks)))
+
+    -- the types of its operands and its value
+    record TwoTyped (y : IsGood x (starts g two rest)) : Type 0 where
+      ty_is : Ty
+      types : if_type (known x).types ty ≡ Some ty_is
+      typed : value_type x g two rest y to ≡ Some ty_is
+      left_typed : value_type x g two rest y left ≡ Some ty_is
+      right_typed : value_type x g two rest y right ≡ Some ty_is
+
+    two_typed : (y : IsGood x (starts g two rest))
+        → (is_of (if_type (known x).types a) (if_type (known x).types ty) && is_of (if_type (known x).types b) (if_type (known x).types ty)) ≡ true
+        → TwoTyped y
+    two_typed y same =
+        let p = applies x g rest to (O.Binary operator) how ty (a ∷ b ∷ []) (F.Value left ∷ F.Value right ∷ []) y in
+        let h = and_parts (is_of (if_type (known x).types a) (if_type (known x).types ty)) (is_of (if_type (known x).types b) (if_type (known x).types ty)) same
+        in
+        let s = and_parts (same_value (value_type x g two rest y left) (if_type (known x).types a))
+        (same_value (value_type x g two rest y right) (if_type (known x).types b) && true) p.typed in
+        let q = and_parts (same_value (value_type x g two rest y right) (if_type (known x).types b)) true s.1 in
+        let v = same_type (value_type x g two rest y left) (if_type (known x).types a) s.0 in
+        let u = same_type (value_type x g two rest y right) (if_type (known x).types b) q.0 in
+        let w = are_of (if_type (known x).types a) (if_type (known x).types ty) h.0 in
+        let z = are_of (if_type (known x).types b) (if_type (known x).types ty) h.1 in
+        record {
+          ty_is = w.ty;
+          types = w.is_other;
+          typed = value_type_by (value_type x g two rest y to) (if_type (known x).types ty) w.ty p.given w.is_other;
+          left_typed = v ∙ w.is;
+          right_typed = u ∙ (z.is ∙ (sym z.is_other ∙ w.is_other));
+        }
+
+    abbrev TwoFollowed : IsGood x (starts g two rest) → Type 0
+    TwoFollowed y = Settles x (starts g two rest) rest (block_does (known x) (scene_of (high x.table x.blocks (starts g two rest))) two)
+
+    abbrev TwoKinds : (TypeKind → Bool) → Type 0
+    TwoKinds is = (is (kind_if (facts_in x.table) (if_type (known x).types ty))
+        && (is_of (if_type (known x).types a) (if_type (known x).types ty) && is_of (if_type (known x).types b) (if_type (known x).types ty))) ≡ true
+
+    two_int : (y : IsGood x (starts g two rest)) → TwoKinds is_int → TwoFollowed y
+    two_int y h =
+        let k = and_parts (is_int (kind_if (facts_in x.table) (if_type (known x).types ty))) _ h in
+        let t = two_typed y k.1 in
+        two_followed y None t.ty_is t.types t.typed t.left_typed t.right_typed
+        (int_shape (facts_in x.table) t.ty_is (sym (ap (λ o. is_int (kind_if (facts_in x.table) o)) t.types) ∙ k.0)) (λ v w s r h. h)
+
+    -- bit by bit, of ints or of bools
+    two_bits : (f : ℕ → ℕ → ℕ) (y : IsGood x (starts g two rest))
+        → ((m n : ℤ) → applied operator m n ≡ Fine (int_of (f (bits_of m) (bits_of n))))
+        → ((m n : ℤ) → IsBit m → IsBit n → BitResult f m n)
+        → TwoKinds (λ k. is_int k || is_bool k) → TwoFollowed y
+    two_bits f y fine each h = by (is_int (kind_if (facts_in x.table) (if_type (known x).types ty))) refl
       where
-        by : (v : Value) → Operand x g.call from v → Settles x (starts g (L.Unary to operator from) rest) rest
-            (gives_checked (scene_of (high x.table x.blocks (starts g (L.Unary to operator from) rest))) to (applied_to operator (number_of v)))
-        by v o =
-            let checks = unary_checks x.live (procs x.table x.blocks) (within x.table x.blocks g) g.memory g.words g.call.vars (variable to) (variable from)
-            (target (L.Unary to operator from) y to shape is one) o.high (number_of v) o.fits o.word_is
-            (code_behind x.table x.blocks (body_of g) rest) operator in
-            checked_settles x traps g (L.Unary to operator from) rest y free unary_stand to shape is (applied_to operator (number_of v))
-            (unary_may operator (number_of v)) (may v o.fits checks) checks
+        by : (b : Bool) → is_int (kind_if (facts_in x.table) (if_type (known x).types ty)) ≡ b → TwoFollowed y
+        by true e =
+            let k = and_parts (is_int (kind_if (facts_in x.table) (if_type (known x).types ty)) || is_bool
+            (kind_if (facts_in x.table) (if_type (known x).types ty))) _ h in
+            two_int y (and_from _ _ e k.1)
+        by false e =
+            let k = and_parts (is_int (kind_if (facts_in x.table) (if_type (known x).types ty)) || is_bool
+            (kind_if (facts_in x.table) (if_type (known x).types ty))) _ h in
+            let t = two_typed y k.1 in
+            let k_bool : is_bool (kind_if (facts_in x.table) (if_type (known x).types ty)) ≡ true
+            = subst (λ c. (c || is_bool (kind_if (facts_in x.table) (if_type (known x).types ty))) ≡ true) e k.0 in
+            two_followed y (Some 2) t.ty_is t.types t.typed t.left_typed t.right_typed
+            (bool_shape (facts_in x.table) t.ty_is (sym (ap (λ o. is_bool (kind_if (facts_in x.table) o)) t.types) ∙ k_bool))
+            (λ v w s r q. subst (λ c. MayBe (Some 2) c) (sym (fine (number_of v) (number_of w)))
+            (each (number_of v) (number_of w) (truth_bit v s) (truth_bit w r)))
 
-  -- what gives an int
-  unary_int : (operator : UnaryOperator) (to from : ℕ) (y : IsGood x (starts g (L.Unary to operator from) rest)) → y.passed ≡ []
-      → is_int (shape_of_value to) ≡ true → is_number (shape_of_value from) ≡ true
-      → Settles x (starts g (L.Unary to operator from) rest) rest
-      (using_number (scene_of (high x.table x.blocks (starts g (L.Unary to operator from) rest))) from
-      (λ z. gives_checked (scene_of (high x.table x.blocks (starts g (L.Unary to operator from) rest))) to (applied_to operator z)))
-  unary_int operator to from y free int fit =
-      let is = is_int_some (shape_of_value to) int in
-      unary_followed operator to from y free (number None) is refl fit
-      (λ v f h. int_given (L.Unary to operator from) y free (unary_stand operator to from y free (number None) is refl fit) to is
-      (applied_to operator (number_of v))
-      (code_behind x.table x.blocks (body_of g) (block_line.Plain (L.Unary to operator from) ∷ rest)) (code_behind x.table x.blocks (body_of g) rest) h)
+  abbrev TwoDoes : Operator → List (Option ℕ) → List From → Type 0
+  TwoDoes operator of from = (y : IsGood x (starts g (plain (L.Apply to (O.Binary operator) how ty of from)) rest))
+      → Settles x (starts g (plain (L.Apply to (O.Binary operator) how ty of from)) rest) rest
+      (block_does (known x) (scene_of (high x.table x.blocks (starts g (plain (L.Apply to (O.Binary operator) how ty of from)) rest)))
+      (plain (L.Apply to (O.Binary operator) how ty of from)))
 
-  pub unary_line : (operator : UnaryOperator) (to from : ℕ) → FollowedHere x g rest (L.Unary to operator from)
-  unary_line unary.Plus to from y free =
-      let f = and_parts (is_int (shape_of_value to)) (is_number (shape_of_value from))
-      (fits_here x.table x.blocks (body_of g) y.passed (L.Unary to unary.Plus from) rest y.stands) in
-      unary_int unary.Plus to from y free f.0 f.1
-  unary_line unary.Negate to from y free =
-      let f = and_parts (is_int (shape_of_value to)) (is_number (shape_of_value from))
-      (fits_here x.table x.blocks (body_of g) y.passed (L.Unary to unary.Negate from) rest y.stands) in
-      unary_int unary.Negate to from y free f.0 f.1
-  unary_line unary.Complement to from y free =
-      let f = and_parts (is_int (shape_of_value to)) (is_number (shape_of_value from))
-      (fits_here x.table x.blocks (body_of g) y.passed (L.Unary to unary.Complement from) rest y.stands) in
-      unary_int unary.Complement to from y free f.0 f.1
-  unary_line unary.Not to from y free =
-      let f = and_parts (is_number (shape_of_value from)) (may_get (shape_of_value to) (Some (number (Some 2))))
-      (fits_here x.table x.blocks (body_of g) y.passed (L.Unary to unary.Not from) rest y.stands) in
-      let m = truth_target to f.1 in
-      unary_followed unary.Not to from y free m.shape m.is m.one f.0 (λ v fv h. truth_shaped m.shape (int_eq (number_of v) (pos 0)) m.takes_it)
+  module _ (a b : Option ℕ) (left right : ℕ) where
+    row_of : (operator : Operator) (y : IsGood x (starts g (two operator a b left right) rest))
+        → operation_fits (facts_in x.table) (O.Binary operator) (if_type (known x).types ty) (if_type (known x).types a ∷ if_type (known x).types b ∷ []) ≡ true
+    row_of operator y = (applies x g rest to (O.Binary operator) how ty (a ∷ b ∷ []) (F.Value left ∷ F.Value right ∷ []) y).row
 
-  -- ---- two operands
-
-  module _ (operator : Operator) (to left right : ℕ) (y : IsGood x (starts g (L.Binary to operator left right) rest)) (free : y.passed ≡ [])
-      (shape : Shape) (is : shape_of_value to ≡ Some shape) (one : is_one_word shape ≡ true)
-      (fit : is_number (shape_of_value left) ≡ true) (other_fit : is_number (shape_of_value right) ≡ true) where
-    binary_stand : StandAt x.table x.blocks (body_of g) y.passed rest
-    binary_stand = stands_next x.table x.blocks (body_of g) y.passed (L.Binary to operator left right) rest y.stands
-
-    abbrev binary_here : List WordInstr
-    binary_here = code_behind x.table x.blocks (body_of g) (block_line.Plain (L.Binary to operator left right) ∷ rest)
-
-    binary_followed : ((v w : Value) → g.call.temps.values left ≡ Some v → g.call.temps.values right ≡ Some w
-        → Checks x.live (procs x.table x.blocks) (within x.table x.blocks g) g.memory g.words binary_here
-        g.call.vars (variable to) (code_behind x.table x.blocks (body_of g) rest) (applied operator (number_of v) (number_of w))
-        → MayGive x traps g (L.Binary to operator left right) rest y free binary_stand to shape is (applied operator (number_of v) (number_of w)))
-        → Settles x (starts g (L.Binary to operator left right) rest) rest
-        (using_number (scene_of (high x.table x.blocks (starts g (L.Binary to operator left right) rest))) left
-        (λ a. using_number (scene_of (high x.table x.blocks (starts g (L.Binary to operator left right) rest))) right
-        (λ b. gives_checked (scene_of (high x.table x.blocks (starts g (L.Binary to operator left right) rest))) to (applied operator a b))))
-    binary_followed may =
-        using_settles x (starts g (L.Binary to operator left right) rest) rest (g.call.temps.values left)
-        (λ v. using_number (scene_of (high x.table x.blocks (starts g (L.Binary to operator left right) rest))) right
-        (λ b. gives_checked (scene_of (high x.table x.blocks (starts g (L.Binary to operator left right) rest))) to (applied operator (number_of v) b)))
-        (λ v e. using_settles x (starts g (L.Binary to operator left right) rest) rest (g.call.temps.values right)
-        (λ w. gives_checked (scene_of (high x.table x.blocks (starts g (L.Binary to operator left right) rest))) to
-        (applied operator (number_of v) (number_of w)))
-        (λ w f. by v w e f (number_operand x g rest (L.Binary to operator left right) y left v fit e)
-        (number_operand x g rest (L.Binary to operator left right) y right w other_fit f)))
+    -- ints alone
+    int_alone : (operator : Operator) → TwoKinds operator a b left right (λ k. is_int k || false) → TwoKinds operator a b left right is_int
+    int_alone operator h =
+        let k = and_parts (is_int (kind_if (facts_in x.table) (if_type (known x).types ty)) || false) _ h in
+        and_from _ _ (sym (no_or (is_int (kind_if (facts_in x.table) (if_type (known x).types ty)))) ∙ k.0) k.1
       where
-        by : (v w : Value) → g.call.temps.values left ≡ Some v → g.call.temps.values right ≡ Some w → Operand x g.call left v
-            → Operand x g.call right w
-            → Settles x (starts g (L.Binary to operator left right) rest) rest
-            (gives_checked (scene_of (high x.table x.blocks (starts g (L.Binary to operator left right) rest))) to
-            (applied operator (number_of v) (number_of w)))
-        by v w e f o p =
-            let checks = binary_checks x.live (procs x.table x.blocks) (within x.table x.blocks g) g.memory g.words g.call.vars (variable to) (variable left)
-            (target (L.Binary to operator left right) y to shape is one) o.high (number_of v) o.fits o.word_is (code_behind x.table x.blocks (body_of g) rest)
-            (variable right) p.high (number_of w) p.fits p.word_is (label_before (map block_plain rest)) operator
-            (own_label_here x.table x.blocks (body_of g) y.passed (L.Binary to operator left right) rest y.stands) in
-            checked_settles x traps g (L.Binary to operator left right) rest y free binary_stand to shape is (applied operator (number_of v) (number_of w))
-            (binary_may operator (number_of v) (number_of w)) (may v w e f checks) checks
+        no_or : (c : Bool) → (c || false) ≡ c
+        no_or true = refl
+        no_or false = refl
 
-  -- what a line of two operands does
-  abbrev BinaryDoes : Operator → ℕ → ℕ → ℕ → Type 0
-  BinaryDoes operator to left right = Settles x (starts g (L.Binary to operator left right) rest) rest
-      (using_number (scene_of (high x.table x.blocks (starts g (L.Binary to operator left right) rest))) left
-      (λ a. using_number (scene_of (high x.table x.blocks (starts g (L.Binary to operator left right) rest))) right
-      (λ b. gives_checked (scene_of (high x.table x.blocks (starts g (L.Binary to operator left right) rest))) to (applied operator a b))))
+    two_line : (operator : Operator) → TwoDoes operator (a ∷ b ∷ []) (F.Value left ∷ F.Value right ∷ [])
+    two_line binary.Add y = two_int binary.Add a b left right y (int_alone binary.Add (row_of binary.Add y))
+    two_line binary.Subtract y = two_int binary.Subtract a b left right y (int_alone binary.Subtract (row_of binary.Subtract y))
+    two_line binary.Multiply y = two_int binary.Multiply a b left right y (int_alone binary.Multiply (row_of binary.Multiply y))
+    two_line binary.Divide y = two_int binary.Divide a b left right y (int_alone binary.Divide (row_of binary.Divide y))
+    two_line binary.Modulo y = two_int binary.Modulo a b left right y (int_alone binary.Modulo (row_of binary.Modulo y))
+    two_line binary.ShiftLeft y = two_int binary.ShiftLeft a b left right y (int_alone binary.ShiftLeft (row_of binary.ShiftLeft y))
+    two_line binary.ShiftRight y = two_int binary.ShiftRight a b left right y (int_alone binary.ShiftRight (row_of binary.ShiftRight y))
+    two_line binary.BitAnd y = two_bits binary.BitAnd a b left right bit_and y (λ m n. refl) and_bits (row_of binary.BitAnd y)
+    two_line binary.BitOr y = two_bits binary.BitOr a b left right bit_or y (λ m n. refl) or_bits (row_of binary.BitOr y)
+    two_line binary.BitXor y = two_bits binary.BitXor a b left right bit_xor y (λ m n. refl) xor_bits (row_of binary.BitXor y)
 
-  binary_int : (operator : Operator) (to left right : ℕ) (y : IsGood x (starts g (L.Binary to operator left right) rest)) → y.passed ≡ []
-      → (is_int (shape_of_value to) && (is_number (shape_of_value left) && is_number (shape_of_value right))) ≡ true → BinaryDoes operator to left right
-  binary_int operator to left right y free fit =
-      let f = and_parts (is_int (shape_of_value to)) (is_number (shape_of_value left) && is_number (shape_of_value right)) fit in
-      let h = and_parts (is_number (shape_of_value left)) (is_number (shape_of_value right)) f.1 in
-      let is = is_int_some (shape_of_value to) f.0 in
-      binary_followed operator to left right y free (number None) is refl h.0 h.1
-      (λ v w e k checks. int_given (L.Binary to operator left right) y free (binary_stand operator to left right y free (number None) is refl h.0 h.1) to is
-      (applied operator (number_of v) (number_of w)) (code_behind x.table x.blocks (body_of g) (block_line.Plain (L.Binary to operator left right) ∷ rest))
-      (code_behind x.table x.blocks (body_of g) rest) checks)
-
-  -- a truth that an operand must be
-  truth_number : (o : Option Shape) → is_truth o ≡ true → is_number o ≡ true
-  truth_number (Some (number values)) h = refl
-  truth_number (Some reference) h = never h
-  truth_number (Some block) h = never h
-  truth_number (Some (elements s)) h = never h
-  truth_number (Some (row n s)) h = never h
-  truth_number (Some (parts ss)) h = never h
-  truth_number None h = never h
-
-  value_bit : (line : Line) (y : IsGood x (starts g line rest)) (t : ℕ) (v : Value) → is_truth (shape_of_value t) ≡ true → g.call.temps.values t
-      ≡ Some v → IsBit (number_of v)
-  value_bit line y t v h e =
-      let m = may_get_some (Some (number (Some 2))) (shape_of_value t) h in
-      let n = named_value x g.call.site t m.other y.linked.0 m.is_other in
-      let two : takes (number (Some 2)) m.other ≡ true = subst (λ s. takes s m.other ≡ true) (sym (some_same (number (Some 2)) m.shape m.is)) m.takes_it in
-      truth_bit v m.other (subst (λ s. has_shape v s ≡ true) n.1 (y.hold.0.items (of_value t) v e).shaped) two
-
-  bits_truth : (operator : Operator) (f : ℕ → ℕ → ℕ) (to left right : ℕ) (y : IsGood x (starts g (L.Binary to operator left right) rest))
-      → y.passed ≡ []
-      → ((a b : ℤ) → applied operator a b ≡ Fine (int_of (f (bits_of a) (bits_of b))))
-      → ((a b : ℤ) → IsBit a → IsBit b → has_shape (Number (int_of (f (bits_of a) (bits_of b)))) (number (Some 2)) ≡ true)
-      → (may_get (shape_of_value to) (Some (number (Some 2))) && (is_truth (shape_of_value left) && is_truth (shape_of_value right))) ≡ true
-      → BinaryDoes operator to left right
-  bits_truth operator f to left right y free is_fine each fit =
-      let p = and_parts (may_get (shape_of_value to) (Some (number (Some 2)))) (is_truth (shape_of_value left) && is_truth (shape_of_value right)) fit in
-      let h = and_parts (is_truth (shape_of_value left)) (is_truth (shape_of_value right)) p.1 in
-      let m = truth_target to p.0 in
-      let line : Line = L.Binary to operator left right in
-      binary_followed operator to left right y free m.shape m.is m.one (truth_number (shape_of_value left) h.0) (truth_number (shape_of_value right) h.1)
-      (λ v w e k checks. subst
-      (λ r. MayGive x traps g line rest y free
-      (binary_stand operator to left right y free m.shape m.is m.one (truth_number (shape_of_value left) h.0) (truth_number (shape_of_value right) h.1)) to
-      m.shape m.is r)
-      (sym (is_fine (number_of v) (number_of w)))
-      (bits_shaped f m.shape m.takes_it each (number_of v) (number_of w) (value_bit line y left v h.0 e) (value_bit line y right w h.1 k)))
-
-  -- bit by bit: of ints, or of truths
-  bitwise : (operator : Operator) (f : ℕ → ℕ → ℕ) (to left right : ℕ) (y : IsGood x (starts g (L.Binary to operator left right) rest)) → y.passed
-      ≡ []
-      → ((a b : ℤ) → applied operator a b ≡ Fine (int_of (f (bits_of a) (bits_of b))))
-      → ((a b : ℤ) → IsBit a → IsBit b → has_shape (Number (int_of (f (bits_of a) (bits_of b)))) (number (Some 2)) ≡ true)
-      → bitwise_fits (shape_of_value to) (shape_of_value left) (shape_of_value right) ≡ true → BinaryDoes operator to left right
-  bitwise operator f to left right y free is_fine each fit = by (shape_of_value to) refl fit
-    where
-      truths : (o : Option Shape) → shape_of_value to ≡ o → (may_get o (Some (number (Some 2))) &&
-          (is_truth (shape_of_value left) && is_truth (shape_of_value right))) ≡ true
-          → BinaryDoes operator to left right
-      truths o is h = bits_truth operator f to left right y free is_fine each
-          (subst (λ s. (may_get s (Some (number (Some 2))) && (is_truth (shape_of_value left) && is_truth (shape_of_value right))) ≡ true) (sym is) h)
-
-      by : (o : Option Shape) → shape_of_value to ≡ o → bitwise_fits o (shape_of_value left) (shape_of_value right) ≡ true
-          → BinaryDoes operator to left right
-      by (Some (number None)) is h = binary_int operator to left right y free
-          (subst (λ s. (is_int s && (is_number (shape_of_value left) && is_number (shape_of_value right))) ≡ true) (sym is) h)
-      by (Some (number (Some n))) is h = truths (Some (number (Some n))) is h
-      by (Some reference) is h = truths (Some reference) is h
-      by (Some block) is h = truths (Some block) is h
-      by (Some (elements s)) is h = truths (Some (elements s)) is h
-      by (Some (row n s)) is h = truths (Some (row n s)) is h
-      by (Some (parts ss)) is h = truths (Some (parts ss)) is h
-      by None is h = truths None is h
-
-  pub binary_line : (operator : Operator) (to left right : ℕ) → FollowedHere x g rest (L.Binary to operator left right)
-  binary_line binary.Add to left right y free = binary_int binary.Add to left right y free
-      (fits_here x.table x.blocks (body_of g) y.passed (L.Binary to binary.Add left right) rest y.stands)
-  binary_line binary.Subtract to left right y free =
-      binary_int binary.Subtract to left right y free (fits_here x.table x.blocks (body_of g) y.passed (L.Binary to binary.Subtract left right) rest y.stands)
-  binary_line binary.Multiply to left right y free =
-      binary_int binary.Multiply to left right y free (fits_here x.table x.blocks (body_of g) y.passed (L.Binary to binary.Multiply left right) rest y.stands)
-  binary_line binary.Divide to left right y free =
-      binary_int binary.Divide to left right y free (fits_here x.table x.blocks (body_of g) y.passed (L.Binary to binary.Divide left right) rest y.stands)
-  binary_line binary.Modulo to left right y free =
-      binary_int binary.Modulo to left right y free (fits_here x.table x.blocks (body_of g) y.passed (L.Binary to binary.Modulo left right) rest y.stands)
-  binary_line binary.ShiftLeft to left right y free =
-      binary_int binary.ShiftLeft to left right y free (fits_here x.table x.blocks (body_of g) y.passed (L.Binary to binary.ShiftLeft left right) rest y.stands)
-  binary_line binary.ShiftRight to left right y free =
-      binary_int binary.ShiftRight to left right y free (fits_here x.table x.blocks (body_of g) y.passed
-      (L.Binary to binary.ShiftRight left right) rest y.stands)
-  binary_line binary.BitAnd to left right y free = bitwise binary.BitAnd bit_and to left right y free (λ a b. refl) and_bits
-      (fits_here x.table x.blocks (body_of g) y.passed (L.Binary to binary.BitAnd left right) rest y.stands)
-  binary_line binary.BitOr to left right y free = bitwise binary.BitOr bit_or to left right y free (λ a b. refl) or_bits
-      (fits_here x.table x.blocks (body_of g) y.passed (L.Binary to binary.BitOr left right) rest y.stands)
-  binary_line binary.BitXor to left right y free = bitwise binary.BitXor bit_xor to left right y free (λ a b. refl) xor_bits
-      (fits_here x.table x.blocks (body_of g) y.passed (L.Binary to binary.BitXor left right) rest y.stands)
-
-  -- ---- comparisons
-
-  pub compare_line : (operator : Comparison) (to left right : ℕ) → FollowedHere x g rest (L.Compare to operator left right)
-  compare_line operator to left right y free =
-      using_settles x (starts g line rest) rest (g.call.temps.values left)
-      (λ v. using_number (scene_of (high x.table x.blocks (starts g line rest))) right
-      (λ b. gives (scene_of (high x.table x.blocks (starts g line rest))) to (Number (truth (compared operator (number_of v) b)))))
-      (λ v e. using_settles x (starts g line rest) rest (g.call.temps.values right)
-      (λ w. gives (scene_of (high x.table x.blocks (starts g line rest))) to (Number (truth (compared operator (number_of v) (number_of w)))))
-      (λ w f. by v w (number_operand x g rest line y left v p.0 e) (number_operand x g rest line y right w q.0 f)))
-    where
-      line : Line
-      line = L.Compare to operator left right
-
-      p : (is_number (shape_of_value left) ≡ true) × ((is_number (shape_of_value right) && may_get (shape_of_value to) (Some (number (Some 2)))) ≡ true)
-      p = and_parts (is_number (shape_of_value left)) (is_number (shape_of_value right) && may_get (shape_of_value to) (Some (number (Some 2))))
-          (fits_here x.table x.blocks (body_of g) y.passed (L.Compare to operator left right) rest y.stands)
-
-      q : (is_number (shape_of_value right) ≡ true) × (may_get (shape_of_value to) (Some (number (Some 2))) ≡ true)
-      q = and_parts (is_number (shape_of_value right)) (may_get (shape_of_value to) (Some (number (Some 2)))) p.1
-
-      m : TruthTarget to
-      m = truth_target to q.1
-
-      by : (v w : Value) → Operand x g.call left v → Operand x g.call right w → Settles x (starts g (L.Compare to operator left right) rest) rest
-          (gives (scene_of (high x.table x.blocks (starts g (L.Compare to operator left right) rest))) to
-          (Number (truth (compared operator (number_of v) (number_of w)))))
-      by v w o r =
-          gives_settles x traps g (L.Compare to operator left right) rest y free
-          (stands_next x.table x.blocks (body_of g) y.passed (L.Compare to operator left right) rest y.stands) to m.shape m.is
-          (truth (compared operator (number_of v) (number_of w)))
-          (truth_shaped m.shape (compared operator (number_of v) (number_of w)) m.takes_it)
-          (compare_given x.live (procs x.table x.blocks) (within x.table x.blocks g) g.memory g.words g.call.vars (variable to) (variable left)
-          (target (L.Compare to operator left right) y to m.shape m.is m.one) o.high (number_of v) o.fits o.word_is
-          (code_behind x.table x.blocks (body_of g) rest)
-          (variable right) r.high (number_of w) r.fits r.word_is operator)
-
-  -- ---- one of so many values
-
-  pub narrow_line : (to from values : ℕ) → FollowedHere x g rest (L.Narrow to from values)
-  narrow_line to from values y free =
-      using_settles x (starts g (L.Narrow to from values) rest) rest (g.call.temps.values from)
-      (λ v. gives_checked (scene_of (high x.table x.blocks (starts g (L.Narrow to from values) rest))) to (checked_within values (number_of v)))
-      (λ v e. by v (number_operand x g rest (L.Narrow to from values) y from v p.0 e))
-    where
-      p : (is_number (shape_of_value from) ≡ true) × (may_get (shape_of_value to) (Some (number (Some values))) ≡ true)
-      p = and_parts (is_number (shape_of_value from)) (may_get (shape_of_value to) (Some (number (Some values))))
-          (fits_here x.table x.blocks (body_of g) y.passed (L.Narrow to from values) rest y.stands)
-
-      m : MayGet (shape_of_value to) (Some (number (Some values)))
-      m = may_get_some (shape_of_value to) (Some (number (Some values))) p.1
-
-      takes_it : takes m.shape (number (Some values)) ≡ true
-      takes_it = subst (λ s. takes m.shape s ≡ true) (sym (some_same (number (Some values)) m.other m.is_other)) m.takes_it
-
-      one_word : (shape : Shape) → takes shape (number (Some values)) ≡ true → is_one_word shape ≡ true
-      one_word (number n) h = refl
-      one_word reference h = refl
-      one_word block h = never h
-      one_word (elements s) h = never h
-      one_word (row n s) h = never h
-      one_word (parts ss) h = never h
-
-      stand : StandAt x.table x.blocks (body_of g) y.passed rest
-      stand = stands_next x.table x.blocks (body_of g) y.passed (L.Narrow to from values) rest y.stands
-
-      by : (v : Value) → Operand x g.call from v → Settles x (starts g (L.Narrow to from values) rest) rest
-          (gives_checked (scene_of (high x.table x.blocks (starts g (L.Narrow to from values) rest))) to (checked_within values (number_of v)))
-      by v o =
-          let checks = narrow_checks x.live (procs x.table x.blocks) (within x.table x.blocks g) g.memory g.words g.call.vars (variable to) (variable from)
-          (target (L.Narrow to from values) y to m.shape m.is (one_word m.shape takes_it)) o.high (number_of v) o.fits o.word_is
-          (code_behind x.table x.blocks (body_of g) rest) values in
-          checked_settles x traps g (L.Narrow to from values) rest y free stand to m.shape m.is (checked_within values (number_of v))
-          (may_trap (inside (number_of v) values))
-          (may_give (inside (number_of v) values) refl) checks
-        where
-          may_trap : (b : Bool) → MayTrap (λ l. line_leads l (L.Narrow to from values)) (if b then Fine (number_of v) else Trapped OutOfRange)
-          may_trap true = tt
-          may_trap false = refl
-
-          may_give : (b : Bool) → inside (number_of v) values ≡ b
-              → MayGive x traps g (L.Narrow to from values) rest y free stand to m.shape m.is (if b then Fine (number_of v) else Trapped OutOfRange)
-          may_give true e = value_wider (Number (number_of v)) m.shape (number (Some values)) takes_it (and_from _ _ o.fits e)
-          may_give false e = tt
+  pub binary_line : (operator : Operator) (of : List (Option ℕ)) (from : List From) → TwoDoes operator of from
+  binary_line operator (a ∷ b ∷ []) (F.Value left ∷ F.Value right ∷ []) y = two_line a b left right operator y
+  binary_line operator [] from y = never (applies x g rest to (O.Binary operator) how ty [] from y).row
+  binary_line operator (a ∷ []) from y = never (applies x g rest to (O.Binary operator) how ty (a ∷ []) from y).row
+  binary_line operator (a ∷ b ∷ c ∷ of) from y = never (applies x g rest to (O.Binary operator) how ty (a ∷ b ∷ c ∷ of) from y).row
+  binary_line operator (a ∷ b ∷ []) [] y = never (applies x g rest to (O.Binary operator) how ty (a ∷ b ∷ []) [] y).typed
+  binary_line operator (a ∷ b ∷ []) (F.Value left ∷ []) y =
+      never (and_parts (same_value (value_type_in x g left) (if_type (known x).types a)) false
+      (applies x g rest to (O.Binary operator) how ty (a ∷ b ∷ []) (F.Value left ∷ []) y).typed).1
+  binary_line operator (a ∷ b ∷ []) (F.Value left ∷ F.Value right ∷ other ∷ others) y =
+      never (and_parts (same_value (value_type_in x g right) (if_type (known x).types b)) false
+      (and_parts (same_value (value_type_in x g left) (if_type (known x).types a)) (same_value (value_type_in x g right) (if_type (known x).types b) && false)
+      (applies x g rest to (O.Binary operator) how ty (a ∷ b ∷ []) (F.Value left ∷ F.Value right ∷ other ∷ others) y).typed).1).1
+  binary_line operator (a ∷ b ∷ []) (F.Value left ∷ F.Place right ∷ others) y =
+      never (applies x g rest to (O.Binary operator) how ty (a ∷ b ∷ []) (F.Value left ∷ F.Place right ∷ others) y).placed
+  binary_line operator (a ∷ b ∷ []) (F.Place from ∷ others) y =
+      never (applies x g rest to (O.Binary operator) how ty (a ∷ b ∷ []) (F.Place from ∷ others) y).placed

@@ -4,23 +4,24 @@ use Rattle.std.proofs.Common.{refl, sym, ap, ap₂, ◌∙◌, arith, pos, negsu
 use Rattle.std.specs.Prelude.{ℤ, ◌+ℤ◌, ◌-ℤ◌, ◌*ℤ◌, int_div, int_rem, ◌==◌, not, if◌then◌else◌}
 use Rattle.std.proofs.lemmas.Int.{ints}
 use Rattle.rv32_isa.specs.Machine.{Lives}
-use Rattle.nim_core.specs.declared.expr.Operator.TheVariants as binary
-use Rattle.nim_core.specs.Traps.{Overflow, DivisionByZero}
-use Rattle.nim_core.specs.Ints.{Checked, Fine, Trapped, low, fits, checked, unless_zero, applied}
-use Rattle.mid_code.specs.declared.word.WordOperation.TheVariants as operation
-use Rattle.mid_code.specs.declared.word.Test.TheVariants as test
-use Rattle.mid_code.specs.declared.word.WordInstr.{WordInstr}
-use Rattle.mid_code.specs.declared.word.WordInstr.TheVariants.{Label, Constant, Compute, Branch}
-use Rattle.mid_code.specs.declared.word.WordProc.{WordProc}
-use Rattle.mid_code.specs.Memory.{Memory}
-use Rattle.mid_code.specs.Words.{Vars, put, from_label}
-use Rattle.mid_code.proofs.ForCallers.{never}
+use Rattle.nim_program.specs.declared.operation.Operator.TheVariants as binary
+use Rattle.nim_program.specs.Traps.{Overflow, DivisionByZero}
+use Rattle.nim_program.specs.Ints.{Checked, Fine, Trapped, low, fits, checked, unless_zero, applied}
+use Rattle.word_code.specs.declared.word.WordOperation.TheVariants as operation
+use Rattle.word_code.specs.declared.word.Test.TheVariants as test
+use Rattle.word_code.specs.declared.word.WordInstr.{WordInstr}
+use Rattle.word_code.specs.declared.word.WordInstr.TheVariants.{Label, Constant, Compute, Branch}
+use Rattle.word_code.specs.declared.word.WordProc.{WordProc}
+use Rattle.word_code.specs.Memory.{Memory}
+use Rattle.word_code.specs.Words.{Vars, put, from_label}
+use Rattle.word_lowering.proofs.ShapeFacts.{never}
+use Rattle.word_code.proofs.ForCallers.{Within}
 use Rattle.word_lowering.specs.declared.homes.TheConstants.{FIRST, OWN_FROM}
 use Rattle.word_lowering.specs.Operations.{word, trap_label, minus_one, least, divided_code, quotient_code, divisor_code, binary_code}
 use Rattle.word_lowering.proofs.Arithmetic.{word_small, word_same, word_apart, not_zero, quotient_fits, rem_fits, quotient_is}
 use Rattle.word_lowering.proofs.Arithmetic.{remainder_is, is_least}
-use Rattle.word_lowering.proofs.Runs.{Within}
-use Rattle.word_lowering.proofs.OrdinalRuns.{put_low, Gives, Leads, sum_gives, sum_traps, difference_gives, difference_traps, product_gives, product_traps}
+use Rattle.word_lowering.proofs.OrdinalRuns.{beyond, put_low, Gives, Leads, sum_gives, sum_traps, difference_gives, difference_traps}
+use Rattle.word_lowering.proofs.OrdinalRuns.{product_gives, product_traps}
 use Rattle.word_lowering.proofs.OpRuns.{gives_computed, behind_constant, behind_branch, behind_label, behind_leap}
 use Rattle.word_lowering.proofs.OpRuns.{leads_off, leads_past, leads_constant}
 
@@ -230,15 +231,18 @@ module _ (live : Lives) (procs : List WordProc) (c : Within) (m : Memory) (g : V
 
     pub sum_checks : Checks (binary_code 0 binary.Add to a b k) v to k (applied binary.Add x y)
     sum_checks = if_fits (binary_code 0 binary.Add to a b k) v to k (x +ℤ y)
-        (λ f. (f, given_six _ _ (sum_gives live procs c m g v to a b high_to high_a high_b x y fx fy ea eb k f)))
-        (λ f there stands. led_five _ _ (sum_traps live procs c m g v to a b high_to high_a high_b x y fx fy ea eb k there stands f))
+        (λ f. (f, given_six _ _ (sum_gives live procs c m g v to a b (beyond to high_to) (beyond a high_a) (beyond b high_b) x y fx fy ea eb k f)))
+        (λ f there stands. led_five _ _ (sum_traps live procs c m g v to a b (beyond to high_to) (beyond a high_a) (beyond b high_b)
+        x y fx fy ea eb k there stands f))
 
     pub difference_checks : Checks (binary_code 0 binary.Subtract to a b k) v to k (applied binary.Subtract x y)
     difference_checks = if_fits (binary_code 0 binary.Subtract to a b k) v to k (x -ℤ y)
-        (λ f. (f, given_six _ _ (difference_gives live procs c m g v to a b high_to high_a high_b x y fx fy ea eb k f)))
-        (λ f there stands. led_five _ _ (difference_traps live procs c m g v to a b high_to high_a high_b x y fx fy ea eb k there stands f))
+        (λ f. (f, given_six _ _ (difference_gives live procs c m g v to a b (beyond to high_to) (beyond a high_a) (beyond b high_b) x y fx fy ea eb k f)))
+        (λ f there stands. led_five _ _ (difference_traps live procs c m g v to a b (beyond to high_to) (beyond a high_a) (beyond b high_b)
+        x y fx fy ea eb k there stands f))
 
     pub product_checks : Checks (binary_code 0 binary.Multiply to a b k) v to k (applied binary.Multiply x y)
     product_checks = if_fits (binary_code 0 binary.Multiply to a b k) v to k (x *ℤ y)
-        (λ f. (f, given_six _ _ (product_gives live procs c m g v to a b high_to high_a high_b x y fx fy ea eb k f)))
-        (λ f there stands. led_five _ _ (product_traps live procs c m g v to a b high_to high_a high_b x y fx fy ea eb k there stands f))
+        (λ f. (f, given_six _ _ (product_gives live procs c m g v to a b (beyond to high_to) (beyond a high_a) (beyond b high_b) x y fx fy ea eb k f)))
+        (λ f there stands. led_five _ _ (product_traps live procs c m g v to a b (beyond to high_to) (beyond a high_a) (beyond b high_b)
+        x y fx fy ea eb k there stands f))

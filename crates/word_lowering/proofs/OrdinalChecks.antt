@@ -7,26 +7,25 @@ use Rattle.std.proofs.lemmas.Int.{ints}
 use Rattle.std.proofs.lemmas.Bool.{cond-true, eqb-true, eqb-false, eq-eqb, lt-ltb, le-ltb, le-leb, ltb-true, ltb-false}
 use Rattle.rv32_isa.specs.Machine.{Lives}
 use Rattle.rv32_isa.specs.Values.{subtracted, one_if, is_less_signed}
-use Rattle.nim_core.specs.declared.expr.UnaryOperator.{UnaryOperator}
-use Rattle.nim_core.specs.declared.expr.UnaryOperator.TheVariants as unary
-use Rattle.nim_core.specs.declared.expr.Operator.{Operator}
-use Rattle.nim_core.specs.declared.expr.Operator.TheVariants as binary
-use Rattle.nim_core.specs.declared.expr.Comparison.{Comparison}
-use Rattle.nim_core.specs.declared.expr.Comparison.TheVariants as comparison
-use Rattle.nim_core.specs.Traps.{Overflow, OutOfRange}
-use Rattle.nim_core.specs.Ints.{Checked, Fine, Trapped, fits, checked, bits_of, signed as int_of, applied, applied_to, compared, truth, inside, within}
-use Rattle.mid_code.specs.declared.word.WordOperation.TheVariants as operation
-use Rattle.mid_code.specs.declared.word.Test.TheVariants as test
-use Rattle.mid_code.specs.declared.word.WordInstr.{WordInstr}
-use Rattle.mid_code.specs.declared.word.WordInstr.TheVariants.{Label, Constant, Copy, Compute, Branch}
-use Rattle.mid_code.specs.declared.word.WordProc.{WordProc}
-use Rattle.mid_code.specs.Memory.{Memory}
-use Rattle.mid_code.specs.Words.{Vars, put, from_label}
+use Rattle.nim_program.specs.declared.operation.UnaryOperator.{UnaryOperator}
+use Rattle.nim_program.specs.declared.operation.UnaryOperator.TheVariants as unary
+use Rattle.nim_program.specs.declared.operation.Operator.{Operator}
+use Rattle.nim_program.specs.declared.operation.Operator.TheVariants as binary
+use Rattle.nim_program.specs.declared.operation.Comparison.{Comparison}
+use Rattle.nim_program.specs.declared.operation.Comparison.TheVariants as comparison
+use Rattle.nim_program.specs.Traps.{Overflow, OutOfRange}
+use Rattle.nim_program.specs.Ints.{Checked, Fine, Trapped, fits, checked, bits_of, signed as int_of, applied, applied_to, compared, truth, inside, within}
+use Rattle.word_code.specs.declared.word.WordOperation.TheVariants as operation
+use Rattle.word_code.specs.declared.word.Test.TheVariants as test
+use Rattle.word_code.specs.declared.word.WordInstr.{WordInstr}
+use Rattle.word_code.specs.declared.word.WordInstr.TheVariants.{Label, Constant, Copy, Compute, Branch}
+use Rattle.word_code.specs.declared.word.WordProc.{WordProc}
+use Rattle.word_code.specs.Memory.{Memory}
+use Rattle.word_code.specs.Words.{Vars, put, from_label}
+use Rattle.word_code.proofs.ForCallers.{Within, got}
 use Rattle.word_lowering.specs.declared.homes.TheConstants.{FIRST, SECOND, OWN_FROM}
 use Rattle.word_lowering.specs.Operations.{word, trap_label, minus_one, least, binary_code, unary_code, compare_code, opposite_code, narrow_code}
 use Rattle.word_lowering.proofs.Arithmetic.{fits_signed, signed_fits, word_small, opposite_is, is_least, equal_is, less_is, at_most_is}
-use Rattle.word_lowering.proofs.Runs.{Within}
-use Rattle.word_lowering.proofs.CopyRuns.{got}
 use Rattle.word_lowering.proofs.OrdinalRuns.{put_low, Gives}
 use Rattle.word_lowering.proofs.OpRuns.{gives_copy, gives_computed, behind_constant, behind_computed, behind_branch, leads_off, leads_constant}
 use Rattle.word_lowering.proofs.BitFacts.{left_shifted, left_is, left_fits, right_shifted, right_is, right_fits, and_is, and_fits, or_is, or_fits, xor_is}

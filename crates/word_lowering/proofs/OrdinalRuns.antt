@@ -9,20 +9,19 @@ use Rattle.std.proofs.lemmas.Int.{ints}
 use Rattle.std.proofs.lemmas.Bool.{ne_eqb, eq-eqb, cond-false, cond-true}
 use Rattle.rv32_isa.specs.Machine.{Lives}
 use Rattle.rv32_isa.specs.Values.{added, subtracted, one_if, is_less_signed, low_product, high_product_signed, shifted_right_signed}
-use Rattle.nim_core.specs.Ints.{fits}
-use Rattle.mid_code.specs.declared.word.WordOperation.TheVariants.{Add, Subtract, Less, Multiply, MultiplyHigh, ShiftRightSigned}
-use Rattle.mid_code.specs.declared.word.Test.TheVariants as test
-use Rattle.mid_code.specs.declared.word.WordInstr.{WordInstr}
-use Rattle.mid_code.specs.declared.word.WordInstr.TheVariants.{Copy}
-use Rattle.mid_code.specs.declared.word.WordProc.{WordProc}
-use Rattle.mid_code.specs.Memory.{Memory}
-use Rattle.mid_code.specs.Words.{Vars, put, from_label}
-use Rattle.word_lowering.specs.declared.homes.TheConstants.{LEFT, FIRST, SECOND, THIRD, OWN_FROM}
+use Rattle.nim_program.specs.Ints.{fits}
+use Rattle.word_code.specs.declared.word.WordOperation.TheVariants.{Add, Subtract, Less, Multiply, MultiplyHigh, ShiftRightSigned}
+use Rattle.word_code.specs.declared.word.Test.TheVariants as test
+use Rattle.word_code.specs.declared.word.WordInstr.{WordInstr}
+use Rattle.word_code.specs.declared.word.WordInstr.TheVariants.{Copy}
+use Rattle.word_code.specs.declared.word.WordProc.{WordProc}
+use Rattle.word_code.specs.Memory.{Memory}
+use Rattle.word_code.specs.Words.{Vars, put, from_label}
+use Rattle.word_code.proofs.ForCallers.{Runs, then_runs, Within, at, run_constant, run_copy, run_compute, run_past, run_off, got}
+use Rattle.word_lowering.specs.declared.homes.TheConstants.{LEFT, FIRST, SECOND, THIRD, FOURTH, OWN_FROM}
 use Rattle.word_lowering.specs.Operations.{word, sum_code, difference_code, product_code, unless_differ}
 use Rattle.word_lowering.proofs.Arithmetic.{signed_word, product_within, sign_word, added_is, sum_fits, subtracted_is, difference_fits, product_is}
 use Rattle.word_lowering.proofs.Arithmetic.{product_fits}
-use Rattle.word_lowering.proofs.Runs.{Runs, then_runs, Within, at, run_constant, run_copy, run_compute, run_past, run_off}
-use Rattle.word_lowering.proofs.CopyRuns.{got}
 
 -- ---- what a variable has behind others
 
@@ -37,8 +36,12 @@ put_other v to n u apart = cond-false (u == to) (Some (n % 2 ^ 32)) (v u) (ne_eq
 pub put_low : (v : Vars) (to n u : ℕ) → to < OWN_FROM → OWN_FROM ≤ u → put v to n u ≡ v u
 put_low v to n u low high = put_other v to n u (λ e. absurd (omega arith))
 
-pub put_high : (v : Vars) (to n u : ℕ) → OWN_FROM ≤ to → u < OWN_FROM → put v to n u ≡ v u
-put_high v to n u high low = put_other v to n u (λ e. absurd (omega arith))
+-- operations use three variables for what comes between: all from the fourth on are as they were
+pub put_under : (v : Vars) (to n u : ℕ) → to < FOURTH → FOURTH ≤ u → put v to n u ≡ v u
+put_under v to n u low high = put_other v to n u (λ e. absurd (omega arith))
+
+pub beyond : (u : ℕ) → OWN_FROM ≤ u → FOURTH ≤ u
+beyond u high = omega arith
 
 -- four words for what comes between
 pub four_low : (v : Vars) (a b c d x y z w u : ℕ) → a < OWN_FROM → b < OWN_FROM → c < OWN_FROM → d < OWN_FROM → OWN_FROM ≤ u
@@ -79,15 +82,22 @@ pub record AllSame (v w : Vars) : Type 0 where
   pub others : (u : ℕ) → OWN_FROM ≤ u → w u ≡ v u
   pub left : w LEFT ≡ v LEFT
 
--- a variable for a place gets a word
-pub but_one : (v w : Vars) (to n : ℕ) → OWN_FROM ≤ to → AllSame v w → AllBut v to (put w to n)
-but_one v w to n high same = record {
+-- a variable gets a word
+pub but_over : (v w : Vars) (to n : ℕ) → FOURTH ≤ to → AllSame v w → AllBut v to (put w to n)
+but_over v w to n high same = record {
   others = λ u h apart. put_other w to n u apart ∙ same.others u h;
-  left = put_high w to n LEFT high (omega arith) ∙ same.left;
+  left = put_under_left ∙ same.left;
 }
+  where
+    put_under_left : put w to n LEFT ≡ w LEFT
+    put_under_left = put_other w to n LEFT (λ e. absurd (omega arith))
+
+-- one for a place
+pub but_one : (v w : Vars) (to n : ℕ) → OWN_FROM ≤ to → AllSame v w → AllBut v to (put w to n)
+but_one v w to n high same = but_over v w to n (beyond to high) same
 
 module _ (live : Lives) (procs : List WordProc) (c : Within) (m : Memory) (g : Vars) where
-  -- lines that give a word to a variable for a place, and pass to what follows
+  -- lines that give a word to a variable, and pass to what follows
   pub record Gives (lines : List WordInstr) (v : Vars) (to n : ℕ) (k : List WordInstr) (steps : ℕ) : Type 0 where
     pub vars : Vars
     pub given : vars to ≡ Some n
@@ -102,7 +112,7 @@ module _ (live : Lives) (procs : List WordProc) (c : Within) (m : Memory) (g : V
 
   -- ---- sums
 
-  module _ (v : Vars) (to a b : ℕ) (high_to : OWN_FROM ≤ to) (high_a : OWN_FROM ≤ a) (high_b : OWN_FROM ≤ b) (x y : ℤ)
+  module _ (v : Vars) (to a b : ℕ) (high_to : FOURTH ≤ to) (high_a : FOURTH ≤ a) (high_b : FOURTH ≤ b) (x y : ℤ)
       (fx : fits x ≡ true) (fy : fits y ≡ true) (ea : v a ≡ Some (word x)) (eb : v b ≡ Some (word y)) (k : List WordInstr) where
     -- the variables before the test
     abbrev sum_vars : Vars
@@ -125,9 +135,9 @@ module _ (live : Lives) (procs : List WordProc) (c : Within) (m : Memory) (g : V
         let v1 : Vars = put v FIRST (added (word x) (word y)) in
         let v2 : Vars = put v1 SECOND (one_if (is_less_signed (added (word x) (word y)) (word x))) in
         let v3 : Vars = put v2 THIRD 0 in
-        let a1 : v1 a ≡ Some (word x) = put_low v FIRST (added (word x) (word y)) a (omega arith) high_a ∙ ea in
-        let b1 : v1 b ≡ Some (word y) = put_low v FIRST (added (word x) (word y)) b (omega arith) high_b ∙ eb in
-        let b3 : v3 b ≡ Some (word y) = put_low v2 THIRD 0 b (omega arith) high_b ∙ put_low v1 SECOND
+        let a1 : v1 a ≡ Some (word x) = put_under v FIRST (added (word x) (word y)) a (omega arith) high_a ∙ ea in
+        let b1 : v1 b ≡ Some (word y) = put_under v FIRST (added (word x) (word y)) b (omega arith) high_b ∙ eb in
+        let b3 : v3 b ≡ Some (word y) = put_under v2 THIRD 0 b (omega arith) high_b ∙ put_under v1 SECOND
         (one_if (is_less_signed (added (word x) (word y)) (word x))) b (omega arith) high_b ∙ b1 in
         let r1 = run_compute live procs c m _ v g FIRST Add a b ea eb in
         let r2 = run_compute live procs c m _ v1 g SECOND Less FIRST a (got (added (word x) (word y)) sum_small) a1 in
@@ -145,7 +155,7 @@ module _ (live : Lives) (procs : List WordProc) (c : Within) (m : Memory) (g : V
         record {
           vars = put sum_vars to (added (word x) (word y));
           given = put_here sum_vars to (added (word x) (word y)) sum_small ∙ ap Some e;
-          but = but_one v sum_vars to (added (word x) (word y)) high_to sum_same;
+          but = but_over v sum_vars to (added (word x) (word y)) high_to sum_same;
           runs = then_runs live procs sum_front (then_runs live procs r5 r6);
         }
 
@@ -159,7 +169,7 @@ module _ (live : Lives) (procs : List WordProc) (c : Within) (m : Memory) (g : V
 
   -- ---- differences
 
-  module _ (v : Vars) (to a b : ℕ) (high_to : OWN_FROM ≤ to) (high_a : OWN_FROM ≤ a) (high_b : OWN_FROM ≤ b) (x y : ℤ)
+  module _ (v : Vars) (to a b : ℕ) (high_to : FOURTH ≤ to) (high_a : FOURTH ≤ a) (high_b : FOURTH ≤ b) (x y : ℤ)
       (fx : fits x ≡ true) (fy : fits y ≡ true) (ea : v a ≡ Some (word x)) (eb : v b ≡ Some (word y)) (k : List WordInstr) where
     -- the variables before the test
     abbrev difference_vars : Vars
@@ -182,9 +192,9 @@ module _ (live : Lives) (procs : List WordProc) (c : Within) (m : Memory) (g : V
         let v1 : Vars = put v FIRST (subtracted (word x) (word y)) in
         let v2 : Vars = put v1 SECOND (one_if (is_less_signed (word x) (subtracted (word x) (word y)))) in
         let v3 : Vars = put v2 THIRD 0 in
-        let a1 : v1 a ≡ Some (word x) = put_low v FIRST (subtracted (word x) (word y)) a (omega arith) high_a ∙ ea in
-        let b1 : v1 b ≡ Some (word y) = put_low v FIRST (subtracted (word x) (word y)) b (omega arith) high_b ∙ eb in
-        let b3 : v3 b ≡ Some (word y) = put_low v2 THIRD 0 b (omega arith) high_b ∙ put_low v1 SECOND
+        let a1 : v1 a ≡ Some (word x) = put_under v FIRST (subtracted (word x) (word y)) a (omega arith) high_a ∙ ea in
+        let b1 : v1 b ≡ Some (word y) = put_under v FIRST (subtracted (word x) (word y)) b (omega arith) high_b ∙ eb in
+        let b3 : v3 b ≡ Some (word y) = put_under v2 THIRD 0 b (omega arith) high_b ∙ put_under v1 SECOND
         (one_if (is_less_signed (word x) (subtracted (word x) (word y)))) b (omega arith) high_b ∙ b1 in
         let r1 = run_compute live procs c m _ v g FIRST Subtract a b ea eb in
         let r2 = run_compute live procs c m _ v1 g SECOND Less a FIRST a1 (got (subtracted (word x) (word y)) difference_small) in
@@ -202,7 +212,7 @@ module _ (live : Lives) (procs : List WordProc) (c : Within) (m : Memory) (g : V
         record {
           vars = put difference_vars to (subtracted (word x) (word y));
           given = put_here difference_vars to (subtracted (word x) (word y)) difference_small ∙ ap Some e;
-          but = but_one v difference_vars to (subtracted (word x) (word y)) high_to difference_same;
+          but = but_over v difference_vars to (subtracted (word x) (word y)) high_to difference_same;
           runs = then_runs live procs difference_front (then_runs live procs r5 r6);
         }
 
@@ -216,7 +226,7 @@ module _ (live : Lives) (procs : List WordProc) (c : Within) (m : Memory) (g : V
 
   -- ---- products
 
-  module _ (v : Vars) (to a b : ℕ) (high_to : OWN_FROM ≤ to) (high_a : OWN_FROM ≤ a) (high_b : OWN_FROM ≤ b) (x y : ℤ)
+  module _ (v : Vars) (to a b : ℕ) (high_to : FOURTH ≤ to) (high_a : FOURTH ≤ a) (high_b : FOURTH ≤ b) (x y : ℤ)
       (fx : fits x ≡ true) (fy : fits y ≡ true) (ea : v a ≡ Some (word x)) (eb : v b ≡ Some (word y)) (k : List WordInstr) where
     -- the variables before the test
     abbrev product_vars : Vars
@@ -239,9 +249,9 @@ module _ (live : Lives) (procs : List WordProc) (c : Within) (m : Memory) (g : V
         let v1 : Vars = put v FIRST (low_product (word x) (word y)) in
         let v2 : Vars = put v1 SECOND (high_product_signed (word x) (word y)) in
         let v3 : Vars = put v2 THIRD 31 in
-        let a1 : v1 a ≡ Some (word x) = put_low v FIRST (low_product (word x) (word y)) a (omega arith) high_a ∙ ea in
-        let b1 : v1 b ≡ Some (word y) = put_low v FIRST (low_product (word x) (word y)) b (omega arith) high_b ∙ eb in
-        let b3 : v3 b ≡ Some (word y) = put_low v2 THIRD 31 b (omega arith) high_b ∙ put_low v1 SECOND (high_product_signed (word x) (word y)) b
+        let a1 : v1 a ≡ Some (word x) = put_under v FIRST (low_product (word x) (word y)) a (omega arith) high_a ∙ ea in
+        let b1 : v1 b ≡ Some (word y) = put_under v FIRST (low_product (word x) (word y)) b (omega arith) high_b ∙ eb in
+        let b3 : v3 b ≡ Some (word y) = put_under v2 THIRD 31 b (omega arith) high_b ∙ put_under v1 SECOND (high_product_signed (word x) (word y)) b
         (omega arith) high_b ∙ b1 in
         let r1 = run_compute live procs c m _ v g FIRST Multiply a b ea eb in
         let r2 = run_compute live procs c m _ v1 g SECOND MultiplyHigh a b a1 b1 in
@@ -259,7 +269,7 @@ module _ (live : Lives) (procs : List WordProc) (c : Within) (m : Memory) (g : V
         record {
           vars = put product_vars to (low_product (word x) (word y));
           given = put_here product_vars to (low_product (word x) (word y)) product_small ∙ ap Some e;
-          but = but_one v product_vars to (low_product (word x) (word y)) high_to product_same;
+          but = but_over v product_vars to (low_product (word x) (word y)) high_to product_same;
           runs = then_runs live procs product_front (then_runs live procs r5 r6);
         }
 

@@ -1,251 +1,226 @@
--- A value is moved out of a location: what the line does is followed.
-use Rattle.std.proofs.Common.{◌≡◌, ℕ, suc, ◌+◌, ◌*◌, ◌≤◌, List, [], ◌∷◌, map, Some, pos, true, false, refl, sym, ap, ap₂, subst}
-use Rattle.std.proofs.Common.{◌∙◌, arith}
-use Rattle.std.proofs.lemmas.Bool.{and_parts}
-use Rattle.nim_types.specs.Table.{type_at}
-use Rattle.nim_types.specs.Forms.{form_of}
-use Rattle.nim_core.specs.Values.{Value, Number, Parts, bytes, default_of, Location}
-use Rattle.nim_core.specs.State.{World, load, store}
-use Rattle.mid_code.specs.declared.block.BlockLine.{BlockLine}
-use Rattle.mid_code.specs.declared.block.BlockLine.TheVariants as block_line
-use Rattle.mid_code.specs.declared.line.Line.{Line}
-use Rattle.mid_code.specs.declared.line.Line.TheVariants as L
-use Rattle.mid_code.specs.declared.word.WordInstr.{WordInstr}
-use Rattle.mid_code.specs.Codes.{block_plain}
-use Rattle.mid_code.specs.Memory.{Memory}
-use Rattle.mid_code.specs.Words.{Vars}
-use Rattle.mid_code.specs.Scene.{Where, Located, Within, Temps, with_value}
-use Rattle.mid_code.specs.Lines.{using, located, moves_out}
-use Rattle.mid_code.specs.Shapes.{Shape, has_shape, shape_of}
-use Rattle.mid_code.specs.Fits.{is_value, is_location, shape_named, may_get, alike}
-use Rattle.mid_code.specs.Running.{scene_of}
-use Rattle.mid_code.proofs.ForCallers.{bytes_is, value_wider}
+-- A value is moved out of a location, where its type's default stays.
+use Rattle.std.proofs.Common.{◌≡◌, ℕ, ◌+◌, ◌≤◌, List, [], true, pos, refl, sym, ap, ap₂, subst, ◌∙◌, arith, None, Option, Some, false, ◌*◌, ◌∷◌}
+use Rattle.nim_program.specs.declared.operation.Operation.TheVariants as O
+use Rattle.nim_meaning.specs.Values.{Value, Number, Parts, Handle, Fixed, Ref, Resource, Gone, Vacant, bytes, Location, At, default_of, location_of}
+use Rattle.nim_meaning.specs.State.{load, store}
+use Rattle.flat_code.specs.declared.block.BlockLine.{BlockLine}
+use Rattle.flat_code.specs.declared.line.From.TheVariants as F
+use Rattle.flat_code.specs.declared.line.Line.TheVariants as L
+use Rattle.flat_code.specs.Scene.{Temps, Passes, Where, location_at, with_value}
+use Rattle.flat_code.specs.Shapes.{Shape, has_shape, shape_of}
+use Rattle.word_code.specs.Memory.{Memory}
+use Rattle.word_code.specs.Words.{Vars}
+use Rattle.word_code.specs.declared.word.WordInstr.{WordInstr}
+use Rattle.word_code.proofs.ForCallers.{at, Runs, then_runs}
 use Rattle.word_lowering.specs.declared.homes.Home.{Home}
-use Rattle.word_lowering.specs.declared.homes.Home.TheVariants.{Variable}
 use Rattle.word_lowering.specs.declared.homes.Housed.{Housed}
 use Rattle.word_lowering.specs.declared.spots.Spot.TheVariants.{Lies}
-use Rattle.word_lowering.specs.Spots.{spot_of, cleared, clears, moves}
-use Rattle.word_lowering.specs.LineCode.{callee_behind}
-use Rattle.word_lowering.proofs.Options.{some_same}
-use Rattle.word_lowering.proofs.InMemory.{AllZero, blank_zero, bytes_some}
-use Rattle.word_lowering.proofs.Runs.{Runs, at as run_at, then_runs}
+use Rattle.word_lowering.specs.LineCode.{location}
+use Rattle.word_lowering.specs.Spots.{moves, clears, cleared, spot_of}
 use Rattle.word_lowering.proofs.RoutineCalls.{awaiting}
-use Rattle.word_lowering.proofs.Moves.{is_single, ToMemory, zero_to_memory, zeros_to_memory}
-use Rattle.word_lowering.proofs.LineFits.{MayGet, may_get_some, alike_some, single_is}
-use Rattle.word_lowering.proofs.Sites.{room, IsHoused}
-use Rattle.word_lowering.proofs.SitesApart.{houses}
-use Rattle.word_lowering.proofs.Scenes.{Points, of_value, of_location, house, IsThere, looked}
-use Rattle.word_lowering.proofs.Keeping.{location_address}
-use Rattle.word_lowering.proofs.Related.{Both, body_of, procs, within, high, code_behind, StandAt, params_for}
-use Rattle.word_lowering.proofs.Lines.{Basis, fits_here, stands_next, nothing_given, changed, starts, IsGood, known, Settles, using_settles, goes_on, all_sites}
-use Rattle.word_lowering.proofs.ValueFacts.{named_value, value_plain}
-use Rattle.word_lowering.proofs.ControlLines.{FollowedHere}
+use Rattle.word_lowering.proofs.Clears.{gets_cleared}
+use Rattle.word_lowering.proofs.Gets.{Gets, SameTemps, good_place, gets_moved, good_value, same_temps}
+use Rattle.word_lowering.proofs.InMemory.{AllZero, blank_zero, bytes_some}
+use Rattle.word_lowering.proofs.Lines.{reaches, Basis, IsGood, all_procs, all_sites, changed, data_there, stands_next, starts, Settles, goes_on, known}
+use Rattle.word_lowering.proofs.Lines.{mapped_settles}
 use Rattle.word_lowering.proofs.Located.{place_located}
+use Rattle.word_lowering.proofs.MovedLines.{own_plain}
+use Rattle.word_lowering.proofs.Moves.{ToMemory, is_single, zero_to_memory, zeros_to_memory}
+use Rattle.word_lowering.proofs.OutPlaces.{Written, far_written, own_written, written_at}
+use Rattle.word_lowering.proofs.ReadFacts.{each_call, read_location}
+use Rattle.word_lowering.proofs.Related.{routines, Both, body_of, within, high}
+use Rattle.word_lowering.proofs.Scenes.{Points, house, looked, of_place, of_location, of_value}
+use Rattle.word_lowering.proofs.ShapeFacts.{bytes_is, never, values_of_numbers}
 use Rattle.word_lowering.proofs.Sources.{Lying, lying_area, lying_near, more_steps}
-use Rattle.word_lowering.proofs.Gets.{Gets, gets_moved, good_value}
-use Rattle.word_lowering.proofs.MoveLines.{led_to, read_location, each_call}
-use Rattle.word_lowering.proofs.Stores.{store_is, good_stored}
-use Rattle.word_lowering.proofs.StoreLines.{pointed}
+use Rattle.word_lowering.proofs.Stores.{good_stored}
+use Rattle.flat_code.specs.Fits.{if_kind, is_location, is_standing, place_named}
+use Rattle.flat_code.specs.Lines.{gives}
+use Rattle.flat_code.specs.Running.{scene_of}
+use Rattle.flat_code.specs.declared.line.From.{From}
+use Rattle.nim_meaning.specs.Deeds.{Answers, costs, ◌>>=◌}
+use Rattle.nim_meaning.specs.Here.{gives_hooked}
+use Rattle.nim_meaning.specs.Places.{exchanged, made_by}
+use Rattle.nim_program.specs.Kinds.{is_of, same_value}
+use Rattle.nim_program.specs.View.{if_type}
+use Rattle.nim_program.specs.declared.operation.Use.{Use}
+use Rattle.nim_types.specs.Forms.{form_of}
+use Rattle.nim_types.specs.Table.{facts_in, type_at}
+use Rattle.nim_types.specs.Types.{Ty}
+use Rattle.std.proofs.lemmas.Bool.{and_parts}
+use Rattle.word_lowering.proofs.ApplyFits.{applies}
+use Rattle.word_lowering.proofs.ControlLines.{FollowedHere, plain, value_type}
+use Rattle.word_lowering.proofs.LineFits.{are_of, same_type, single_is}
+use Rattle.word_lowering.proofs.OperandLines.{value_type_by}
+use Rattle.word_lowering.proofs.Settling.{LabelsLead, code_next}
+use Rattle.word_lowering.proofs.Sites.{around}
+use Rattle.word_lowering.proofs.Targets.{pointed, target}
+use Rattle.word_lowering.proofs.ValueFacts.{type_in, value_plain}
 
-module _ (x : Basis) (g : Both) (line : Line) (rest : List BlockLine) (y : IsGood x (starts g line rest)) where
-  -- zeros at an address
-  pub zeros_at : (home : Home) (a : ℕ) → Points g.call.site.base g.call.vars home a → (v : Value) → AllZero v → Lying x
-      (all_sites x g line rest y) y.linked a (bytes v) → (k : List WordInstr)
-      → ToMemory x.law x.live (procs x.table x.blocks) (within x.table x.blocks g) refl g.words g.memory
-      (cleared (is_single v) (bytes v) (Lies home) k) g.call.vars a v (9 + bytes v) k
-  zeros_at home a points (Number z) zero_value lying k =
-      let area = lying_area x (all_sites x g line rest y) y.linked g.memory a 4 y.memory lying 1 (omega arith) in
-      let near = lying_near x (all_sites x g line rest y) y.linked a 4 lying in
-      subst (λ u. ToMemory x.law x.live (procs x.table x.blocks) (within x.table x.blocks g) refl g.words g.memory (cleared true 4 (Lies home) k) g.call.vars a
-      (Number u) 13 k) (sym zero_value)
-      (more_steps x (all_sites x g line rest y) y.linked (within x.table x.blocks g) refl g.words g.memory y.memory k g.call.vars (cleared true 4 (Lies home) k)
-      a 4 13 (Number (pos 0)) (omega arith)
-      (zero_to_memory x.law x.live (procs x.table x.blocks) (within x.table x.blocks g) refl g.words g.memory y.memory.sized k g.call.vars home a points 4
-      area.0 (omega (arith, near))))
-  zeros_at home a points (Parts vs) zero_value lying k =
-      zeros_to_memory x.law x.live (procs x.table x.blocks) (within x.table x.blocks g) refl g.words g.memory y.memory.sized k g.call.vars home
-      a points x.clears.0 x.clears.1 vs zero_value (lying_area x (all_sites x g line rest y) y.linked g.memory a (bytes (Parts vs)) y.memory lying)
-      (lying_near x (all_sites x g line rest y) y.linked a (bytes (Parts vs)) lying)
-
-  -- the line is still to come
-  pub comes_again : (free : y.passed ≡ []) (temps : Temps) (vars : Vars) (m : Memory) (words : Vars) (awaits : ℕ) (w : World)
-      → IsGood x (changed g rest temps vars m words awaits w g.has)
-      → (z : IsGood x (changed g (block_line.Plain line ∷ rest) temps vars m words awaits w g.has)) × (z.passed ≡ [])
-  comes_again free temps vars m words awaits w z = (
-    record {
-      linked = z.linked;
-      memory = z.memory;
-      hold = z.hold;
-      frames = z.frames;
-      levels = z.levels;
-      passed = [];
-      stands = subst (λ p. StandAt x.table x.blocks (body_of g) p (block_line.Plain line ∷ rest)) free y.stands;
-      gave = nothing_given x.table x.blocks g.memory m (all_sites x g line rest y) g.has g.has g.words words
-          (g.call.site.base + room (body_of g)) g.given y.passed
-          (params_for x.table x.blocks (body_of g) (callee_behind (map block_plain (block_line.Plain line ∷ rest))))
-          (params_for x.table x.blocks (body_of g) (callee_behind (map block_plain (block_line.Plain line ∷ rest)))) free y.gave;
-      waits = z.waits;
-      answers = z.answers;
-    },
-    refl,
-  )
-
-  -- the value at a location becomes zeros
-  pub record Zeroed (l : Location) (v : Value) (lines k : List WordInstr) : Type 0 where
+module _ (x : Basis) (g : Both) (line : BlockLine) (rest : List BlockLine) (y : IsGood x (starts g line rest)) where
+  -- what is true behind the code that clears a location
+  pub record Cleared (h : Housed) (l : Location) (d : Value) (temps : Temps) (k : List WordInstr) : Type 0 where
     pub vars : Vars
     pub memory : Memory
     pub words : Vars
     pub awaits : ℕ
-    pub good : IsGood x (changed g rest g.call.temps vars memory words awaits (store g.world l v) g.has)
     pub steps : ℕ
-    pub few : steps ≤ 9 + bytes v
-    pub runs : Runs x.live (procs x.table x.blocks) steps (run_at (within x.table x.blocks g) g.memory lines g.call.vars g.words)
-        (run_at (awaiting (within x.table x.blocks g) awaits) memory k vars words)
+    pub some : 1 ≤ steps
+    pub few : steps ≤ 9 + bytes d
+    pub runs : Runs x.live (all_procs x) steps (at (within x.table x.blocks g) g.memory (clears h k) g.call.vars g.words)
+        (at (awaiting (within x.table x.blocks g) awaits) memory k vars words)
+    pub good : IsGood x (changed g rest temps vars memory words awaits (store g.world l d))
 
-  pub zeroed : (free : y.passed ≡ []) (stand : StandAt x.table x.blocks (body_of g) y.passed rest) (t : ℕ) (l : Location) → g.call.temps.locations t
-      ≡ Some (Located l)
-      → (v : Value) → AllZero v → has_shape v (looked x.table x.blocks g.call.site (of_location t)) ≡ true → (k : List WordInstr)
-      → Zeroed l v (clears (house g.call.site (of_location t)) k) k
-  zeroed free stand t l e v zero_value shaped k =
-      let led = y.hold.0.led t (Located l) e in
-      let p = pointed x g rest line y (of_location t) led.address led.is_there
-      (location_address (house g.call.site (of_location t)).kind led.is_there.kind) led.holds in
-      let at = place_located x (all_sites x g line rest y) y.linked g.memory g.world g.has (each_call x g rest line y) l led.address
-      (looked x.table x.blocks g.call.site (of_location t)) led.leads in
-      let size : bytes (load g.world l) ≡ bytes v
-      = bytes_is (load g.world l) (looked x.table x.blocks g.call.site (of_location t)) at.shaped ∙ sym
-      (bytes_is v (looked x.table x.blocks g.call.site (of_location t)) shaped) in
-      let lying : Lying x (all_sites x g line rest y) y.linked led.address (bytes v) = subst
-      (Lying x (all_sites x g line rest y) y.linked led.address) size at.lying in
-      let place : IsHoused x.table x.blocks g.call.site.body (house g.call.site (of_location t)) = houses x.table x.blocks g.call.site
-      (of_location t) y.linked.0 led.is_there in
-      let single : (house g.call.site (of_location t)).is_word ≡ is_single v = sym
-      (single_is v (looked x.table x.blocks g.call.site (of_location t)) shaped ∙ place.word) in
-      let long : (house g.call.site (of_location t)).bytes ≡ bytes v = sym
-      (bytes_is v (looked x.table x.blocks g.call.site (of_location t)) shaped ∙ place.bytes) in
-      let code : clears (house g.call.site (of_location t)) k ≡ cleared (is_single v) (bytes v) (Lies (Variable p.variable)) k
-      = ap₂ (λ a b. cleared a b (spot_of (house g.call.site (of_location t))) k) single long ∙ ap (λ s. cleared (is_single v) (bytes v) s k) p.spot in
-      let r = zeros_at (Variable p.variable) led.address p.points v zero_value lying k in
-      record {
-        vars = r.vars;
-        memory = r.memory;
-        words = r.words;
-        awaits = r.awaits;
-        good = subst (λ w. IsGood x (changed g rest g.call.temps r.vars r.memory r.words r.awaits w g.has))
-            (sym (store_is x g line rest y l led.address (looked x.table x.blocks g.call.site (of_location t)) led.leads v shaped))
-            (good_stored x g line rest y l led.address (looked x.table x.blocks g.call.site (of_location t)) led.leads v shaped r.memory r.changed r.there free
-            stand r.vars r.words r.awaits r.same lying);
-        steps = r.steps;
-        few = r.few;
-        runs = subst (λ c. Runs x.live (procs x.table x.blocks) r.steps (run_at (within x.table x.blocks g) g.memory c g.call.vars g.words)
-            (run_at (awaiting (within x.table x.blocks g) r.awaits) r.memory k r.vars r.words)) (sym code) r.runs;
-      }
-
-module _ (x : Basis) (g : Both) (rest : List BlockLine) where
-  abbrev start_value : ℕ → Value
-  start_value ty = default_of (known x).facts (type_at (known x).types ty)
-
-  abbrev start_shape : ℕ → Shape
-  start_shape ty = shape_of (known x).facts (type_at (known x).types ty)
-
-  module _ (to at ty : ℕ) (y : IsGood x (starts g (L.MoveOut to at ty) rest)) (free : y.passed ≡ []) where
-    abbrev line : Line
-    line = L.MoveOut to at ty
-
-    abbrev code_next : List WordInstr
-    code_next = code_behind x.table x.blocks (body_of g) rest
-
-    abbrev place_at : Housed
-    place_at = house g.call.site (of_location at)
-
-    stand : StandAt x.table x.blocks (body_of g) y.passed rest
-    stand = stands_next x.table x.blocks (body_of g) y.passed line rest y.stands
-
-    fit : (may_get (shape_named (known x) is_value (body_of g).proc.places to) (shape_named (known x) is_location (body_of g).proc.places at) ≡ true)
-        × (alike (shape_named (known x) is_location (body_of g).proc.places at) (Some (start_shape ty)) ≡ true)
-    fit = and_parts (may_get (shape_named (known x) is_value (body_of g).proc.places to) (shape_named (known x) is_location (body_of g).proc.places at))
-        (alike (shape_named (known x) is_location (body_of g).proc.places at) (Some (start_shape ty)))
-        (fits_here x.table x.blocks (body_of g) y.passed line rest y.stands)
-
-    m : MayGet (shape_named (known x) is_value (body_of g).proc.places to) (shape_named (known x) is_location (body_of g).proc.places at)
-    m = may_get_some (shape_named (known x) is_value (body_of g).proc.places to) (shape_named (known x) is_location (body_of g).proc.places at) fit.0
-
-    look : looked x.table x.blocks g.call.site (of_location at) ≡ m.other
-    look = (y.linked.0.named is_location at m.other m.is_other).shape
-
-    -- what is there then
-    default_shaped : has_shape (start_value ty) (looked x.table x.blocks g.call.site (of_location at)) ≡ true
-    default_shaped =
-        let a = alike_some (shape_named (known x) is_location (body_of g).proc.places at) (Some (start_shape ty)) fit.1 in
-        let same : start_shape ty ≡ m.other = some_same (start_shape ty) a.shape a.is_other ∙ some_same a.shape m.other (sym a.is ∙ m.is_other) in
-        subst (λ s. has_shape (start_value ty) s ≡ true) (same ∙ sym look) (x.defaults ty)
-
-    abbrev Out : Location → Type 0
-    Out l = Settles x (starts g line rest) rest (moves_out (scene_of (high x.table x.blocks (starts g line rest))) to l (start_value ty))
-
-    abbrev code_middle : List WordInstr
-    code_middle = clears place_at code_next
-
-    abbrev code_first : List WordInstr
-    code_first = moves (house g.call.site (of_value to)) place_at code_middle
-
-    -- the value has been moved
-    then_zeros : (l : Location) → g.call.temps.locations at ≡ Some (Located l) → bytes (load g.world l) ≡ bytes (start_value ty)
-        → (first : Gets x g line rest y code_first code_middle (of_value to) (load g.world l) (10 + 2 * bytes (load g.world l)))
-        → (good : IsGood x (changed g (block_line.Plain line ∷ rest)
-        (with_value g.call.temps to (load g.world l)) first.vars first.memory first.words first.awaits g.world g.has))
-        → good.passed ≡ [] → Out l
-    then_zeros l e size first good again =
-        let temps : Temps = with_value g.call.temps to (load g.world l) in
-        let h : Both = changed g rest temps first.vars first.memory first.words first.awaits g.world g.has in
-        let z = zeroed x h line rest good again (subst (λ p. StandAt x.table x.blocks (body_of g) p rest) (free ∙ sym again) stand) at l e (start_value ty)
-        (blank_zero (form_of (known x).facts (type_at (known x).types ty))) default_shaped code_next in
-        let some = bytes_some (start_value ty) in
-        let few = first.few in
-        let most = z.few in
-        goes_on x (starts g line rest) (changed g rest temps z.vars z.memory z.words z.awaits (store g.world l (start_value ty)) g.has) rest z.good
-        (first.steps + z.steps) (suc (bytes (start_value ty)))
-        (record (scene_of (high x.table x.blocks (starts g line rest))) { world = store g.world l (start_value ty); temps = temps })
-        (then_runs x.live (procs x.table x.blocks) first.runs z.runs)
-        (let s = first.some in omega (arith, s)) (omega (arith, few, most, size, some)) refl
-
-    by_location : (l : Location) → g.call.temps.locations at ≡ Some (Located l) → Out l
-    by_location l e =
-        let u : Value = load g.world l in
-        let led = led_to x g rest line y at (Located l) u e refl in
-        let r = read_location x g rest line y at (Located l) u led in
-        let n = named_value x g.call.site to m.shape y.linked.0 m.is in
-        let shaped : has_shape u (looked x.table x.blocks g.call.site (of_value to)) ≡ true
-        = subst (λ s. has_shape u s ≡ true) (sym n.1) (value_wider u m.shape m.other m.takes_it (subst (λ s. has_shape u s ≡ true) look led.at.shaped)) in
-        let size : bytes u ≡ bytes (start_value ty)
-        = bytes_is u (looked x.table x.blocks g.call.site (of_location at)) led.at.shaped ∙ sym
-        (bytes_is (start_value ty) (looked x.table x.blocks g.call.site (of_location at)) default_shaped) in
-        moved l e size n.0 shaped
-        (gets_moved x g line rest y (of_value to) n.0 (value_plain (house g.call.site (of_value to)).kind n.0.kind) u shaped code_middle place_at r.word r.size
-        r.small false r.source)
+  module _ (h : Housed) (l : Location) (s : Shape) (d : Value) (shaped : has_shape d s ≡ true) (zero_value : AllZero d)
+      (word_is : h.is_word ≡ is_single d) (size_is : h.bytes ≡ bytes d) (temps : Temps) (same : SameTemps x g line rest y temps) (k : List WordInstr) where
+    -- zeros at an address
+    zeros_at : (home : Home) (a : ℕ) → Points g.call.site.base g.call.vars home a → Lying x (all_sites x g line rest y) y.linked a (bytes d)
+        → ToMemory x.law x.live (all_procs x) (within x.table x.blocks g) refl g.words g.memory (cleared (is_single d) (bytes d) (Lies home) k) g.call.vars a
+        d (9 + bytes d) k
+    zeros_at = by d zero_value
       where
-        moved : (l : Location) → g.call.temps.locations at ≡ Some (Located l) → bytes (load g.world l) ≡ bytes (start_value ty)
-            → IsThere x.table x.blocks g.call.site (of_value to) → has_shape (load g.world l) (looked x.table x.blocks g.call.site (of_value to)) ≡ true
-            → Gets x g (L.MoveOut to at ty) rest y code_first code_middle (of_value to) (load g.world l) (10 + 2 * bytes (load g.world l))
-            → Settles x (starts g (L.MoveOut to at ty) rest) rest (moves_out (scene_of (high x.table x.blocks (starts g (L.MoveOut to at ty) rest))) to l
-            (start_value ty))
-        moved l e size there shaped first =
-            let again = comes_again x g (L.MoveOut to at ty) rest y free
-            (with_value g.call.temps to (load g.world l)) first.vars first.memory first.words first.awaits g.world
-            (good_value x g (L.MoveOut to at ty) rest y free stand code_first code_middle to (load g.world l)
-            (10 + 2 * bytes (load g.world l)) there shaped first) in
-            then_zeros l e size first again.0 again.1
+        by : (d : Value) → AllZero d → (home : Home) (a : ℕ) → Points g.call.site.base g.call.vars home a
+            → Lying x (all_sites x g line rest y) y.linked a (bytes d)
+            → ToMemory x.law x.live (all_procs x) (within x.table x.blocks g) refl g.words g.memory (cleared (is_single d) (bytes d) (Lies home) k)
+            g.call.vars a d (9 + bytes d) k
+        by (Number z) zero_value home a points lying =
+            let area = lying_area x (all_sites x g line rest y) y.linked g.memory a 4 y.memory lying 1 (omega arith) in
+            let near = lying_near x (all_sites x g line rest y) y.linked a 4 lying in
+            subst (λ u. ToMemory x.law x.live (all_procs x) (within x.table x.blocks g) refl g.words g.memory (cleared true 4 (Lies home) k) g.call.vars a
+            (Number u) 13 k) (sym zero_value)
+            (more_steps x (all_sites x g line rest y) y.linked (within x.table x.blocks g) refl g.words g.memory y.memory k g.call.vars
+            (cleared true 4 (Lies home) k) a 4 13 (Number (pos 0)) (omega arith)
+            (zero_to_memory x.law x.live (all_procs x) (within x.table x.blocks g) refl g.words g.memory y.memory.sized k g.call.vars home a points 4 area.0
+            (omega (arith, near))))
+        by (Parts vs) zero_value home a points lying =
+            zeros_to_memory x.law x.live (all_procs x) (within x.table x.blocks g) refl g.words g.memory y.memory.sized k g.call.vars home a points
+            (routines x.table x.blocks) x.runtime.statics (reaches x) (data_there x g.memory y.memory) vs zero_value
+            (lying_area x (all_sites x g line rest y) y.linked g.memory a (bytes (Parts vs)) y.memory lying)
+            (lying_near x (all_sites x g line rest y) y.linked a (bytes (Parts vs)) lying)
+        by (Handle n b) zero_value home a points lying = absurd zero_value
+        by (Fixed text) zero_value home a points lying = absurd zero_value
+        by (Ref object) zero_value home a points lying = absurd zero_value
+        by (Resource all n) zero_value home a points lying = absurd zero_value
+        by (Gone value final) zero_value home a points lying = absurd zero_value
+        by Vacant zero_value home a points lying = absurd zero_value
 
-    pub move_out_settles : Settles x (starts g line rest) rest
-        (using (g.call.temps.locations at) (λ there. located there (λ l. moves_out (scene_of (high x.table x.blocks (starts g line rest))) to l
-        (start_value ty))))
-    move_out_settles = using_settles x (starts g line rest) rest (g.call.temps.locations at)
-        (λ there. located there (λ l. moves_out (scene_of (high x.table x.blocks (starts g line rest))) to l (start_value ty))) by
-      where
-        by : (there : Where) → g.call.temps.locations at ≡ Some there → Settles x (starts g (L.MoveOut to at ty) rest) rest
-            (located there (λ l. moves_out (scene_of (high x.table x.blocks (starts g (L.MoveOut to at ty) rest))) to l (start_value ty)))
-        by (Within t path) e = tt
-        by (Located l) e = by_location l e
+    pub cleared_there : Written x g line rest y h l s → Cleared h l d temps k
+    cleared_there (own_written n there own is look old slot l_is) =
+        let shape : has_shape d (looked x.table g.call.site (of_place n)) ≡ true = subst (λ k. has_shape d k ≡ true) (sym look) shaped in
+        let plain_is = own_plain (house g.call.site (of_place n)).kind own in
+        let get = subst (λ u. Gets x g line rest y (clears u k) k (of_place n) d (9 + bytes d)) (sym is)
+        (gets_cleared x g line rest y (of_place n) there plain_is d shape zero_value k) in
+        subst (λ u. Cleared h u d temps k) (sym l_is) (record {
+          vars = get.vars;
+          memory = get.memory;
+          words = get.words;
+          awaits = get.awaits;
+          steps = get.steps;
+          some = get.some;
+          few = get.few;
+          runs = get.runs;
+          good = good_place x g line rest y n there own d rest (stands_next x.table x.blocks (body_of g) line rest y.stands) temps same
+              (clears h k) k (9 + bytes d) shape plain_is get;
+        })
+    cleared_there (far_written home spot up a points f) =
+        let sites = all_sites x g line rest y in
+        let was = place_located x sites y.linked g.memory g.world (each_call x g line rest y) l a s f in
+        let size : bytes (load g.world l) ≡ bytes d = bytes_is (load g.world l) s was.numbers was.shaped ∙ sym (bytes_is d s was.numbers shaped) in
+        let lying : Lying x sites y.linked a (bytes d) = subst (λ k. Lying x sites y.linked a k) size was.lying in
+        let r = zeros_at home a points lying in
+        let code : clears h k ≡ cleared (is_single d) (bytes d) (Lies home) k
+        = ap₂ (λ b n. cleared b n (spot_of h) k) word_is size_is ∙ ap (λ p. cleared (is_single d) (bytes d) p k) spot in
+        record {
+          vars = r.vars;
+          memory = r.memory;
+          words = r.words;
+          awaits = r.awaits;
+          steps = r.steps;
+          some = r.some;
+          few = r.few;
+          runs = subst (λ c. Runs x.live (all_procs x) r.steps (at (within x.table x.blocks g) g.memory c g.call.vars g.words)
+              (at (awaiting (within x.table x.blocks g) r.awaits) r.memory k r.vars r.words)) (sym code) r.runs;
+          good = good_stored x g line rest y l a s f d shaped r.memory r.changed r.there rest
+              (stands_next x.table x.blocks (body_of g) line rest y.stands) temps same r.vars r.words r.awaits r.same lying;
+        }
 
-  pub move_out_line : (to at ty : ℕ) → FollowedHere x g rest (L.MoveOut to at ty)
-  move_out_line to at ty y free = move_out_settles to at ty y free
+-- ---- the line
+
+no_is_of : (o : Option Ty) → is_of o None ≡ true → false ≡ true
+no_is_of None h = h
+no_is_of (Some t) h = h
+
+module _ (x : Basis) (labels : LabelsLead x) (g : Both) (rest : List BlockLine) (to : ℕ) (how : Use) where
+  module _ (ty : ℕ) (a : Option ℕ) (from : ℕ) where
+    abbrev moving : BlockLine
+    moving = plain (L.Apply to O.Move how (Some ty) (a ∷ []) (F.Place from ∷ []))
+
+    abbrev to_type : Ty
+    to_type = type_at (known x).types ty
+
+    abbrev start_value : Value
+    start_value = default_of (facts_in x.table) to_type
+
+    moved_out : (y : IsGood x (starts g moving rest)) (there : Where) → g.call.temps.places from ≡ Some there
+        → value_type x g moving rest y to ≡ Some to_type → type_in x is_location (body_of g) from ≡ Some to_type
+        → if_kind is_standing (place_named is_location (body_of g).proc.places from) ≡ true
+        → Settles x (starts g moving rest) rest (Passes (Answers [] (1 + (bytes start_value + 0))
+        (with_value to g.call.temps (load g.world (location_at g.call.temps there))) (store g.world (location_at g.call.temps there) start_value)))
+    moved_out y there e typed from_typed may =
+        let t = target x g moving rest y to to_type refl refl typed in
+        let p = pointed x g moving rest y from to_type from_typed in
+        let r = read_location x g moving rest y from there p.named e in
+        let v : Value = load g.world (location_at g.call.temps there) in
+        let from_house : Housed = location (around x.table x.blocks (body_of g)) from in
+        let next : List WordInstr = code_next x g moving rest y in
+        let v_shaped : has_shape v (shape_of (facts_in x.table) to_type) ≡ true = subst (λ s. has_shape v s ≡ true) p.look r.shaped in
+        let look : has_shape v (looked x.table g.call.site (of_value to)) ≡ true = subst (λ s. has_shape v s ≡ true) (sym t.look) v_shaped in
+        let get = gets_moved x g moving rest y (of_value to) t.there (value_plain (house g.call.site (of_value to)).kind t.there.kind) v look
+        (clears from_house next) from_house r.read.word r.read.size r.read.small r.all r.read.source in
+        let g1 : Both = changed g rest (with_value to g.call.temps v) get.vars get.memory get.words get.awaits g.world in
+        let y1 : IsGood x (starts g1 moving rest) = good_value x g moving rest y (moving ∷ rest) y.stands
+        (moves (house g.call.site (of_value to)) from_house (clears from_house next)) (clears from_house next) to v (10 + 2 * bytes v) t.there look get in
+        let w = written_at x g1 moving rest y1 from there p.named (y.linked.0.standing from may) e in
+        let size : bytes v ≡ bytes start_value = bytes_is v (shape_of (facts_in x.table) to_type) t.numbers v_shaped
+        ∙ sym (bytes_is start_value (shape_of (facts_in x.table) to_type) t.numbers (x.defaults ty)) in
+        let single : is_single v ≡ is_single start_value = single_is v (shape_of (facts_in x.table) to_type) t.numbers v_shaped
+        ∙ sym (single_is start_value (shape_of (facts_in x.table) to_type) t.numbers (x.defaults ty)) in
+        let c = cleared_there x g1 moving rest y1 from_house w.location_is (looked x.table g.call.site (of_location from)) start_value
+        (subst (λ s. has_shape start_value s ≡ true) (sym p.look) (x.defaults ty))
+        (blank_zero (form_of (facts_in x.table) to_type) t.unhooked) (r.read.word ∙ single) (r.read.size ∙ size) (with_value to g.call.temps v)
+        (same_temps x g1 moving rest y1) next w.written in
+        let some = bytes_some v (values_of_numbers v (shape_of (facts_in x.table) to_type) t.numbers v_shaped) in
+        subst (λ l. Settles x (starts g moving rest) rest (Passes (Answers [] (1 + (bytes start_value + 0)) (with_value to g.call.temps v)
+        (store g.world l start_value)))) (sym (ap (location_at g.call.temps) w.is))
+        (goes_on x (starts g moving rest)
+        (changed g1 rest (with_value to g.call.temps v) c.vars c.memory c.words c.awaits (store g.world w.location_is start_value)) rest c.good
+        (get.steps + c.steps) (1 + (bytes start_value + 0)) (with_value to g.call.temps v) (store g.world w.location_is start_value)
+        (then_runs x.live (all_procs x) get.runs c.runs) (let h = get.some in omega (arith, h))
+        (let h = get.few in let i = c.few in omega (arith, h, i, size, some)) refl)
+
+    pub move_value : FollowedHere x labels g rest (L.Apply to O.Move how (Some ty) (a ∷ []) (F.Place from ∷ []))
+    move_value y =
+        let f = applies x g rest to O.Move how (Some ty) (a ∷ []) (F.Place from ∷ []) y in
+        let typed = value_type_by (value_type x g moving rest y to) (Some to_type) to_type f.given refl in
+        let v = same_type (type_in x is_location (body_of g) from) (if_type (known x).types a)
+        (and_parts (same_value (type_in x is_location (body_of g) from) (if_type (known x).types a)) true f.typed).0 in
+        let w = are_of (if_type (known x).types a) (Some to_type) f.row in
+        let from_typed : type_in x is_location (body_of g) from ≡ Some to_type = v ∙ (w.is ∙ sym w.is_other) in
+        let may = and_parts (if_kind is_standing (place_named is_location (body_of g).proc.places from)) true f.written in
+        let t = target x g moving rest y to to_type refl refl typed in
+        mapped_settles x (starts g moving rest) rest (g.call.temps.places from) (λ place. At (location_at g.call.temps place))
+        (λ l. gives (scene_of (high x.table x.blocks (starts g moving rest))) to
+        (costs 1 (exchanged (location_of l) start_value) >>= made_by (gives_hooked (facts_in x.table) (Some to_type)) how))
+        (λ there e. subst (λ b. Settles x (starts g moving rest) rest (gives (scene_of (high x.table x.blocks (starts g moving rest))) to
+        (costs 1 (exchanged (location_at g.call.temps there) start_value) >>= made_by b how))) (sym t.unhooked)
+        (moved_out y there e typed from_typed may.0))
+
+  pub move_line : (ty : Option ℕ) (of : List (Option ℕ)) (from : List From) → FollowedHere x labels g rest (L.Apply to O.Move how ty of from)
+  move_line (Some ty) (a ∷ []) (F.Place from ∷ []) y = move_value ty a from y
+  move_line ty [] from y = never (applies x g rest to O.Move how ty [] from y).row
+  move_line ty (a ∷ b ∷ of) from y = never (applies x g rest to O.Move how ty (a ∷ b ∷ of) from y).row
+  move_line None (a ∷ []) from y = never (no_is_of (if_type (known x).types a) (applies x g rest to O.Move how None (a ∷ []) from y).row)
+  move_line (Some ty) (a ∷ []) [] y = never (applies x g rest to O.Move how (Some ty) (a ∷ []) [] y).typed
+  move_line (Some ty) (a ∷ []) (F.Value t ∷ others) y = never (applies x g rest to O.Move how (Some ty) (a ∷ []) (F.Value t ∷ others) y).placed
+  move_line (Some ty) (a ∷ []) (F.Place from ∷ other ∷ others) y =
+      never (and_parts (same_value (type_in x is_location (body_of g) from) (if_type (known x).types a)) false
+      (applies x g rest to O.Move how (Some ty) (a ∷ []) (F.Place from ∷ other ∷ others) y).typed).1

@@ -1,64 +1,69 @@
--- Lines that lead to parts of what stands at locations, and ask how many there are, are followed.
-use Rattle.std.proofs.Common.{◌≡◌, inl, ℕ, zero, suc, ◌+◌, ◌*◌, ◌^◌, ◌<◌, ◌≤◌, List, ◌∷◌, Option, Some, None, ℤ, pos}
-use Rattle.std.proofs.Common.{negsuc, Bool, true, false, min, refl, sym, ap, ap₂, subst, ◌∙◌, arith, mul-le-mul, le_refl}
-use Rattle.std.specs.Prelude.{not, nat_lt, unsigned_abs, int_le, int_lt}
-use Rattle.std.proofs.lemmas.Int.{ints}
-use Rattle.std.proofs.lemmas.Bool.{and_parts, lt-ltb}
-use Rattle.rv32_isa.specs.Values.{low_product}
-use Rattle.nim_types.specs.Forms.{or_word}
-use Rattle.nim_core.specs.Traps.{IndexOutOfBounds}
-use Rattle.nim_core.specs.Ints.{fits as is_int_number, inside}
-use Rattle.nim_core.specs.Values.{Value, Number, Parts, Values, Nil, More, number_of, length_of, count}
-use Rattle.mid_code.specs.declared.block.BlockLine.{BlockLine}
-use Rattle.mid_code.specs.declared.block.BlockLine.TheVariants as block_line
-use Rattle.mid_code.specs.declared.line.Line.{Line}
-use Rattle.mid_code.specs.declared.line.Line.TheVariants as L
-use Rattle.mid_code.specs.declared.word.WordOperation.TheVariants as operation
-use Rattle.mid_code.specs.declared.word.Test.TheVariants as test
-use Rattle.mid_code.specs.declared.word.WordInstr.{WordInstr}
-use Rattle.mid_code.specs.declared.word.WordInstr.TheVariants.{Constant, Compute, Branch}
-use Rattle.mid_code.specs.Words.{Vars, put, from_label}
-use Rattle.mid_code.specs.Scene.{Where, Located, Within, deeper_in, Temps, Filled, with_location, Traps}
-use Rattle.mid_code.specs.Lines.{leads, using, using_number, value_at, item}
-use Rattle.mid_code.specs.Shapes.{Shape, number, reference, block, elements, row, parts, Shapes, has_shape, are_rows}
-use Rattle.mid_code.specs.Fits.{is_value, is_location, shape_named, alike, field_shape, item_shape, nth_shape, is_number}
-use Rattle.mid_code.specs.Running.{scene_of}
-use Rattle.mid_code.proofs.ForCallers.{never, shape_bytes}
-use Rattle.word_lowering.specs.declared.homes.TheConstants.{FIRST, OWN_FROM}
-use Rattle.word_lowering.specs.declared.texts.TheConstants.{FIXED_BYTES}
+-- Lines that lead to a part of what stands at a location are followed.
+use Rattle.std.proofs.Common.{◌≡◌, ℕ, ◌+◌, ◌^◌, ◌<◌, ◌≤◌, List, [], ◌∷◌, Some, true, refl, sym, ap, subst, ◌∙◌, arith, inl, Bool, false}
+use Rattle.nim_meaning.specs.Values.{Value, deeper, Location}
+use Rattle.flat_code.specs.declared.block.BlockLine.{BlockLine}
+use Rattle.flat_code.specs.declared.line.Line.TheVariants as L
+use Rattle.flat_code.specs.declared.place.PlaceKind.TheVariants as K
+use Rattle.flat_code.specs.Fits.{is_standing, if_kind, is_location, place_named, same_bool, type_by_kind}
+use Rattle.flat_code.specs.Scene.{Where, Located, Within, Temps, with_place, location_at, led, Passes}
+use Rattle.flat_code.specs.Lines.{leads, is_there}
+use Rattle.flat_code.specs.Shapes.{parts, Shape, Shapes, shape_of}
+use Rattle.word_code.specs.declared.word.WordInstr.{WordInstr}
+use Rattle.word_code.specs.declared.word.WordInstr.TheVariants.{Place, Datum}
+use Rattle.word_code.specs.Words.{put}
+use Rattle.word_lowering.specs.declared.homes.Home.{Home}
+use Rattle.word_lowering.specs.declared.homes.Home.TheVariants.{Variable, Placed, Static}
+use Rattle.word_lowering.specs.declared.homes.Alias.TheVariants as alias
+use Rattle.word_lowering.specs.LineCode.{named, location, part_code, variable_in, variable_of}
 use Rattle.word_lowering.specs.Layouts.{is_address}
-use Rattle.word_lowering.specs.Stored.{part_at, entry_at, count_in, element_bytes}
-use Rattle.word_lowering.specs.Operations.{word, trap_label}
-use Rattle.word_lowering.specs.LineCode.{variable_in, variable_of, part_code, item_code}
-use Rattle.word_lowering.proofs.Options.{none_some, some_same}
-use Rattle.word_lowering.proofs.ShapePaths.{Step, path_on, shapes_before, step_within, shape_some}
-use Rattle.word_lowering.proofs.Arithmetic.{fits_signed}
-use Rattle.word_lowering.proofs.CopyRuns.{got}
-use Rattle.word_lowering.proofs.OrdinalRuns.{put_low}
-use Rattle.word_lowering.proofs.OpRuns.{gives_sum, gives_computed, behind_constant, behind_computed, behind_branch, leads_constant, leads_off}
-use Rattle.word_lowering.proofs.OperationRuns.{Given, Led}
-use Rattle.word_lowering.proofs.OrdinalChecks.{inside_is}
-use Rattle.word_lowering.proofs.LineFits.{Alike, alike_some}
-use Rattle.word_lowering.proofs.Sites.{room, Housing, in_variable, by_address, in_places, in_data, Site, data_end}
-use Rattle.word_lowering.proofs.Scenes.{of_value, of_location, of_place, house, IsThere, looked, Leads}
-use Rattle.word_lowering.proofs.SitesApart.{houses}
-use Rattle.word_lowering.proofs.Keeping.{location_address}
-use Rattle.word_lowering.proofs.Related.{Both, body_of, procs, within, high, code_behind}
-use Rattle.word_lowering.proofs.Lines.{Basis, fits_here, stands_next, starts, IsGood, known, Settles, using_settles, branch_settles, all_sites}
-use Rattle.word_lowering.proofs.ValueFacts.{Operand}
-use Rattle.word_lowering.proofs.OrdinalLines.{TrapsStop, trap_settles}
-use Rattle.word_lowering.proofs.ControlLines.{number_operand}
-use Rattle.word_lowering.proofs.MoveLines.{LedTo, led_to}
-use Rattle.word_lowering.proofs.LocationLines.{leads_settles}
-use Rattle.word_lowering.proofs.PlaceReads.{place_near, value_near}
-use Rattle.word_lowering.proofs.PlaceLines.{FollowedAlways, location_there}
+use Rattle.word_code.proofs.ForCallers.{at, Runs, run_place, run_datum}
+use Rattle.nim_meaning.specs.Deeds.{Answers}
+use Rattle.nim_meaning.specs.State.{World}
+use Rattle.word_lowering.proofs.ControlLines.{plain, FollowedHere}
+use Rattle.word_lowering.proofs.Gets.{high_variable}
+use Rattle.word_lowering.proofs.Keeping.{call, location_address}
+use Rattle.word_lowering.proofs.LeadLines.{good_led}
+use Rattle.word_lowering.proofs.Lines.{Basis, IsGood, Settles, all_procs, all_sites, changed, goes_on, stands_next, starts, fits_here, using_settles}
+use Rattle.word_lowering.proofs.Moves.{all_same}
+use Rattle.word_lowering.proofs.OpRuns.{gives_sum}
+use Rattle.word_lowering.proofs.OperationRuns.{Given}
+use Rattle.word_lowering.proofs.OrdinalRuns.{but_one, put_here}
+use Rattle.word_lowering.proofs.OutPlaces.{written_at}
+use Rattle.word_lowering.proofs.ReadFacts.{place_near, value_near}
+use Rattle.word_lowering.proofs.Related.{Both, body_of, within, high}
+use Rattle.word_lowering.proofs.Scenes.{Leads, IsLedBy, IsNamed, IsThere, Points, house, looked, of_location, of_place, of_value}
+use Rattle.word_lowering.proofs.Settling.{code_here, code_next, LabelsLead}
+use Rattle.word_lowering.proofs.ShapeFacts.{never, shape_bytes, nth_shape, of_numbers}
+use Rattle.word_lowering.proofs.ShapePaths.{Step, path_on, shape_some, shapes_before, step_within}
+use Rattle.word_lowering.proofs.Sites.{Housing, Site, by_address, data_end, in_data, in_places, in_variable, room, around, is_one_word}
+use Rattle.word_lowering.proofs.SitesApart.{houses, variables_apart}
+use Rattle.word_lowering.specs.declared.homes.TheConstants.{OWN_FROM}
+use Rattle.word_lowering.specs.declared.texts.TheConstants.{FIXED_BYTES}
+use Rattle.nim_program.specs.Kinds.{TypeKind, field_at, is_of, kind_if, kind_of}
+use Rattle.nim_types.specs.Table.{facts_in, type_at, types_in}
+use Rattle.std.proofs.lemmas.Bool.{and_parts}
+use Rattle.word_lowering.proofs.LineFits.{are_of, some_kind}
+use Rattle.word_lowering.proofs.Targets.{location_alias, own_alias, pointed}
+use Rattle.word_lowering.proofs.ValueFacts.{type_in, with_home, has_type, location_of_numbers}
+use Rattle.flat_code.specs.Running.{scene_of}
+use Rattle.flat_code.specs.declared.place.PlaceKind.{PlaceKind}
+use Rattle.nim_meaning.specs.Places.{to_part}
+use Rattle.nim_types.specs.Types.{Ty}
+use Rattle.word_lowering.proofs.AddressFacts.{at_address}
+use Rattle.word_lowering.proofs.LocationHouses.{location_house}
+use Rattle.word_lowering.specs.Stored.{part_at}
 
 -- ---- a step further from a location
 
-module _ (x : Basis) (sites : List Site) (s : Site) (has : Filled) (temps : Temps) (temp : ℕ) (other : Where) where
-  pub leads_on : (there : Where) (a o : ℕ) (t u : Shape) (i : ℕ) → Step t i o u → Leads x.table x.blocks sites has s temps there a t
-      → Leads x.table x.blocks sites has s (with_location temps temp other) (deeper_in there i) (a + o) u
-  leads_on (Located location) a o t u i step f = record {
+abbrev pub deeper_in : Temps → Where → ℕ → Where
+deeper_in temps there i = led there (deeper (location_at temps there) i)
+
+-- with other temporaries that still have their values
+module _ (x : Basis) (sites : List Site) (s : Site) (world : World) (temps other : Temps)
+    (still : (t : ℕ) (v : Value) → temps.values t ≡ Some v → other.values t ≡ Some v) where
+  pub leads_on : (there : Where) (a o : ℕ) (t u : Shape) (i : ℕ) → Step t i o u → Leads x.table sites world s temps there a t
+      → Leads x.table sites world s other (deeper_in temps there i) (a + o) u
+  leads_on (Located l) a o t u i step f = record {
     site = f.site;
     among = f.among;
     number = f.number;
@@ -67,349 +72,201 @@ module _ (x : Basis) (sites : List Site) (s : Site) (has : Filled) (temps : Temp
     there = f.there;
     home = f.home;
     offset = f.offset + o;
-    path = path_on (looked x.table x.blocks f.site (of_place f.number)) location.path f.offset t i o u f.path step;
+    path = path_on (looked x.table f.site (of_place f.number)) l.path f.offset t i o u f.path step;
     address = (let e = f.address in omega (arith, e));
   }
   leads_on (Within from path) a o t u i step f = record {
     there = f.there;
     home = f.home;
     offset = f.offset + o;
-    leads = path_on (looked x.table x.blocks s (of_value from)) path f.offset t i o u f.leads step;
+    leads = path_on (looked x.table s (of_value from)) path f.offset t i o u f.leads step;
     address = (let e = f.address in omega (arith, e));
     value = f.value;
-    has = f.has;
+    has = still from f.value f.has;
   }
 
-module _ (x : Basis) (g : Both) (rest : List BlockLine) where
-  abbrev shape_of_location : ℕ → Option Shape
-  shape_of_location t = shape_named (known x) is_location (body_of g).proc.places t
+module _ (x : Basis) (g : Both) (line : BlockLine) (rest : List BlockLine) (y : IsGood x (starts g line rest)) where
+  abbrev pub led_variable : ℕ → ℕ
+  led_variable t = variable_of (house g.call.site (of_location t))
 
-  abbrev variable : ℕ → ℕ
-  variable t = variable_of (house g.call.site (of_location t))
+  pub leads_near : (there : Where) (a : ℕ) (t : Shape)
+      → Leads x.table (all_sites x g line rest y) g.world g.call.site g.call.temps there a t → a + shape_bytes t < 2 ^ 32
+  leads_near (Located l) a t f = place_near x (all_sites x g line rest y) y.linked (all_sites x g line rest y) g.world l a t (λ s i. i) f
+  leads_near (Within from path) a t f = value_near x (all_sites x g line rest y) y.linked g.call.site g.call.temps from path a t (inl refl) f
 
-  module _ (line : Line) (y : IsGood x (starts g line rest)) where
-    abbrev sites : List Site
-    sites = all_sites x g line rest y
+  pub own_location : (t : ℕ) → IsThere g.call.site (of_location t)
+      → location (around x.table x.blocks (body_of g)) t ≡ house g.call.site (of_location t)
+  own_location t there = ap (λ b. named (around x.table x.blocks (body_of g)) b (house g.call.site (of_location t))) there.own
 
-    pub leads_near : (there : Where) (a : ℕ) (t : Shape) → Leads x.table x.blocks sites g.has g.call.site g.call.temps there a t
-        → a + shape_bytes t < 2 ^ 32
-    leads_near (Located location) a t f = place_near x sites y.linked sites g.has location a t (λ s i. i) f
-    leads_near (Within from path) a t f = value_near x sites y.linked g.call.site g.call.temps from path a t (inl refl) f
+  -- the variable of a location that is no other name
+  pub record LedHome (t : ℕ) : Type 0 where
+    pub home : (house g.call.site (of_location t)).home ≡ Variable (led_variable t)
+    pub high_is : OWN_FROM ≤ led_variable t
 
-    pub location_high : (t : ℕ) → IsThere x.table x.blocks g.call.site (of_location t) → OWN_FROM ≤ variable t
-    location_high t there = by (houses x.table x.blocks g.call.site (of_location t) y.linked.0 there).where_is
-      where
-        is : is_address (house g.call.site (of_location t)).kind ≡ true
-        is = location_address (house g.call.site (of_location t)).kind there.kind
-
-        by : Housing (room (body_of g)) FIXED_BYTES (data_end x.table x.blocks) (body_of g).start (house g.call.site (of_location t))
-            → OWN_FROM ≤ variable_of (house g.call.site (of_location t))
-        by (in_variable v e plain low w) = never (sym plain ∙ is)
-        by (by_address v e k low) = subst (λ u. OWN_FROM ≤ u) (sym (ap variable_in e)) low
-        by (in_places n e plain whole within) = never (sym plain ∙ is)
-        by (in_data n e plain whole low within start) = never (sym plain ∙ is)
-
-    -- an address and an offset
-    pub part_given : (to from a o : ℕ) → IsThere x.table x.blocks g.call.site (of_location to) → g.call.vars (variable from) ≡ Some a
-        → a + o < 2 ^ 32 → (k : List WordInstr)
-        → Given x.live (procs x.table x.blocks) (within x.table x.blocks g) g.memory g.words (part_code (variable to) (variable from) o k) g.call.vars
-        (variable to) (a + o) k
-    part_given to from a o there_to is near k =
-        record {
-          steps = 1;
-          some = omega arith;
-          few = omega arith;
-          gives = gives_sum x.live (procs x.table x.blocks) (within x.table x.blocks g) g.memory g.words k g.call.vars (variable to) (a + o)
-              (location_high to there_to) near (variable from) o a is refl;
-        }
-
-  -- ---- a field
-
-  record FieldOf (o : Option Shape) (field : ℕ) (shape : Shape) : Type 0 where
-    all : Shapes
-    is : o ≡ Some (parts all)
-    nth : nth_shape all field ≡ Some shape
-
-  field_of : (o : Option Shape) (field : ℕ) (shape : Shape) → field_shape o field ≡ Some shape → FieldOf o field shape
-  field_of (Some (parts ss)) field shape e = record { all = ss; is = refl; nth = e }
-  field_of (Some (number values)) field shape e = absurd (none_some shape e)
-  field_of (Some reference) field shape e = absurd (none_some shape e)
-  field_of (Some block) field shape e = absurd (none_some shape e)
-  field_of (Some (elements s)) field shape e = absurd (none_some shape e)
-  field_of (Some (row n s)) field shape e = absurd (none_some shape e)
-  field_of None field shape e = absurd (none_some shape e)
-
-  pub part_line : (to from field : ℕ) → FollowedAlways x g rest (L.Part to from field)
-  part_line to from field y =
-      using_settles x (starts g (L.Part to from field) rest) rest (g.call.temps.locations from)
-      (λ there. leads (scene_of (high x.table x.blocks (starts g (L.Part to from field) rest))) to (deeper_in there field)) by
+  pub led_home : (t : ℕ) → IsThere g.call.site (of_location t) → LedHome t
+  led_home t there = by (houses x.table x.blocks g.call.site (of_location t) y.linked.0 there).where_is
     where
-      a : Alike (shape_of_location to) (field_shape (shape_of_location from) field)
-      a = alike_some (shape_of_location to) (field_shape (shape_of_location from) field)
-          (fits_here x.table x.blocks (body_of g) y.passed (L.Part to from field) rest y.stands)
+      is : is_address (house g.call.site (of_location t)).kind ≡ true
+      is = location_address (house g.call.site (of_location t)).kind there.kind
 
-      f : FieldOf (shape_of_location from) field a.shape
-      f = field_of (shape_of_location from) field a.shape a.is_other
+      by : Housing (room (body_of g)) FIXED_BYTES (data_end x.table x.blocks) (body_of g).start (house g.call.site (of_location t)) → LedHome t
+      by (in_variable v e plain least w) = never (sym plain ∙ is)
+      by (by_address v e k least) = record {
+        home = e ∙ ap Variable (sym (ap variable_in e));
+        high_is = subst (λ u. OWN_FROM ≤ u) (sym (ap variable_in e)) least;
+      }
+      by (in_places n e plain whole within) = never (sym plain ∙ is)
+      by (in_data n e plain whole least within start) = never (sym plain ∙ is)
 
-      t : IsThere x.table x.blocks g.call.site (of_location to) × (looked x.table x.blocks g.call.site (of_location to) ≡ a.shape)
-      t = location_there x g rest (L.Part to from field) y to a.shape a.is
+  -- a run that gives the address
+  pub leads_settles : (t : ℕ) (there : Where) (a work : ℕ) → 1 ≤ work → IsThere g.call.site (of_location t)
+      → (is_standing (house g.call.site (of_location t)).kind ≡ true → (l : Location) × (there ≡ Located l))
+      → Leads x.table (all_sites x g line rest y) g.world g.call.site (with_place t g.call.temps there) there a (looked x.table g.call.site (of_location t))
+      → Given x.live (all_procs x) (within x.table x.blocks g) g.memory g.words (code_here x g line rest y) g.call.vars (led_variable t) a
+      (code_next x g line rest y)
+      → Settles x (starts g line rest) rest (Passes (Answers [] work (with_place t g.call.temps there) g.world))
+  leads_settles t there a work some is_there standing new_leads r =
+      let h = led_home t is_there in
+      goes_on x (starts g line rest) (changed g rest (with_place t g.call.temps there) r.gives.vars g.memory g.words g.awaits g.world) rest
+      (good_led x g line rest y t there r.gives.vars
+      (λ f u other ne home. r.gives.but.others u (high_variable x g line rest y f u other home)
+      (variables_apart x.table x.blocks g.call.site (of_location t) f (led_variable t) u y.linked.0 is_there other (λ s. ne (sym s)) h.home home))
+      r.gives.but.left
+      (subst (λ b. IsLedBy x.table b (all_sites x g line rest y) g.world (call g.call.site (with_place t g.call.temps there) r.gives.vars) t there)
+      (sym is_there.own) (record { standing = standing; address = a; holds = r.gives.given; leads = new_leads }))
+      rest (stands_next x.table x.blocks (body_of g) line rest y.stands))
+      r.steps work (with_place t g.call.temps there) g.world r.gives.runs r.some (let f = r.few in omega (arith, f, some)) refl
 
-      u : IsThere x.table x.blocks g.call.site (of_location from) × (looked x.table x.blocks g.call.site (of_location from) ≡ parts f.all)
-      u = location_there x g rest (L.Part to from field) y from (parts f.all) f.is
+  -- an address and an offset
+  pub part_given : (to o a : ℕ) (home : Home) → OWN_FROM ≤ to → Points g.call.site.base g.call.vars home a → a + o < 2 ^ 32 → (k : List WordInstr)
+      → Given x.live (all_procs x) (within x.table x.blocks g) g.memory g.words (part_code to home o k) g.call.vars to (a + o) k
+  part_given to o a (Variable v) least points near k = record {
+    steps = 1;
+    some = omega arith;
+    few = omega arith;
+    gives = gives_sum x.live (all_procs x) (within x.table x.blocks g) g.memory g.words k g.call.vars to (a + o) least near v o a points refl;
+  }
+  part_given to o a (Placed n) least points near k = record {
+    steps = 1;
+    some = omega arith;
+    few = omega arith;
+    gives = record {
+      vars = put g.call.vars to (a + o);
+      given = put_here g.call.vars to (a + o) near;
+      but = but_one g.call.vars g.call.vars to (a + o) least (all_same g.call.vars);
+      runs = subst (λ r. Runs x.live (all_procs x) 1 (at (within x.table x.blocks g) g.memory (Place to (n + o) ∷ k) g.call.vars g.words)
+          (at (within x.table x.blocks g) g.memory k (put g.call.vars to r) g.words)) (omega (arith, points))
+          (run_place x.live (all_procs x) (within x.table x.blocks g) g.memory k g.call.vars g.words to (n + o));
+    };
+  }
+  part_given to o a (Static n) least points near k = record {
+    steps = 1;
+    some = omega arith;
+    few = omega arith;
+    gives = record {
+      vars = put g.call.vars to (a + o);
+      given = put_here g.call.vars to (a + o) near;
+      but = but_one g.call.vars g.call.vars to (a + o) least (all_same g.call.vars);
+      runs = subst (λ r. Runs x.live (all_procs x) 1 (at (within x.table x.blocks g) g.memory (Datum to (n + o) ∷ k) g.call.vars g.words)
+          (at (within x.table x.blocks g) g.memory k (put g.call.vars to r) g.words)) (omega (arith, points))
+          (run_datum x.live (all_procs x) (within x.table x.blocks g) g.memory k g.call.vars g.words to (n + o));
+    };
+  }
 
-      o : ℕ
-      o = shapes_before f.all field
+  -- where a part of what may be written stands, that may be written too
+  pub part_standing : (to from i : ℕ) (there : Where) → IsNamed g.call.site (of_location from) → g.call.temps.places from ≡ Some there
+      → (is_standing (house g.call.site (of_location to)).kind ≡ true → is_standing (house g.call.site (of_location from)).kind ≡ true)
+      → is_standing (house g.call.site (of_location to)).kind ≡ true
+      → (l : Location) × (deeper_in g.call.temps there i ≡ Located l)
+  part_standing to from i there n e as_base standing =
+      let w = written_at x g line rest y from there n (as_base standing) e in (
+        deeper (location_at g.call.temps (Located w.location_is)) i,
+        ap (λ t. deeper_in g.call.temps t i) w.is,
+      )
 
-      -- the table says where the field is
-      is_part : part_at x.table (house g.call.site (of_location from)).ty field ≡ shapes_before f.all field
-      is_part = (houses x.table x.blocks g.call.site (of_location from) y.linked.0 u.0).fields f.all field a.shape u.1 f.nth
+-- ---- a field
 
-      by : (there : Where) → g.call.temps.locations from ≡ Some there → Settles x (starts g (L.Part to from field) rest) rest
-          (leads (scene_of (high x.table x.blocks (starts g (L.Part to from field) rest))) to (deeper_in there field))
-      by there e =
-          let l = y.hold.0.led from there e in
-          let near = leads_near (L.Part to from field) y there l.address (looked x.table x.blocks g.call.site (of_location from)) l.leads in
-          let step : Step (looked x.table x.blocks g.call.site (of_location from)) field (shapes_before f.all field)
-          (looked x.table x.blocks g.call.site (of_location to))
-          = subst (λ s. Step s field (shapes_before f.all field) (looked x.table x.blocks g.call.site (of_location to))) (sym u.1)
-          (subst (λ s. Step (parts f.all) field (shapes_before f.all field) s) (sym t.1) (f.nth, refl)) in
-          let inner = step_within (looked x.table x.blocks g.call.site (of_location from)) field (shapes_before f.all field)
-          (looked x.table x.blocks g.call.site (of_location to)) step in
-          let small : l.address + shapes_before f.all field < 2 ^ 32 =
-          (let s = shape_some (looked x.table x.blocks g.call.site (of_location to)) in omega (arith, near, inner, s)) in
-          leads_settles x g (L.Part to from field) rest y (stands_next x.table x.blocks (body_of g) y.passed (L.Part to from field) rest y.stands) refl to
-          (deeper_in there field)
-          (l.address + shapes_before f.all field) t.0
-          (leads_on x (all_sites x g (L.Part to from field) rest y) g.call.site g.has g.call.temps to (deeper_in there field) there l.address
-          (shapes_before f.all field)
-          (looked x.table x.blocks g.call.site (of_location from)) (looked x.table x.blocks g.call.site (of_location to)) field step l.leads)
-          (subst (λ n. Given x.live (procs x.table x.blocks) (within x.table x.blocks g) g.memory g.words
-          (part_code (variable to) (variable from) n (code_behind x.table x.blocks (body_of g) rest))
-          g.call.vars (variable to) (l.address + shapes_before f.all field) (code_behind x.table x.blocks (body_of g) rest)) (sym is_part)
-          (part_given (L.Part to from field) y to from l.address (shapes_before f.all field) t.0 l.holds small
-          (code_behind x.table x.blocks (body_of g) rest)))
+pub by_kind : (k : PlaceKind) (t : Ty) → is_location k ≡ true → type_by_kind k t ≡ t
+by_kind K.Temp t h = refl
+by_kind K.Location t h = refl
+by_kind K.Within t h = refl
+by_kind K.Counter t h = never h
+by_kind K.Local t h = refl
+by_kind K.Cursor t h = refl
+by_kind K.Result t h = refl
+by_kind (K.Param mode) t h = refl
+by_kind K.ForVar t h = refl
+by_kind K.Caught t h = refl
+by_kind K.Global t h = refl
 
-  -- ---- an element
+pub same_bool_true : (b c : Bool) → same_bool b c ≡ true → b ≡ true → c ≡ true
+same_bool_true true c h e = h
+same_bool_true false c h e = never e
 
-  record ElementsOf (o : Option Shape) (shape : Shape) : Type 0 where
-    count : ℕ
-    is : o ≡ Some (row count shape)
+module _ (x : Basis) (labels : LabelsLead x) (g : Both) (rest : List BlockLine) (to from field : ℕ) where
+  abbrev part_here : BlockLine
+  part_here = plain (L.Part to from field)
 
-  elements_of : (o : Option Shape) (shape : Shape) → item_shape o ≡ Some shape → ElementsOf o shape
-  elements_of (Some (row n s)) shape e = record { count = n; is = ap (λ k. Some (row n k)) (some_same s shape e) }
-  elements_of (Some (number values)) shape e = absurd (none_some shape e)
-  elements_of (Some reference) shape e = absurd (none_some shape e)
-  elements_of (Some block) shape e = absurd (none_some shape e)
-  elements_of (Some (elements s)) shape e = absurd (none_some shape e)
-  elements_of (Some (parts ss)) shape e = absurd (none_some shape e)
-  elements_of None shape e = absurd (none_some shape e)
-
-  -- a row has as many elements as its shape says
-  pub row_length : (v : Value) (n : ℕ) (s : Shape) → has_shape v (row n s) ≡ true → length_of v ≡ n
-  row_length (Number z) n s h = never h
-  row_length (Parts vs) n s h = by vs n h
+  pub part_line : FollowedHere x labels g rest (L.Part to from field)
+  part_line y =
+      let from_kind : TypeKind = kind_if (facts_in x.table) (type_in x is_location (body_of g) from) in
+      let to_may : Bool = if_kind is_standing (place_named is_location (body_of g).proc.places to) in
+      let from_may : Bool = if_kind is_standing (place_named is_location (body_of g).proc.places from) in
+      let f = and_parts (is_of (type_in x is_location (body_of g) to) (field_at from_kind field)) (same_bool to_may from_may)
+      (fits_here x.table x.blocks (body_of g) part_here rest y.stands) in
+      let v = are_of (type_in x is_location (body_of g) to) (field_at from_kind field) f.0 in
+      let s = some_kind (facts_in x.table) (type_in x is_location (body_of g) from) (λ k. is_of (Some v.ty) (field_at k field)) refl
+      (subst (λ o. is_of o (field_at from_kind field) ≡ true) v.is f.0) in
+      let z = are_of (Some v.ty) (field_at (kind_of (facts_in x.table) s.0) field) s.2 in
+      let p = pointed x g part_here rest y from s.0 s.1 in
+      let q = pointed x g part_here rest y to v.ty v.is in
+      let n : ℕ = (house g.call.site (of_location from)).ty in
+      let typed = has_type x g.call.site (of_location from) s.0 y.linked.0 s.1 in
+      let of_table : s.0 ≡ type_at (types_in x.table) n
+      = sym typed.typed ∙ by_kind (house g.call.site (of_location from)).kind (type_at (types_in x.table) n) p.named.kind in
+      let field_is : field_at (kind_of (facts_in x.table) (type_at (types_in x.table) n)) field ≡ Some v.ty
+      = ap (λ u. field_at (kind_of (facts_in x.table) u) field) (sym of_table) ∙ (z.is_other ∙ sym z.is) in
+      let look_is : looked x.table g.call.site (of_location from) ≡ shape_of (facts_in x.table) (type_at (types_in x.table) n)
+      = p.look ∙ ap (shape_of (facts_in x.table)) of_table in
+      let whole = x.fields n field v.ty field_is (sym (ap of_numbers look_is) ∙ location_of_numbers x g.call.site from y.linked.0 p.named)
+      (sym (ap of_numbers q.look) ∙ location_of_numbers x g.call.site to y.linked.0 q.named) in
+      let there_to : IsThere g.call.site (of_location to) = with_home x q.named
+      (own_alias (house g.call.site (of_location to)).alias (location_alias x g part_here rest y to alias.Own refl refl)) in
+      using_settles x (starts g part_here rest) rest (g.call.temps.places from)
+      (λ there. leads (scene_of (high x.table x.blocks (starts g part_here rest))) to there (to_part (location_at g.call.temps there) field))
+      (λ there e. part_of y there e p.named there_to whole.0 (look_is ∙ whole.1) (whole.2 ∙ ap Some (sym q.look))
+      (λ st. y.linked.0.standing from (same_bool_true to_may from_may f.1 (y.linked.0.may_be_standing to st))))
     where
-      by : (vs : Values) (n : ℕ) → are_rows vs n s ≡ true → count vs ≡ n
-      by Nil zero h = refl
-      by Nil (suc n) h = never h
-      by (More v vs) zero h = never h
-      by (More v vs) (suc n) h = ap suc (by vs n (and_parts _ _ h).1)
-
-  -- of a row in memory there aren't too many elements
-  row_few : (a n : ℕ) (s : Shape) → a + shape_bytes (row n s) < 2 ^ 32 → (4 * n ≤ shape_bytes (row n s)) ×
-      (n * shape_bytes s ≤ shape_bytes (row n s))
-  row_few a n s near =
-      let b = shape_some s in
-      let h : n * 4 ≤ n * shape_bytes s = mul-le-mul (le_refl n) b in
-      let w = more (n * shape_bytes s) in
-      (omega (arith, h, w), w)
-    where
-      more : (m : ℕ) → m ≤ or_word m
-      more zero = omega arith
-      more (suc m) = omega arith
-
-  pub item_line : (traps : TrapsStop x) (to from index : ℕ) → FollowedAlways x g rest (L.Item to from index)
-  item_line traps to from index y =
-      using_settles x (starts g (L.Item to from index) rest) rest (g.call.temps.locations from)
-      (λ there. using (value_at (scene_of (high x.table x.blocks (starts g (L.Item to from index) rest))) there)
-      (λ v. using_number (scene_of (high x.table x.blocks (starts g (L.Item to from index) rest))) index
-      (λ z. item (scene_of (high x.table x.blocks (starts g (L.Item to from index) rest))) to there v z)))
-      (λ there e. using_settles x (starts g (L.Item to from index) rest) rest
-      (value_at (scene_of (high x.table x.blocks (starts g (L.Item to from index) rest))) there)
-      (λ v. using_number (scene_of (high x.table x.blocks (starts g (L.Item to from index) rest))) index
-      (λ z. item (scene_of (high x.table x.blocks (starts g (L.Item to from index) rest))) to there v z))
-      (λ v f. using_settles x (starts g (L.Item to from index) rest) rest (g.call.temps.values index)
-      (λ w. item (scene_of (high x.table x.blocks (starts g (L.Item to from index) rest))) to there v (number_of w))
-      (λ w h. by there v w (led_to x g rest (L.Item to from index) y from there v e f) (number_operand x g rest (L.Item to from index) y index w p.1 h))))
-    where
-      p : (alike (shape_of_location to) (item_shape (shape_of_location from)) ≡ true) ×
-          (is_number (shape_named (known x) is_value (body_of g).proc.places index) ≡ true)
-      p = and_parts (alike (shape_of_location to) (item_shape (shape_of_location from)))
-          (is_number (shape_named (known x) is_value (body_of g).proc.places index))
-          (fits_here x.table x.blocks (body_of g) y.passed (L.Item to from index) rest y.stands)
-
-      a : Alike (shape_of_location to) (item_shape (shape_of_location from))
-      a = alike_some (shape_of_location to) (item_shape (shape_of_location from)) p.0
-
-      f : ElementsOf (shape_of_location from) a.shape
-      f = elements_of (shape_of_location from) a.shape a.is_other
-
-      t : IsThere x.table x.blocks g.call.site (of_location to) × (looked x.table x.blocks g.call.site (of_location to) ≡ a.shape)
-      t = location_there x g rest (L.Item to from index) y to a.shape a.is
-
-      u : IsThere x.table x.blocks g.call.site (of_location from) × (looked x.table x.blocks g.call.site (of_location from) ≡ row f.count a.shape)
-      u = location_there x g rest (L.Item to from index) y from (row f.count a.shape) f.is
-
-      k : List WordInstr
-      k = code_behind x.table x.blocks (body_of g) rest
-
-      -- what the table says of it
-      rows : (count_in (entry_at x.table (house g.call.site (of_location from)).ty) ≡ f.count)
-          × (0 < f.count → element_bytes x.table (entry_at x.table (house g.call.site (of_location from)).ty) ≡ shape_bytes a.shape)
-      rows = (houses x.table x.blocks g.call.site (of_location from) y.linked.0 u.0).rows f.count a.shape u.1
-
-      -- an element's bytes, as code has them
-      each : ℕ
-      each = element_bytes x.table (entry_at x.table (house g.call.site (of_location from)).ty)
-
-      code_is : (size : ℕ) → each ≡ size
-          → item_code (variable to) (variable from) (variable_of (house g.call.site (of_value index))) f.count size
-          (code_behind x.table x.blocks (body_of g) rest)
-          ≡ code_behind x.table x.blocks (body_of g) (block_line.Plain (L.Item to from index) ∷ rest)
-      code_is size same = sym (ap₂ (λ n b. item_code (variable to) (variable from) (variable_of (house g.call.site (of_value index))) n b
-          (code_behind x.table x.blocks (body_of g) rest)) rows.0 same)
-
-      by : (there : Where) (v w : Value) → LedTo x g rest (L.Item to from index) y from there v → Operand x g.call index w → Settles x
-          (starts g (L.Item to from index) rest) rest
-          (item (scene_of (high x.table x.blocks (starts g (L.Item to from index) rest))) to there v (number_of w))
-      by there v w l o =
-          branch_settles x (starts g (L.Item to from index) rest) rest (inside (number_of w) (length_of v))
-          (leads (scene_of (high x.table x.blocks (starts g (L.Item to from index) rest))) to (deeper_in there (unsigned_abs (number_of w))))
-          (Traps IndexOutOfBounds)
-          (λ h. found (number_of w) o.fits (is_inside h) o.word_is)
-          (λ h. trap_settles x traps g (L.Item to from index) rest y IndexOutOfBounds refl
-          (λ target stands. subst (λ c. Led x.live (procs x.table x.blocks) (within x.table x.blocks g) g.memory g.words c g.call.vars target)
-          (code_is each refl) (lost target stands (test_is ∙ is_inside h))))
-        where
-          address : ℕ
-          address = l.led.address
-
-          near : l.led.address + shape_bytes (row f.count a.shape) < 2 ^ 32
-          near = subst (λ s. l.led.address + shape_bytes s < 2 ^ 32) u.1
-              (leads_near (L.Item to from index) y there l.led.address (looked x.table x.blocks g.call.site (of_location from)) l.led.leads)
-
-          few : (4 * f.count ≤ shape_bytes (row f.count a.shape)) × (f.count * shape_bytes a.shape ≤ shape_bytes (row f.count a.shape))
-          few = row_few l.led.address f.count a.shape near
-
-          long : length_of v ≡ f.count
-          long = row_length v f.count a.shape (subst (λ s. has_shape v s ≡ true) u.1 l.at.shaped)
-
-          is_inside : {b : Bool} → inside (number_of w) (length_of v) ≡ b → inside (number_of w) f.count ≡ b
-          is_inside h = ap (inside (number_of w)) (sym long) ∙ h
-
-          -- the test of the code
-          test_is : nat_lt (word (number_of w)) f.count ≡ inside (number_of w) f.count
-          test_is =
-              let n : min f.count (2 ^ 31) ≡ f.count = (let h = few.0 in omega (arith, h, near)) in
-              ap (nat_lt (word (number_of w))) (sym n) ∙ inside_is (number_of w) f.count o.fits
-
-          count_small : f.count < 2 ^ 32
-          count_small = let h = few.0 in omega (arith, h, near)
-
-          v1 : Vars
-          v1 = put g.call.vars FIRST f.count
-
-          index_reads : (n : ℕ) → put g.call.vars FIRST n (variable_of (house g.call.site (of_value index))) ≡ Some (word (number_of w))
-          index_reads n = put_low g.call.vars FIRST n (variable_of (house g.call.site (of_value index))) (omega arith) o.high ∙ o.word_is
-
-          lost : (target : List WordInstr) → from_label (trap_label IndexOutOfBounds) (within x.table x.blocks g).proc.lines ≡ Some target
-              → nat_lt (word (number_of w)) f.count ≡ false
-              → Led x.live (procs x.table x.blocks) (within x.table x.blocks g) g.memory g.words
-              (item_code (variable to) (variable from) (variable_of (house g.call.site (of_value index))) f.count each
-              (code_behind x.table x.blocks (body_of g) rest)) g.call.vars target
-          lost target stands h = record {
-            steps = 1 + 1;
-            some = omega arith;
-            few = omega arith;
-            leads = leads_constant x.live (procs x.table x.blocks) (within x.table x.blocks g) g.memory g.words
-                (Branch test.NotBelow (variable_of (house g.call.site (of_value index))) FIRST (trap_label IndexOutOfBounds) ∷ Constant FIRST
-                each
-                ∷ Compute FIRST operation.Multiply (variable_of (house g.call.site (of_value index))) FIRST ∷ Compute (variable to) operation.Add
-                (variable from) FIRST ∷ code_behind x.table x.blocks (body_of g) rest)
-                target g.call.vars 1 FIRST f.count (omega arith) (omega arith)
-                (leads_off x.live (procs x.table x.blocks) (within x.table x.blocks g) g.memory g.words
-                (Constant FIRST each ∷ Compute FIRST operation.Multiply (variable_of (house g.call.site (of_value index))) FIRST
-                ∷ Compute (variable to) operation.Add (variable from) FIRST ∷ code_behind x.table x.blocks (body_of g) rest)
-                target v1 test.NotBelow (variable_of (house g.call.site (of_value index))) FIRST (trap_label IndexOutOfBounds) (word (number_of w)) f.count
-                (index_reads f.count)
-                (got f.count count_small) (ap not h) stands);
-          }
-
-          found : (z : ℤ) → is_int_number z ≡ true → inside z f.count ≡ true → g.call.vars (variable_of (house g.call.site (of_value index)))
-              ≡ Some (word z)
-              → Settles x (starts g (L.Item to from index) rest) rest
-              (leads (scene_of (high x.table x.blocks (starts g (L.Item to from index) rest))) to (deeper_in there (unsigned_abs z)))
-          found (negsuc i) fz h is = never h
-          found (pos i) fz h is =
-              let less : i < f.count = (let q = (and_parts (int_le (pos 0) (pos i)) (int_lt (pos i) (pos f.count)) h).1 in omega (arith, ints, q)) in
-              let wi : word (pos i) ≡ i = (let q = fits_signed (pos i) fz in omega (arith, ints)) in
-              let b : ℕ = shape_bytes a.shape in
-              let step : Step (looked x.table x.blocks g.call.site (of_location from)) i (i * b) (looked x.table x.blocks g.call.site (of_location to))
-              = subst (λ s. Step s i (i * b) (looked x.table x.blocks g.call.site (of_location to))) (sym u.1)
-              (subst (λ s. Step (row f.count a.shape) i (i * b) s) (sym t.1) (less, refl, refl)) in
-              let inner = step_within (row f.count a.shape) i (i * b) a.shape (less, refl, refl) in
-              let some = shape_some a.shape in
-              let small : l.led.address + i * b < 2 ^ 32 = omega (arith, near, inner, some) in
-              leads_settles x g (L.Item to from index) rest y (stands_next x.table x.blocks (body_of g) y.passed (L.Item to from index) rest y.stands) refl to
-              (deeper_in there i)
-              (l.led.address + i * b) t.0
-              (leads_on x (all_sites x g (L.Item to from index) rest y) g.call.site g.has g.call.temps to (deeper_in there i) there l.led.address (i * b)
-              (looked x.table x.blocks g.call.site (of_location from)) (looked x.table x.blocks g.call.site (of_location to)) i step l.led.leads)
-              (subst (λ c. Given x.live (procs x.table x.blocks) (within x.table x.blocks g) g.memory g.words c g.call.vars (variable to)
-              (l.led.address + i * b) (code_behind x.table x.blocks (body_of g) rest))
-              (code_is (shape_bytes a.shape) (rows.1 (omega (arith, less)))) (run i less (is ∙ ap Some wi) small))
-            where
-              run : (i : ℕ) → i < f.count → g.call.vars (variable_of (house g.call.site (of_value index))) ≡ Some i
-                  → l.led.address + i * shape_bytes a.shape < 2 ^ 32
-                  → Given x.live (procs x.table x.blocks) (within x.table x.blocks g) g.memory g.words
-                  (item_code (variable to) (variable from) (variable_of (house g.call.site (of_value index))) f.count (shape_bytes a.shape)
-                  (code_behind x.table x.blocks (body_of g) rest))
-                  g.call.vars (variable to) (l.led.address + i * shape_bytes a.shape) (code_behind x.table x.blocks (body_of g) rest)
-              run i less reads small =
-                  let b : ℕ = shape_bytes a.shape in
-                  let n : ℕ = variable_of (house g.call.site (of_value index)) in
-                  let k : List WordInstr = code_behind x.table x.blocks (body_of g) rest in
-                  let l3 : List WordInstr = Compute (variable to) operation.Add (variable from) FIRST ∷ k in
-                  let l2 : List WordInstr = Compute FIRST operation.Multiply n FIRST ∷ l3 in
-                  let l1 : List WordInstr = Constant FIRST b ∷ l2 in
-                  let w1 : Vars = put g.call.vars FIRST f.count in
-                  let w2 : Vars = put w1 FIRST b in
-                  let w3 : Vars = put w2 FIRST (low_product i b) in
-                  let i1 : w1 n ≡ Some i = put_low g.call.vars FIRST f.count n (omega arith) o.high ∙ reads in
-                  let i2 : w2 n ≡ Some i = put_low w1 FIRST b n (omega arith) o.high ∙ i1 in
-                  let high_from : OWN_FROM ≤ variable from = location_high (L.Item to from index) y from u.0 in
-                  let a3 : w3 (variable from) ≡ Some l.led.address = put_low w2 FIRST (low_product i b) (variable from) (omega arith) high_from
-                  ∙ put_low w1 FIRST b (variable from) (omega arith) high_from ∙ put_low g.call.vars FIRST f.count (variable from) (omega arith) high_from
-                  ∙ l.led.holds in
-                  let bytes_small : b < 2 ^ 32 = (let h = shape_some a.shape in let q = step_within (row f.count a.shape) i (i * b) a.shape
-                  (less, refl, refl) in omega (arith, near, q)) in
-                  let product : low_product i b ≡ i * b = omega (arith, small) in
-                  record {
-                    steps = 1 + (1 + (1 + (1 + 1)));
-                    some = omega arith;
-                    few = omega arith;
-                    gives = behind_constant x.live (procs x.table x.blocks) (within x.table x.blocks g) g.memory g.words
-                        (Branch test.NotBelow n FIRST (trap_label IndexOutOfBounds) ∷ l1) k g.call.vars (variable to)
-                        (l.led.address + i * b) (1 + (1 + (1 + 1))) FIRST f.count (omega arith) (omega arith)
-                        (behind_branch x.live (procs x.table x.blocks) (within x.table x.blocks g) g.memory g.words l1 k w1 (variable to)
-                        (l.led.address + i * b) (1 + (1 + 1)) test.NotBelow n FIRST
-                        (trap_label IndexOutOfBounds) i f.count i1 (got f.count count_small) (ap not (lt-ltb i f.count less))
-                        (behind_constant x.live (procs x.table x.blocks) (within x.table x.blocks g) g.memory g.words l2 k w1 (variable to)
-                        (l.led.address + i * b) (1 + 1) FIRST b (omega arith) (omega arith)
-                        (behind_computed x.live (procs x.table x.blocks) (within x.table x.blocks g) g.memory g.words l3 k w2 (variable to)
-                        (l.led.address + i * b) 1 FIRST operation.Multiply n FIRST i b
-                        (omega arith) (omega arith) i2 (got b bytes_small)
-                        (gives_computed x.live (procs x.table x.blocks) (within x.table x.blocks g) g.memory g.words k w3 (variable to) (l.led.address + i * b)
-                        (location_high (L.Item to from index) y to t.0) small operation.Add (variable from) FIRST l.led.address (low_product i b) a3
-                        (got (low_product i b) (omega arith)) (omega (arith, product, small))))));
-                  }
+      part_of : (y : IsGood x (starts g part_here rest)) (there : Where) → g.call.temps.places from ≡ Some there → IsNamed g.call.site (of_location from)
+          → IsThere g.call.site (of_location to) → (all : Shapes) → looked x.table g.call.site (of_location from) ≡ parts all
+          → nth_shape all field ≡ Some (looked x.table g.call.site (of_location to))
+          → (is_standing (house g.call.site (of_location to)).kind ≡ true → is_standing (house g.call.site (of_location from)).kind ≡ true)
+          → Settles x (starts g part_here rest) rest
+          (leads (scene_of (high x.table x.blocks (starts g part_here rest))) to there (to_part (location_at g.call.temps there) field))
+      part_of y there e named_from there_to all look nth as_base =
+          let a = at_address x g part_here rest y from there named_from e (ap is_one_word look) in
+          let h = location_house x g part_here rest y from there named_from e in
+          let o : ℕ = shapes_before all field in
+          let at_is : part_at x.table (location (around x.table x.blocks (body_of g)) from).ty field ≡ o
+          = h.housed.fields all field (looked x.table g.call.site (of_location to)) (ap (shape_of (facts_in x.table)) h.typed ∙ look) nth in
+          let step : Step (looked x.table g.call.site (of_location from)) field o (looked x.table g.call.site (of_location to))
+          = subst (λ k. Step k field o (looked x.table g.call.site (of_location to))) (sym look) (nth, refl) in
+          let inner = step_within (looked x.table g.call.site (of_location from)) field o (looked x.table g.call.site (of_location to)) step in
+          let near = leads_near x g part_here rest y there a.address (looked x.table g.call.site (of_location from)) a.leads_to in
+          let some = shape_some (looked x.table g.call.site (of_location to)) in
+          let b = led_home x g part_here rest y to there_to in
+          leads_settles x g part_here rest y to (deeper_in g.call.temps there field) (a.address + o) 1 (omega arith) there_to
+          (part_standing x g part_here rest y to from field there named_from e as_base)
+          (leads_on x (all_sites x g part_here rest y) g.call.site g.world g.call.temps (with_place to g.call.temps (deeper_in g.call.temps there field))
+          (λ t v h. h) there a.address o
+          (looked x.table g.call.site (of_location from)) (looked x.table g.call.site (of_location to)) field step a.leads_to)
+          (subst (λ l. Given x.live (all_procs x) (within x.table x.blocks g) g.memory g.words l g.call.vars (led_variable x g part_here rest y to)
+          (a.address + o) (code_next x g part_here rest y))
+          (sym (ap (λ u. part_code (variable_of u) (location (around x.table x.blocks (body_of g)) from).home
+          (part_at x.table (location (around x.table x.blocks (body_of g)) from).ty field) (code_next x g part_here rest y))
+          (own_location x g part_here rest y to there_to)
+          ∙ (ap (λ u. part_code (led_variable x g part_here rest y to) u (part_at x.table (location (around x.table x.blocks (body_of g)) from).ty field)
+          (code_next x g part_here rest y)) a.home_is ∙ ap (λ n. part_code (led_variable x g part_here rest y to) a.home n (code_next x g part_here rest
+          y)) at_is)))
+          (part_given x g part_here rest y (led_variable x g part_here rest y to) o a.address a.home b.high_is a.points
+          (omega (arith, near, inner, some)) (code_next x g part_here rest y)))

@@ -2,11 +2,14 @@
 use Rattle.std.proofs.Common.{◌≡◌, ℕ, zero, suc, ◌+◌, ◌%◌, ◌<◌, ◌≤◌, inl, inr, List, [], ◌∷◌, refl, sym, ap, subst, ◌∙◌}
 use Rattle.std.proofs.Common.{arith}
 use Rattle.nim_types.specs.Forms.{or_word}
-use Rattle.nim_core.specs.Values.{Value, Number, Parts, Values, Nil, More, bytes, bytes_all, count, parts_of, nth, with_nth, part, put_part}
+use Rattle.nim_meaning.specs.Values.{Value, Number, Parts, Handle, Fixed, Ref, Resource, Gone, Vacant, Values, Nil, More, bytes, bytes_all, count}
+use Rattle.nim_meaning.specs.Values.{parts_of, nth, with_nth}
+use Rattle.nim_meaning.specs.Values.{part, put_part}
 use Rattle.rv32_isa.specs.declared.micro_op.Size.TheVariants.{Word}
-use Rattle.mid_code.specs.Memory.{Memory, number_at}
-use Rattle.word_lowering.proofs.InMemory.{IsAt, AreAt, SameWords, at_same, carried, all_carried, bytes_whole, parts_bytes}
-use Rattle.word_lowering.proofs.Copied.{Apart}
+use Rattle.word_code.specs.Memory.{Memory, number_at}
+use Rattle.word_code.specs.RoutineTable.{SameWords}
+use Rattle.word_code.proofs.ForCallers.{at_same, Apart}
+use Rattle.word_lowering.proofs.InMemory.{IsAt, AreAt, OfNumbers, AllOfNumbers, of_numbers, carried, all_carried, bytes_whole, or_word_least}
 
 -- the bytes before a part
 abbrev pub before : Values → ℕ → ℕ
@@ -36,14 +39,25 @@ before_whole Nil i = refl
 before_whole (More v vs) zero = refl
 before_whole (More v vs) (suc i) = let e = bytes_whole v in let f = before_whole vs i in omega arith
 
-pub part_within : (v : Value) (path : List ℕ) → InPath v path → offset v path + bytes (part v path) ≤ bytes v
-part_within v [] h = omega arith
-part_within (Number z) (i ∷ path) h = absurd (omega (arith, h.0))
-part_within (Parts Nil) (i ∷ path) h = absurd (omega (arith, h.0))
-part_within (Parts (More v vs)) (i ∷ path) h =
-    let a = nth_within (More v vs) i h.0 in
-    let b = part_within (nth (More v vs) i) path h.1 in
-    omega (arith, parts_bytes v vs)
+nth_numbers : (vs : Values) (i : ℕ) → AllOfNumbers vs → i < count vs → OfNumbers (nth vs i)
+nth_numbers Nil i o h = absurd (omega (arith, h))
+nth_numbers (More v vs) zero o h = o.0
+nth_numbers (More v vs) (suc i) o h = nth_numbers vs i o.1 (omega (arith, h))
+
+pub part_within : (v : Value) (path : List ℕ) → OfNumbers v → InPath v path → offset v path + bytes (part v path) ≤ bytes v
+part_within v [] o h = omega arith
+part_within (Number z) (i ∷ path) o h = absurd (omega (arith, h.0))
+part_within (Parts vs) (i ∷ path) o h =
+    let a = nth_within vs i h.0 in
+    let b = part_within (nth vs i) path (nth_numbers vs i o h.0) h.1 in
+    let c = or_word_least (bytes_all vs) in
+    omega (arith, a, b, c)
+part_within (Handle n k) (i ∷ path) o h = absurd o
+part_within (Fixed t) (i ∷ path) o h = absurd o
+part_within (Ref r) (i ∷ path) o h = absurd o
+part_within (Resource vs k) (i ∷ path) o h = absurd o
+part_within (Gone v f) (i ∷ path) o h = absurd o
+part_within Vacant (i ∷ path) o h = absurd o
 
 pub offset_whole : (v : Value) (path : List ℕ) → offset v path % 4 ≡ 0
 offset_whole v [] = refl
@@ -68,6 +82,12 @@ module _ (m : Memory) where
   part_at a (Parts vs) (i ∷ path) h at =
       moved_to (a + before vs i + offset (nth vs i) path) (a + (before vs i + offset (nth vs i) path)) (part (nth vs i) path) (omega arith)
       (part_at (a + before vs i) (nth vs i) path h.1 (nth_at a vs i h.0 at))
+  part_at a (Handle n k) (i ∷ path) h at = absurd at
+  part_at a (Fixed t) (i ∷ path) h at = absurd at
+  part_at a (Ref r) (i ∷ path) h at = absurd at
+  part_at a (Resource vs k) (i ∷ path) h at = absurd at
+  part_at a (Gone v f) (i ∷ path) h at = absurd at
+  part_at a Vacant (i ∷ path) h at = absurd at
 
 -- ---- another value in place of a part
 
@@ -76,11 +96,18 @@ with_nth_bytes Nil i new e h = refl
 with_nth_bytes (More v vs) zero new e h = ap (λ n. n + bytes_all vs) e
 with_nth_bytes (More v vs) (suc i) new e h = ap (λ n. bytes v + n) (with_nth_bytes vs i new e (omega arith))
 
-pub put_bytes : (v : Value) (path : List ℕ) (new : Value) → InPath v path → bytes new ≡ bytes (part v path) → bytes (put_part v path new) ≡ bytes v
-put_bytes v [] new h e = e
-put_bytes (Number z) (i ∷ path) new h e = refl
-put_bytes (Parts vs) (i ∷ path) new h e =
-    ap or_word (with_nth_bytes vs i (put_part (nth vs i) path new) (put_bytes (nth vs i) path new h.1 e) h.0)
+pub put_bytes : (v : Value) (path : List ℕ) (new : Value) → OfNumbers v → InPath v path → bytes new ≡ bytes (part v path)
+    → bytes (put_part v path new) ≡ bytes v
+put_bytes v [] new o h e = e
+put_bytes (Number z) (i ∷ path) new o h e = refl
+put_bytes (Parts vs) (i ∷ path) new o h e =
+    ap or_word (with_nth_bytes vs i (put_part (nth vs i) path new) (put_bytes (nth vs i) path new (nth_numbers vs i o h.0) h.1 e) h.0)
+put_bytes (Handle n k) (i ∷ path) new o h e = absurd o
+put_bytes (Fixed t) (i ∷ path) new o h e = absurd o
+put_bytes (Ref r) (i ∷ path) new o h e = absurd o
+put_bytes (Resource vs k) (i ∷ path) new o h e = absurd o
+put_bytes (Gone v f) (i ∷ path) new o h e = absurd o
+put_bytes Vacant (i ∷ path) new o h e = absurd o
 
 -- the words of a range are as before but for those of another one
 abbrev pub SameBut : (m other : Memory) (a bytes at most : ℕ) → Type 0
@@ -143,10 +170,6 @@ module _ (m other : Memory) where
       narrower (inl h) = inl (omega arith)
       narrower (inr h) = inr (omega arith)
 
-  parts_whole : (vs : Values) (i : ℕ) → i < count vs → bytes (Parts vs) ≡ bytes_all vs
-  parts_whole Nil i h = absurd (omega arith)
-  parts_whole (More v vs) i h = parts_bytes v vs
-
   -- a value with another part, which is where the old one was
   pub put_at : (a : ℕ) (v : Value) (path : List ℕ) (new : Value) → InPath v path → bytes new ≡ bytes (part v path) → IsAt m a v
       → SameBut m other a (bytes v) (a + offset v path) (bytes new) → IsAt other (a + offset v path) new → IsAt other a (put_part v path new)
@@ -156,15 +179,22 @@ module _ (m other : Memory) where
       let sub : Value = nth vs i in
       let k : ℕ = before vs i in
       let whole : k % 4 ≡ 0 = before_whole vs i in
-      let all : bytes (Parts vs) ≡ bytes_all vs = parts_whole vs i h.0 in
+      let all : bytes_all vs ≤ bytes (Parts vs) = or_word_least (bytes_all vs) in
       let le : k + bytes sub ≤ bytes_all vs = nth_within vs i h.0 in
-      let inside : offset sub path + bytes (part sub path) ≤ bytes sub = part_within sub path h.1 in
+      let numbers : OfNumbers sub = of_numbers m (a + k) sub (nth_at m a vs i h.0 at) in
+      let inside : offset sub path + bytes (part sub path) ≤ bytes sub = part_within sub path numbers h.1 in
       let here : SameBut m other (a + k) (bytes sub) (a + k + offset sub path) (bytes new)
       = subst (λ x. SameBut m other (a + k) (bytes sub) x (bytes new)) (omega arith)
       (inner a (bytes (Parts vs)) (a + (k + offset sub path)) (bytes new) k (bytes sub) whole (omega arith) same) in
       let made : IsAt other (a + k) (put_part sub path new)
       = put_at (a + k) sub path new h.1 e (nth_at m a vs i h.0 at) here (subst (λ x. IsAt other x new) (omega arith) there) in
-      nth_put a vs i (put_part sub path new) h.0 (put_bytes sub path new h.1 e) at
+      nth_put a vs i (put_part sub path new) h.0 (put_bytes sub path new numbers h.1 e) at
       (wider a (bytes_all vs) (a + (k + offset sub path)) (bytes new) (a + k) (bytes sub) (omega arith) (omega arith)
-      (subst (λ x. SameBut m other a x (a + (k + offset sub path)) (bytes new)) all same))
+      (λ o within is apart. same o (omega (arith, all, within)) is apart))
       made
+  put_at a (Handle n k) (i ∷ path) new h e at same there = absurd at
+  put_at a (Fixed t) (i ∷ path) new h e at same there = absurd at
+  put_at a (Ref r) (i ∷ path) new h e at same there = absurd at
+  put_at a (Resource vs k) (i ∷ path) new h e at same there = absurd at
+  put_at a (Gone v f) (i ∷ path) new h e at same there = absurd at
+  put_at a Vacant (i ∷ path) new h e at same there = absurd at

@@ -2,171 +2,102 @@
 use Rattle.std.proofs.Common.{◌≡◌, ◌⊎◌, inl, inr, ℕ, suc, ◌%◌, ◌≤◌, ◌<◌, List, [], ◌∷◌, length, Option, Some}
 use Rattle.std.proofs.Common.{None, Bool, true, false, not, ◌&&◌}
 use Rattle.std.proofs.Common.{refl, sym, ap, subst, ◌∙◌, arith, if◌then◌else◌, nat_eq, nat_le}
-use Rattle.std.specs.Prelude.{nat_lt}
-use Rattle.std.proofs.lemmas.Bool.{and_parts, and_from, and_left, and_right, cases_Bool, eqb-true, eq-eqb, ne_eqb, leb-true, ltb-true, not-true, true≢false}
-use Rattle.std.proofs.lemmas.Bool.{false≢true}
+use Rattle.std.specs.Prelude.{nat_lt, ◌||◌}
+use Rattle.std.proofs.lemmas.Bool.{and_parts, and_from, and_left, and_right, cases_Bool, eqb-true, eq-eqb, ne_eqb, leb-true, ltb-true, lt-ltb, not-true}
+use Rattle.std.proofs.lemmas.Bool.{true≢false, false≢true}
 use Rattle.nim_types.specs.declared.types.TypeDef.{TypeDef}
+use Rattle.nim_types.specs.Types.{Ty}
 use Rattle.nim_types.specs.Table.{type_at, types_in, facts_in, IsTable}
 use Rattle.nim_types.specs.Forms.{hooked, form_of}
-use Rattle.nim_core.specs.declared.program.Mode.TheVariants.{Plain, Sink, Var}
-use Rattle.mid_code.specs.declared.place.PlaceKind.{PlaceKind}
-use Rattle.mid_code.specs.declared.place.PlaceKind.TheVariants as K
-use Rattle.mid_code.specs.declared.place.FlatPlace.{FlatPlace}
-use Rattle.mid_code.specs.Scene.{known_in}
-use Rattle.mid_code.specs.Shapes.{Shape, number, row, parts, Shapes, shape_of}
-use Rattle.mid_code.specs.Fits.{is_value, is_declared, is_global, is_own, shape_by_kind, shape_at, shape_named, nth_shape, are_within, result_number, result_at}
-use Rattle.mid_code.proofs.ForCallers.{shape_bytes}
+use Rattle.nim_program.specs.declared.program.Mode.TheVariants.{Var}
+use Rattle.flat_code.specs.declared.line.Line.{Line}
+use Rattle.flat_code.specs.declared.place.PlaceKind.{PlaceKind}
+use Rattle.flat_code.specs.declared.place.PlaceKind.TheVariants as K
+use Rattle.flat_code.specs.declared.place.FlatPlace.{FlatPlace}
+use Rattle.flat_code.specs.Scene.{known_in}
+use Rattle.flat_code.specs.Shapes.{Shape, number, row, parts, Shapes, shape_of}
+use Rattle.flat_code.specs.Fits.{is_value, is_declared, is_global, is_own, type_by_kind, place_named, or_result, result_at, are_within}
+use Rattle.word_lowering.specs.declared.homes.Alias.{Alias}
+use Rattle.word_lowering.specs.declared.homes.Alias.TheVariants as alias
 use Rattle.word_lowering.specs.declared.homes.TheConstants.{OWN_FROM}
 use Rattle.word_lowering.specs.declared.homes.Home.{Home}
 use Rattle.word_lowering.specs.declared.homes.Home.TheVariants.{Variable, Placed, Static}
 use Rattle.word_lowering.specs.declared.homes.Housed.{Housed}
 use Rattle.word_lowering.specs.declared.homes.Free.{Free}
 use Rattle.word_lowering.specs.Stored.{bytes_at, entry_at, is_word, count_in, element_bytes, part_at, HaveForms}
-use Rattle.word_lowering.specs.Layouts.{is_among, is_kept, is_static, home_at, free_behind, word_by, bytes_by, place_word, place_bytes, place_kept, housed}
-use Rattle.word_lowering.specs.Layouts.{behind}
-use Rattle.word_lowering.specs.Layouts.{all_housed, found, is_result, result_in, is_address}
-use Rattle.word_lowering.specs.MayLower.{is_plain, all_plain}
-use Rattle.word_lowering.proofs.Options.{none_some, some_same}
+use Rattle.word_lowering.specs.Aliases.{alias_for, addressed, is_among}
+use Rattle.word_lowering.specs.Layouts.{is_kept, is_static, home_at, home_by, free_behind, free_by, word_by, bytes_by, place_word, place_bytes, place_kept}
+use Rattle.word_lowering.specs.Layouts.{place_alias, housed, behind, all_housed, found, nowhere, is_result, result_in, is_address}
+use Rattle.word_lowering.specs.MayLower.{is_hooked, is_text, is_plain, all_plain}
+use Rattle.word_lowering.proofs.ShapeFacts.{never, nth_shape, shape_bytes, of_numbers}
 use Rattle.word_lowering.proofs.ShapePaths.{shapes_before}
 use Rattle.word_lowering.proofs.HomesApart.{Each, IsBetween}
 use Rattle.word_lowering.proofs.LayoutBounds.{place_whole}
-use Rattle.word_lowering.proofs.TypeParts.{type_part}
-use Rattle.word_lowering.proofs.TypeShapes.{type_shape_bytes, type_is_word, type_row}
-use Rattle.word_lowering.proofs.Sites.{looks, is_one_word, Among, Housing, in_variable, by_address, in_places, in_data, InVariable, InMemory}
+use Rattle.word_lowering.proofs.TypeRules.{type_plain}
+use Rattle.word_lowering.proofs.TypeShapes.{type_bytes, type_is_word, type_row, type_part}
+use Rattle.word_lowering.proofs.Sites.{is_one_word, Among, There, Housing, in_variable, by_address, in_places, in_data, InVariable, InMemory}
 
 -- ---- kinds
 
--- of what kind a place is says nothing of its type, but for what a loop keeps
-pub record Typed (kind : PlaceKind) : Type 0 where
-  pub shape : (s : Shape) → shape_by_kind kind s ≡ s
-  pub bytes : (n : ℕ) → bytes_by kind n ≡ n
-  pub word : (b : Bool) → word_by kind b ≡ b
-  pub plain : (table : List TypeDef) (ty : ℕ) → is_plain table ty kind
-      ≡ (nat_lt ty (length table) && not (hooked (form_of (facts_in table) (type_at (types_in table) ty))))
-
-pub kind_is : (kind : PlaceKind) → (kind ≡ K.Counter) ⊎ Typed kind
-kind_is K.Local = inr (record { shape = λ s. refl; bytes = λ n. refl; word = λ b. refl; plain = λ table ty. refl })
-kind_is K.Cursor = inr (record { shape = λ s. refl; bytes = λ n. refl; word = λ b. refl; plain = λ table ty. refl })
-kind_is K.Result = inr (record { shape = λ s. refl; bytes = λ n. refl; word = λ b. refl; plain = λ table ty. refl })
-kind_is (K.Param mode) = inr (record { shape = λ s. refl; bytes = λ n. refl; word = λ b. refl; plain = λ table ty. refl })
-kind_is K.ForVar = inr (record { shape = λ s. refl; bytes = λ n. refl; word = λ b. refl; plain = λ table ty. refl })
-kind_is K.Caught = inr (record { shape = λ s. refl; bytes = λ n. refl; word = λ b. refl; plain = λ table ty. refl })
-kind_is K.Global = inr (record { shape = λ s. refl; bytes = λ n. refl; word = λ b. refl; plain = λ table ty. refl })
-kind_is K.Temp = inr (record { shape = λ s. refl; bytes = λ n. refl; word = λ b. refl; plain = λ table ty. refl })
-kind_is K.Location = inr (record { shape = λ s. refl; bytes = λ n. refl; word = λ b. refl; plain = λ table ty. refl })
-kind_is K.Counter = inl refl
-
-kind_result : (kind : PlaceKind) → (kind ≡ K.Result) ⊎ ((is_result kind ≡ false) × ((n : ℕ) (o : Option ℕ) → result_number kind n o ≡ o))
+kind_result : (kind : PlaceKind) → (kind ≡ K.Result) ⊎ ((is_result kind ≡ false) × ((n : ℕ) (o : Option ℕ) → or_result kind n o ≡ o))
 kind_result K.Result = inl refl
-kind_result K.Local = inr (refl, λ n o. refl)
-kind_result K.Cursor = inr (refl, λ n o. refl)
-kind_result (K.Param mode) = inr (refl, λ n o. refl)
-kind_result K.ForVar = inr (refl, λ n o. refl)
-kind_result K.Caught = inr (refl, λ n o. refl)
-kind_result K.Global = inr (refl, λ n o. refl)
-kind_result K.Temp = inr (refl, λ n o. refl)
-kind_result K.Location = inr (refl, λ n o. refl)
-kind_result K.Counter = inr (refl, λ n o. refl)
+kind_result kind = inr (refl, λ n o. refl)
 
 pub own_declared : (kind : PlaceKind) → is_own kind ≡ true → is_declared kind ≡ true
-own_declared K.Local h = refl
-own_declared K.Cursor h = refl
-own_declared K.Result h = refl
 own_declared (K.Param mode) h = refl
-own_declared K.ForVar h = refl
-own_declared K.Caught h = refl
-own_declared K.Global h = refl
-own_declared K.Temp h = absurd (false≢true h)
-own_declared K.Location h = absurd (false≢true h)
-own_declared K.Counter h = absurd (false≢true h)
+own_declared kind h = h
 
 pub global_is : (kind : PlaceKind) → is_global kind ≡ true → kind ≡ K.Global
-global_is K.Local h = absurd (false≢true h)
-global_is K.Cursor h = absurd (false≢true h)
-global_is K.Result h = absurd (false≢true h)
-global_is (K.Param mode) h = absurd (false≢true h)
-global_is K.ForVar h = absurd (false≢true h)
-global_is K.Caught h = absurd (false≢true h)
 global_is K.Global h = refl
-global_is K.Temp h = absurd (false≢true h)
-global_is K.Location h = absurd (false≢true h)
-global_is K.Counter h = absurd (false≢true h)
+global_is kind h = never h
 
 static_is : (start : Bool) (kind : PlaceKind) → is_static start kind ≡ true → (kind ≡ K.Global) × (start ≡ true)
-static_is start K.Local h = absurd (false≢true h)
-static_is start K.Cursor h = absurd (false≢true h)
-static_is start K.Result h = absurd (false≢true h)
-static_is start (K.Param mode) h = absurd (false≢true h)
-static_is start K.ForVar h = absurd (false≢true h)
-static_is start K.Caught h = absurd (false≢true h)
 static_is start K.Global h = (refl, h)
-static_is start K.Temp h = absurd (false≢true h)
-static_is start K.Location h = absurd (false≢true h)
-static_is start K.Counter h = absurd (false≢true h)
+static_is start kind h = never h
 
 -- what is in a variable is an address or a word
-kept_is : (rooted w : Bool) (kind : PlaceKind) → is_kept rooted (word_by kind w) kind ≡ true
+kept_is : (taken w : Bool) (kind : PlaceKind) → is_kept taken (word_by kind w) kind ≡ true
     → (is_address kind ≡ true) ⊎ ((is_address kind ≡ false) × (word_by kind w ≡ true))
-kept_is rooted w K.Local h = inr (refl, (and_parts w (not rooted) h).0)
-kept_is rooted w K.Cursor h = inr (refl, (and_parts w (not rooted) h).0)
-kept_is rooted w K.Result h = inr (refl, (and_parts w (not rooted) h).0)
-kept_is rooted w (K.Param Plain) h = inr (refl, (and_parts w (not rooted) h).0)
-kept_is rooted w (K.Param Sink) h = inr (refl, (and_parts w (not rooted) h).0)
-kept_is rooted w (K.Param Var) h = inl refl
-kept_is rooted w K.ForVar h = inr (refl, (and_parts w (not rooted) h).0)
-kept_is rooted w K.Caught h = inr (refl, (and_parts w (not rooted) h).0)
-kept_is rooted w K.Global h = inr (refl, (and_parts w (not rooted) h).0)
-kept_is rooted w K.Temp h = inr (refl, h)
-kept_is rooted w K.Location h = inl refl
-kept_is rooted w K.Counter h = inr (refl, refl)
+kept_is taken w (K.Param Var) h = inl refl
+kept_is taken w K.Location h = inl refl
+kept_is taken w K.Within h = inl refl
+kept_is taken w K.Temp h = inr (refl, h)
+kept_is taken w K.Counter h = inr (refl, refl)
+kept_is taken w kind h = inr (refl, (and_parts w (not taken) h).0)
 
-unkept_is : (rooted w : Bool) (kind : PlaceKind) → is_kept rooted w kind ≡ false → is_address kind ≡ false
-unkept_is rooted w K.Local h = refl
-unkept_is rooted w K.Cursor h = refl
-unkept_is rooted w K.Result h = refl
-unkept_is rooted w (K.Param Plain) h = refl
-unkept_is rooted w (K.Param Sink) h = refl
-unkept_is rooted w (K.Param Var) h = absurd (true≢false h)
-unkept_is rooted w K.ForVar h = refl
-unkept_is rooted w K.Caught h = refl
-unkept_is rooted w K.Global h = refl
-unkept_is rooted w K.Temp h = refl
-unkept_is rooted w K.Location h = absurd (true≢false h)
-unkept_is rooted w K.Counter h = refl
+unkept_is : (taken w : Bool) (kind : PlaceKind) → is_kept taken w kind ≡ false → is_address kind ≡ false
+unkept_is taken w (K.Param Var) h = absurd (true≢false h)
+unkept_is taken w K.Location h = absurd (true≢false h)
+unkept_is taken w K.Within h = absurd (true≢false h)
+unkept_is taken w kind h = refl
 
 -- a word that is a value is in a variable
-value_kept : (start rooted w : Bool) (kind : PlaceKind) (f : Free) → is_value kind ≡ true → w ≡ true
-    → InVariable (home_at (is_static start kind) (is_kept rooted w kind) f)
-value_kept start rooted w K.Local f h e = absurd (false≢true h)
-value_kept start rooted w K.Cursor f h e = absurd (false≢true h)
-value_kept start rooted w K.Result f h e = absurd (false≢true h)
-value_kept start rooted w (K.Param mode) f h e = absurd (false≢true h)
-value_kept start rooted w K.ForVar f h e = absurd (false≢true h)
-value_kept start rooted w K.Caught f h e = absurd (false≢true h)
-value_kept start rooted w K.Global f h e = absurd (false≢true h)
-value_kept start rooted w K.Temp f h e = subst (λ b. InVariable (home_at false b f)) (sym e) tt
-value_kept start rooted w K.Location f h e = absurd (false≢true h)
-value_kept start rooted w K.Counter f h e = tt
+value_kept : (start taken w : Bool) (kind : PlaceKind) (f : Free) → is_value kind ≡ true → w ≡ true
+    → InVariable (home_at (is_static start kind) (is_kept taken w kind) f)
+value_kept start taken w K.Temp f h e = subst (λ b. InVariable (home_at false b f)) (sym e) tt
+value_kept start taken w K.Counter f h e = tt
+value_kept start taken w kind f h e = never h
 
 placed_home : (w : Bool) (f : Free) → InMemory (home_at false (w && not true) f)
 placed_home true f = tt
 placed_home false f = tt
 
 -- a place of its own whose address is taken is in memory
-rooted_home : (start w : Bool) (kind : PlaceKind) (f : Free) → is_own kind ≡ true → InMemory (home_at (is_static start kind) (is_kept true w kind) f)
-rooted_home start w K.Local f h = placed_home w f
-rooted_home start w K.Cursor f h = placed_home w f
-rooted_home start w K.Result f h = placed_home w f
-rooted_home start w (K.Param Plain) f h = placed_home w f
-rooted_home start w (K.Param Sink) f h = placed_home w f
-rooted_home start w (K.Param Var) f h = absurd (false≢true h)
-rooted_home start w K.ForVar f h = placed_home w f
-rooted_home start w K.Caught f h = placed_home w f
-rooted_home true w K.Global f h = tt
-rooted_home false w K.Global f h = placed_home w f
-rooted_home start w K.Temp f h = absurd (false≢true h)
-rooted_home start w K.Location f h = absurd (false≢true h)
-rooted_home start w K.Counter f h = absurd (false≢true h)
+taken_home : (start w : Bool) (kind : PlaceKind) (f : Free) → is_own kind ≡ true → InMemory (home_at (is_static start kind) (is_kept true w kind) f)
+taken_home start w (K.Param Var) f h = never h
+taken_home start w K.Temp f h = never h
+taken_home start w K.Location f h = never h
+taken_home start w K.Within f h = never h
+taken_home start w K.Counter f h = never h
+taken_home true w K.Global f h = tt
+taken_home false w K.Global f h = placed_home w f
+taken_home start w kind f h = placed_home w f
+
+pub declared_own : (kind : PlaceKind) (n : ℕ) (lines : List Line) → is_declared kind ≡ true → alias_for kind n lines ≡ alias.Own
+declared_own K.Temp n lines h = never h
+declared_own K.Location n lines h = never h
+declared_own K.Within n lines h = never h
+declared_own kind n lines h = refl
 
 -- ---- among places
 
@@ -179,11 +110,12 @@ each_among P [] h e i = absurd i
 each_among P (k ∷ hs) h e (inl s) = subst P s e.0
 each_among P (k ∷ hs) h e (inr i) = each_among P hs h e.1 i
 
-pub plain_among : (table : List TypeDef) (ps : List FlatPlace) (p : FlatPlace) → all_plain table ps ≡ true → AmongPlaces p ps
-    → is_plain table p.ty p.kind ≡ true
-plain_among table [] p e i = absurd i
-plain_among table (q ∷ ps) p e (inl s) = subst (λ z. is_plain table z.ty z.kind ≡ true) s (and_parts (is_plain table q.ty q.kind) (all_plain table ps) e).0
-plain_among table (q ∷ ps) p e (inr i) = plain_among table ps p (and_parts (is_plain table q.ty q.kind) (all_plain table ps) e).1 i
+pub plain_among : (table : List TypeDef) (hs : List Housed) (h : Housed) → all_plain table hs ≡ true → Among h hs
+    → is_plain table h.ty h.alias h.kind ≡ true
+plain_among table [] h e i = absurd i
+plain_among table (k ∷ hs) h e (inl s) =
+    subst (λ z. is_plain table z.ty z.alias z.kind ≡ true) s (and_parts (is_plain table k.ty k.alias k.kind) (all_plain table hs) e).0
+plain_among table (k ∷ hs) h e (inr i) = plain_among table hs h (and_parts (is_plain table k.ty k.alias k.kind) (all_plain table hs) e).1 i
 
 -- where a home begins is a whole word
 abbrev pub IsAligned : Home → Type 0
@@ -191,39 +123,57 @@ IsAligned (Variable v) = Unit {0}
 IsAligned (Placed at) = at % 4 ≡ 0
 IsAligned (Static at) = at % 4 ≡ 0
 
-home_aligned : (static kept : Bool) (f : Free) → f.byte % 4 ≡ 0 → f.datum % 4 ≡ 0 → IsAligned (home_at static kept f)
-home_aligned true kept f b d = d
-home_aligned false true f b d = tt
-home_aligned false false f b d = b
+pub record Aligned (f : Free) : Type 0 where
+  pub byte : f.byte % 4 ≡ 0
+  pub datum : f.datum % 4 ≡ 0
 
-byte_aligned : (static kept : Bool) (n : ℕ) (f : Free) → n % 4 ≡ 0 → f.byte % 4 ≡ 0 → (free_behind static kept n f).byte % 4 ≡ 0
-byte_aligned true kept n f w e = e
-byte_aligned false true n f w e = e
-byte_aligned false false n f w e = omega arith
+home_aligned : (static kept : Bool) (f : Free) → Aligned f → IsAligned (home_at static kept f)
+home_aligned true kept f a = a.datum
+home_aligned false true f a = tt
+home_aligned false false f a = a.byte
 
-datum_aligned : (static kept : Bool) (n : ℕ) (f : Free) → n % 4 ≡ 0 → f.datum % 4 ≡ 0 → (free_behind static kept n f).datum % 4 ≡ 0
-datum_aligned true kept n f w e = omega arith
-datum_aligned false true n f w e = e
-datum_aligned false false n f w e = e
+next_aligned : (static kept : Bool) (n : ℕ) (f : Free) → n % 4 ≡ 0 → Aligned f → Aligned (free_behind static kept n f)
+next_aligned true kept n f w a = let d = a.datum in record { byte = a.byte; datum = omega arith }
+next_aligned false true n f w a = record { byte = a.byte; datum = a.datum }
+next_aligned false false n f w a = let b = a.byte in record { byte = omega arith; datum = a.datum }
 
-module _ (table : List TypeDef) (start : Bool) (roots : List ℕ) where
+aligned_by : (name : Alias) (low high : Free) → Aligned low → Aligned high → Aligned (free_by name low high)
+aligned_by alias.Own low high l h = h
+aligned_by (alias.Place p global) low high l h = l
+aligned_by (alias.Value t) low high l h = l
+aligned_by (alias.Text behind bytes) low high l h = l
+
+-- in what is found
+abbrev pub Finds : (is_kind : PlaceKind → Bool) → ℕ → FlatPlace → Bool
+Finds is_kind n p = nat_eq p.number n && is_kind p.kind
+
+module _ (table : List TypeDef) (start : Bool) (lines : List Line) where
   abbrev all : Free → List FlatPlace → List Housed
-  all free ps = all_housed table start roots free ps
+  all free ps = all_housed table start lines free ps
 
   abbrev one : Free → FlatPlace → Housed
-  one free p = housed table start roots free p
+  one free p = housed table start lines free p
 
   abbrev next : Free → FlatPlace → Free
-  next free p = behind table start roots free p
+  next free p = behind table start lines free p
 
-  pub all_aligned : (free : Free) (ps : List FlatPlace) → free.byte % 4 ≡ 0 → free.datum % 4 ≡ 0 → Each (λ h. IsAligned h.home) (all free ps)
-  all_aligned free [] b d = tt
-  all_aligned free (p ∷ ps) b d =
+  abbrev name_of : FlatPlace → Alias
+  name_of p = place_alias table start lines p
+
+  abbrev kept_in : FlatPlace → Bool
+  kept_in p = place_kept table start lines p
+
+  pub own_home : (f : Free) (p : FlatPlace) → name_of p ≡ alias.Own → (one f p).home ≡ home_at (is_static start p.kind) (kept_in p) f
+  own_home f p own = ap (λ a. home_by a (home_at (is_static start p.kind) (kept_in p) f)) own
+
+  pub all_aligned : (free : Free) (ps : List FlatPlace) → Aligned free → Each (λ h. h.alias ≡ alias.Own → IsAligned h.home) (all free ps)
+  all_aligned free [] a = tt
+  all_aligned free (p ∷ ps) a =
       let s : Bool = is_static start p.kind in
-      let k : Bool = place_kept table start roots p in
-      let n : ℕ = place_bytes table start roots p in
-      let w = place_whole table start roots p in
-      (home_aligned s k free b d, all_aligned (next free p) ps (byte_aligned s k n free w b) (datum_aligned s k n free w d))
+      let behind_it = next_aligned s (kept_in p) (place_bytes table start lines p) free (place_whole table start lines p) a in (
+        λ own. subst IsAligned (sym (own_home free p own)) (home_aligned s (kept_in p) free a),
+        all_aligned (next free p) ps (aligned_by (name_of p) free (free_behind s (kept_in p) (place_bytes table start lines p) free) a behind_it),
+      )
 
   -- each is a place that is housed
   pub comes : (free : Free) (ps : List FlatPlace) (h : Housed) → Among h (all free ps) → (f : Free) × (p : FlatPlace) × AmongPlaces p ps ×
@@ -234,26 +184,66 @@ module _ (table : List TypeDef) (start : Bool) (roots : List ℕ) where
 
   -- ---- what is found
 
-  abbrev pub IsNamed : List Housed → (PlaceKind → Bool) → ℕ → Shape → Housed → Type 0
-  IsNamed hs is_kind n s h = Among h hs × (h.number ≡ n) × (is_kind h.kind ≡ true) × (looks table h ≡ s)
+  -- a place of a kind with a number, the first one
+  pub record IsFound (free : Free) (ps : List FlatPlace) (is_kind : PlaceKind → Bool) (n : ℕ) : Type 0 where
+    pub place : FlatPlace
+    pub taken : Free
+    pub named : place_named is_kind ps n ≡ Some place
+    pub is : found is_kind n (all free ps) ≡ one taken place
+    pub among : Among (one taken place) (all free ps)
+    pub number : place.number ≡ n
+    pub kind : is_kind place.kind ≡ true
 
-  pub named_all : (free : Free) (ps : List FlatPlace) (is_kind : PlaceKind → Bool) (n : ℕ) (s : Shape) → shape_named (known_in table) is_kind ps n
-      ≡ Some s
-      → IsNamed (all free ps) is_kind n s (found is_kind n (all free ps))
-  named_all free [] is_kind n s e = absurd (none_some s e)
-  named_all free (p ∷ ps) is_kind n s e = by (nat_eq p.number n && is_kind p.kind) refl e (named_all (next free p) ps is_kind n s)
+  pub record IsMissing (free : Free) (ps : List FlatPlace) (is_kind : PlaceKind → Bool) (n : ℕ) : Type 0 where
+    pub named : place_named is_kind ps n ≡ None
+    pub none : (h : Housed) → Among h (all free ps) → h.number ≡ n → is_kind h.kind ≡ true → ⊥
+    pub is : found is_kind n (all free ps) ≡ nowhere
+
+  pub find : (free : Free) (ps : List FlatPlace) (is_kind : PlaceKind → Bool) (n : ℕ) → IsFound free ps is_kind n ⊎ IsMissing free ps is_kind n
+  find free [] is_kind n = inr (record { named = refl; none = λ h i e k. i; is = refl })
+  find free (p ∷ ps) is_kind n = by (nat_eq p.number n && is_kind p.kind) refl (find (next free p) ps is_kind n)
     where
-      rest : List Housed
-      rest = all (next free p) ps
-
-      by : (b : Bool) → (nat_eq p.number n && is_kind p.kind) ≡ b
-          → (if b then Some (shape_at (known_in table) p) else shape_named (known_in table) is_kind ps n) ≡ Some s
-          → (shape_named (known_in table) is_kind ps n ≡ Some s → IsNamed rest is_kind n s (found is_kind n rest))
-          → IsNamed (one free p ∷ rest) is_kind n s (if b then one free p else found is_kind n rest)
-      by true t e go =
+      by : (b : Bool) → (nat_eq p.number n && is_kind p.kind) ≡ b → IsFound (next free p) ps is_kind n ⊎ IsMissing (next free p) ps is_kind n
+          → IsFound free (p ∷ ps) is_kind n ⊎ IsMissing free (p ∷ ps) is_kind n
+      by true t r =
           let q = and_parts (nat_eq p.number n) (is_kind p.kind) t in
-          (inl refl, eqb-true p.number n q.0, q.1, some_same (shape_at (known_in table) p) s e)
-      by false t e go = let r = go e in (inr r.0, r.1, r.2, r.3)
+          inl (record {
+            place = p;
+            taken = free;
+            named = ap (λ b. if b then Some p else place_named is_kind ps n) t;
+            is = ap (λ b. if b then one free p else found is_kind n (all (next free p) ps)) t;
+            among = inl refl;
+            number = eqb-true p.number n q.0;
+            kind = q.1;
+          })
+      by false t (inl r) = inl (record {
+        place = r.place;
+        taken = r.taken;
+        named = ap (λ b. if b then Some p else place_named is_kind ps n) t ∙ r.named;
+        is = ap (λ b. if b then one free p else found is_kind n (all (next free p) ps)) t ∙ r.is;
+        among = inr r.among;
+        number = r.number;
+        kind = r.kind;
+      })
+      by false t (inr r) = inr (record {
+        named = ap (λ b. if b then Some p else place_named is_kind ps n) t ∙ r.named;
+        none = none;
+        is = ap (λ b. if b then one free p else found is_kind n (all (next free p) ps)) t ∙ r.is;
+      })
+        where
+          none : (h : Housed) → Among h (all free (p ∷ ps)) → h.number ≡ n → is_kind h.kind ≡ true → ⊥
+          none h (inl s) e k =
+              true≢false (sym (and_from (nat_eq p.number n) (is_kind p.kind) (eq-eqb p.number n (ap (λ (z : Housed). z.number) s ∙ e))
+              (ap (λ (z : Housed). is_kind z.kind) s ∙ k)) ∙ t)
+          none h (inr i) e k = r.none h i e k
+
+  -- it is there
+  pub found_there : (free : Free) (ps : List FlatPlace) (is_kind : PlaceKind → Bool) (n : ℕ) → IsFound free ps is_kind n → There (all free ps) is_kind n
+  found_there free ps is_kind n r = record {
+    among = subst (λ z. Among z (all free ps)) (sym r.is) r.among;
+    number = ap (λ (z : Housed). z.number) r.is ∙ r.number;
+    kind = ap (λ (z : Housed). is_kind z.kind) r.is ∙ r.kind;
+  }
 
   -- declared places are within the frame
   pub numbers_within : (least most : ℕ) (free : Free) (ps : List FlatPlace) (h : Housed) → are_within least most ps ≡ true → Among h (all free ps)
@@ -338,14 +328,14 @@ module _ (table : List TypeDef) (start : Bool) (roots : List ℕ) where
       rest : List Housed
       rest = all (next free p) ps
 
-      by : (p.kind ≡ K.Result) ⊎ ((is_result p.kind ≡ false) × ((n : ℕ) (o : Option ℕ) → result_number p.kind n o ≡ o))
+      by : (p.kind ≡ K.Result) ⊎ ((is_result p.kind ≡ false) × ((n : ℕ) (o : Option ℕ) → or_result p.kind n o ≡ o))
           → ((result_at (known_in table) ps ≡ None) × (result_in rest ≡ None)) ⊎ ResultAt (next free p) ps
           → ((result_at (known_in table) (p ∷ ps) ≡ None) × (result_in (all free (p ∷ ps)) ≡ None)) ⊎ ResultAt free (p ∷ ps)
       by (inl k) r = inr (record {
         place = one free p;
         among = inl refl;
         kind = k;
-        number = ap (λ z. result_number z p.number (result_at (known_in table) ps)) k;
+        number = ap (λ z. or_result z p.number (result_at (known_in table) ps)) k;
         is = ap (λ z. if is_result z then Some (one free p) else result_in rest) k;
       })
       by (inr k) (inl r) = inl (
@@ -360,76 +350,100 @@ module _ (table : List TypeDef) (start : Bool) (roots : List ℕ) where
         is = ap (λ z. if z then Some (one free p) else result_in rest) k.0 ∙ r.is;
       })
 
-  -- ---- how a place is housed
+  -- ---- how a place with a home is housed
 
   pub housing : (room low high : ℕ) (f : Free) (p : FlatPlace) (least most : Free) → OWN_FROM ≤ least.variable → most.byte ≤ room
-      → low ≤ least.datum → (start ≡ true → most.datum ≤ high)
+      → low ≤ least.datum → (start ≡ true → most.datum ≤ high) → name_of p ≡ alias.Own
       → IsBetween least most (one f p).bytes (one f p).home → IsAligned (one f p).home → Housing room low high start (one f p)
-  housing room low high f p least most own_from within from ends between aligned =
-      by (is_static start p.kind) (place_kept table start roots p) refl refl between aligned
+  housing room low high f p least most own_from within from ends own between aligned =
+      by (is_static start p.kind) (kept_in p) refl refl (subst (IsBetween least most (one f p).bytes) here between) (subst IsAligned here aligned)
     where
-      by : (s k : Bool) → is_static start p.kind ≡ s → place_kept table start roots p ≡ k → IsBetween least most (one f p).bytes (home_at s k f)
-          → IsAligned (home_at s k f) → Housing room low high start (one f p)
+      here : (one f p).home ≡ home_at (is_static start p.kind) (kept_in p) f
+      here = own_home f p own
+
+      by : (s k : Bool) → is_static start p.kind ≡ s → kept_in p ≡ k
+          → IsBetween least most (one f p).bytes (home_at (is_static start p.kind) (kept_in p) f)
+          → IsAligned (home_at (is_static start p.kind) (kept_in p) f) → Housing room low high start (one f p)
       by true k s e b a =
           let g = static_is start p.kind s in
-          in_data f.datum (ap (λ z. home_at z (place_kept table start roots p) f) s) (ap is_address g.0) a (omega (arith, from, b.0))
-          (let h = ends g.1 in omega (arith, b.1, h)) g.1
-      by false true s e b a = in_var (kept_is (is_among p.number roots) (is_word (entry_at table p.ty)) p.kind e)
+          let home : home_at (is_static start p.kind) (kept_in p) f ≡ Static f.datum = ap (λ z. home_at z (kept_in p) f) s in
+          let c = subst (IsBetween least most (one f p).bytes) home b in
+          in_data f.datum (here ∙ home) (ap is_address g.0) (subst IsAligned home a) (omega (arith, from, c.0))
+          (let h = ends g.1 in omega (arith, c.1, h)) g.1
+      by false true s e b a = in_var (kept_is (is_among p.number (addressed lines)) (is_word (entry_at table p.ty)) p.kind e)
         where
-          home_is : (one f p).home ≡ Variable f.variable
-          home_is = ap (λ z. home_at z (place_kept table start roots p) f) s ∙ ap (λ z. home_at false z f) e
+          home : home_at (is_static start p.kind) (kept_in p) f ≡ Variable f.variable
+          home = ap (λ z. home_at z (kept_in p) f) s ∙ ap (λ z. home_at false z f) e
 
           in_var : (is_address p.kind ≡ true) ⊎ ((is_address p.kind ≡ false) × (word_by p.kind (is_word (entry_at table p.ty)) ≡ true))
               → Housing room low high start (one f p)
-          in_var (inl x) = by_address f.variable home_is x (omega (arith, own_from, b.0))
-          in_var (inr x) = in_variable f.variable home_is x.0 (omega (arith, own_from, b.0)) x.1
+          in_var (inl x) =
+              let c = subst (IsBetween least most (one f p).bytes) home b in
+              by_address f.variable (here ∙ home) x (omega (arith, own_from, c.0))
+          in_var (inr x) =
+              let c = subst (IsBetween least most (one f p).bytes) home b in
+              in_variable f.variable (here ∙ home) x.0 (omega (arith, own_from, c.0)) x.1
       by false false s e b a =
-          in_places f.byte (ap (λ z. home_at z (place_kept table start roots p) f) s ∙ ap (λ z. home_at false z f) e)
-          (unkept_is (is_among p.number roots) (place_word table start roots p) p.kind e) a (omega (arith, within, b.1))
+          let home : home_at (is_static start p.kind) (kept_in p) f ≡ Placed f.byte =
+          ap (λ z. home_at z (kept_in p) f) s ∙ ap (λ z. home_at false z f) e in
+          let c = subst (IsBetween least most (one f p).bytes) home b in
+          in_places f.byte (here ∙ home) (unkept_is (is_among p.number (addressed lines)) (place_word table start lines p) p.kind e)
+          (subst IsAligned home a) (omega (arith, within, c.1))
 
-  pub kept_in_variable : (f : Free) (p : FlatPlace) → is_value p.kind ≡ true → (one f p).is_word ≡ true → InVariable (one f p).home
-  kept_in_variable f p v w = value_kept start (is_among p.number roots) (place_word table start roots p) p.kind f v w
+  pub kept_in_variable : (f : Free) (p : FlatPlace) → name_of p ≡ alias.Own → is_value p.kind ≡ true → (one f p).is_word ≡ true
+      → InVariable (one f p).home
+  kept_in_variable f p own v w =
+      subst InVariable (sym (own_home f p own))
+      (value_kept start (is_among p.number (addressed lines)) (place_word table start lines p) p.kind f v w)
 
-  pub rooted_in_memory : (f : Free) (p : FlatPlace) → is_among p.number roots ≡ true → is_own p.kind ≡ true → InMemory (one f p).home
-  rooted_in_memory f p r o =
-      subst (λ b. InMemory (home_at (is_static start p.kind) (is_kept b (place_word table start roots p) p.kind) f)) (sym r)
-      (rooted_home start (place_word table start roots p) p.kind f o)
+  pub addressed_in_memory : (f : Free) (p : FlatPlace) → is_among p.number (addressed lines) ≡ true → is_own p.kind ≡ true → InMemory (one f p).home
+  addressed_in_memory f p r o =
+      subst InMemory (sym (own_home f p (declared_own p.kind p.number lines (own_declared p.kind o))))
+      (subst (λ b. InMemory (home_at (is_static start p.kind) (is_kept b (place_word table start lines p) p.kind) f)) (sym r)
+      (taken_home start (place_word table start lines p) p.kind f o))
 
   pub global_home : (f : Free) (p : FlatPlace) → start ≡ true → is_global p.kind ≡ true → (one f p).home ≡ Static f.datum
   global_home f p s g =
-      ap (λ z. home_at (is_static start z) (place_kept table start roots p) f) (global_is p.kind g) ∙ ap
-      (λ z. home_at z (place_kept table start roots p) f) s
+      own_home f p (declared_own p.kind p.number lines (ap is_declared (global_is p.kind g)))
+      ∙ ap (λ z. home_at (is_static start z) (kept_in p) f) (global_is p.kind g) ∙ ap (λ z. home_at z (kept_in p) f) s
 
 -- ---- what a place looks like
 
-module _ (table : List TypeDef) (is_table : IsTable table) (have : HaveForms table) (p : FlatPlace) (plain : is_plain table p.ty p.kind ≡ true) where
-  abbrev type_shape : Shape
-  type_shape = shape_of (facts_in table) (type_at (types_in table) p.ty)
+module _ (table : List TypeDef) (is_table : IsTable table) (have : HaveForms table) where
+  abbrev type_here : PlaceKind → ℕ → Ty
+  type_here kind ty = type_by_kind kind (type_at (types_in table) ty)
 
-  abbrev IsPlainType : Type 0
-  IsPlainType = (p.ty < length table) × (hooked (form_of (facts_in table) (type_at (types_in table) p.ty)) ≡ false)
+  abbrev shape_here : PlaceKind → ℕ → Shape
+  shape_here kind ty = shape_of (facts_in table) (type_here kind ty)
 
-  plain_type : Typed p.kind → IsPlainType
-  plain_type t =
-      let f = form_of (facts_in table) (type_at (types_in table) p.ty) in
-      let q = and_parts (nat_lt p.ty (length table)) (not (hooked f)) (sym (t.plain table p.ty) ∙ plain) in
-      (ltb-true p.ty (length table) q.0, not-true (hooked f) q.1)
+  -- of the table, and without the heap
+  plain_type : (ty : ℕ) (name : Alias) → is_text name ≡ false → (nat_lt ty (length table) && (is_text name || not (is_hooked table ty))) ≡ true
+      → (ty < length table) × (is_hooked table ty ≡ false)
+  plain_type ty name other h =
+      let q = and_parts (nat_lt ty (length table)) (is_text name || not (is_hooked table ty)) h in (
+        ltb-true ty (length table) q.0,
+        not-true (is_hooked table ty) (sym (ap (λ b. b || not (is_hooked table ty)) other) ∙ q.1),
+      )
 
-  pub place_shape_bytes : shape_bytes (shape_by_kind p.kind type_shape) ≡ bytes_by p.kind (bytes_at table p.ty)
-  place_shape_bytes = by (kind_is p.kind)
-    where
-      by : (p.kind ≡ K.Counter) ⊎ Typed p.kind → shape_bytes (shape_by_kind p.kind type_shape) ≡ bytes_by p.kind (bytes_at table p.ty)
-      by (inl e) = subst (λ k. shape_bytes (shape_by_kind k type_shape) ≡ bytes_by k (bytes_at table p.ty)) (sym e) refl
-      by (inr t) = ap shape_bytes (t.shape type_shape) ∙ type_shape_bytes table p.ty (plain_type t).1 ∙ sym (t.bytes (bytes_at table p.ty))
+  pub place_numbers : (kind : PlaceKind) (ty : ℕ) (name : Alias) → is_text name ≡ false → is_plain table ty name kind ≡ true
+      → of_numbers (shape_here kind ty) ≡ true
+  place_numbers K.Counter ty name other h = refl
+  place_numbers kind ty name other h = type_plain table is_table have ty (plain_type ty name other h).1
 
-  pub place_is_word : is_one_word (shape_by_kind p.kind type_shape) ≡ word_by p.kind (is_word (entry_at table p.ty))
-  place_is_word = by (kind_is p.kind)
-    where
-      by : (p.kind ≡ K.Counter) ⊎ Typed p.kind → is_one_word (shape_by_kind p.kind type_shape) ≡ word_by p.kind (is_word (entry_at table p.ty))
-      by (inl e) = subst (λ k. is_one_word (shape_by_kind k type_shape) ≡ word_by k (is_word (entry_at table p.ty))) (sym e) refl
-      by (inr t) =
-          let q = plain_type t in
-          ap is_one_word (t.shape type_shape) ∙ type_is_word table is_table have p.ty q.0 q.1 ∙ sym (t.word (is_word (entry_at table p.ty)))
+  pub place_unhooked : (kind : PlaceKind) (ty : ℕ) → is_plain table ty alias.Own kind ≡ true → hooked (form_of (facts_in table) (type_here kind ty)) ≡ false
+  place_unhooked K.Counter ty h = refl
+  place_unhooked kind ty h =
+      let q = plain_type ty alias.Own refl h in
+      sym (ap (λ b. b && hooked (form_of (facts_in table) (type_at (types_in table) ty))) (lt-ltb ty (length table) q.0)) ∙ q.1
+
+  pub place_shape_bytes : (kind : PlaceKind) (ty : ℕ) → shape_bytes (shape_here kind ty) ≡ bytes_by kind (bytes_at table ty)
+  place_shape_bytes K.Counter ty = refl
+  place_shape_bytes kind ty = sym (type_bytes table is_table have ty)
+
+  pub place_is_word : (kind : PlaceKind) (ty : ℕ) → of_numbers (shape_here kind ty) ≡ true
+      → is_one_word (shape_here kind ty) ≡ word_by kind (is_word (entry_at table ty))
+  place_is_word K.Counter ty n = refl
+  place_is_word kind ty n = type_is_word table is_table have ty n
 
   no_row : (n : ℕ) (s : Shape) → number None ≡ row n s → ⊥
   no_row n s e = cc
@@ -437,19 +451,12 @@ module _ (table : List TypeDef) (is_table : IsTable table) (have : HaveForms tab
   no_parts : (ss : Shapes) → number None ≡ parts ss → ⊥
   no_parts ss e = cc
 
-  pub place_rows : (n : ℕ) (s : Shape) → shape_by_kind p.kind type_shape ≡ row n s
-      → (count_in (entry_at table p.ty) ≡ n) × (0 < n → element_bytes table (entry_at table p.ty) ≡ shape_bytes s)
-  place_rows n s e = by (kind_is p.kind)
-    where
-      by : (p.kind ≡ K.Counter) ⊎ Typed p.kind → (count_in (entry_at table p.ty) ≡ n) ×
-          (0 < n → element_bytes table (entry_at table p.ty) ≡ shape_bytes s)
-      by (inl k) = absurd (no_row n s (sym (ap (λ z. shape_by_kind z type_shape) k) ∙ e))
-      by (inr t) = let q = plain_type t in type_row table is_table have p.ty q.0 q.1 n s (sym (t.shape type_shape) ∙ e)
+  pub place_rows : (kind : PlaceKind) (ty n : ℕ) (s : Shape) → shape_here kind ty ≡ row n s
+      → (count_in (entry_at table ty) ≡ n) × (0 < n → element_bytes table (entry_at table ty) ≡ shape_bytes s)
+  place_rows K.Counter ty n s e = absurd (no_row n s e)
+  place_rows kind ty n s e = type_row table is_table have ty n s e
 
-  pub place_parts : (ss : Shapes) (i : ℕ) (s : Shape) → shape_by_kind p.kind type_shape ≡ parts ss → nth_shape ss i ≡ Some s
-      → part_at table p.ty i ≡ shapes_before ss i
-  place_parts ss i s e h = by (kind_is p.kind)
-    where
-      by : (p.kind ≡ K.Counter) ⊎ Typed p.kind → part_at table p.ty i ≡ shapes_before ss i
-      by (inl k) = absurd (no_parts ss (sym (ap (λ z. shape_by_kind z type_shape) k) ∙ e))
-      by (inr t) = let q = plain_type t in type_part table is_table have p.ty q.0 q.1 ss i s (sym (t.shape type_shape) ∙ e) h
+  pub place_parts : (kind : PlaceKind) (ty : ℕ) (ss : Shapes) (i : ℕ) (s : Shape) → shape_here kind ty ≡ parts ss → nth_shape ss i ≡ Some s
+      → part_at table ty i ≡ shapes_before ss i
+  place_parts K.Counter ty ss i s e h = absurd (no_parts ss e)
+  place_parts kind ty ss i s e h = type_part table is_table have ty ss i e

@@ -1,57 +1,58 @@
 -- Procedures of block code that may be lowered: each is tested, and has its word code under its number.
 use Rattle.std.proofs.Common.{◌≡◌, ◌⊎◌, inl, inr, ℕ, zero, suc, ◌+◌, ◌≤◌, List, [], ◌∷◌, ◌++◌, append_assoc, append-nil}
-use Rattle.std.proofs.Common.{length, map, max, Option}
-use Rattle.std.proofs.Common.{Some, Bool, true, false, not, ◌&&◌}
+use Rattle.std.proofs.Common.{length, map, max}
+use Rattle.std.proofs.Common.{Some, None, Bool, true, false, not, ◌&&◌}
 use Rattle.std.proofs.Common.{refl, sym, ap, subst, ◌∙◌, arith, if◌then◌else◌, ◌==◌, nat_le}
 use Rattle.std.specs.Prelude.{slice_get}
 use Rattle.std.proofs.lemmas.Bool.{and_parts, cases_Bool, eq-eqb, ne_eqb, leb-true, true≢false, false≢true}
 use Rattle.nim_types.specs.declared.types.TypeDef.{TypeDef}
+use Rattle.nim_types.specs.Types.{Ty}
 use Rattle.nim_types.specs.Table.{IsTable}
-use Rattle.nim_core.specs.declared.program.Mode.TheVariants.{Plain, Sink, Var}
-use Rattle.mid_code.specs.declared.word.TheConstants.{SPARE_ROOM}
-use Rattle.mid_code.specs.declared.place.PlaceKind.{PlaceKind}
-use Rattle.mid_code.specs.declared.place.PlaceKind.TheVariants as K
-use Rattle.mid_code.specs.declared.place.FlatPlace.{FlatPlace}
-use Rattle.mid_code.specs.declared.block.BlockLine.{BlockLine}
-use Rattle.mid_code.specs.declared.block.BlockProc.{BlockProc}
-use Rattle.mid_code.specs.declared.block.Blocks.{Blocks}
-use Rattle.mid_code.specs.declared.word.WordProc.{WordProc}
-use Rattle.mid_code.specs.Scene.{known_in}
-use Rattle.mid_code.specs.Shapes.{Shape}
-use Rattle.mid_code.specs.Codes.{block_plain, block_label, block_placed, block_proc, is_blocks}
-use Rattle.mid_code.specs.Running.{last_of, before_last}
-use Rattle.mid_code.specs.Whole.{all_lead, are_whole}
-use Rattle.mid_code.specs.Words.{from_proc, most_room}
-use Rattle.mid_code.specs.Fits.{shape_at, in_order, has_lines_for, Passed, param_of, taken_by, given_by, Signature, signature_of, signatures, all_fit}
-use Rattle.mid_code.specs.Fits.{each_fits, no_lines, is_declared}
+use Rattle.nim_program.specs.declared.program.Mode.TheVariants.{Plain, Sink, Var}
+use Rattle.word_code.specs.declared.word.TheConstants.{SPARE_ROOM}
+use Rattle.flat_code.specs.declared.line.Line.{Line}
+use Rattle.flat_code.specs.declared.place.PlaceKind.{PlaceKind}
+use Rattle.flat_code.specs.declared.place.PlaceKind.TheVariants as K
+use Rattle.flat_code.specs.declared.place.FlatPlace.{FlatPlace}
+use Rattle.flat_code.specs.declared.block.BlockLine.{BlockLine}
+use Rattle.flat_code.specs.declared.code.CodeProc.{CodeProc}
+use Rattle.flat_code.specs.declared.code.Code.{Code}
+use Rattle.word_code.specs.declared.word.WordProc.{WordProc}
+use Rattle.flat_code.specs.Scene.{known_in}
+use Rattle.flat_code.specs.Codes.{block_plain, proc_of}
+use Rattle.flat_code.specs.Running.{last_of, before_last}
+use Rattle.word_code.specs.Words.{from_proc, most_room}
+use Rattle.flat_code.specs.Fits.{place_type, has_lines_for, Taken, and_param, taken_by, given_by, Signature, signature_of, signatures, proc_fits}
+use Rattle.flat_code.specs.Fits.{each_fits, start_places as start_places_in, is_declared}
+use Rattle.word_lowering.specs.declared.homes.Alias.TheVariants.{Own}
 use Rattle.word_lowering.specs.declared.homes.Home.{Home}
 use Rattle.word_lowering.specs.declared.homes.Home.TheVariants.{Placed}
 use Rattle.word_lowering.specs.declared.homes.Housed.{Housed}
 use Rattle.word_lowering.specs.declared.homes.Free.{Free}
 use Rattle.word_lowering.specs.declared.homes.Layout.{Layout}
 use Rattle.word_lowering.specs.declared.texts.TheConstants.{FIXED_BYTES}
-use Rattle.word_lowering.specs.declared.routines.TheConstants.{COPY, CLEAR, SWAP, NUMBER}
 use Rattle.word_lowering.specs.declared.may_lower.TheConstants.{MOST_ROOM}
-use Rattle.word_lowering.specs.Layouts.{is_empty, roots_in, is_static, place_kept, place_bytes, home_at, free_behind, free_at, layout_of, layouts, housed}
-use Rattle.word_lowering.specs.Layouts.{behind}
+use Rattle.word_lowering.specs.Layouts.{is_empty, is_static, place_kept, place_bytes, place_alias, home_at, free_behind, free_by, free_at, layout_of}
+use Rattle.word_lowering.specs.Layouts.{layouts, housed, behind}
 use Rattle.word_lowering.specs.Layouts.{all_housed, behind_all, is_param, params_in, is_address}
 use Rattle.word_lowering.specs.Layouts.{found as found_in}
 use Rattle.word_lowering.specs.LineCode.{Around, no_layout, or_none, proc_number}
-use Rattle.word_lowering.specs.Routines.{routine, copy_lines, clear_lines, swap_lines, number_lines, and_traps}
 use Rattle.word_lowering.specs.Texts.{literals_at, texts_of, texts_in}
 use Rattle.word_lowering.specs.Lowered as code
 use Rattle.word_lowering.specs.Lowered.{no_proc, all_layouts, start_layout, start_around, lowered}
-use Rattle.word_lowering.specs.MayLower.{no_params, params_lead, all_plain, hook_may, and_placed, placed_bytes, places_may, sizes_may, proc_may, procs_may}
+use Rattle.word_lowering.specs.Lowers.{IsFitting, AreSilent}
+use Rattle.word_lowering.specs.MayLower.{no_params, params_lead, all_plain, hook_may, lines_may, labels_once, labels_may, and_placed, placed_bytes}
+use Rattle.word_lowering.specs.MayLower.{places_may, sizes_may, proc_may, procs_may}
 use Rattle.word_lowering.specs.MayLower.{may_lower}
 use Rattle.word_lowering.specs.Stored.{HaveForms}
 use Rattle.word_lowering.proofs.Options.{none_some, some_same}
 use Rattle.word_lowering.proofs.NamedProcs.{fits_by}
-use Rattle.word_lowering.proofs.NextCalls.{ParamsAre}
+use Rattle.word_lowering.proofs.FirstPlaces.{ParamsAre, Orderly}
 use Rattle.word_lowering.proofs.Callees.{Callee}
-use Rattle.word_lowering.proofs.Sites.{Body, looks, Among, word_of, data_end, sigs, globals_of, IsBody}
+use Rattle.word_lowering.proofs.ShapeFacts.{never}
+use Rattle.word_lowering.proofs.Sites.{Body, type_of, Among, word_of, data_end, sigs, globals_of, IsBody}
 use Rattle.word_lowering.proofs.LayoutBounds.{params_below}
-use Rattle.word_lowering.proofs.PlaceFacts.{one_found}
-use Rattle.word_lowering.proofs.FirstPlaces.{Orderly}
+use Rattle.word_lowering.proofs.PlaceFacts.{one_found, own_home, declared_own}
 use Rattle.word_lowering.proofs.PlacesInOrder.{orderly}
 use Rattle.word_lowering.proofs.Bodies.{IsTested, body_at, is_body}
 
@@ -86,6 +87,10 @@ room_among (q ∷ procs) n p others e = by (q.number == n) e (room_among procs n
 
 -- ---- parameters
 
+param_declared : (kind : PlaceKind) → is_param kind ≡ true → is_declared kind ≡ true
+param_declared (K.Param mode) h = refl
+param_declared kind h = never h
+
 abbrev IsPlaced : Home → Type 0
 IsPlaced (Placed at) = Unit {0}
 IsPlaced home = ⊥
@@ -108,67 +113,77 @@ next_ends false true bytes rest last free h = h
 next_ends false false bytes rest last free h = omega (arith, h)
 
 module _ (table : List TypeDef) where
-  add_param : (kind : PlaceKind) (h : Housed) → h.kind ≡ kind → (s : Option Shape) → s ≡ Some (looks table h) → (hs : List Housed)
-      (ts : List Passed)
-      → ParamsAre table hs ts → ParamsAre table (if is_param kind then h ∷ hs else hs) (param_of kind s ts)
-  add_param K.Local h e s f hs ts r = r
-  add_param K.Cursor h e s f hs ts r = r
-  add_param K.Result h e s f hs ts r = r
-  add_param (K.Param Plain) h e s f hs ts r = ((sym (ap is_address e), f), r)
-  add_param (K.Param Sink) h e s f hs ts r = ((sym (ap is_address e), f), r)
-  add_param (K.Param Var) h e s f hs ts r = ((sym (ap is_address e), f), r)
-  add_param K.ForVar h e s f hs ts r = r
-  add_param K.Caught h e s f hs ts r = r
-  add_param K.Global h e s f hs ts r = r
-  add_param K.Temp h e s f hs ts r = r
-  add_param K.Location h e s f hs ts r = r
-  add_param K.Counter h e s f hs ts r = r
+  add_param : (kind : PlaceKind) (h : Housed) → h.kind ≡ kind → (ty : Ty) → ty ≡ type_of table h → (hs : List Housed) (ts : List Taken)
+      → ParamsAre table hs ts → ParamsAre table (if is_param kind then h ∷ hs else hs) (and_param kind ty ts)
+  add_param (K.Param Plain) h e ty f hs ts r = ((sym (ap is_address e), f), r)
+  add_param (K.Param Sink) h e ty f hs ts r = ((sym (ap is_address e), f), r)
+  add_param (K.Param Var) h e ty f hs ts r = ((sym (ap is_address e), f), r)
+  add_param kind h e ty f hs ts r = r
 
-  module _ (start : Bool) (roots : List ℕ) where
-    params_are : (free : Free) (ps : List FlatPlace) → ParamsAre table (params_in (all_housed table start roots free ps)) (taken_by (known_in table) ps)
+  module _ (start : Bool) (lines : List Line) where
+    abbrev one : Free → FlatPlace → Housed
+    one free p = housed table start lines free p
+
+    abbrev next : Free → FlatPlace → Free
+    next free p = behind table start lines free p
+
+    abbrev params : Free → List FlatPlace → List Housed
+    params free ps = params_in (all_housed table start lines free ps)
+
+    params_are : (free : Free) (ps : List FlatPlace) → ParamsAre table (params free ps) (taken_by (known_in table) ps)
     params_are free [] = tt
     params_are free (p ∷ ps) =
-        add_param p.kind (housed table start roots free p) refl (Some (shape_at (known_in table) p)) refl
-        (params_in (all_housed table start roots (behind table start roots free p) ps)) (taken_by (known_in table) ps)
-        (params_are (behind table start roots free p) ps)
+        add_param p.kind (one free p) refl (place_type (known_in table) p) refl (params (next free p) ps) (taken_by (known_in table) ps)
+        (params_are (next free p) ps)
 
-    none_in : (free : Free) (ps : List FlatPlace) (h : Housed) → no_params ps ≡ true → Among h (params_in (all_housed table start roots free ps)) → ⊥
+    none_in : (free : Free) (ps : List FlatPlace) (h : Housed) → no_params ps ≡ true → Among h (params free ps) → ⊥
     none_in free [] h e i = i
     none_in free (p ∷ ps) h e i =
         by (is_param p.kind) (and_parts (not (is_param p.kind)) (no_params ps) e).0 i
-        (none_in (behind table start roots free p) ps h (and_parts (not (is_param p.kind)) (no_params ps) e).1)
+        (none_in (next free p) ps h (and_parts (not (is_param p.kind)) (no_params ps) e).1)
       where
-        rest : List Housed
-        rest = params_in (all_housed table start roots (behind table start roots free p) ps)
-
-        by : (b : Bool) → not b ≡ true → Among h (if b then housed table start roots free p ∷ rest else rest) → (Among h rest → ⊥) → ⊥
+        by : (b : Bool) → not b ≡ true → Among h (if b then one free p ∷ params (next free p) ps else params (next free p) ps)
+            → (Among h (params (next free p) ps) → ⊥) → ⊥
         by true e i go = false≢true e
         by false e i go = go i
 
-    param_ends : (free : Free) (ps : List FlatPlace) → params_lead ps ≡ true → (h : Housed) (at : ℕ)
-        → Among h (params_in (all_housed table start roots free ps)) → h.home ≡ Placed at
-        → at + h.bytes ≤ free.byte + placed_bytes (params_in (all_housed table start roots free ps))
+    -- a parameter has a home
+    param_own : (p : FlatPlace) → is_param p.kind ≡ true → place_alias table start lines p ≡ Own
+    param_own p e = declared_own p.kind p.number lines (param_declared p.kind e)
+
+    param_ends : (free : Free) (ps : List FlatPlace) → params_lead ps ≡ true → (h : Housed) (at : ℕ) → Among h (params free ps) → h.home ≡ Placed at
+        → at + h.bytes ≤ free.byte + placed_bytes (params free ps)
     param_ends free [] l h at i f = absurd i
     param_ends free (p ∷ ps) l h at i f =
-        by (is_param p.kind) l i (λ m j. param_ends (behind table start roots free p) ps m h at j f)
+        by (is_param p.kind) refl l i (λ m j. param_ends (next free p) ps m h at j f)
       where
-        one : Housed
-        one = housed table start roots free p
-
         rest : List Housed
-        rest = params_in (all_housed table start roots (behind table start roots free p) ps)
+        rest = params (next free p) ps
 
-        by : (b : Bool) → (if b then params_lead ps else no_params ps) ≡ true → Among h (if b then one ∷ rest else rest)
-            → (params_lead ps ≡ true → Among h rest → at + h.bytes ≤ (behind table start roots free p).byte + placed_bytes rest)
-            → at + h.bytes ≤ free.byte + placed_bytes (if b then one ∷ rest else rest)
-        by true l (inl s) go =
-            subst (λ (z : Housed). at + z.bytes ≤ free.byte + placed_bytes (one ∷ rest)) s
-            (first_ends (is_static start p.kind) (place_kept table start roots p) (place_bytes table start roots p) at (placed_bytes rest) free
-            (ap (λ (z : Housed). z.home) s ∙ f))
-        by true l (inr j) go =
-            next_ends (is_static start p.kind) (place_kept table start roots p) (place_bytes table start roots p) (placed_bytes rest) (at + h.bytes) free
-            (go l j)
-        by false l i go = absurd (none_in (behind table start roots free p) ps h l i)
+        static : Bool
+        static = is_static start p.kind
+
+        kept : Bool
+        kept = place_kept table start lines p
+
+        bytes : ℕ
+        bytes = place_bytes table start lines p
+
+        by : (b : Bool) → is_param p.kind ≡ b → (if b then params_lead ps else no_params ps) ≡ true
+            → Among h (if b then one free p ∷ rest else rest)
+            → (params_lead ps ≡ true → Among h rest → at + h.bytes ≤ (next free p).byte + placed_bytes rest)
+            → at + h.bytes ≤ free.byte + placed_bytes (if b then one free p ∷ rest else rest)
+        by true k l (inl s) go =
+            let home = own_home table start lines free p (param_own p k) in
+            subst (λ (z : Housed). at + z.bytes ≤ free.byte + placed_bytes (one free p ∷ rest)) s
+            (subst (λ z. at + bytes ≤ free.byte + and_placed z bytes (placed_bytes rest)) (sym home)
+            (first_ends static kept bytes at (placed_bytes rest) free (sym home ∙ ap (λ (z : Housed). z.home) s ∙ f)))
+        by true k l (inr j) go =
+            let own = param_own p k in
+            subst (λ z. at + h.bytes ≤ free.byte + and_placed z bytes (placed_bytes rest)) (sym (own_home table start lines free p own))
+            (next_ends static kept bytes (placed_bytes rest) (at + h.bytes) free
+            (subst (λ a. at + h.bytes ≤ (free_by a free (free_behind static kept bytes free)).byte + placed_bytes rest) own (go l j)))
+        by false k l i go = absurd (none_in (next free p) ps h l i)
 
 among_params : (hs : List Housed) (h : Housed) → Among h (params_in hs) → Among h hs
 among_params [] h i = i
@@ -179,10 +194,20 @@ among_params (k ∷ hs) h i = by (is_param k.kind) i (among_params hs h)
     by true (inr j) go = inr (go j)
     by false i go = inr (go i)
 
+param_kind : (hs : List Housed) (h : Housed) → Among h (params_in hs) → is_param h.kind ≡ true
+param_kind [] h i = absurd i
+param_kind (k ∷ hs) h i = by (is_param k.kind) refl i (param_kind hs h)
+  where
+    by : (b : Bool) → is_param k.kind ≡ b → Among h (if b then k ∷ params_in hs else params_in hs)
+        → (Among h (params_in hs) → is_param h.kind ≡ true) → is_param h.kind ≡ true
+    by true e (inl s) go = subst (λ (z : Housed). is_param z.kind ≡ true) s e
+    by true e (inr j) go = go j
+    by false e i go = go i
+
 some_lines : (line : BlockLine) (lines : List BlockLine) → line ∷ lines ≡ [] → ⊥
 some_lines line lines e = cc
 
-no_places : (places : List FlatPlace) (lines : List BlockLine) → has_lines_for places (map block_plain lines) ≡ true → lines ≡ [] → places ≡ []
+no_places : (places : List FlatPlace) (lines : List BlockLine) → has_lines_for places lines ≡ true → lines ≡ [] → places ≡ []
 no_places [] lines h e = refl
 no_places (p ∷ ps) [] h e = absurd (false≢true h)
 no_places (p ∷ ps) (line ∷ lines) h e = absurd (some_lines line lines e)
@@ -193,64 +218,65 @@ empty_is (line ∷ lines) h = absurd (true≢false h)
 
 -- ---- what tests say
 
-module _ (table : List TypeDef) (blocks : Blocks) where
-  one_tested : (start : Bool) (p : BlockProc)
-      → (has_lines_for p.places (map block_plain p.lines) && (in_order (block_placed p)
-      && all_fit (known_in table) (sigs table blocks) (globals_of table blocks) p.places [] (map block_plain p.lines))) ≡ true
-      → all_lead block_label block_plain p.lines p.lines ≡ true → proc_may table (layout_of table start FIXED_BYTES p) p ≡ true
-      → IsTested table blocks start p
-  one_tested start p fit lead may =
+module _ (table : List TypeDef) (blocks : Code BlockLine) where
+  abbrev fits_one : CodeProc BlockLine → Bool
+  fits_one p = proc_fits block_plain (known_in table) (sigs table blocks) (globals_of table blocks) p
+
+  one_tested : (start : Bool) (p : CodeProc BlockLine) → fits_one p ≡ true → proc_may table (layout_of table start FIXED_BYTES p) p ≡ true
+      → labels_once (map block_plain p.lines) ≡ true → IsTested table blocks start p
+  one_tested start p fit may once =
+      let own : Layout = layout_of table start FIXED_BYTES p in
       let a = and_parts _ _ (and_parts _ _ fit).1 in
-      let places = and_parts (params_lead p.places) (all_plain table p.places && hook_may p.hook) (and_parts (places_may table p) _ may).0 in
+      let places = and_parts (params_lead p.places && (all_plain table own.all && hook_may p.hook)) (lines_may table own.all (map block_plain p.lines))
+      (and_parts (places_may table own p) (sizes_may own) may).0 in
+      let plain = and_parts (params_lead p.places) (all_plain table own.all && hook_may p.hook) places.0 in
       record {
         order = (and_parts _ _ (and_parts _ _ a.0).1).1;
         first = (and_parts _ _ (and_parts _ _ a.0).1).0;
         fits = a.1;
-        leads = lead;
-        plain = (and_parts (all_plain table p.places) (hook_may p.hook) places.1).0;
-        room = (fits_by table (layout_of table start FIXED_BYTES p) p may).room;
+        plain = (and_parts (all_plain table own.all) (hook_may p.hook) plain.1).0;
+        may = places.1;
+        once = once;
+        room = (fits_by table own p may).room;
       }
 
-  abbrev AllFit : List BlockProc → Type 0
-  AllFit ps = each_fits (known_in table) (sigs table blocks) (globals_of table blocks) (map block_placed ps) ≡ true
+  abbrev AllFit : List (CodeProc BlockLine) → Type 0
+  AllFit ps = each_fits block_plain (known_in table) (sigs table blocks) (globals_of table blocks) ps ≡ true
 
-  abbrev AllLead : List BlockProc → Type 0
-  AllLead ps = are_whole block_label block_plain (map (block_proc (known_in table)) ps) ≡ true
-
-  abbrev AllMay : List BlockProc → Type 0
+  abbrev AllMay : List (CodeProc BlockLine) → Type 0
   AllMay ps = procs_may table (layouts table FIXED_BYTES ps) ps ≡ true
 
-  abbrev own_of : BlockProc → Layout
+  abbrev AllOnce : List (CodeProc BlockLine) → Type 0
+  AllOnce ps = labels_may ps ≡ true
+
+  abbrev own_of : CodeProc BlockLine → Layout
   own_of p = layout_of table false FIXED_BYTES p
 
-  abbrev fit_one : BlockProc → Bool
-  fit_one p = has_lines_for p.places (map block_plain p.lines) && (in_order (block_placed p)
-      && all_fit (known_in table) (sigs table blocks) (globals_of table blocks) p.places [] (map block_plain p.lines))
-
-  record Called (x : Around) (ps : List BlockProc) (index i : ℕ) (s : Signature) : Type 0 where
-    proc : BlockProc
+  record Called (x : Around) (ps : List (CodeProc BlockLine)) (index i : ℕ) (s : Signature) : Type 0 where
+    proc : CodeProc BlockLine
     behind_it : List ℕ
     others : List ℕ
     texts : texts_in ps ≡ behind_it ++ (texts_of (map block_plain proc.lines) ++ others)
     sign : signature_of (known_in table) proc.places ≡ s
-    block : slice_get (before_last (map (block_proc (known_in table)) ps)) i ≡ Some (block_proc (known_in table) proc)
+    block : slice_get (before_last (map (proc_of (known_in table)) ps)) i ≡ Some (proc_of (known_in table) proc)
     layout : slice_get (layouts table FIXED_BYTES ps) i ≡ Some (own_of proc)
-    lines : has_lines_for proc.places (map block_plain proc.lines) ≡ true
+    lines : has_lines_for proc.places proc.lines ≡ true
+    silent : proc.lines ≡ [] → proc.hook ≡ None
     tested : IsTested table blocks false proc
     may : proc_may table (own_of proc) proc ≡ true
     found : not (is_empty proc.lines) ≡ true → (n : ℕ) → n ≡ index + i → (others : List WordProc)
         × (from_proc (proc_number n) (code.word_procs x index (layouts table FIXED_BYTES ps) ps)
         ≡ code.word_proc (code.with_own x (own_of proc) (length behind_it)) (proc_number n) proc ∷ others)
 
-  call_at : (x : Around) (ps : List BlockProc) (index i : ℕ) (s : Signature)
-      → slice_get (signatures (known_in table) (before_last (map block_placed ps))) i ≡ Some s → AllFit ps → AllLead ps → AllMay ps
+  call_at : (x : Around) (ps : List (CodeProc BlockLine)) (index i : ℕ) (s : Signature)
+      → slice_get (signatures block_plain (known_in table) (before_last ps)) i ≡ Some s → AllFit ps → AllMay ps → AllOnce ps → AreSilent ps
       → Called x ps index i s
-  call_at x [] index i s h e w m = absurd (none_some s h)
-  call_at x (p ∷ []) index i s h e w m = absurd (none_some s h)
-  call_at x (p ∷ q ∷ ps) index zero s h e w m =
-      let here = and_parts (fit_one p) _ e in
-      let lead = and_parts (all_lead block_label block_plain p.lines p.lines) _ w in
+  call_at x [] index i s h e m o n = absurd (none_some s h)
+  call_at x (p ∷ []) index i s h e m o n = absurd (none_some s h)
+  call_at x (p ∷ q ∷ ps) index zero s h e m o n =
+      let here = and_parts (fits_one p) _ e in
       let may = and_parts (proc_may table (own_of p) p) _ m in
+      let once = and_parts (labels_once (map block_plain p.lines)) _ o in
       let literals : ℕ = length (texts_in (q ∷ ps)) in
       let rest : List WordProc = code.word_procs x (suc index) (layouts table FIXED_BYTES (q ∷ ps)) (q ∷ ps) in
       record {
@@ -262,7 +288,8 @@ module _ (table : List TypeDef) (blocks : Blocks) where
         block = refl;
         layout = refl;
         lines = (and_parts _ _ here.0).0;
-        tested = one_tested false p here.0 lead.0 may.0;
+        silent = n.0;
+        tested = one_tested false p here.0 may.0 once.0;
         may = may.0;
         found = λ some n same. (
           rest,
@@ -272,14 +299,14 @@ module _ (table : List TypeDef) (blocks : Blocks) where
               (ap (λ b. from_proc (proc_number index) (code.if_runs b (one index) rest)) some ∙ from_this (one index) rest (proc_number index) refl),
         );
       }
-  call_at x (p ∷ q ∷ ps) index (suc i) s h e w m =
-      let here = and_parts (fit_one p) _ e in
-      let lead = and_parts (all_lead block_label block_plain p.lines p.lines) _ w in
+  call_at x (p ∷ q ∷ ps) index (suc i) s h e m o n =
+      let here = and_parts (fits_one p) _ e in
       let may = and_parts (proc_may table (own_of p) p) _ m in
+      let once = and_parts (labels_once (map block_plain p.lines)) _ o in
       let literals : ℕ = length (texts_in (q ∷ ps)) in
       let rest : List WordProc = code.word_procs x (suc index) (layouts table FIXED_BYTES (q ∷ ps)) (q ∷ ps) in
       let one : WordProc = code.word_proc (code.with_own x (own_of p) literals) (proc_number index) p in
-      let r = call_at x (q ∷ ps) (suc index) i s h here.1 lead.1 may.1 in
+      let r = call_at x (q ∷ ps) (suc index) i s h here.1 may.1 once.1 n.1 in
       record {
         proc = r.proc;
         behind_it = r.behind_it;
@@ -291,6 +318,7 @@ module _ (table : List TypeDef) (blocks : Blocks) where
         block = r.block;
         layout = r.layout;
         lines = r.lines;
+        silent = r.silent;
         tested = r.tested;
         may = r.may;
         found = λ some n same. let f = r.found some n (omega (arith, same)) in (
@@ -300,27 +328,26 @@ module _ (table : List TypeDef) (blocks : Blocks) where
       }
 
   -- the start code is the last one
-  last_tested : (none p : BlockProc) (ps : List BlockProc) → AllFit (p ∷ ps) → AllLead (p ∷ ps) → AllMay (p ∷ ps)
+  last_tested : (none p : CodeProc BlockLine) (ps : List (CodeProc BlockLine)) → AllFit (p ∷ ps) → AllMay (p ∷ ps) → AllOnce (p ∷ ps)
       → IsTested table blocks true (last_of none (p ∷ ps))
-  last_tested none p [] e w m =
-      one_tested true p (and_parts (fit_one p) _ e).0 (and_parts (all_lead block_label block_plain p.lines p.lines) _ w).0
-      (and_parts (proc_may table (layout_of table true FIXED_BYTES p) p) _ m).0
-  last_tested none p (q ∷ ps) e w m =
-      last_tested p q ps (and_parts (fit_one p) _ e).1 (and_parts (all_lead block_label block_plain p.lines p.lines) _ w).1
-      (and_parts (proc_may table (own_of p) p) _ m).1
+  last_tested none p [] e m o =
+      one_tested true p (and_parts (fits_one p) _ e).0 (and_parts (proc_may table (layout_of table true FIXED_BYTES p) p) _ m).0
+      (and_parts (labels_once (map block_plain p.lines)) _ o).0
+  last_tested none p (q ∷ ps) e m o =
+      last_tested p q ps (and_parts (fits_one p) _ e).1 (and_parts (proc_may table (own_of p) p) _ m).1
+      (and_parts (labels_once (map block_plain p.lines)) _ o).1
 
-  last_layout : (none : Layout) (other p : BlockProc) (ps : List BlockProc)
+  last_layout : (none : Layout) (other p : CodeProc BlockLine) (ps : List (CodeProc BlockLine))
       → last_of none (layouts table FIXED_BYTES (p ∷ ps)) ≡ layout_of table true FIXED_BYTES (last_of other (p ∷ ps))
   last_layout none other p [] = refl
   last_layout none other p (q ∷ ps) = last_layout (own_of p) p q ps
 
-  last_places : (other p : BlockProc) (ps : List BlockProc) → (last_of (block_placed other) (map block_placed (p ∷ ps))).places
-      ≡ (last_of other (p ∷ ps)).places
+  last_places : (other p : CodeProc BlockLine) (ps : List (CodeProc BlockLine)) → start_places_in (p ∷ ps) ≡ (last_of other (p ∷ ps)).places
   last_places other p [] = refl
   last_places other p (q ∷ ps) = last_places p q ps
 
   -- its texts come last
-  last_texts : (none p : BlockProc) (ps : List BlockProc) → (others : List ℕ)
+  last_texts : (none p : CodeProc BlockLine) (ps : List (CodeProc BlockLine)) → (others : List ℕ)
       × (texts_in (p ∷ ps) ≡ texts_of (map block_plain (last_of none (p ∷ ps)).lines) ++ others)
   last_texts none p [] = ([], sym (append-nil (texts_of (map block_plain p.lines))))
   last_texts none p (q ∷ ps) =
@@ -328,28 +355,27 @@ module _ (table : List TypeDef) (blocks : Blocks) where
       let own : List ℕ = texts_of (map block_plain p.lines) in
       (r.0 ++ own, ap (λ z. z ++ own) r.1 ∙ append_assoc (texts_of (map block_plain (last_of p (q ∷ ps)).lines)) r.0 own)
 
-  pub start_laid : (p : BlockProc) (ps : List BlockProc) → blocks.procs ≡ p ∷ ps
+  pub start_laid : (p : CodeProc BlockLine) (ps : List (CodeProc BlockLine)) → blocks.procs ≡ p ∷ ps
       → start_layout table blocks.procs ≡ layout_of table true FIXED_BYTES (last_of no_proc blocks.procs)
   start_laid p ps e =
       subst (λ qs. last_of no_layout (layouts table FIXED_BYTES qs) ≡ layout_of table true FIXED_BYTES (last_of no_proc qs)) (sym e)
       (last_layout no_layout no_proc p ps)
 
-  pub start_places : (p : BlockProc) (ps : List BlockProc) → blocks.procs ≡ p ∷ ps → globals_of table blocks ≡ (last_of no_proc blocks.procs).places
-  start_places p ps e =
-      subst (λ qs. (last_of no_lines (map block_placed qs)).places ≡ (last_of no_proc qs).places) (sym e) (last_places no_proc p ps)
+  pub start_places : (p : CodeProc BlockLine) (ps : List (CodeProc BlockLine)) → blocks.procs ≡ p ∷ ps
+      → globals_of table blocks ≡ (last_of no_proc blocks.procs).places
+  start_places p ps e = subst (λ qs. start_places_in qs ≡ (last_of no_proc qs).places) (sym e) (last_places no_proc p ps)
 
   -- ---- the whole
 
-  module _ (is_table : IsTable table) (have : HaveForms table) (formed : is_blocks (known_in table) blocks ≡ true)
-      (may : may_lower table blocks ≡ true) where
+  module _ (is_table : IsTable table) (have : HaveForms table) (fitting : IsFitting table blocks) (may : may_lower table blocks ≡ true) where
     all_fits : AllFit blocks.procs
-    all_fits = (and_parts _ _ (and_parts _ _ formed).1).1
-
-    all_leads : AllLead blocks.procs
-    all_leads = (and_parts _ _ formed).0
+    all_fits = (and_parts _ _ fitting).1
 
     all_mays : AllMay blocks.procs
     all_mays = (and_parts (procs_may table (all_layouts table blocks.procs) blocks.procs) _ may).0
+
+    all_onces : AllOnce blocks.procs
+    all_onces = (and_parts _ (labels_may blocks.procs) (and_parts _ _ (and_parts (procs_may table (all_layouts table blocks.procs) blocks.procs) _ may).1).1).1
 
     abbrev x : Around
     x = start_around table blocks.procs
@@ -357,30 +383,13 @@ module _ (table : List TypeDef) (blocks : Blocks) where
     abbrev rest_procs : List WordProc
     rest_procs = code.word_procs x 0 (all_layouts table blocks.procs) blocks.procs
 
-    -- routines have smaller numbers
+    -- the start code has a smaller number
     from_rest : (n : ℕ) → from_proc (proc_number n) (lowered table blocks).procs ≡ from_proc (proc_number n) rest_procs
-    from_rest n =
-        from_other _ _ (proc_number n) (λ (z : 0 ≡ proc_number n). omega (arith, z))
-        ∙ from_other _ _ (proc_number n) (λ (z : 1 ≡ proc_number n). omega (arith, z))
-        ∙ from_other _ _ (proc_number n) (λ (z : 2 ≡ proc_number n). omega (arith, z))
-        ∙ from_other _ _ (proc_number n) (λ (z : 3 ≡ proc_number n). omega (arith, z))
-        ∙ from_other _ _ (proc_number n) (λ (z : 4 ≡ proc_number n). omega (arith, z))
-        ∙ from_other _ _ (proc_number n) (λ (z : 5 ≡ proc_number n). omega (arith, z))
-        ∙ from_other _ _ (proc_number n) (λ (z : 6 ≡ proc_number n). omega (arith, z))
-        ∙ from_other _ _ (proc_number n) (λ (z : 7 ≡ proc_number n). omega (arith, z))
-        ∙ from_other _ _ (proc_number n) (λ (z : 8 ≡ proc_number n). omega (arith, z))
-        ∙ from_other _ _ (proc_number n) (λ (z : 9 ≡ proc_number n). omega (arith, z))
-        ∙ from_other _ _ (proc_number n) (λ (z : 10 ≡ proc_number n). omega (arith, z))
-
-    pub routine_copy : (others : List WordProc) × (from_proc COPY (lowered table blocks).procs ≡ routine COPY 3 5 copy_lines ∷ others)
-    routine_copy = (routine CLEAR 2 4 clear_lines ∷ routine SWAP 3 6 swap_lines ∷ routine NUMBER 1 9 number_lines ∷ and_traps rest_procs, refl)
-
-    pub routine_clear : (others : List WordProc) × (from_proc CLEAR (lowered table blocks).procs ≡ routine CLEAR 2 4 clear_lines ∷ others)
-    routine_clear = (routine SWAP 3 6 swap_lines ∷ routine NUMBER 1 9 number_lines ∷ and_traps rest_procs, refl)
+    from_rest n = from_other _ _ (proc_number n) (λ (z : 0 ≡ proc_number n). omega (arith, z))
 
     -- a procedure that may be called
-    pub callee : (proc : ℕ) (s : Signature) → slice_get (sigs table blocks) proc ≡ Some s → Callee table blocks proc s
-    callee proc s h = record {
+    pub callee : AreSilent blocks.procs → (proc : ℕ) (s : Signature) → slice_get (sigs table blocks) proc ≡ Some s → Callee table blocks proc s
+    callee silent proc s h = record {
       body = body;
       is = is_called;
       number = refl;
@@ -388,13 +397,15 @@ module _ (table : List TypeDef) (blocks : Blocks) where
       block = c.block;
       layout = ap or_none c.layout;
       params = subst (λ (z : Signature). ParamsAre table (params_in body.own.all) z.takes) c.sign
-          (params_are table false roots (free_at FIXED_BYTES) c.proc.places);
+          (params_are table false lines (free_at FIXED_BYTES) c.proc.places);
       among = among_params body.own.all;
+      homes = λ k i. is_called.places k (among_params body.own.all k i) (param_declared k.kind (param_kind body.own.all k i));
       orderly = subst (λ (z : Signature). Orderly table body z) c.sign (orderly table false c.proc literals (proc_number proc) once
-          (is_called.inside) c.tested.first (params_below table false roots (free_at FIXED_BYTES) c.proc.places lead));
+          (is_called.inside) c.tested.first (params_below table false lines (free_at FIXED_BYTES) c.proc.places lead));
       spare = λ k at i e.
-          let ends = param_ends table false roots (free_at FIXED_BYTES) c.proc.places lead k at i e in
-          let sizes = and_parts (nat_le (own_of c.proc).free.byte MOST_ROOM) _ (and_parts (places_may table c.proc) (sizes_may (own_of c.proc)) c.may).1 in
+          let ends = param_ends table false lines (free_at FIXED_BYTES) c.proc.places lead k at i e in
+          let sizes = and_parts (nat_le (own_of c.proc).free.byte MOST_ROOM) _
+          (and_parts (places_may table (own_of c.proc) c.proc) (sizes_may (own_of c.proc)) c.may).1 in
           let most = leb-true (placed_bytes (params_in (own_of c.proc).all)) SPARE_ROOM (and_parts _ _ sizes.1).0 in
           omega (arith, ends, most);
       quiet = λ e.
@@ -402,15 +413,16 @@ module _ (table : List TypeDef) (blocks : Blocks) where
             sym (ap (λ (z : Signature). z.takes) c.sign) ∙ ap (taken_by (known_in table)) none,
             sym (ap (λ (z : Signature). z.gives) c.sign) ∙ ap (given_by (known_in table)) none,
           );
+      silent = c.silent;
       runs = refl;
       found = found;
     }
       where
         c : Called x blocks.procs 0 proc s
-        c = call_at x blocks.procs 0 proc s h all_fits all_leads all_mays
+        c = call_at x blocks.procs 0 proc s h all_fits all_mays all_onces silent
 
-        roots : List ℕ
-        roots = roots_in (map block_plain c.proc.lines)
+        lines : List Line
+        lines = map block_plain c.proc.lines
 
         literals : ℕ
         literals = literals_at table (data_end table blocks) + length c.behind_it
@@ -423,7 +435,7 @@ module _ (table : List TypeDef) (blocks : Blocks) where
 
         once : (n : ℕ) (h : Housed) → Among h body.own.all → h.number ≡ n → is_declared h.kind ≡ true → found_in is_declared n body.own.all ≡ h
         once n h i e d =
-            one_found table false roots is_declared (λ kind k. k) c.proc.first (c.proc.first + c.proc.span) (free_at FIXED_BYTES) c.proc.places n h
+            one_found table false lines is_declared (λ kind k. k) c.proc.first (c.proc.first + c.proc.span) (free_at FIXED_BYTES) c.proc.places n h
             c.tested.order i e d
 
         found : not (is_empty c.proc.lines) ≡ true → (others : List WordProc)
@@ -436,7 +448,7 @@ module _ (table : List TypeDef) (blocks : Blocks) where
             let f = found some in room_among (lowered table blocks).procs (proc_number proc) (word_of table blocks body) f.0 f.1
         within (inr none) =
             let e = no_places c.proc.places c.proc.lines c.lines (empty_is c.proc.lines none) in
-            let z : (own_of c.proc).free.byte ≡ 0 = ap (λ ps. (behind_all table false roots (free_at FIXED_BYTES) ps).byte) e in
+            let z : (own_of c.proc).free.byte ≡ 0 = ap (λ ps. (behind_all table false lines (free_at FIXED_BYTES) ps).byte) e in
             omega (arith, z)
 
         is_called : IsBody table blocks body
@@ -447,7 +459,7 @@ module _ (table : List TypeDef) (blocks : Blocks) where
         }) (record { behind = c.behind_it; others = c.others; whole = c.texts; at = refl })
 
     -- the start code, where there is one
-    pub start_is_body : (p : BlockProc) (ps : List BlockProc) → blocks.procs ≡ p ∷ ps → (number : ℕ)
+    pub start_is_body : (p : CodeProc BlockLine) (ps : List (CodeProc BlockLine)) → blocks.procs ≡ p ∷ ps → (number : ℕ)
         → IsBody table blocks (body_at table blocks true (last_of no_proc blocks.procs) (literals_at table (data_end table blocks)) number)
     start_is_body p ps e number =
         is_body table blocks is_table have true (last_of no_proc blocks.procs) (literals_at table (data_end table blocks)) number tested (record {
@@ -464,7 +476,7 @@ module _ (table : List TypeDef) (blocks : Blocks) where
         tested : IsTested table blocks true (last_of no_proc blocks.procs)
         tested =
             subst (λ qs. IsTested table blocks true (last_of no_proc qs)) (sym e)
-            (last_tested no_proc p ps (subst AllFit e all_fits) (subst AllLead e all_leads) (subst AllMay e all_mays))
+            (last_tested no_proc p ps (subst AllFit e all_fits) (subst AllMay e all_mays) (subst AllOnce e all_onces))
 
         texts : (others : List ℕ) × (texts_in blocks.procs ≡ texts_of (map block_plain (last_of no_proc blocks.procs).lines) ++ others)
         texts = subst (λ qs. (others : List ℕ) × (texts_in qs ≡ texts_of (map block_plain (last_of no_proc qs).lines) ++ others)) (sym e)

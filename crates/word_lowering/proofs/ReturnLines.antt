@@ -2,13 +2,13 @@
 use Rattle.std.proofs.Common.{◌≡◌, ℕ, ◌+◌, ◌^◌, ◌<◌, ◌≤◌, List, ◌∷◌, map, Some, true, false, refl, sym, ap, ap₂, subst}
 use Rattle.std.proofs.Common.{◌∙◌, arith}
 use Rattle.rv32_isa.specs.declared.micro_op.Size.TheVariants.{Word as whole}
-use Rattle.nim_core.specs.Values.{Value, Number, Parts, bytes}
-use Rattle.mid_code.specs.declared.block.BlockLine.{BlockLine}
-use Rattle.mid_code.specs.declared.line.Line.{Line}
-use Rattle.mid_code.specs.declared.word.WordInstr.{WordInstr}
-use Rattle.mid_code.specs.declared.word.WordInstr.TheVariants.{Return, Load}
-use Rattle.mid_code.specs.Words.{Vars, no_words, put, WordState, settled, using, Returns, step}
-use Rattle.mid_code.proofs.ForCallers.{never}
+use Rattle.nim_meaning.specs.Values.{Value, Number, bytes}
+use Rattle.flat_code.specs.declared.block.BlockLine.{BlockLine}
+use Rattle.word_code.specs.declared.word.WordInstr.{WordInstr}
+use Rattle.word_code.specs.declared.word.WordInstr.TheVariants.{Return, Load}
+use Rattle.word_code.specs.Words.{Vars, no_words, put, WordState, settled, using, Returns, step}
+use Rattle.word_lowering.proofs.ShapeFacts.{never}
+use Rattle.word_code.proofs.ForCallers.{got, Runs, Within, at, one, run_load, then_runs}
 use Rattle.word_lowering.specs.declared.homes.Home.{Home}
 use Rattle.word_lowering.specs.declared.homes.Home.TheVariants.{Variable}
 use Rattle.word_lowering.specs.declared.homes.Housed.{Housed}
@@ -16,21 +16,19 @@ use Rattle.word_lowering.specs.declared.homes.TheConstants.{FIRST, LEFT, OWN_FRO
 use Rattle.word_lowering.specs.declared.texts.TheConstants.{FIXED_BYTES}
 use Rattle.word_lowering.specs.Spots.{spot_of, address}
 use Rattle.word_lowering.specs.LineCode.{back_code, word_back, variable_in}
-use Rattle.word_lowering.proofs.CopyRuns.{got}
 use Rattle.word_lowering.proofs.InMemory.{IsAt}
-use Rattle.word_lowering.proofs.Runs.{Runs, Within, at, one, run_load, then_runs}
 use Rattle.word_lowering.proofs.Moves.{is_single, single_word, address_runs}
 use Rattle.word_lowering.proofs.Sites.{room, Housing, in_variable, by_address, in_places, in_data, InMemory, data_end, word_of, Site, IsBody}
 use Rattle.word_lowering.proofs.SitesApart.{houses}
 use Rattle.word_lowering.proofs.Scenes.{Points, Name, house, IsThere}
-use Rattle.word_lowering.proofs.Related.{Both, Waits, procs, within, low, high, code_behind, frame_of, awaits_for, left_for}
-use Rattle.word_lowering.proofs.Lines.{Basis, starts, IsGood, all_sites}
+use Rattle.word_lowering.proofs.Related.{Both, Waits, within, low, high, code_behind, frame_of, awaits_for, left_for}
+use Rattle.word_lowering.proofs.Lines.{Basis, all_procs, starts, IsGood, all_sites}
 use Rattle.word_lowering.proofs.Sources.{Source, held_in, lies_at, lying_near}
-use Rattle.word_lowering.proofs.MoveLines.{Read}
+use Rattle.word_lowering.proofs.ReadFacts.{Read}
 use Rattle.word_lowering.proofs.Returned.{called}
 
 -- variables of places aren't those for what comes between
-pub place_high : (x : Basis) (s : Site) → IsBody x.table x.blocks s.body → (f : Name) (u : ℕ) → IsThere x.table x.blocks s f → (house s f).home
+pub place_high : (x : Basis) (s : Site) → IsBody x.table x.blocks s.body → (f : Name) (u : ℕ) → IsThere s f → (house s f).home
     ≡ Variable u → OWN_FROM ≤ u
 place_high x s b f u there home = by (houses x.table x.blocks s f b there).where_is
   where
@@ -40,7 +38,7 @@ place_high x s b f u there home = by (houses x.table x.blocks s f b there).where
     by (in_places n e plain aligned within_it) = absurd (subst InMemory (sym e ∙ home) tt)
     by (in_data n e plain aligned low_end within_it start) = absurd (subst InMemory (sym e ∙ home) tt)
 
-module _ (x : Basis) (h : Both) (w : Waits) (ws : List Waits) (line : Line) (rest : List BlockLine)
+module _ (x : Basis) (h : Both) (w : Waits) (ws : List Waits) (line : BlockLine) (rest : List BlockLine)
     (y : IsGood x (starts (called x h w ws line rest) line rest)) where
   abbrev g : Both
   g = called x h w ws line rest
@@ -62,11 +60,11 @@ module _ (x : Basis) (h : Both) (w : Waits) (ws : List Waits) (line : Line) (res
   vars_back a = put w.call.vars (awaits_for x.table x.blocks w.call.site.body w.to) a
 
   run_back : (k : List WordInstr) (vars : Vars) (v a : ℕ) → vars v ≡ Some a
-      → Runs x.live (procs x.table x.blocks) 1 (at (within x.table x.blocks g) h.memory (Return v ∷ k) vars h.words)
+      → Runs x.live (all_procs x) 1 (at (within x.table x.blocks g) h.memory (Return v ∷ k) vars h.words)
       (at after h.memory lines_left (vars_back a) no_words)
   run_back k vars v a e =
       let s : WordState = at (within x.table x.blocks g) h.memory (Return v ∷ k) vars h.words in
-      one (step x.live (procs x.table x.blocks)) (ap (λ o. settled x.live (procs x.table x.blocks) s k (using o (λ b. Returns b))) e)
+      one (step x.live (all_procs x)) (ap (λ o. settled x.live (all_procs x) s k (using o (λ b. Returns b))) e)
 
   -- the caller gets a word, which is the value where that is one word
   pub record HandsBack (v : Value) (lines : List WordInstr) : Type 0 where
@@ -75,7 +73,7 @@ module _ (x : Basis) (h : Both) (w : Waits) (ws : List Waits) (line : Line) (res
     pub steps : ℕ
     pub some : 0 < steps
     pub few : steps ≤ 3
-    pub runs : Runs x.live (procs x.table x.blocks) steps (at (within x.table x.blocks g) h.memory lines h.call.vars h.words)
+    pub runs : Runs x.live (all_procs x) steps (at (within x.table x.blocks g) h.memory lines h.call.vars h.words)
         (at after h.memory lines_left (vars_back handed) no_words)
 
   not_start : h.call.site.body.start ≡ false
@@ -97,29 +95,29 @@ module _ (x : Basis) (h : Both) (w : Waits) (ws : List Waits) (line : Line) (res
   lies_back : (v : Value) (k : List WordInstr) (home : Home) (b : ℕ) → Points h.call.site.base h.call.vars home b → IsAt h.memory b v
       → b + bytes v < 2 ^ 32 → single_word v < 2 ^ 32
       → HandsBack v (word_back (is_single v) home k)
-  lies_back (Parts vs) k home b points is_at near small = hands_nothing (Parts vs) k refl
   lies_back (Number z) k home b points is_at near small =
       let v1 : Vars = put h.call.vars FIRST b in
       let v2 : Vars = put v1 FIRST (single_word (Number z)) in
       let l2 : List WordInstr = Return FIRST ∷ k in
       let l1 : List WordInstr = Load FIRST FIRST whole ∷ l2 in
-      let r1 : Runs x.live (procs x.table x.blocks) 1 (at (within x.table x.blocks g) h.memory (address FIRST home ∷ l1) h.call.vars h.words)
+      let r1 : Runs x.live (all_procs x) 1 (at (within x.table x.blocks g) h.memory (address FIRST home ∷ l1) h.call.vars h.words)
       (at (within x.table x.blocks g) h.memory l1 v1 h.words)
-      = address_runs x.law x.live (procs x.table x.blocks) (within x.table x.blocks g) refl h.words h.memory l1 h.call.vars FIRST home b points in
-      let r2 : Runs x.live (procs x.table x.blocks) 1 (at (within x.table x.blocks g) h.memory l1 v1 h.words)
+      = address_runs x.law x.live (all_procs x) (within x.table x.blocks g) refl h.words h.memory l1 h.call.vars FIRST home b points in
+      let r2 : Runs x.live (all_procs x) 1 (at (within x.table x.blocks g) h.memory l1 v1 h.words)
       (at (within x.table x.blocks g) h.memory l2 v2 h.words)
-      = run_load x.live (procs x.table x.blocks) (within x.table x.blocks g) h.memory l2 v1 h.words FIRST FIRST whole (got b (omega (arith, near))) is_at in
+      = run_load x.live (all_procs x) (within x.table x.blocks g) h.memory l2 v1 h.words FIRST FIRST whole (got b (omega (arith, near))) is_at in
       record {
         handed = single_word (Number z);
         is = λ e. refl;
         steps = 3;
         some = omega arith;
         few = omega arith;
-        runs = then_runs x.live (procs x.table x.blocks) (then_runs x.live (procs x.table x.blocks) r1 r2)
+        runs = then_runs x.live (all_procs x) (then_runs x.live (all_procs x) r1 r2)
             (run_back k v2 FIRST (single_word (Number z)) (got (single_word (Number z)) small));
       }
+  lies_back v k home b points is_at near small = hands_nothing v k refl
 
-  pub hands_back : (r : Housed) (v : Value) (k : List WordInstr) → Read x g rest line y true r v → HandsBack v (back_code r.is_word (spot_of r) k)
+  pub hands_back : (r : Housed) (v : Value) (k : List WordInstr) → Read x g line rest y true r v → HandsBack v (back_code r.is_word (spot_of r) k)
   hands_back r v k read = by read.source
     where
       by : Source x (all_sites x (called x h w ws line rest) line rest y) y.linked h.memory h.call.site.base h.call.vars true r v → HandsBack v

@@ -1,19 +1,20 @@
 -- What is true where a caller goes on.
 use Rattle.std.proofs.Common.{◌≡◌, ◌≢◌, inl, inr, ℕ, zero, suc, ◌<◌, ◌≤◌, List, [], ◌∷◌, length, map, refl, ap, ◌∙◌, arith}
 use Rattle.std.specs.Prelude.{take, slice_get}
-use Rattle.nim_core.specs.State.{World, down_to, slot_at, slot_of, frame_in}
-use Rattle.mid_code.specs.declared.block.BlockLine.{BlockLine}
-use Rattle.mid_code.specs.declared.line.Line.{Line}
-use Rattle.mid_code.specs.Memory.{Memory}
-use Rattle.mid_code.specs.Words.{Vars}
-use Rattle.mid_code.specs.Scene.{Temps}
+use Rattle.nim_meaning.specs.Places.{through_slot}
+use Rattle.nim_meaning.specs.State.{World, down_to, slot_at, slot_of, frame_in}
+use Rattle.nim_meaning.specs.Values.{Standing}
+use Rattle.flat_code.specs.declared.block.BlockLine.{BlockLine}
+use Rattle.flat_code.specs.Scene.{Temps}
+use Rattle.word_code.specs.Memory.{Memory}
+use Rattle.word_code.specs.Words.{Vars}
 use Rattle.word_lowering.proofs.Frames.{IsFrame}
+use Rattle.word_lowering.proofs.Keeping.{AmongCalls, call, Edit, Worlds, Kept, New, holding_kept, all_kept}
+use Rattle.word_lowering.proofs.Lines.{Basis, starts, IsGood}
+use Rattle.word_lowering.proofs.Related.{Both, Waits, called_by, MemoryGood, AllFrames}
+use Rattle.word_lowering.proofs.Scenes.{Call, Name, site_of}
 use Rattle.word_lowering.proofs.Sites.{Site, AmongSites, Linked}
 use Rattle.word_lowering.proofs.SitesApart.{site_at}
-use Rattle.word_lowering.proofs.Scenes.{Call, Name, site_of}
-use Rattle.word_lowering.proofs.Keeping.{AmongCalls, call, Edit, Worlds, Kept, New, holding_kept, all_kept}
-use Rattle.word_lowering.proofs.Related.{Both, Waits, called_by, MemoryGood, AllFrames}
-use Rattle.word_lowering.proofs.Lines.{Basis, starts, IsGood}
 
 module _ {A : Type 0} where
   get_take : (n : ℕ) (xs : List A) (i : ℕ) → i < n → slice_get (take n xs) i ≡ slice_get xs i
@@ -39,7 +40,7 @@ frame_down w n level first span low f = record {
 slot_down : (w : World) (n level place : ℕ) → level < n → slot_at (down_to n w) level place ≡ slot_at w level place
 slot_down w n level place low = ap (λ f. slot_of (frame_in f) place) (get_take n w.frames level low)
 
-module _ (x : Basis) (h : Both) (w : Waits) (ws : List Waits) (line : Line) (rest : List BlockLine) where
+module _ (x : Basis) (h : Both) (w : Waits) (ws : List Waits) (line : BlockLine) (rest : List BlockLine) where
   -- the call that waits first
   abbrev pub called : Both
   called = record h { waiting = w ∷ ws }
@@ -66,11 +67,11 @@ module _ (x : Basis) (h : Both) (w : Waits) (ws : List Waits) (line : Line) (res
       frames_down some (λ t i. low t (inr i)) f.1,
     )
 
-    pub worlds_down : (lo : Site) (e : Name) → Worlds x.table x.blocks x.small sites_left linked_left lo e h.world world_left h.has h.has
+    pub worlds_down : (lo : Site) (e : Name) → Worlds x.table x.blocks x.small sites_left linked_left lo e h.world world_left
     worlds_down lo e = record {
       slots = λ s n i there away. slot_down h.world h.call.site.level s.level n (below s i);
-      filled = λ s n i away. refl;
-      more = λ s n i k. k;
+      more = λ s n i there k. (k.0, slot_down h.world h.call.site.level s.level n (below s i) ∙ k.1);
+      roots = λ s n i there k. ap (through_slot (Standing s.level n)) (slot_down h.world h.call.site.level s.level n (below s i));
     }
 
     -- the caller goes on
@@ -79,10 +80,8 @@ module _ (x : Basis) (h : Both) (w : Waits) (ws : List Waits) (line : Line) (res
       memory = m;
       input = h.input;
       world = world_left;
-      has = h.has;
       call = call w.call.site temps vars;
       rest = w.rest;
-      given = [];
       words = words;
       awaits = awaits;
       waiting = ws;
@@ -91,25 +90,21 @@ module _ (x : Basis) (h : Both) (w : Waits) (ws : List Waits) (line : Line) (res
     pub good_back : (lo : Site) (e : Name) (temps : Temps) (vars : Vars) (m : Memory) (words : Vars) (awaits : ℕ)
         → MemoryGood x.table x.blocks x.first m → Edit x.table x.blocks x.small sites_left linked_left lo e h.memory m
         → Kept x.table x.blocks x.small sites_left linked_left lo e w.call.site w.call.temps temps w.call.vars vars
-        → (w.call.site.level ≡ lo.level → New x.table x.blocks x.small sites_left linked_left lo e m world_left h.has sites_left
-        (call w.call.site temps vars))
+        → (w.call.site.level ≡ lo.level → New x.table x.blocks x.small sites_left linked_left lo e m world_left sites_left (call w.call.site temps vars))
         → ((c : Call) → AmongCalls c (map called_by ws) → c.site.level ≢ lo.level)
         → IsGood x (back temps vars m words awaits)
     good_back lo e temps vars m words awaits memory edit kept new others = record {
       linked = linked_left;
       memory = memory;
       hold = (
-        holding_kept x.table x.blocks x.small sites_left linked_left lo e h.memory m edit h.world world_left h.has h.has
-            (worlds_down lo e) sites_left w.call.site
+        holding_kept x.table x.blocks x.small sites_left linked_left lo e h.memory m edit h.world world_left (worlds_down lo e) sites_left w.call.site
             w.call.temps temps w.call.vars vars (inl refl) (λ r j. j) kept new y.hold.1.0,
-        all_kept x.table x.blocks x.small sites_left linked_left lo e h.memory m edit h.world world_left h.has h.has (worlds_down lo e) (map called_by ws)
+        all_kept x.table x.blocks x.small sites_left linked_left lo e h.memory m edit h.world world_left (worlds_down lo e) (map called_by ws)
             (λ s i. inr i) (λ c from i k. absurd (others c i k)) y.hold.1.1,
       );
       frames = frames_down sites_left below y.frames.1;
       levels = take_length h.call.site.level h.world.frames (let l = y.levels in let k = y.linked.2 in omega (arith, l, k)) ∙ y.linked.2;
-      passed = [];
       stands = y.waits.0;
-      gave = tt;
       waits = y.waits.1;
       answers = y.answers.1;
     }

@@ -1,29 +1,33 @@
 -- What block code and word code have in common while they run: each value is where its place is, and each location has the address to
 -- which it leads.
-use Rattle.std.proofs.Common.{◌≡◌, ℕ, ◌+◌, List, [], ◌∷◌, map, Some, Bool, true, false}
+use Rattle.std.proofs.Common.{◌≡◌, ℕ, ◌+◌, List, [], ◌∷◌, ◌++◌, length, map, Some, Bool, true, false}
 use Rattle.nim_types.specs.declared.types.TypeDef.{TypeDef}
-use Rattle.nim_core.specs.Values.{Value, number_of, Location, Standing, Holds, Stands}
-use Rattle.nim_core.specs.State.{World, slot_at}
-use Rattle.mid_code.specs.declared.place.PlaceKind.{PlaceKind}
-use Rattle.mid_code.specs.declared.block.Blocks.{Blocks}
-use Rattle.mid_code.specs.Memory.{Memory, own_data_at}
-use Rattle.mid_code.specs.Words.{Vars}
-use Rattle.mid_code.specs.Scene.{Where, Located, Within, Temps, Filled}
-use Rattle.mid_code.specs.Shapes.{Shape, has_shape}
-use Rattle.mid_code.specs.Fits.{is_value, is_location, is_declared, is_own}
+use Rattle.nim_meaning.specs.Values.{Value, Fixed, number_of, Location, Standing, Slot, Holds, Stands}
+use Rattle.nim_meaning.specs.Places.{root_of}
+use Rattle.nim_meaning.specs.State.{World, slot_at}
+use Rattle.flat_code.specs.declared.place.PlaceKind.{PlaceKind}
+use Rattle.word_code.specs.Memory.{Memory, own_data_at}
+use Rattle.word_code.specs.Words.{Vars}
+use Rattle.flat_code.specs.Scene.{Where, Located, Within, Temps}
+use Rattle.flat_code.specs.Shapes.{Shape, has_shape}
+use Rattle.flat_code.specs.Fits.{is_value, is_location, is_declared, is_own, is_standing}
 use Rattle.word_lowering.specs.declared.homes.TheConstants.{LEFT}
+use Rattle.word_lowering.specs.declared.homes.Alias.{Alias}
+use Rattle.word_lowering.specs.declared.homes.Alias.TheVariants as alias
 use Rattle.word_lowering.specs.declared.homes.Home.{Home}
 use Rattle.word_lowering.specs.declared.homes.Home.TheVariants.{Variable, Placed, Static}
 use Rattle.word_lowering.specs.declared.homes.Housed.{Housed}
 use Rattle.word_lowering.specs.declared.spots.Spot.{Spot}
 use Rattle.word_lowering.specs.declared.spots.Spot.TheVariants.{Held, Lies}
+use Rattle.flat_code.specs.Lines.{level_at}
+use Rattle.word_lowering.specs.Aliases.{texts_of}
 use Rattle.word_lowering.specs.Layouts.{found, is_address}
 use Rattle.word_lowering.specs.Spots.{spot_of}
 use Rattle.word_lowering.specs.Operations.{word}
 use Rattle.word_lowering.specs.LineCode.{variable_of}
 use Rattle.word_lowering.proofs.InMemory.{IsAt}
 use Rattle.word_lowering.proofs.ShapePaths.{PathTo}
-use Rattle.word_lowering.proofs.Sites.{Site, AmongSites, looks, There, InMemory}
+use Rattle.word_lowering.proofs.Sites.{Body, lines_of, Site, AmongSites, Among, looks, There, InMemory}
 
 -- ---- where values are
 
@@ -73,16 +77,38 @@ site_of c = c.site
 abbrev pub house : Site → Name → Housed
 house s name = found (kind_in name) (number_in name) s.body.own.all
 
--- the value of a temporary, or of a place that was filled
-abbrev pub HasValue : World → Filled → Call → Name → Value → Type 0
-HasValue w has c (of_value t) x = c.temps.values t ≡ Some x
-HasValue w has c (of_location t) x = ⊥
-HasValue w has c (of_place n) x = (has c.site.level n ≡ true) × (slot_at w c.site.level n ≡ Holds x)
+-- a declared place has a slot
+abbrev pub Filled : World → (level place : ℕ) → Type 0
+Filled w level n = (slot : Slot) × (slot_at w level n ≡ Some slot)
 
-module _ (table : List TypeDef) (blocks : Blocks) where
-  abbrev pub IsThere : Site → Name → Type 0
-  IsThere s name = There table s.body.own.all (kind_in name) (number_in name)
+-- the value of a temporary, or of a place that has one of its own
+abbrev pub HasValue : World → Call → Name → Value → Type 0
+HasValue w c (of_value t) x = c.temps.values t ≡ Some x
+HasValue w c (of_location t) x = ⊥
+HasValue w c (of_place n) x = slot_at w c.site.level n ≡ Some (Holds x)
 
+-- a name of some place
+abbrev pub IsNamed : Site → Name → Type 0
+IsNamed s name = There s.body.own.all (kind_in name) (number_in name)
+
+-- a name with a home of its own
+pub record IsThere (s : Site) (name : Name) : Type 0 where
+  pub among : Among (house s name) s.body.own.all
+  pub number : (house s name).number ≡ number_in name
+  pub kind : kind_in name (house s name).kind ≡ true
+  pub own : (house s name).alias ≡ alias.Own
+
+-- a text of a line: so many bytes behind so many of the texts of its procedure
+pub record IsLiteral (b : Body) (behind bytes : ℕ) (x : Value) : Type 0 where
+  pub text : List ℕ
+  pub is : x ≡ Fixed text
+  pub size : length text ≡ bytes
+  pub before : List ℕ
+  pub after : List ℕ
+  pub whole : texts_of (lines_of b) ≡ before ++ (text ++ after)
+  pub at : length before ≡ behind
+
+module _ (table : List TypeDef) where
   abbrev pub looked : Site → Name → Shape
   looked s name = looks table (house s name)
 
@@ -94,12 +120,12 @@ module _ (table : List TypeDef) (blocks : Blocks) where
     pub at : At m c.site.base c.vars (spot_of (house c.site name)) x
 
   -- An address is that of a location: a part of a filled place of one of these calls, in memory. What is there looks so.
-  pub record FromPlace (sites : List Site) (has : Filled) (location : Location) (a : ℕ) (t : Shape) : Type 0 where
+  pub record FromPlace (sites : List Site) (w : World) (location : Location) (a : ℕ) (t : Shape) : Type 0 where
     pub site : Site
     pub among : AmongSites site sites
     pub number : ℕ
     pub base : location.base ≡ Standing site.level number
-    pub filled : has site.level number ≡ true
+    pub filled : Filled w site.level number
     pub there : IsThere site (of_place number)
     pub home : InMemory (house site (of_place number)).home
     pub offset : ℕ
@@ -116,36 +142,68 @@ module _ (table : List TypeDef) (blocks : Blocks) where
     pub value : Value
     pub has : temps.values temp ≡ Some value
 
-  abbrev pub Leads : (sites : List Site) → Filled → (s : Site) → Temps → Where → ℕ → Shape → Type 0
-  Leads sites has s temps (Located location) a t = FromPlace sites has location a t
-  Leads sites has s temps (Within temp path) a t = FromValue s temps temp path a t
+  abbrev pub Leads : (sites : List Site) → World → (s : Site) → Temps → Where → ℕ → Shape → Type 0
+  Leads sites w s temps (Located location) a t = FromPlace sites w location a t
+  Leads sites w s temps (Within temp path) a t = FromValue s temps temp path a t
 
-  -- a temporary with a location
-  pub record IsLed (sites : List Site) (has : Filled) (c : Call) (temp : ℕ) (there : Where) : Type 0 where
-    pub is_there : IsThere c.site (of_location temp)
+  -- ---- temporaries with locations
+
+  -- with the address in a variable
+  pub record IsAddressed (sites : List Site) (w : World) (c : Call) (temp : ℕ) (there : Where) : Type 0 where
+    -- one that may be written is of a place
+    pub standing : is_standing (house c.site (of_location temp)).kind ≡ true → (location : Location) × (there ≡ Located location)
     pub address : ℕ
     pub holds : c.vars (variable_of (house c.site (of_location temp))) ≡ Some address
-    pub leads : Leads sites has c.site c.temps there address (looked c.site (of_location temp))
+    pub leads : Leads sites w c.site c.temps there address (looked c.site (of_location temp))
+
+  -- another name for a place
+  pub record IsRoot (sites : List Site) (w : World) (c : Call) (place : ℕ) (global : Bool) (there : Where) : Type 0 where
+    pub site : Site
+    pub among : AmongSites site sites
+    pub level : site.level ≡ level_at global c.site.level
+    pub is_there : IsThere site (of_place place)
+    pub filled : Filled w site.level place
+    pub is : there ≡ Located (root_of (Standing site.level place) w)
+
+  -- another name for a value
+  pub record IsInValue (c : Call) (t : ℕ) (there : Where) : Type 0 where
+    pub is : there ≡ Within t []
+    pub value : Value
+    pub has : c.temps.values t ≡ Some value
+
+  abbrev pub IsLedBy : Alias → (sites : List Site) → World → Call → (temp : ℕ) → Where → Type 0
+  IsLedBy alias.Own sites w c temp there = IsAddressed sites w c temp there
+  IsLedBy (alias.Place place global) sites w c temp there = IsRoot sites w c place global there
+  IsLedBy (alias.Value t) sites w c temp there = IsInValue c t there
+  IsLedBy (alias.Text behind bytes) sites w c temp there = ⊥
+
+  abbrev pub IsLed : (sites : List Site) → World → Call → (temp : ℕ) → Where → Type 0
+  IsLed sites w c temp there = IsLedBy (house c.site (of_location temp)).alias sites w c temp there
+
+  -- ---- places
 
   -- a filled place: it has a value of its own, or stands for a location
-  pub record StandsFor (sites : List Site) (w : World) (has : Filled) (c : Call) (n : ℕ) : Type 0 where
+  pub record StandsFor (sites : List Site) (w : World) (c : Call) (n : ℕ) : Type 0 where
     pub location : Location
-    pub slot : slot_at w c.site.level n ≡ Stands location
+    pub slot : slot_at w c.site.level n ≡ Some (Stands location)
     pub address : ℕ
     pub holds : c.vars (variable_of (house c.site (of_place n))) ≡ Some address
-    pub leads : FromPlace sites has location address (looked c.site (of_place n))
+    pub leads : FromPlace sites w location address (looked c.site (of_place n))
 
-  pub record IsFilled (sites : List Site) (w : World) (has : Filled) (c : Call) (n : ℕ) : Type 0 where
-    pub own : is_own (house c.site (of_place n)).kind ≡ true → (x : Value) × (slot_at w c.site.level n ≡ Holds x)
-    pub other : is_own (house c.site (of_place n)).kind ≡ false → StandsFor sites w has c n
+  pub record IsFilled (sites : List Site) (w : World) (c : Call) (n : ℕ) : Type 0 where
+    pub own : is_own (house c.site (of_place n)).kind ≡ true → (x : Value) × (slot_at w c.site.level n ≡ Some (Holds x))
+    pub other : is_own (house c.site (of_place n)).kind ≡ false → StandsFor sites w c n
 
-  pub record Holding (m : Memory) (w : World) (has : Filled) (sites : List Site) (c : Call) : Type 0 where
-    pub items : (name : Name) (x : Value) → HasValue w has c name x → IsItem m c name x
-    pub led : (t : ℕ) (there : Where) → c.temps.locations t ≡ Some there → IsLed sites has c t there
-    pub known : (n : ℕ) → has c.site.level n ≡ true → IsThere c.site (of_place n)
-    pub filled : (n : ℕ) → has c.site.level n ≡ true → IsFilled sites w has c n
+  -- ---- all of it
+
+  pub record Holding (m : Memory) (w : World) (sites : List Site) (c : Call) : Type 0 where
+    pub items : (name : Name) (x : Value) → IsThere c.site name → HasValue w c name x → IsItem m c name x
+    pub texts : (t behind bytes : ℕ) (x : Value) → IsNamed c.site (of_value t) → (house c.site (of_value t)).alias ≡ alias.Text behind bytes
+        → c.temps.values t ≡ Some x → IsLiteral c.site.body behind bytes x
+    pub led : (t : ℕ) (there : Where) → IsNamed c.site (of_location t) → c.temps.places t ≡ Some there → IsLed sites w c t there
+    pub filled : (n : ℕ) → IsThere c.site (of_place n) → Filled w c.site.level n → IsFilled sites w c n
     pub left : c.site.body.start ≡ false → c.vars LEFT ≡ Some c.site.left
 
-  abbrev pub AllHold : Memory → World → Filled → List Call → Type 0
-  AllHold m w has [] = Unit {0}
-  AllHold m w has (c ∷ cs) = Holding m w has (map site_of (c ∷ cs)) c × AllHold m w has cs
+  abbrev pub AllHold : Memory → World → List Call → Type 0
+  AllHold m w [] = Unit {0}
+  AllHold m w (c ∷ cs) = Holding m w (map site_of (c ∷ cs)) c × AllHold m w cs

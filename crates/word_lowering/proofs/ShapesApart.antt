@@ -2,13 +2,11 @@
 use Rattle.std.proofs.Common.{◌≡◌, ◌⊎◌, inl, inr, ℕ, zero, suc, ◌+◌, ◌<◌, ◌≤◌, List, [], ◌∷◌, Some}
 use Rattle.std.proofs.Common.{sym, ap, subst, ◌∙◌, arith}
 use Rattle.std.proofs.lemmas.Bool.{cases_order}
-use Rattle.mid_code.specs.Shapes.{Shape, number, reference, block, elements, row, parts, Shapes, no_shapes, shapes}
-use Rattle.mid_code.specs.Fits.{nth_shape}
-use Rattle.mid_code.proofs.ForCallers.{shape_bytes}
+use Rattle.flat_code.specs.Shapes.{Shape, number, reference, block, elements, row, parts, resource, Shapes, no_shapes, shapes}
+use Rattle.word_lowering.proofs.ShapeFacts.{shape_bytes, nth_shape}
 use Rattle.word_lowering.proofs.Options.{none_some, some_same}
 use Rattle.word_lowering.proofs.ShapePaths.{shapes_before, Step, PathTo, rows_within, path_within}
-use Rattle.word_lowering.proofs.MakeLines.{depth}
-use Rattle.word_lowering.proofs.ConstructLines.{nth_depth}
+use Rattle.word_lowering.proofs.ShapeDepth.{depth, nth_depth}
 
 -- ---- a step leads to a smaller shape
 
@@ -17,6 +15,7 @@ step_depth (number x) i o t st = absurd st
 step_depth reference i o t st = absurd st
 step_depth block i o t st = absurd st
 step_depth (elements s) i o t st = absurd st
+step_depth (resource ss) i o t st = absurd st
 step_depth (row n s) i o t st = let e = ap depth st.2 in omega (arith, e)
 step_depth (parts ss) i o t st = nth_depth ss i t st.0
 
@@ -36,6 +35,7 @@ step_same (number x) i a b t u x1 y1 = absurd x1
 step_same reference i a b t u x1 y1 = absurd x1
 step_same block i a b t u x1 y1 = absurd x1
 step_same (elements s) i a b t u x1 y1 = absurd x1
+step_same (resource ss) i a b t u x1 y1 = absurd x1
 step_same (row n s) i a b t u x1 y1 = (x1.1 ∙ sym y1.1, sym x1.2 ∙ y1.2)
 step_same (parts ss) i a b t u x1 y1 = (x1.1 ∙ sym y1.1, some_same t u (sym x1.0 ∙ y1.0))
 
@@ -51,6 +51,7 @@ step_apart (number x) i j a b t u x1 y1 lt = absurd x1
 step_apart reference i j a b t u x1 y1 lt = absurd x1
 step_apart block i j a b t u x1 y1 lt = absurd x1
 step_apart (elements s) i j a b t u x1 y1 lt = absurd x1
+step_apart (resource ss) i j a b t u x1 y1 lt = absurd x1
 step_apart (row n s) i j a b t u x1 y1 lt =
     let h = rows_within i j (shape_bytes s) lt in
     let e = ap shape_bytes x1.2 in

@@ -3,29 +3,29 @@
 use Rattle.std.proofs.Common.{◌≡◌, ◌⊎◌, ℕ, ◌+◌, ◌%◌, ◌<◌, ◌≤◌, List, [], ◌∷◌, ◌++◌, length, map, Option, Some, None}
 use Rattle.std.proofs.Common.{Bool, true}
 use Rattle.std.proofs.Common.{false}
-use Rattle.std.specs.Prelude.{◌&&◌}
 use Rattle.rv32_isa.specs.Image.{stack_at}
 use Rattle.nim_types.specs.declared.types.TypeDef.{TypeDef}
+use Rattle.nim_types.specs.Types.{Ty}
 use Rattle.nim_types.specs.Table.{type_at, types_in, facts_in}
-use Rattle.nim_core.specs.declared.program.TheConstants.{ACTIVE_CALLS}
-use Rattle.mid_code.specs.declared.line.Line.{Line}
-use Rattle.mid_code.specs.declared.line.Line.TheVariants as L
-use Rattle.nim_core.specs.Ints.{fits as is_int_number}
-use Rattle.mid_code.specs.declared.place.PlaceKind.{PlaceKind}
-use Rattle.mid_code.specs.declared.place.FlatPlace.{FlatPlace}
-use Rattle.mid_code.specs.declared.block.BlockProc.{BlockProc}
-use Rattle.mid_code.specs.declared.block.Blocks.{Blocks}
-use Rattle.mid_code.specs.declared.word.WordProc.{WordProc}
-use Rattle.mid_code.specs.Words.{most_room}
-use Rattle.mid_code.specs.Scene.{known_in}
-use Rattle.mid_code.specs.Shapes.{Shape, number, reference, row, parts, Shapes, shape_of}
-use Rattle.mid_code.specs.Fits.{is_value, is_declared, is_global, is_own, shape_by_kind, shape_named, nth_shape, Signature, signatures, all_fit, no_lines}
-use Rattle.mid_code.specs.Fits.{result_at}
-use Rattle.mid_code.specs.Running.{last_of, before_last}
-use Rattle.mid_code.specs.Whole.{all_lead}
-use Rattle.mid_code.specs.Codes.{block_plain, block_label, block_placed}
-use Rattle.mid_code.proofs.ForCallers.{shape_bytes}
+use Rattle.nim_types.specs.Forms.{hooked, form_of}
+use Rattle.nim_program.specs.declared.program.TheConstants.{ACTIVE_CALLS}
+use Rattle.flat_code.specs.declared.line.Line.{Line}
+use Rattle.flat_code.specs.declared.place.PlaceKind.{PlaceKind}
+use Rattle.flat_code.specs.declared.place.FlatPlace.{FlatPlace}
+use Rattle.flat_code.specs.declared.block.BlockLine.{BlockLine}
+use Rattle.flat_code.specs.declared.code.Code.{Code}
+use Rattle.flat_code.specs.declared.code.CodeProc.{CodeProc}
+use Rattle.word_code.specs.declared.word.WordProc.{WordProc}
+use Rattle.word_code.specs.Words.{most_room}
+use Rattle.flat_code.specs.Scene.{known_in}
+use Rattle.flat_code.specs.Shapes.{Shape, number, block, row, parts, Shapes, shape_of}
+use Rattle.flat_code.specs.Fits.{if_kind, is_value, is_location, is_declared, is_global, is_own, is_standing, type_by_kind, place_named}
+use Rattle.flat_code.specs.Fits.{if_type_of, Signature, signatures}
+use Rattle.flat_code.specs.Fits.{all_fit, start_places, result_at}
+use Rattle.flat_code.specs.Running.{before_last, from_label as line_from}
+use Rattle.flat_code.specs.Codes.{block_plain, block_label}
 use Rattle.word_lowering.specs.declared.homes.TheConstants.{OWN_FROM}
+use Rattle.word_lowering.specs.declared.homes.Alias.TheVariants as alias
 use Rattle.word_lowering.specs.declared.homes.Home.{Home}
 use Rattle.word_lowering.specs.declared.homes.Home.TheVariants.{Variable, Placed, Static}
 use Rattle.word_lowering.specs.declared.homes.Housed.{Housed}
@@ -33,10 +33,13 @@ use Rattle.word_lowering.specs.declared.homes.Layout.{Layout}
 use Rattle.word_lowering.specs.declared.texts.TheConstants.{FIXED_BYTES}
 use Rattle.word_lowering.specs.declared.may_lower.TheConstants.{MOST_ROOM}
 use Rattle.word_lowering.specs.Stored.{entry_at, count_in, element_bytes, part_at}
-use Rattle.word_lowering.specs.Layouts.{result_in, is_empty, is_among, roots_in, found, is_address}
-use Rattle.word_lowering.specs.Texts.{names_at, literals_at, texts_of, texts_in}
+use Rattle.word_lowering.specs.Aliases.{texts_of, is_among, addressed, alias_for}
+use Rattle.word_lowering.specs.Layouts.{result_in, is_empty, found, is_address}
+use Rattle.word_lowering.specs.MayLower.{lines_may}
+use Rattle.word_lowering.specs.Texts.{names_at, literals_at, texts_in}
 use Rattle.word_lowering.specs.LineCode.{Around}
 use Rattle.word_lowering.specs.Lowered.{all_layouts, start_layout, globals_end, word_proc, lowered}
+use Rattle.word_lowering.proofs.ShapeFacts.{nth_shape, shape_bytes, of_numbers}
 use Rattle.word_lowering.proofs.ShapePaths.{shapes_before}
 use Rattle.word_lowering.proofs.HomesApart.{AllApart}
 
@@ -48,16 +51,7 @@ pub record Body : Type 0 where
   pub start : Bool
   pub literals : ℕ
   pub number : ℕ
-  pub proc : BlockProc
-
--- the labels of a `case` are ints
-abbrev pub is_ranged : Line → Bool
-is_ranged (L.Fits from low high to) = is_int_number low && is_int_number high
-is_ranged line = true
-
-abbrev pub are_ranged : List Line → Bool
-are_ranged [] = true
-are_ranged (line ∷ lines) = is_ranged line && are_ranged lines
+  pub proc : CodeProc BlockLine
 
 abbrev pub lines_of : Body → List Line
 lines_of b = map block_plain b.proc.lines
@@ -65,29 +59,27 @@ lines_of b = map block_plain b.proc.lines
 abbrev pub room : Body → ℕ
 room b = b.own.free.byte
 
--- what a place looks like
-abbrev pub looks : List TypeDef → Housed → Shape
-looks table h = shape_by_kind h.kind (shape_of (facts_in table) (type_at (types_in table) h.ty))
+-- the type of a place, and what it looks like
+abbrev pub type_of : List TypeDef → Housed → Ty
+type_of table h = type_by_kind h.kind (type_at (types_in table) h.ty)
 
--- a number or a ref: one word
+abbrev pub looks : List TypeDef → Housed → Shape
+looks table h = shape_of (facts_in table) (type_of table h)
+
+-- a number: one word
 abbrev pub is_one_word : Shape → Bool
 is_one_word (number values) = true
-is_one_word reference = true
 is_one_word s = false
 
 abbrev pub Among : Housed → List Housed → Type 0
 Among h [] = ⊥
 Among h (k ∷ ks) = (k ≡ h) ⊎ Among h ks
 
--- a place with a number, and of some kind, is there, and looks so
-pub record Named (table : List TypeDef) (all : List Housed) (is_kind : PlaceKind → Bool) (n : ℕ) (s : Shape) : Type 0 where
+-- a place with a number, and of some kind, is there
+pub record There (all : List Housed) (is_kind : PlaceKind → Bool) (n : ℕ) : Type 0 where
   pub among : Among (found is_kind n all) all
   pub number : (found is_kind n all).number ≡ n
   pub kind : is_kind (found is_kind n all).kind ≡ true
-  pub shape : looks table (found is_kind n all) ≡ s
-
-abbrev pub There : List TypeDef → List Housed → (PlaceKind → Bool) → ℕ → Type 0
-There table all is_kind n = Named table all is_kind n (looks table (found is_kind n all))
 
 -- where a place is
 pub data Housing (room low high : ℕ) (start : Bool) (h : Housed) : Type 0 where
@@ -125,7 +117,7 @@ abbrev pub AmongSites : Site → List Site → Type 0
 AmongSites s [] = ⊥
 AmongSites s (t ∷ sites) = (t ≡ s) ⊎ AmongSites s sites
 
-module _ (table : List TypeDef) (blocks : Blocks) where
+module _ (table : List TypeDef) (blocks : Code BlockLine) where
   abbrev pub data_end : ℕ
   data_end = globals_end table blocks.procs
 
@@ -147,10 +139,10 @@ module _ (table : List TypeDef) (blocks : Blocks) where
   word_of b = word_proc (around b) b.number b.proc
 
   abbrev pub sigs : List Signature
-  sigs = signatures (known_in table) (before_last (map block_placed blocks.procs))
+  sigs = signatures block_plain (known_in table) (before_last blocks.procs)
 
   abbrev pub globals_of : List FlatPlace
-  globals_of = (last_of no_lines (map block_placed blocks.procs)).places
+  globals_of = start_places blocks.procs
 
   -- how a place of a procedure is housed
   pub record IsHoused (b : Body) (h : Housed) : Type 0 where
@@ -158,6 +150,8 @@ module _ (table : List TypeDef) (blocks : Blocks) where
     pub word : is_one_word (looks table h) ≡ h.is_word
     pub where_is : Housing (room b) FIXED_BYTES data_end b.start h
     pub kept : is_value h.kind ≡ true → h.is_word ≡ true → InVariable h.home
+    pub numbers : of_numbers (looks table h) ≡ true
+    pub unhooked : hooked (form_of (facts_in table) (type_of table h)) ≡ false
     -- where its parts are, by the table
     pub rows : (n : ℕ) (s : Shape) → looks table h ≡ row n s
         → (count_in (entry_at table h.ty) ≡ n) × (0 < n → element_bytes table (entry_at table h.ty) ≡ shape_bytes s)
@@ -165,9 +159,10 @@ module _ (table : List TypeDef) (blocks : Blocks) where
         ≡ shapes_before ss i
 
   -- a global is a place of the start code, in the data
-  pub record IsGlobal (b : Body) (n : ℕ) (s : Shape) : Type 0 where
+  pub record IsGlobal (b : Body) (n : ℕ) (ty : Ty) : Type 0 where
     pub same : found is_global n (start_layout table blocks.procs).all ≡ found is_declared n b.own.all
-    pub look : looks table (found is_declared n b.own.all) ≡ s
+    pub there : There b.own.all is_declared n
+    pub typed : type_of table (found is_declared n b.own.all) ≡ ty
     pub datum : ℕ
     pub home : (found is_declared n b.own.all).home ≡ Static datum
     pub own : is_own (found is_declared n b.own.all).kind ≡ true
@@ -175,7 +170,7 @@ module _ (table : List TypeDef) (blocks : Blocks) where
   -- the place of a result, as block code says it and as the layout does
   abbrev pub ResultIs : List Housed → Option ℕ → Option Housed → Type 0
   ResultIs all None o = o ≡ None
-  ResultIs all (Some p) o = (o ≡ Some (found is_declared p all)) × There table all is_own p × (is_own (found is_declared p all).kind ≡ true)
+  ResultIs all (Some p) o = (o ≡ Some (found is_declared p all)) × There all is_own p × (is_own (found is_declared p all).kind ≡ true)
 
   -- where the texts of its lines stand among all
   pub record HasTexts (b : Body) : Type 0 where
@@ -184,22 +179,57 @@ module _ (table : List TypeDef) (blocks : Blocks) where
     pub whole : texts_in blocks.procs ≡ behind ++ (texts_of (lines_of b) ++ others)
     pub at : b.literals ≡ literals_at table data_end + length behind
 
+  -- a declared place that a line names
+  abbrev pub place_among : Body → ℕ → (global : Bool) → Option FlatPlace
+  place_among b p true = place_named is_global globals_of p
+  place_among b p false = place_named is_declared b.proc.places p
+
+  -- another name for a text
+  pub record IsTextual (h : Housed) : Type 0 where
+    pub behind : ℕ
+    pub bytes : ℕ
+    pub is : h.alias ≡ alias.Text behind bytes
+    pub kind : is_value h.kind ≡ true
+    pub look : looks table h ≡ block
+
   -- what is true of a procedure
   pub record IsBody (b : Body) : Type 0 where
-    pub named : (is_kind : PlaceKind → Bool) (n : ℕ) (s : Shape) → shape_named (known_in table) is_kind b.proc.places n ≡ Some s
-        → Named table b.own.all is_kind n s
-    pub housed : (h : Housed) → Among h b.own.all → IsHoused b h
+    -- what has a type is there and has that type; and what is there has one
+    pub named : (is_kind : PlaceKind → Bool) (n : ℕ) (ty : Ty) → if_type_of (known_in table) (place_named is_kind b.proc.places n) ≡ Some ty
+        → There b.own.all is_kind n × (type_of table (found is_kind n b.own.all) ≡ ty)
+    pub unnamed : (is_kind : PlaceKind → Bool) (n : ℕ) → place_named is_kind b.proc.places n ≡ None → There b.own.all is_kind n → ⊥
+    -- another name has no home
+    pub housed : (h : Housed) → Among h b.own.all → h.alias ≡ alias.Own → IsHoused b h
+    pub named_so : (h : Housed) → Among h b.own.all → h.alias ≡ alias_for h.kind h.number (lines_of b)
+    -- a value is a text of a line, or has a home, as all declared places have
+    pub values : (t : ℕ) → There b.own.all is_value t → ((found is_value t b.own.all).alias ≡ alias.Own) ⊎ IsTextual (found is_value t b.own.all)
+    pub places : (h : Housed) → Among h b.own.all → is_declared h.kind ≡ true → h.alias ≡ alias.Own
+    -- locations lead to numbers
+    pub locations : (t : ℕ) → There b.own.all is_location t → of_numbers (looks table (found is_location t b.own.all)) ≡ true
+    -- the type of a location that is another name, which is written only where it is a place's
+    pub aliased : (t p : ℕ) (global : Bool) → There b.own.all is_location t → (found is_location t b.own.all).alias ≡ alias.Place p global
+        → if_type_of (known_in table) (place_among b p global) ≡ Some (type_of table (found is_location t b.own.all))
+    pub valued : (t u : ℕ) → There b.own.all is_location t → (found is_location t b.own.all).alias ≡ alias.Value u
+        → (if_type_of (known_in table) (place_named is_value b.proc.places u) ≡ Some (type_of table (found is_location t b.own.all)))
+        × (is_standing (found is_location t b.own.all).kind ≡ false)
+    -- a location that may be written is of that kind
+    pub standing : (n : ℕ) → if_kind is_standing (place_named is_location b.proc.places n) ≡ true
+        → is_standing (found is_location n b.own.all).kind ≡ true
+    pub may_be_standing : (n : ℕ) → is_standing (found is_location n b.own.all).kind ≡ true
+        → if_kind is_standing (place_named is_location b.proc.places n) ≡ true
     pub apart : AllApart b.own.all
-    pub inside : (n : ℕ) → There table b.own.all is_declared n → (b.proc.first ≤ n) × (n < b.proc.first + b.proc.span)
+    pub inside : (n : ℕ) → There b.own.all is_declared n → (b.proc.first ≤ n) × (n < b.proc.first + b.proc.span)
     -- places with a value of their own are found among all
-    pub own : (n : ℕ) → There table b.own.all is_own n → found is_own n b.own.all ≡ found is_declared n b.own.all
-    -- those whose address a line takes are in memory
-    pub rooted : (n : ℕ) → is_among n (roots_in (lines_of b)) ≡ true → There table b.own.all is_declared n
+    pub own : (n : ℕ) → There b.own.all is_own n → found is_own n b.own.all ≡ found is_declared n b.own.all
+    -- those whose address a line hands on are in memory
+    pub addressed : (n : ℕ) → is_among n (addressed (lines_of b)) ≡ true → There b.own.all is_declared n
         → is_own (found is_declared n b.own.all).kind ≡ true → InMemory (found is_declared n b.own.all).home
-    pub global : b.start ≡ true → (n : ℕ) (s : Shape) → shape_named (known_in table) is_global globals_of n ≡ Some s → IsGlobal b n s
-    pub fits : all_fit (known_in table) sigs globals_of b.proc.places [] (lines_of b) ≡ true
-    pub leads : all_lead block_label block_plain b.proc.lines b.proc.lines ≡ true
-    pub ranged : are_ranged (lines_of b) ≡ true
+    pub global : b.start ≡ true → (n : ℕ) (ty : Ty) → if_type_of (known_in table) (place_named is_global globals_of n) ≡ Some ty → IsGlobal b n ty
+    pub fits : all_fit (known_in table) sigs globals_of b.proc.places (lines_of b) ≡ true
+    pub may : lines_may table b.own.all (lines_of b) ≡ true
+    -- each label comes once: the one that stands behind is the first one
+    pub once : (name : ℕ) (before after found_there : List BlockLine) → b.proc.lines ≡ before ++ after
+        → line_from block_label name after ≡ Some found_there → line_from block_label name b.proc.lines ≡ Some found_there
     pub result : ResultIs b.own.all (result_at (known_in table) b.proc.places) (result_in b.own.all)
     pub room_whole : room b % 4 ≡ 0
     pub room_most : room b ≤ MOST_ROOM

@@ -4,27 +4,29 @@ use Rattle.std.proofs.Common.{refl, sym, ap, subst, ◌∙◌, arith}
 use Rattle.std.proofs.lemmas.Bool.{cases_order}
 use Rattle.rv32_isa.specs.Image.{stack_at}
 use Rattle.nim_types.specs.declared.types.TypeDef.{TypeDef}
-use Rattle.mid_code.specs.declared.place.PlaceKind.{PlaceKind}
-use Rattle.mid_code.specs.declared.place.PlaceKind.TheVariants as K
-use Rattle.mid_code.specs.declared.block.Blocks.{Blocks}
-use Rattle.mid_code.specs.Memory.{own_data_at}
-use Rattle.mid_code.specs.Fits.{is_value, is_location, is_declared}
-use Rattle.mid_code.proofs.ForCallers.{never}
+use Rattle.flat_code.specs.declared.place.PlaceKind.{PlaceKind}
+use Rattle.flat_code.specs.declared.place.PlaceKind.TheVariants as K
+use Rattle.flat_code.specs.declared.block.BlockLine.{BlockLine}
+use Rattle.flat_code.specs.declared.code.Code.{Code}
+use Rattle.word_code.specs.Memory.{own_data_at}
+use Rattle.flat_code.specs.Fits.{is_value, is_location, is_declared}
+use Rattle.word_lowering.proofs.ShapeFacts.{never}
 use Rattle.word_lowering.specs.declared.homes.Home.{Home}
 use Rattle.word_lowering.specs.declared.homes.Home.TheVariants.{Variable, Placed, Static}
 use Rattle.word_lowering.specs.declared.homes.Housed.{Housed}
 use Rattle.word_lowering.specs.declared.texts.TheConstants.{FIXED_BYTES}
 use Rattle.word_lowering.specs.declared.may_lower.TheConstants.{MOST_DATA}
 use Rattle.word_lowering.specs.Layouts.{is_empty}
-use Rattle.word_lowering.proofs.HomesApart.{Apart, Each, AllApart}
+use Rattle.word_lowering.proofs.HomesApart.{Apart, Each, Parted, AllApart}
 use Rattle.word_lowering.proofs.Sites.{room, Among, Housing, in_variable, by_address, in_places, in_data, InMemory, Site, next_base, AmongSites}
 use Rattle.word_lowering.proofs.Sites.{data_end, IsHoused, IsBody, Linked}
 use Rattle.word_lowering.proofs.Scenes.{address_of, Name, of_value, of_location, of_place, kind_in, number_in, house, IsThere}
 
 -- ---- names of different things
 
-value_location : (k : PlaceKind) → is_value k ≡ true → is_location k ≡ true → ⊥
+pub value_location : (k : PlaceKind) → is_value k ≡ true → is_location k ≡ true → ⊥
 value_location K.Location h g = never h
+value_location K.Within h g = never h
 value_location k h g = never g
 
 value_declared : (k : PlaceKind) → is_value k ≡ true → is_declared k ≡ true → ⊥
@@ -34,6 +36,7 @@ value_declared k h g = never h
 
 location_declared : (k : PlaceKind) → is_location k ≡ true → is_declared k ≡ true → ⊥
 location_declared K.Location h g = never g
+location_declared K.Within h g = never g
 location_declared k h g = never h
 
 -- different names have different numbers or kinds
@@ -54,9 +57,6 @@ each_at : (P : Housed → Type 0) (hs : List Housed) (k : Housed) → Each P hs 
 each_at P [] k e i = absurd i
 each_at P (h ∷ hs) k e (inl i) = subst P i e.0
 each_at P (h ∷ hs) k e (inr i) = each_at P hs k e.1 i
-
-abbrev pub Parted : Housed → Housed → Type 0
-Parted h k = Apart h.home h.bytes k.home k.bytes
 
 pub among_apart : (hs : List Housed) (h k : Housed) → AllApart hs → Among h hs → Among k hs → h ≢ k → Parted h k ⊎ Parted k h
 among_apart [] h k apart i j ne = absurd i
@@ -80,23 +80,31 @@ pub beside_turned : (a n b k : ℕ) → Beside a n b k → Beside b k a n
 beside_turned a n b k (inl h) = inr h
 beside_turned a n b k (inr h) = inl h
 
-module _ (table : List TypeDef) (blocks : Blocks) where
+module _ (table : List TypeDef) (blocks : Code BlockLine) where
   -- what is there is housed
-  pub houses : (s : Site) (e : Name) → IsBody table blocks s.body → IsThere table blocks s e → IsHoused table blocks s.body (house s e)
-  houses s e b x = b.housed (house s e) x.among
+  pub houses : (s : Site) (e : Name) → IsBody table blocks s.body → IsThere s e → IsHoused table blocks s.body (house s e)
+  houses s e b x = b.housed (house s e) x.among x.own
 
-  pub names_parted : (s : Site) (e f : Name) → IsBody table blocks s.body → IsThere table blocks s e → IsThere table blocks s f → e ≢ f
-      → Parted (house s e) (house s f) ⊎ Parted (house s f) (house s e)
-  names_parted s e f b x y ne = among_apart s.body.own.all (house s e) (house s f) b.apart x.among y.among (λ same.
+  -- homes that are apart
+  abbrev pub AreApart : Housed → Housed → Type 0
+  AreApart h k = Apart h.home h.bytes k.home k.bytes
+
+  pub names_parted : (s : Site) (e f : Name) → IsBody table blocks s.body → IsThere s e → IsThere s f → e ≢ f
+      → AreApart (house s e) (house s f) ⊎ AreApart (house s f) (house s e)
+  names_parted s e f b x y ne = by (among_apart s.body.own.all (house s e) (house s f) b.apart x.among y.among (λ same.
       differ e f (sym x.number ∙ ap (λ h. h.number) same ∙ y.number) (house s f).kind
-      (subst (λ h. kind_in e h.kind ≡ true) same x.kind) y.kind ne)
+      (subst (λ h. kind_in e h.kind ≡ true) same x.kind) y.kind ne))
+    where
+      by : Parted (house s e) (house s f) ⊎ Parted (house s f) (house s e) → AreApart (house s e) (house s f) ⊎ AreApart (house s f) (house s e)
+      by (inl h) = inl (h x.own y.own)
+      by (inr h) = inr (h y.own x.own)
 
   -- variables of different places
-  pub variables_apart : (s : Site) (e f : Name) (u v : ℕ) → IsBody table blocks s.body → IsThere table blocks s e → IsThere table blocks s f
+  pub variables_apart : (s : Site) (e f : Name) (u v : ℕ) → IsBody table blocks s.body → IsThere s e → IsThere s f
       → e ≢ f → (house s e).home ≡ Variable u → (house s f).home ≡ Variable v → v ≢ u
   variables_apart s e f u v b x y ne p q = by (names_parted s e f b x y ne)
     where
-      by : Parted (house s e) (house s f) ⊎ Parted (house s f) (house s e) → v ≢ u
+      by : AreApart (house s e) (house s f) ⊎ AreApart (house s f) (house s e) → v ≢ u
       by (inl h) =
           let g : u ≢ v = subst (λ k. Apart (Variable u) (house s e).bytes k (house s f).bytes) q
           (subst (λ k. Apart k (house s e).bytes (house s f).home (house s f).bytes) p h) in
@@ -112,6 +120,10 @@ module _ (table : List TypeDef) (blocks : Blocks) where
   InRange s a n =
       ((s.body.start ≡ true) × (own_data_at + FIXED_BYTES ≤ a) × (a + n ≤ own_data_at + data_end table blocks))
       ⊎ ((s.base ≤ a) × (a + n ≤ s.base + room s.body))
+
+  -- a word of the globals, or of the places of calls
+  abbrev pub IsPlace : (a : ℕ) → Type 0
+  IsPlace a = ((own_data_at + FIXED_BYTES ≤ a) × (a + 4 ≤ own_data_at + data_end table blocks)) ⊎ (stack_at ≤ a)
 
   pub in_range : (s : Site) (h : Housed) → IsHoused table blocks s.body h → InMemory h.home → InRange s (address_of s.base h.home) h.bytes
   in_range s h x inside = by x.where_is
@@ -193,7 +205,7 @@ module _ (table : List TypeDef) (blocks : Blocks) where
         → (InMemory h.home) → (InMemory k.home)
         → ((at : ℕ) → h.home ≡ Static at → at + h.bytes ≤ data_end table blocks)
         → ((at : ℕ) → k.home ≡ Static at → at + k.bytes ≤ data_end table blocks)
-        → Parted h k → Beside (address_of base h.home) h.bytes (address_of base k.home) k.bytes
+        → AreApart h k → Beside (address_of base h.home) h.bytes (address_of base k.home) k.bytes
     home_ranges base h k least inside inside' ends ends' = by h.home k.home inside inside' ends ends'
       where
         by : (a b : Home) → InMemory a → InMemory b → ((at : ℕ) → a ≡ Static at → at + h.bytes ≤ data_end table blocks)
@@ -222,7 +234,7 @@ module _ (table : List TypeDef) (blocks : Blocks) where
         by (in_data b e k whole low within start) = let g : b ≡ at = ap the (sym e ∙ is) in omega (arith, g, within)
 
     pub ranges_apart : (sites : List Site) (s t : Site) (e f : Name) → Linked table blocks sites → AmongSites s sites → AmongSites t sites
-        → IsThere table blocks s e → IsThere table blocks t f → InMemory (house s e).home → InMemory (house t f).home
+        → IsThere s e → IsThere t f → InMemory (house s e).home → InMemory (house t f).home
         → (s.level ≢ t.level) ⊎ (e ≢ f)
         → Beside (address_of s.base (house s e).home) (house s e).bytes (address_of t.base (house t f).home) (house t f).bytes
     ranges_apart sites s t e f l i j x y p q differs = by (cases_order s.level t.level) differs
@@ -246,12 +258,12 @@ module _ (table : List TypeDef) (blocks : Blocks) where
 
         same : s ≡ t → e ≢ f → Beside (address_of s.base (house s e).home) (house s e).bytes (address_of t.base (house t f).home) (house t f).bytes
         same is ne =
-            let y' : IsThere table blocks s f = subst (λ z. IsThere table blocks z f) (sym is) y in
+            let y' : IsThere s f = subst (λ z. IsThere z f) (sym is) y in
             let q' : InMemory (house s f).home = subst (λ z. InMemory (house z f).home) (sym is) q in
             subst (λ z. Beside (address_of s.base (house s e).home) (house s e).bytes (address_of z.base (house z f).home) (house z f).bytes) is
             (either y' q' (names_parted s e f here.body x y' ne))
           where
-            either : IsThere table blocks s f → InMemory (house s f).home → Parted (house s e) (house s f) ⊎ Parted (house s f) (house s e)
+            either : IsThere s f → InMemory (house s f).home → AreApart (house s e) (house s f) ⊎ AreApart (house s f) (house s e)
                 → Beside (address_of s.base (house s e).home) (house s e).bytes (address_of s.base (house s f).home) (house s f).bytes
             either y' q' (inl h) = home_ranges s.base (house s e) (house s f) here.least p q'
                 (static_ends s (house s e) (houses s e here.body x)) (static_ends s (house s f) (houses s f here.body y')) h

@@ -1,12 +1,14 @@
 -- Where values are that lines move: in a variable, or in memory within the place of a call.
 use Rattle.std.proofs.Common.{◌≡◌, ◌≢◌, ◌⊎◌, inl, inr, ℕ, zero, suc, ◌+◌, ◌*◌, ◌%◌, ◌^◌, ◌<◌, ◌≤◌, List, Some}
 use Rattle.std.proofs.Common.{ℤ, Bool, true, false, refl, sym, ap₂, subst, ◌∙◌, arith}
-use Rattle.nim_core.specs.Values.{Value, Number, Parts, bytes, number_of}
-use Rattle.mid_code.specs.Memory.{Memory}
-use Rattle.mid_code.specs.Words.{Vars}
-use Rattle.mid_code.specs.declared.word.WordInstr.{WordInstr}
-use Rattle.mid_code.specs.Shapes.{has_shape}
-use Rattle.mid_code.proofs.ForCallers.{never, bytes_is}
+use Rattle.nim_meaning.specs.Values.{Value, Number, Parts, Handle, Fixed, Ref, Resource, Gone, Vacant, bytes, number_of}
+use Rattle.word_code.specs.Memory.{Memory}
+use Rattle.word_code.specs.Words.{Vars}
+use Rattle.word_code.specs.declared.word.WordInstr.{WordInstr}
+use Rattle.flat_code.specs.Shapes.{has_shape}
+use Rattle.word_lowering.proofs.ShapeFacts.{never, bytes_is}
+use Rattle.word_code.specs.RoutineTable.{Cell, Area, Separate}
+use Rattle.word_code.proofs.ForCallers.{Within}
 use Rattle.word_lowering.specs.declared.homes.TheConstants.{OWN_FROM}
 use Rattle.word_lowering.specs.declared.homes.Home.{Home}
 use Rattle.word_lowering.specs.declared.homes.Home.TheVariants.{Variable, Placed, Static}
@@ -16,20 +18,17 @@ use Rattle.word_lowering.specs.declared.spots.Spot.TheVariants.{Held, Lies}
 use Rattle.word_lowering.specs.declared.texts.TheConstants.{FIXED_BYTES}
 use Rattle.word_lowering.specs.Layouts.{is_address}
 use Rattle.word_lowering.specs.Spots.{spot_of, moved, moves}
-use Rattle.word_lowering.proofs.Areas.{Cell, Area}
 use Rattle.word_lowering.proofs.InMemory.{IsAt}
-use Rattle.word_lowering.proofs.Copied.{Separate}
-use Rattle.word_lowering.proofs.Runs.{Within}
 use Rattle.word_lowering.proofs.Arithmetic.{word_small}
 use Rattle.word_lowering.proofs.Moves.{is_single, single_word, IsHigh, MaySpot, IsArea, From, ToVariable, ToMemory, number_to_variable, number_to_memory}
-use Rattle.word_lowering.proofs.Moves.{parts_to_memory}
-use Rattle.word_lowering.proofs.LineFits.{single_is, number_fits}
+use Rattle.word_lowering.proofs.Moves.{high_behind, parts_to_memory}
+use Rattle.word_lowering.proofs.LineFits.{single_is, single_number, number_fits}
 use Rattle.word_lowering.proofs.Sites.{room, Housing, in_variable, by_address, in_places, in_data, InMemory, Site, AmongSites, data_end, IsHoused, Linked}
 use Rattle.word_lowering.proofs.Scenes.{address_of, Points, At, Name, Call, house, IsThere, looked, IsItem}
 use Rattle.word_lowering.proofs.SitesApart.{Beside, InRange, in_range, houses, SiteAt, site_at, one_level, ranges_apart}
 use Rattle.word_lowering.proofs.Keeping.{name_cases, number_cases, spot_memory, spot_held, points_there, from_memory}
-use Rattle.word_lowering.proofs.Related.{procs, IsOpen, MemoryGood}
-use Rattle.word_lowering.proofs.Lines.{Basis}
+use Rattle.word_lowering.proofs.Related.{IsOpen, routines, MemoryGood}
+use Rattle.word_lowering.proofs.Lines.{Basis, all_procs, reaches, data_there}
 
 -- so many words, each of which may be read and written
 pub area_by : (m : Memory) (n a : ℕ) → a % 4 ≡ 0 → ((b : ℕ) → a ≤ b → b + 4 ≤ a + 4 * n → b % 4 ≡ 0 → Cell m b) → Area m a n
@@ -45,7 +44,7 @@ module _ (x : Basis) (sites : List Site) (linked : Linked x.table x.blocks sites
     pub site : Site
     pub name : Name
     pub among : AmongSites site sites
-    pub there : IsThere x.table x.blocks site name
+    pub there : IsThere site name
     pub home : InMemory (house site name).home
     pub low : address_of site.base (house site name).home ≤ a
     pub high : a + n ≤ address_of site.base (house site name).home + (house site name).bytes
@@ -67,8 +66,8 @@ module _ (x : Basis) (sites : List Site) (linked : Linked x.table x.blocks sites
       s = site_at x.table x.blocks sites l.site linked l.among
 
       by : InRange x.table x.blocks l.site a n → IsOpen x.table x.blocks b
-      by (inl r) = inr (inl (omega (arith, r.1, low), omega (arith, r.2, high)))
-      by (inr r) = let e = x.enough sites linked in inr (inr (omega (arith, s.least, r.0, low), omega (arith, s.most, r.1, high, e)))
+      by (inl r) = inl (omega (arith, r.1, low), omega (arith, r.2, high))
+      by (inr r) = let e = x.enough sites linked in inr (omega (arith, s.least, r.0, low), omega (arith, s.most, r.1, high, e))
 
   pub lying_area : (m : Memory) (a n : ℕ) → MemoryGood x.table x.blocks x.first m → Lying a n → IsArea m a n
   lying_area m a n good l k le = area_by m k a l.whole (λ b low high is. good.cells b is (lying_open a n l b low (omega (arith, high, le))))
@@ -84,10 +83,10 @@ module _ (x : Basis) (sites : List Site) (linked : Linked x.table x.blocks sites
       by (inr r) = let e = x.enough sites linked in let p = x.places in omega (arith, r.1, s.most, e, p)
 
   -- two ranges of one size, one of which is all of a place, are the same or apart
-  pub whole_separate : (a b n : ℕ) (t : Lying a n) (s : Lying b n) → (house t.site t.name).bytes ≡ n → Separate x.law a b n
+  pub whole_separate : (a b n : ℕ) (t : Lying a n) (s : Lying b n) → (house t.site t.name).bytes ≡ n → Separate a b n
   whole_separate a b n t s size = by (number_cases t.site.level s.site.level) (name_cases t.name s.name)
     where
-      apart : (t.site.level ≢ s.site.level) ⊎ (t.name ≢ s.name) → Separate x.law a b n
+      apart : (t.site.level ≢ s.site.level) ⊎ (t.name ≢ s.name) → Separate a b n
       apart d = inr (narrow (ranges_apart x.table x.blocks x.small sites t.site s.site t.name s.name linked t.among s.among t.there s.there t.home s.home d))
         where
           narrow : Beside (address_of t.site.base (house t.site t.name).home) (house t.site t.name).bytes
@@ -95,19 +94,19 @@ module _ (x : Basis) (sites : List Site) (linked : Linked x.table x.blocks sites
           narrow (inl h) = inl (omega (arith, h, t.low, t.high, s.low, s.high, size))
           narrow (inr h) = inr (omega (arith, h, t.low, t.high, s.low, s.high, size))
 
-      same : t.site ≡ s.site → t.name ≡ s.name → Separate x.law a b n
+      same : t.site ≡ s.site → t.name ≡ s.name → Separate a b n
       same e f =
           let address : address_of s.site.base (house s.site s.name).home ≡ address_of t.site.base (house t.site t.name).home
           = sym (ap₂ (λ u w. address_of u.base (house u w).home) e f) in
           let size' : (house s.site s.name).bytes ≡ n = sym (ap₂ (λ u w. (house u w).bytes) e f) ∙ size in
           inl (omega (arith, t.low, t.high, s.low, s.high, size, size', address))
 
-      by : (t.site.level ≡ s.site.level) ⊎ (t.site.level ≢ s.site.level) → (t.name ≡ s.name) ⊎ (t.name ≢ s.name) → Separate x.law a b n
+      by : (t.site.level ≡ s.site.level) ⊎ (t.site.level ≢ s.site.level) → (t.name ≡ s.name) ⊎ (t.name ≢ s.name) → Separate a b n
       by (inr ne) f = apart (inl ne)
       by (inl e) (inr ne) = apart (inr ne)
       by (inl e) (inl f) = same (one_level x.table x.blocks sites t.site s.site linked t.among s.among e) f
 
-  pub separate_turned : (a b n : ℕ) → Separate x.law a b n → Separate x.law b a n
+  pub separate_turned : (a b n : ℕ) → Separate a b n → Separate b a n
   separate_turned a b n (inl e) = inl (sym e)
   separate_turned a b n (inr (inl h)) = inr (inr h)
   separate_turned a b n (inr (inr h)) = inr (inl h)
@@ -132,10 +131,9 @@ module _ (x : Basis) (sites : List Site) (linked : Linked x.table x.blocks sites
   high_memory (Static at) i = tt
 
   may_held : (u : ℕ) (v : Value) → is_single v ≡ true → OWN_FROM ≤ u → MaySpot (Held u) v
-  may_held u (Number z) h high = high
-  may_held u (Parts vs) h high = never h
+  may_held u v h high = let n = single_number v h in subst (MaySpot (Held u)) (sym n.1) high
 
-  pub address_whole : (s : Site) (f : Name) → AmongSites s sites → IsThere x.table x.blocks s f → InMemory (house s f).home
+  pub address_whole : (s : Site) (f : Name) → AmongSites s sites → IsThere s f → InMemory (house s f).home
       → address_of s.base (house s f).home % 4 ≡ 0
   address_whole s f i there inside = by (houses x.table x.blocks s f a.body there).where_is
     where
@@ -149,7 +147,7 @@ module _ (x : Basis) (sites : List Site) (linked : Linked x.table x.blocks sites
       by (in_data n e plain whole low within start) = subst (λ h. address_of s.base h % 4 ≡ 0) (sym e) (omega (arith, whole))
 
   -- all of a place
-  abbrev pub lying_all : (s : Site) (f : Name) (n : ℕ) → AmongSites s sites → IsThere x.table x.blocks s f → InMemory (house s f).home
+  abbrev pub lying_all : (s : Site) (f : Name) (n : ℕ) → AmongSites s sites → IsThere s f → InMemory (house s f).home
       → (house s f).bytes ≡ n
       → Lying (address_of s.base (house s f).home) n
   lying_all s f n i there inside size = record {
@@ -163,19 +161,19 @@ module _ (x : Basis) (sites : List Site) (linked : Linked x.table x.blocks sites
     whole = address_whole s f i there inside;
   }
 
-  module _ (c : Call) (i : AmongSites c.site sites) (f : Name) (there : IsThere x.table x.blocks c.site f) (plain : is_address (house c.site f).kind ≡ false)
-      (v : Value) (shaped : has_shape v (looked x.table x.blocks c.site f) ≡ true) where
+  module _ (c : Call) (i : AmongSites c.site sites) (f : Name) (there : IsThere c.site f) (plain : is_address (house c.site f).kind ≡ false)
+      (v : Value) (shaped : has_shape v (looked x.table c.site f) ≡ true) where
     place : IsHoused x.table x.blocks c.site.body (house c.site f)
     place = houses x.table x.blocks c.site f (site_at x.table x.blocks sites c.site linked i).body there
 
     pub size_is : (house c.site f).bytes ≡ bytes v
-    size_is = sym (bytes_is v (looked x.table x.blocks c.site f) shaped ∙ place.bytes)
+    size_is = sym (bytes_is v (looked x.table c.site f) place.numbers shaped ∙ place.bytes)
 
     pub word_is : (house c.site f).is_word ≡ is_single v
-    word_is = sym (single_is v (looked x.table x.blocks c.site f) shaped ∙ place.word)
+    word_is = sym (single_is v (looked x.table c.site f) place.numbers shaped ∙ place.word)
 
     pub small_word : single_word v < 2 ^ 32
-    small_word = word_small (number_of v) (number_fits v (looked x.table x.blocks c.site f) shaped)
+    small_word = word_small (number_of v) (number_fits v (looked x.table c.site f) shaped)
 
     pub place_source : (m : Memory) → At m c.site.base c.vars (spot_of (house c.site f)) v → Source m c.site.base c.vars true (house c.site f) v
     place_source m at = by place.where_is
@@ -195,7 +193,7 @@ module _ (x : Basis) (sites : List Site) (linked : Linked x.table x.blocks sites
         by (in_places n e p whole within) = inside (subst InMemory (sym e) tt)
         by (in_data n e p whole low within start) = inside (subst InMemory (sym e) tt)
 
-  pub item_source : (m : Memory) (c : Call) (f : Name) (v : Value) → AmongSites c.site sites → IsItem x.table x.blocks m c f v
+  pub item_source : (m : Memory) (c : Call) (f : Name) (v : Value) → AmongSites c.site sites → IsItem x.table m c f v
       → Source m c.site.base c.vars true (house c.site f) v
   item_source m c f v i item = place_source c i f item.there item.plain v item.shaped m item.at
 
@@ -204,7 +202,7 @@ module _ (x : Basis) (sites : List Site) (linked : Linked x.table x.blocks sites
   module _ (c : Within) (from_first : c.proc.data_from ≡ 0) (g : Vars) (m : Memory) (good : MemoryGood x.table x.blocks x.first m) (k : List WordInstr)
       (vars : Vars) where
     abbrev IntoMemory : List WordInstr → ℕ → Value → ℕ → Type 0
-    IntoMemory lines a v most = ToMemory x.law x.live (procs x.table x.blocks) c from_first g m lines vars a v most k
+    IntoMemory lines a v most = ToMemory x.law x.live (all_procs x) c from_first g m lines vars a v most k
 
     pub more_steps : (lines : List WordInstr) (a most most' : ℕ) (v : Value) → most ≤ most' → IntoMemory lines a v most → IntoMemory lines a v most'
     more_steps lines a most most' v le r = record {
@@ -225,28 +223,41 @@ module _ (x : Basis) (sites : List Site) (linked : Linked x.table x.blocks sites
       held_to_memory : (v : Value) → single_word v < 2 ^ 32 → Lying a (bytes v) → (u : ℕ) → MaySpot (Held u) v → vars u ≡ Some (single_word v)
           → IntoMemory (moved (is_single v) (bytes v) (Lies home) (Held u) k) a v (10 + 2 * bytes v)
       held_to_memory (Parts vs) small lying u may is = absurd may
+      held_to_memory (Handle n k) small lying u may is = absurd may
+      held_to_memory (Fixed t) small lying u may is = absurd may
+      held_to_memory (Ref r) small lying u may is = absurd may
+      held_to_memory (Resource vs i) small lying u may is = absurd may
+      held_to_memory (Gone v f) small lying u may is = absurd may
+      held_to_memory Vacant small lying u may is = absurd may
       held_to_memory (Number z) small lying u may is =
           let area = lying_area m a 4 good lying 1 (omega arith) in
           let near = lying_near a 4 lying in
           more_steps (moved true 4 (Lies home) (Held u) k) a 4 18 (Number z) (omega arith)
-          (number_to_memory x.law x.live (procs x.table x.blocks) c from_first g m good.sized k vars home a points z small area.0 (omega (arith, near)) 4
+          (number_to_memory x.law x.live (all_procs x) c from_first g m good.sized k vars home a points z small area.0 (omega (arith, near)) 4
           (Held u) may is)
 
       lies_to_memory : (v : Value) → single_word v < 2 ^ 32 → Lying a (bytes v) → (other : Home) → IsHigh other → (b : ℕ)
           → Points c.base vars other b → IsAt m b v
-          → Lying b (bytes v) → Separate x.law a b (bytes v) → IntoMemory (moved (is_single v) (bytes v) (Lies home) (Lies other) k) a v
+          → Lying b (bytes v) → Separate a b (bytes v) → IntoMemory (moved (is_single v) (bytes v) (Lies home) (Lies other) k) a v
           (10 + 2 * bytes v)
       lies_to_memory (Number z) small lying other high b points' at lying' apart =
           let area = lying_area m a 4 good lying 1 (omega arith) in
           let near = lying_near a 4 lying in
           more_steps (moved true 4 (Lies home) (Lies other) k) a 4 18 (Number z) (omega arith)
-          (number_to_memory x.law x.live (procs x.table x.blocks) c from_first g m good.sized k vars home a points z small area.0 (omega (arith, near)) 4
+          (number_to_memory x.law x.live (all_procs x) c from_first g m good.sized k vars home a points z small area.0 (omega (arith, near)) 4
           (Lies other) high
           (b, points', at, lying_near b 4 lying', lying_area m b 4 good lying'))
       lies_to_memory (Parts vs) small lying other high b points' at lying' apart =
-          parts_to_memory x.law x.live (procs x.table x.blocks) c from_first g m good.sized k vars home a points x.copies.0 x.copies.1 vs
-          (lying_area m a (bytes (Parts vs)) good lying) (lying_near a (bytes (Parts vs)) lying) other high
+          parts_to_memory x.law x.live (all_procs x) c from_first g m good.sized k vars home a points (routines x.table x.blocks) x.runtime.statics (reaches x)
+          (data_there x m good) vs
+          (lying_area m a (bytes (Parts vs)) good lying) (lying_near a (bytes (Parts vs)) lying) other (high_behind other high)
           (b, points', at, lying_near b (bytes (Parts vs)) lying', lying_area m b (bytes (Parts vs)) good lying') apart
+      lies_to_memory (Handle n k) small lying other high b points' at lying' apart = absurd at
+      lies_to_memory (Fixed t) small lying other high b points' at lying' apart = absurd at
+      lies_to_memory (Ref r) small lying other high b points' at lying' apart = absurd at
+      lies_to_memory (Resource vs i) small lying other high b points' at lying' apart = absurd at
+      lies_to_memory (Gone v f) small lying other high b points' at lying' apart = absurd at
+      lies_to_memory Vacant small lying other high b points' at lying' apart = absurd at
 
     module _ (to from : Housed) (v : Value) (word_from : from.is_word ≡ is_single v) (size_from : from.bytes ≡ bytes v)
         (small : single_word v < 2 ^ 32) where
@@ -259,20 +270,15 @@ module _ (x : Basis) (sites : List Site) (linked : Linked x.table x.blocks sites
       source_from (lies_at home e high a points at lying is_all) q f =
           subst (λ p. From m c.base vars p v) (sym e ∙ f) (a, points, at, lying_near a (bytes v) lying, lying_area m a (bytes v) good lying)
 
-      source_may : {all : Bool} → Source m c.base vars all from v → (q : Spot) → spot_of from ≡ q → MaySpot q v
-      source_may (held_in u e may is) q f = subst (λ p. MaySpot p v) (sym e ∙ f) may
-      source_may (lies_at home e high a points at lying is_all) q f = subst (λ p. MaySpot p v) (sym e ∙ f) high
-
       pub to_word_by : (t : ℕ) → spot_of to ≡ Held t → OWN_FROM ≤ t → (z : ℤ) → v ≡ Number z → (all : Bool)
           → Source m c.base vars all from v
-          → ToVariable x.law x.live (procs x.table x.blocks) c from_first g m (moves to from k) vars t v k
+          → ToVariable x.law x.live (all_procs x) c from_first g m (moves to from k) vars t v k
       to_word_by t e high z is all source =
-          let w = number_to_variable x.law x.live (procs x.table x.blocks) c from_first g m k vars t high z (subst (λ y. single_word y < 2 ^ 32) is small)
+          let w = number_to_variable x.law x.live (all_procs x) c from_first g m k vars t high z (subst (λ y. single_word y < 2 ^ 32) is small)
           (is_single v) (bytes v) (spot_of from)
-          (subst (MaySpot (spot_of from)) is (source_may source (spot_of from) refl))
           (subst (From m c.base vars (spot_of from)) is (source_from source (spot_of from) refl)) in
-          subst (λ l. ToVariable x.law x.live (procs x.table x.blocks) c from_first g m l vars t v k) (sym (code_is (Held t) (spot_of from) e refl))
-          (subst (λ y. ToVariable x.law x.live (procs x.table x.blocks) c from_first g m (moved (is_single v) (bytes v) (Held t) (spot_of from) k) vars t y k)
+          subst (λ l. ToVariable x.law x.live (all_procs x) c from_first g m l vars t v k) (sym (code_is (Held t) (spot_of from) e refl))
+          (subst (λ y. ToVariable x.law x.live (all_procs x) c from_first g m (moved (is_single v) (bytes v) (Held t) (spot_of from) k) vars t y k)
           (sym is) w)
 
       pub to_bytes_by : (home : Home) → spot_of to ≡ Lies home → (a : ℕ) → Points c.base vars home a → (lying : Lying a (bytes v)) → (all : Bool)
@@ -283,10 +289,9 @@ module _ (x : Basis) (sites : List Site) (linked : Linked x.table x.blocks sites
           subst (λ l. IntoMemory l a v (10 + 2 * bytes v)) (sym (code_is (Lies home) (Lies other) e f))
           (lies_to_memory home a points v small lying other high b points' at lying' (by apart))
         where
-          by : (IsAll a (bytes v) lying ⊎ (all ≡ true)) → Separate x.law a b (bytes v)
+          by : (IsAll a (bytes v) lying ⊎ (all ≡ true)) → Separate a b (bytes v)
           by (inl h) = whole_separate a b (bytes v) lying lying' h
           by (inr h) = separate_turned b a (bytes v) (whole_separate b a (bytes v) lying' lying (is_all h))
 
       pub number_of_single : (w : Value) → is_single w ≡ true → (z : ℤ) × (w ≡ Number z)
-      number_of_single (Number z) h = (z, refl)
-      number_of_single (Parts vs) h = never h
+      number_of_single w h = single_number w h

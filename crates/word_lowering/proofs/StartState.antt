@@ -1,29 +1,33 @@
 -- The start of word code: it is at the first line of block code, and both states belong together there.
-use Rattle.std.proofs.Common.{◌≡◌, ℕ, List, [], ◌∷◌, ◌++◌, map, None, true, false, refl, sym, ap, subst}
+use Rattle.std.proofs.Common.{◌≡◌, ℕ, List, [], ◌∷◌, ◌++◌, map, None, true, refl, sym, ap, subst}
 use Rattle.std.proofs.Common.{◌∙◌}
 use Rattle.std.proofs.lemmas.Bool.{and_parts, false≢true}
 use Rattle.rv32_isa.specs.Machine.{Lives}
 use Rattle.nim_types.specs.declared.types.TypeDef.{TypeDef}
 use Rattle.nim_types.specs.Table.{IsTable}
-use Rattle.nim_core.specs.declared.program.TheConstants.{ACTIVE_CALLS}
-use Rattle.mid_code.specs.declared.block.BlockLine.{BlockLine}
-use Rattle.mid_code.specs.declared.block.BlockProc.{BlockProc}
-use Rattle.mid_code.specs.declared.block.Blocks.{Blocks}
-use Rattle.mid_code.specs.Memory.{Memory}
-use Rattle.mid_code.specs.Scene.{known_in}
-use Rattle.mid_code.specs.Words.{start as word_start}
-use Rattle.mid_code.specs.Codes.{block_label, block_does, block_proc, block_procs, is_blocks, result_in as slots_of}
-use Rattle.mid_code.specs.Fits.{result_at, params_at, results_at, are_none}
-use Rattle.mid_code.specs.Running.{Proc, no_proc as no_run_proc, last_of, start_of, frame_of, has_first, beginning, at_first}
+use Rattle.nim_program.specs.declared.program.TheConstants.{ACTIVE_CALLS}
+use Rattle.flat_code.specs.declared.block.BlockLine.{BlockLine}
+use Rattle.flat_code.specs.declared.code.CodeProc.{CodeProc}
+use Rattle.flat_code.specs.declared.code.Code.{Code}
+use Rattle.nim_meaning.specs.State.{world_of}
+use Rattle.word_code.specs.declared.word.WordCode.{WordCode}
+use Rattle.word_code.specs.Joined.{joined}
+use Rattle.word_code.specs.Memory.{Memory}
+use Rattle.flat_code.specs.Scene.{known_in}
+use Rattle.word_code.specs.Words.{start as word_start}
+use Rattle.flat_code.specs.Codes.{block_label, block_does, proc_of, procs_of, result_in as slots_of}
+use Rattle.flat_code.specs.Fits.{result_at, params_at, results_at, are_none}
+use Rattle.flat_code.specs.Running.{Proc, no_proc as no_run_proc, last_of, start_of, frame_of, beginning, at_first}
+use Rattle.word_code.proofs.ForCallers.{Runs}
 use Rattle.word_lowering.specs.declared.homes.Layout.{Layout}
 use Rattle.word_lowering.specs.Layouts.{result_in}
 use Rattle.word_lowering.specs.Texts.{literals_at}
 use Rattle.word_lowering.specs.Lowered.{no_proc, start_layout, lowered}
+use Rattle.word_lowering.specs.Lowers.{IsFitting}
 use Rattle.word_lowering.specs.MayLower.{may_lower}
 use Rattle.word_lowering.specs.Stored.{HaveForms}
-use Rattle.word_lowering.proofs.Runs.{Runs}
 use Rattle.word_lowering.proofs.Sites.{Body, data_end, globals_of, ResultIs, IsBody}
-use Rattle.word_lowering.proofs.Related.{Both, procs, low, high, MemoryGood, Good}
+use Rattle.word_lowering.proofs.Related.{Both, low, high, MemoryGood, Good}
 use Rattle.word_lowering.proofs.FirstMemory.{first_memory}
 use Rattle.word_lowering.proofs.ProcCodes.{start_laid, start_places, start_is_body}
 use Rattle.word_lowering.proofs.StartPair.{no_results, first_pair, first_good, first_runs}
@@ -37,9 +41,12 @@ last_map : {A B : Type 0} (f : A → B) (none : A) (other : B) (x : A) (xs : Lis
 last_map f none other x [] = refl
 last_map f none other x (y ∷ xs) = last_map f x (f x) y xs
 
-module _ (table : List TypeDef) (blocks : Blocks) (heap stack : ℕ) (input : List ℕ) where
+module _ (table : List TypeDef) (blocks : Code BlockLine) (runtime : WordCode) (heap stack : ℕ) (input : List ℕ) where
+  abbrev code : WordCode
+  code = joined (lowered table blocks) runtime
+
   abbrev first : Memory
-  first = first_memory (lowered table blocks) heap stack
+  first = first_memory code heap stack
 
   abbrev pub start_body : Body
   start_body = record {
@@ -54,11 +61,11 @@ module _ (table : List TypeDef) (blocks : Blocks) (heap stack : ℕ) (input : Li
   pub record Begins (live : Lives) : Type 0 where
     pub both : Both
     pub good : Good table blocks first both
-    pub runs : Runs live (procs table blocks) 0 (word_start (lowered table blocks) heap stack input) (low table blocks both)
-    pub same : high table blocks both ≡ at_first block_label (block_does (known_in table)) (block_procs (known_in table) blocks)
+    pub runs : Runs live code.procs 0 (word_start code heap stack input) (low table blocks both)
+    pub same : high table blocks both ≡ at_first block_label (block_does (known_in table)) (procs_of (known_in table) blocks) heap input
 
-  module _ (is_table : IsTable table) (have : HaveForms table) (formed : is_blocks (known_in table) blocks ≡ true) (may : may_lower table blocks ≡ true)
-      (p : BlockProc) (ps : List BlockProc) (some : blocks.procs ≡ p ∷ ps) (memory : MemoryGood table blocks first first) where
+  module _ (is_table : IsTable table) (have : HaveForms table) (fits : IsFitting table blocks) (may : may_lower table blocks ≡ true)
+      (p : CodeProc BlockLine) (ps : List (CodeProc BlockLine)) (some : blocks.procs ≡ p ∷ ps) (memory : MemoryGood table blocks first first) where
     start_is : IsBody table blocks start_body
     start_is =
         subst (λ (own : Layout). IsBody table blocks (record {
@@ -68,13 +75,13 @@ module _ (table : List TypeDef) (blocks : Blocks) (heap stack : ℕ) (input : Li
           number = 0;
           proc = last_of no_proc blocks.procs;
         })) (sym (start_laid table blocks p ps some))
-        (start_is_body table blocks is_table have formed may p ps some 0)
+        (start_is_body table blocks is_table have fits may p ps some 0)
 
     no_result : (result_at (known_in table) start_body.proc.places ≡ None) × (slots_of (known_in table) start_body.proc.places ≡ [])
     no_result =
         no_results (known_in table) start_body.proc.places
         (ap results_at (sym (start_places table blocks p ps some))
-        ∙ none_behind (params_at (globals_of table blocks)) (results_at (globals_of table blocks)) (and_parts _ _ (and_parts _ _ formed).1).0)
+        ∙ none_behind (params_at (globals_of table blocks)) (results_at (globals_of table blocks)) (and_parts _ _ fits).0)
 
     no_place : result_in start_body.own.all ≡ None
     no_place = subst (λ o. ResultIs table blocks start_body.own.all o (result_in start_body.own.all)) no_result.0 start_is.result
@@ -83,17 +90,16 @@ module _ (table : List TypeDef) (blocks : Blocks) (heap stack : ℕ) (input : Li
     unfolding word_start
     begins live =
         record {
-          both = first_pair table blocks start_body start_is refl input first memory;
-          good = first_good table blocks start_body start_is refl input first memory no_result.1;
-          runs = first_runs table blocks start_body start_is refl input first memory no_result.1 live no_place;
+          both = first_pair table blocks start_body start_is refl heap input first memory;
+          good = first_good table blocks start_body start_is refl heap input first memory no_result.1;
+          runs = first_runs table blocks start_body start_is refl heap input first memory no_result.1 live code.procs no_place;
           same = ap (λ (q : Proc BlockLine). record {
             now = beginning q 0 ACTIVE_CALLS;
             waiting = [];
-            world = record { frames = frame_of q [] ∷ [] };
-            has = has_first q [] (λ level place. false) 0;
+            world = world_of (frame_of q [] ∷ []) heap input;
           }) (sym last_is);
         }
       where
-        last_is : start_of (block_procs (known_in table) blocks) ≡ block_proc (known_in table) (last_of no_proc blocks.procs)
-        last_is = subst (λ qs. last_of no_run_proc (map (block_proc (known_in table)) qs) ≡ block_proc (known_in table) (last_of no_proc qs)) (sym some)
-            (last_map (block_proc (known_in table)) no_proc no_run_proc p ps)
+        last_is : start_of (procs_of (known_in table) blocks) ≡ proc_of (known_in table) (last_of no_proc blocks.procs)
+        last_is = subst (λ qs. last_of no_run_proc (map (proc_of (known_in table)) qs) ≡ proc_of (known_in table) (last_of no_proc qs)) (sym some)
+            (last_map (proc_of (known_in table)) no_proc no_run_proc p ps)

@@ -1,193 +1,195 @@
--- Lines that put values to places and locations are followed.
-use Rattle.std.proofs.Common.{◌≡◌, ◌⊎◌, inl, inr, ℕ, suc, ◌+◌, ◌*◌, List, ◌∷◌, Option, Some, Bool, true, false, refl, sym, ap}
-use Rattle.std.proofs.Common.{subst, ◌∙◌, arith}
-use Rattle.std.proofs.lemmas.Bool.{cases_Bool}
-use Rattle.nim_core.specs.Values.{Value, bytes, Standing, Holds, through}
-use Rattle.nim_core.specs.State.{store, with_slot}
-use Rattle.nim_core.specs.Places.{place_at, root_of}
-use Rattle.mid_code.specs.declared.block.BlockLine.{BlockLine}
-use Rattle.mid_code.specs.declared.block.BlockLine.TheVariants as block_line
-use Rattle.mid_code.specs.declared.line.Line.{Line}
-use Rattle.mid_code.specs.declared.line.Line.TheVariants as L
-use Rattle.mid_code.specs.Memory.{own_data_at}
-use Rattle.mid_code.specs.Scene.{Where, Located, Within, Fails}
-use Rattle.mid_code.specs.Lines.{puts, using, located, at_place}
-use Rattle.mid_code.specs.Shapes.{Shape, has_shape}
-use Rattle.mid_code.specs.Fits.{is_value, is_location, is_own, is_declared, is_global, shape_named}
-use Rattle.mid_code.specs.Running.{scene_of}
-use Rattle.mid_code.proofs.ForCallers.{never, value_wider}
-use Rattle.word_lowering.specs.declared.homes.Home.TheVariants.{Variable, Static}
-use Rattle.word_lowering.specs.declared.spots.Spot.TheVariants.{Lies}
-use Rattle.word_lowering.specs.declared.texts.TheConstants.{FIXED_BYTES}
-use Rattle.word_lowering.specs.Layouts.{is_address}
-use Rattle.word_lowering.specs.Spots.{spot_of}
-use Rattle.word_lowering.specs.LineCode.{place, variable_in, variable_of}
-use Rattle.word_lowering.proofs.LineFits.{MayGet, may_get_some}
-use Rattle.word_lowering.proofs.Sites.{room, around, Housing, in_variable, by_address, in_places, in_data, data_end, globals_of}
-use Rattle.word_lowering.proofs.Scenes.{address_of, Name, of_value, of_location, of_place, house, IsThere, looked, FromPlace}
-use Rattle.word_lowering.proofs.SitesApart.{houses}
-use Rattle.word_lowering.proofs.Keeping.{declared_address, location_address, spot_address, spot_memory}
-use Rattle.word_lowering.proofs.Related.{Both, body_of, high, code_behind, StandAt}
-use Rattle.word_lowering.proofs.Lines.{Basis, fits_here, stands_next, changed, starts, IsGood, known, Settles, using_settles, branch_settles, goes_on}
-use Rattle.word_lowering.proofs.Lines.{all_sites}
-use Rattle.word_lowering.proofs.ControlLines.{FollowedHere}
-use Rattle.word_lowering.proofs.MoveLines.{own_plain, read_value, value_shaped}
-use Rattle.word_lowering.proofs.PlaceReads.{GlobalRoot, global_root}
-use Rattle.word_lowering.proofs.Gets.{gets_moved, good_place}
-use Rattle.word_lowering.proofs.Stores.{stored_settles}
+-- Lines that put values to locations, and those that give nothing.
+use Rattle.std.proofs.Common.{◌≡◌, ℕ, ◌+◌, List, [], ◌∷◌, Option, Some, None, true, false, refl, sym, ap, subst, ◌∙◌, arith}
+use Rattle.std.proofs.lemmas.Bool.{and_parts}
+use Rattle.std.specs.Prelude.{option_map, ◌&&◌}
+use Rattle.nim_program.specs.declared.operation.Operation.TheVariants as O
+use Rattle.nim_meaning.specs.Values.{Value, bytes, nothing, At, Given, value_of, location_of, Location}
+use Rattle.nim_meaning.specs.Places.{put, made_by}
+use Rattle.flat_code.specs.declared.block.BlockLine.{BlockLine}
+use Rattle.flat_code.specs.declared.line.From.{From}
+use Rattle.flat_code.specs.declared.line.From.TheVariants as F
+use Rattle.flat_code.specs.declared.line.Line.TheVariants as L
+use Rattle.flat_code.specs.Fits.{is_standing, is_location, if_kind, place_named, is_value, needs_no_type}
+use Rattle.flat_code.specs.Scene.{Where, with_value, location_at}
+use Rattle.word_lowering.specs.LineCode.{location}
+use Rattle.flat_code.specs.Lines.{gives, using}
+use Rattle.flat_code.specs.Running.{scene_of}
+use Rattle.flat_code.specs.Shapes.{has_shape, shape_of}
+use Rattle.nim_meaning.specs.Deeds.{costs, ◌>>=◌, give}
+use Rattle.nim_program.specs.Kinds.{same_value}
+use Rattle.nim_program.specs.View.{if_type}
+use Rattle.nim_program.specs.declared.operation.Use.{Use}
+use Rattle.nim_types.specs.Table.{facts_in, type_at}
+use Rattle.nim_types.specs.Types.{Ty}
+use Rattle.word_lowering.proofs.ApplyFits.{applies}
+use Rattle.word_lowering.proofs.ControlLines.{FollowedHere, plain, value_type}
+use Rattle.word_lowering.proofs.Gets.{SameTemps, nothing_temps}
+use Rattle.word_lowering.proofs.InMemory.{bytes_some}
+use Rattle.word_lowering.proofs.Moves.{passes_there}
+use Rattle.word_lowering.proofs.ReadFacts.{ValueRead}
+use Rattle.word_lowering.specs.Spots.{moves, passes}
+use Rattle.flat_code.specs.Codes.{block_does}
+use Rattle.word_lowering.proofs.LineFits.{are_of, no_type, ordinal_shape, same_type, type_there}
+use Rattle.word_lowering.proofs.Lines.{Basis, IsGood, Settles, known, mapped_settles, starts, all_settles, fits_here, using_settles}
+use Rattle.word_lowering.proofs.MovedLines.{value_read, moved_value, moved_word}
+use Rattle.word_lowering.proofs.OutPlaces.{Written, stored_settles, written_at}
+use Rattle.word_lowering.proofs.Related.{Both, body_of, high}
+use Rattle.word_lowering.proofs.Scenes.{house, of_value}
+use Rattle.word_lowering.proofs.Settling.{LabelsLead, code_next, silent_settles}
+use Rattle.word_lowering.proofs.ShapeFacts.{never, of_numbers, values_of_numbers}
+use Rattle.word_lowering.proofs.Sites.{around, is_one_word}
+use Rattle.word_lowering.proofs.Targets.{Target, no_target, pointed, target, unnamed_value}
+use Rattle.word_lowering.proofs.ValueFacts.{location_of_numbers, type_in}
+use Rattle.nim_meaning.specs.Meaning.{handed_by}
+use Rattle.nim_meaning.specs.Table.{moved}
+use Rattle.word_lowering.proofs.OperandLines.{value_type_by}
 
-module _ (x : Basis) (g : Both) (rest : List BlockLine) where
-  abbrev shape_of_value : ℕ → Option Shape
-  shape_of_value t = shape_named (known x) is_value (body_of g).proc.places t
+module _ (x : Basis) (g : Both) (line : BlockLine) (rest : List BlockLine) (y : IsGood x (starts g line rest)) where
+  -- a temporary that has no place gets nothing
+  pub none_temps : (to : ℕ) → type_in x is_value (body_of g) to ≡ None → SameTemps x g line rest y (with_value to g.call.temps nothing)
+  none_temps to none = nothing_temps x g line rest y to nothing (no_target x g line rest y to none)
 
-  -- where a place that has an address points
-  pub record Pointed (f : Name) (a : ℕ) : Type 0 where
-    pub variable : ℕ
-    pub spot : spot_of (house g.call.site f) ≡ Lies (Variable variable)
-    pub points : g.call.vars variable ≡ Some a
+  -- what is known of a location that may be written
+  pub record WritesAt (t : ℕ) (there : Where) (ty : Ty) : Type 0 where
+    pub numbers : of_numbers (shape_of (facts_in x.table) ty) ≡ true
+    pub at : Location
+    pub is : location_at g.call.temps there ≡ at
+    pub written : Written x g line rest y (location (around x.table x.blocks (body_of g)) t) at (shape_of (facts_in x.table) ty)
 
-  pub pointed : (line : Line) (y : IsGood x (starts g line rest)) (f : Name) (a : ℕ) → IsThere x.table x.blocks g.call.site f → is_address
-      (house g.call.site f).kind ≡ true
-      → g.call.vars (variable_of (house g.call.site f)) ≡ Some a → Pointed f a
-  pointed line y f a there address is = by (houses x.table x.blocks g.call.site f y.linked.0 there).where_is
-    where
-      by : Housing (room (body_of g)) FIXED_BYTES (data_end x.table x.blocks) (body_of g).start (house g.call.site f) → Pointed f a
-      by (in_variable v e plain low w) = never (sym plain ∙ address)
-      by (by_address v e k low) = record {
-        variable = v;
-        spot = spot_address (house g.call.site f) v address e;
-        points = ap g.call.vars (sym (ap variable_in e))
-            ∙ is;
+  pub writes_at : (t : ℕ) (there : Where) (ty : Ty) → type_in x is_location (body_of g) t ≡ Some ty
+      → if_kind is_standing (place_named is_location (body_of g).proc.places t) ≡ true → g.call.temps.places t ≡ Some there → WritesAt t there ty
+  writes_at t there ty typed may e =
+      let p = pointed x g line rest y t ty typed in
+      let w = written_at x g line rest y t there p.named (y.linked.0.standing t may) e in
+      record {
+        numbers = sym (ap of_numbers p.look) ∙ location_of_numbers x g.call.site t y.linked.0 p.named;
+        at = w.location_is;
+        is = ap (location_at g.call.temps) w.is;
+        written = subst (λ s. Written x g line rest y (location (around x.table x.blocks (body_of g)) t) w.location_is s) p.look w.written;
       }
-      by (in_places m e plain whole within) = never (sym plain ∙ address)
-      by (in_data m e plain whole low within start) = never (sym plain ∙ address)
 
-  -- ---- at a location
+module _ (x : Basis) (labels : LabelsLead x) (g : Both) (rest : List BlockLine) (to : ℕ) (how : Use) where
+  module _ (a b : Option ℕ) (at from : ℕ) where
+    abbrev assign : BlockLine
+    assign = plain (L.Apply to O.Assign how None (a ∷ b ∷ []) (F.Place at ∷ F.Value from ∷ []))
 
-  pub put_line : (at from : ℕ) → FollowedHere x g rest (L.Put at from)
-  put_line at from y free =
-      using_settles x (starts g (L.Put at from) rest) rest (g.call.temps.locations at)
-      (λ there. located there (λ l. using (g.call.temps.values from) (λ v. puts (scene_of (high x.table x.blocks (starts g (L.Put at from) rest))) l v)))
-      by
+    pub assign_values : FollowedHere x labels g rest (L.Apply to O.Assign how None (a ∷ b ∷ []) (F.Place at ∷ F.Value from ∷ []))
+    assign_values y =
+        let f = applies x g rest to O.Assign how None (a ∷ b ∷ []) (F.Place at ∷ F.Value from ∷ []) y in
+        let none = no_type (value_type x g assign rest y to) f.given in
+        let p = and_parts (same_value (type_in x is_location (body_of g) at) (if_type (known x).types a))
+        (same_value (value_type x g assign rest y from) (if_type (known x).types b) && true) f.typed in
+        let q = and_parts (same_value (value_type x g assign rest y from) (if_type (known x).types b)) true p.1 in
+        let w = are_of (if_type (known x).types b) (if_type (known x).types a) f.row in
+        let at_typed : type_in x is_location (body_of g) at ≡ Some w.ty
+        = same_type (type_in x is_location (body_of g) at) (if_type (known x).types a) p.0 ∙ w.is_other in
+        let from_typed : value_type x g assign rest y from ≡ Some w.ty
+        = same_type (value_type x g assign rest y from) (if_type (known x).types b) q.0 ∙ w.is in
+        let may = and_parts (if_kind is_standing (place_named is_location (body_of g).proc.places at)) true f.written in
+        mapped_settles x (starts g assign rest) rest (g.call.temps.places at) (λ place. At (location_at g.call.temps place))
+        (λ l. using (option_map Given (g.call.temps.values from)) (λ z. gives (scene_of (high x.table x.blocks (starts g assign rest))) to
+        (costs 1 (put (location_of l) (value_of z)) >>= made_by false how)))
+        (λ there e. mapped_settles x (starts g assign rest) rest (g.call.temps.values from) Given
+        (λ z. gives (scene_of (high x.table x.blocks (starts g assign rest))) to
+        (costs 1 (put (location_at g.call.temps there) (value_of z)) >>= made_by false how))
+        (λ z h. let s = writes_at x g assign rest y at there w.ty at_typed may.0 e in
+        let r = value_read x g assign rest y from z w.ty from_typed s.numbers h in
+        subst (λ l. Settles x (starts g assign rest) rest (gives (scene_of (high x.table x.blocks (starts g assign rest))) to
+        (costs 1 (put l z) >>= made_by false how))) (sym s.is)
+        (stored_settles x g assign rest y (location (around x.table x.blocks (body_of g)) at) s.at (shape_of (facts_in x.table) w.ty) z r.1
+        (house g.call.site (of_value from)) r.0.read refl (with_value to g.call.temps nothing) (none_temps x g assign rest y to none)
+        (1 + (bytes z + 0)) (omega arith) s.written)))
+
+  pub assign_line : (ty : Option ℕ) (of : List (Option ℕ)) (from : List From) → FollowedHere x labels g rest (L.Apply to O.Assign how ty of from)
+  assign_line None (a ∷ b ∷ []) (F.Place at ∷ F.Value from ∷ []) y = assign_values a b at from y
+  assign_line (Some ty) of from y = never (applies x g rest to O.Assign how (Some ty) of from y).row
+  assign_line None [] from y = never (applies x g rest to O.Assign how None [] from y).row
+  assign_line None (a ∷ []) from y = never (applies x g rest to O.Assign how None (a ∷ []) from y).row
+  assign_line None (a ∷ b ∷ c ∷ of) from y = never (applies x g rest to O.Assign how None (a ∷ b ∷ c ∷ of) from y).row
+  assign_line None (a ∷ b ∷ []) [] y = never (applies x g rest to O.Assign how None (a ∷ b ∷ []) [] y).placed
+  assign_line None (a ∷ b ∷ []) (F.Value t ∷ others) y = never (applies x g rest to O.Assign how None (a ∷ b ∷ []) (F.Value t ∷ others) y).placed
+  assign_line None (a ∷ b ∷ []) (F.Place at ∷ []) y =
+      never (and_parts (same_value (type_in x is_location (body_of g) at) (if_type (known x).types a)) false
+      (applies x g rest to O.Assign how None (a ∷ b ∷ []) (F.Place at ∷ []) y).typed).1
+  assign_line None (a ∷ b ∷ []) (F.Place at ∷ F.Place t ∷ others) y =
+      never (applies x g rest to O.Assign how None (a ∷ b ∷ []) (F.Place at ∷ F.Place t ∷ others) y).placed
+  assign_line None (a ∷ b ∷ []) (F.Place at ∷ F.Value from ∷ other ∷ others) y =
+      never (and_parts (same_value (type_in x is_value (body_of g) from) (if_type (known x).types b)) false
+      (and_parts (same_value (type_in x is_location (body_of g) at) (if_type (known x).types a))
+      (same_value (type_in x is_value (body_of g) from) (if_type (known x).types b) && false)
+      (applies x g rest to O.Assign how None (a ∷ b ∷ []) (F.Place at ∷ F.Value from ∷ other ∷ others) y).typed).1).1
+
+  -- ---- nothing is done
+
+  pub discard_line : (ty : Option ℕ) (of : List (Option ℕ)) (from : List From) → FollowedHere x labels g rest (L.Apply to O.Discard how ty of from)
+  discard_line None of from y =
+      let line = plain (L.Apply to O.Discard how None of from) in
+      let f = applies x g rest to O.Discard how None of from y in
+      all_settles x (starts g line rest) rest g.call.temps from
+      (λ xs. gives (scene_of (high x.table x.blocks (starts g line rest))) to (costs 1 (give nothing) >>= made_by false how))
+      (λ xs. silent_settles x g line rest y (with_value to g.call.temps nothing)
+      (none_temps x g line rest y to (no_type (value_type x g line rest y to) f.given)) 1 refl)
+  discard_line (Some ty) of from y = never (applies x g rest to O.Discard how (Some ty) of from y).row
+
+-- ---- a value is handed on
+
+module _ (x : Basis) (g : Both) (line : BlockLine) (rest : List BlockLine) (y : IsGood x (starts g line rest)) (to from : ℕ) where
+  -- what is there has bytes
+  passed_code : (v : Value) (ty : Ty) → Target x g line rest y to ty → has_shape v (shape_of (facts_in x.table) ty) ≡ true
+      → (r : ValueRead x g line rest y from v)
+      → passes (house g.call.site (of_value from)).bytes (house g.call.site (of_value to)) (house g.call.site (of_value from)) (code_next x g line rest y)
+      ≡ moves (house g.call.site (of_value to)) (house g.call.site (of_value from)) (code_next x g line rest y)
+  passed_code v ty t shaped r =
+      let some = bytes_some v (values_of_numbers v (shape_of (facts_in x.table) ty) t.numbers shaped) in
+      let size = r.read.size in
+      passes_there (house g.call.site (of_value from)).bytes (house g.call.site (of_value to)) (house g.call.site (of_value from)) (code_next x g line rest y)
+      (omega (arith, some, size))
+
+module _ (x : Basis) (labels : LabelsLead x) (g : Both) (rest : List BlockLine) (to from : ℕ) (how : Use) where
+  pub pass_line : (ty : ℕ) → FollowedHere x labels g rest (L.Pass to from how (Some ty))
+  pass_line ty y =
+      let line = plain (L.Pass to from how (Some ty)) in
+      let t : Ty = type_at (known x).types ty in
+      let f = and_parts (same_value (value_type x g line rest y to) (value_type x g line rest y from)) (same_value (value_type x g line rest y to) (Some t))
+      (fits_here x.table x.blocks (body_of g) line rest y.stands) in
+      let typed = value_type_by (value_type x g line rest y to) (Some t) t f.1 refl in
+      let from_typed = type_there (value_type x g line rest y to) (value_type x g line rest y from) t f.0 typed in
+      let s = target x g line rest y to t refl refl typed in
+      using_settles x (starts g line rest) rest (g.call.temps.values from)
+      (λ v. gives (scene_of (high x.table x.blocks (starts g line rest))) to (costs 1 (handed_by (facts_in x.table) how (Some t) v)))
+      (λ v e. let r = value_read x g line rest y from v t from_typed s.numbers e in
+      subst (λ b. Settles x (starts g line rest) rest (gives (scene_of (high x.table x.blocks (starts g line rest))) to
+      (costs 1 (moved v >>= made_by b how)))) (sym s.unhooked)
+      (moved_value x g line rest y to t v s r.1 (house g.call.site (of_value from)) true r.0.read (passed_code x g line rest y to from v t s r.1 r.0)
+      (1 + (bytes v + 0)) (omega arith)))
+
+  -- a number, whose type needn't stand in the line, or nothing at all
+  pub number_pass : FollowedHere x labels g rest (L.Pass to from how None)
+  number_pass y = by (value_type x g here rest y to) refl
     where
-      m : MayGet (shape_named (known x) is_location (body_of g).proc.places at) (shape_of_value from)
-      m = may_get_some (shape_named (known x) is_location (body_of g).proc.places at) (shape_of_value from)
-          (fits_here x.table x.blocks (body_of g) y.passed (L.Put at from) rest y.stands)
+      here : BlockLine
+      here = plain (L.Pass to from how None)
 
-      by : (there : Where) → g.call.temps.locations at ≡ Some there → Settles x (starts g (L.Put at from) rest) rest
-          (located there (λ l. using (g.call.temps.values from) (λ v. puts (scene_of (high x.table x.blocks (starts g (L.Put at from) rest))) l v)))
-      by (Within t path) e = tt
-      by (Located l) e =
-          using_settles x (starts g (L.Put at from) rest) rest (g.call.temps.values from)
-          (λ v. puts (scene_of (high x.table x.blocks (starts g (L.Put at from) rest))) l v)
-          (λ v f.
-          let led = y.hold.0.led at (Located l) e in
-          let look = (y.linked.0.named is_location at m.shape m.is).shape in
-          let shaped : has_shape v (looked x.table x.blocks g.call.site (of_location at)) ≡ true
-          = subst (λ s. has_shape v s ≡ true) (sym look) (value_wider v m.shape m.other m.takes_it
-          (value_shaped x g rest (L.Put at from) y from v m.other m.is_other f)) in
-          let p = pointed (L.Put at from) y (of_location at) led.address led.is_there
-          (location_address (house g.call.site (of_location at)).kind led.is_there.kind) led.holds in
-          stored_settles x g (L.Put at from) rest y l led.address (looked x.table x.blocks g.call.site (of_location at)) led.leads v shaped free
-          (stands_next x.table x.blocks (body_of g) y.passed (L.Put at from) rest y.stands) (house g.call.site (of_location at))
-          (house g.call.site (of_value from)) (Variable p.variable) p.spot
-          p.points (read_value x g rest (L.Put at from) y from v f) refl)
+      fit : (same_value (value_type x g here rest y to) (value_type x g here rest y from) ≡ true)
+          × (needs_no_type (facts_in x.table) (value_type x g here rest y to) ≡ true)
+      fit = and_parts (same_value (value_type x g here rest y to) (value_type x g here rest y from))
+          (needs_no_type (facts_in x.table) (value_type x g here rest y to)) (fits_here x.table x.blocks (body_of g) here rest y.stands)
 
-  -- ---- at a declared place
+      same : value_type x g here rest y to ≡ value_type x g here rest y from
+      same = same_type (value_type x g here rest y to) (value_type x g here rest y from) fit.0
 
-  pub store_line : (n : ℕ) (global : Bool) (from : ℕ) → FollowedHere x g rest (L.Store n global from)
-  store_line n false from y free =
-      using_settles x (starts g (L.Store n false from) rest) rest (g.call.temps.values from)
-      (λ v. at_place (scene_of (high x.table x.blocks (starts g (L.Store n false from) rest))) n false
-      (λ l. puts (scene_of (high x.table x.blocks (starts g (L.Store n false from) rest))) l v))
-      (λ v e. branch_settles x (starts g (L.Store n false from) rest) rest (g.has g.call.site.level n)
-      (puts (scene_of (high x.table x.blocks (starts g (L.Store n false from) rest))) (root_of (Standing g.call.site.level n) g.world) v) Fails
-      (λ h. by v e h (cases_Bool (is_own (house g.call.site (of_place n)).kind))) (λ h. tt))
-    where
-      m : MayGet (shape_named (known x) is_declared (body_of g).proc.places n) (shape_of_value from)
-      m = may_get_some (shape_named (known x) is_declared (body_of g).proc.places n) (shape_of_value from)
-          (fits_here x.table x.blocks (body_of g) y.passed (L.Store n false from) rest y.stands)
-
-      look : looked x.table x.blocks g.call.site (of_place n) ≡ m.shape
-      look = (y.linked.0.named is_declared n m.shape m.is).shape
-
-      stand : StandAt x.table x.blocks (body_of g) y.passed rest
-      stand = stands_next x.table x.blocks (body_of g) y.passed (L.Store n false from) rest y.stands
-
-      shaped : (v : Value) → g.call.temps.values from ≡ Some v → has_shape v (looked x.table x.blocks g.call.site (of_place n)) ≡ true
-      shaped v e = subst (λ s. has_shape v s ≡ true) (sym look) (value_wider v m.shape m.other m.takes_it
-          (value_shaped x g rest (L.Store n false from) y from v m.other m.is_other e))
-
-      by : (v : Value) → g.call.temps.values from ≡ Some v → g.has g.call.site.level n ≡ true
-          → (is_own (house g.call.site (of_place n)).kind ≡ true) ⊎ (is_own (house g.call.site (of_place n)).kind ≡ false)
-          → Settles x (starts g (L.Store n false from) rest) rest
-          (puts (scene_of (high x.table x.blocks (starts g (L.Store n false from) rest))) (root_of (Standing g.call.site.level n) g.world) v)
-      by v e h (inl own) =
-          let there = y.hold.0.known n h in
-          let slot = (y.hold.0.filled n h).own own in
-          let plain = own_plain (house g.call.site (of_place n)).kind own in
-          let r = read_value x g rest (L.Store n false from) y from v e in
-          let get = gets_moved x g (L.Store n false from) rest y (of_place n) there plain v (shaped v e) (code_behind x.table x.blocks (body_of g) rest)
-          (house g.call.site (of_value from)) r.word r.size r.small true r.source in
-          let good = good_place x g (L.Store n false from) rest y n there own v free stand
-          (code_behind x.table x.blocks (body_of g) (block_line.Plain (L.Store n false from) ∷ rest)) (code_behind x.table x.blocks (body_of g) rest)
-          (10 + 2 * bytes v) (shaped v e) plain get g.has (record { here = h; others = λ level k away. refl; more = λ level k f. f }) in
-          let world : store g.world (root_of (Standing g.call.site.level n) g.world) v ≡ with_slot g.world g.call.site.level n (Holds v)
-          = ap (λ l. store g.world l v) (ap (through (place_at g.call.site.level n)) slot.1) in
-          goes_on x (starts g (L.Store n false from) rest)
-          (changed g rest g.call.temps get.vars get.memory get.words get.awaits (store g.world (root_of (Standing g.call.site.level n) g.world) v) g.has) rest
-          (subst (λ w. IsGood x (changed g rest g.call.temps get.vars get.memory get.words get.awaits w g.has)) (sym world) good) get.steps (suc (bytes v))
-          (record (scene_of (high x.table x.blocks (starts g (L.Store n false from) rest)))
-          { world = store g.world (root_of (Standing g.call.site.level n) g.world) v })
-          get.runs get.some (let f = get.few in omega (arith, f)) refl
-      by v e h (inr no_own) =
-          let there = y.hold.0.known n h in
-          let s = (y.hold.0.filled n h).other no_own in
-          let p = pointed (L.Store n false from) y (of_place n) s.address there
-          (declared_address (house g.call.site (of_place n)).kind there.kind no_own) s.holds in
-          subst (λ l. Settles x (starts g (L.Store n false from) rest) rest
-          (puts (scene_of (high x.table x.blocks (starts g (L.Store n false from) rest))) l v))
-          (sym (ap (through (place_at g.call.site.level n)) s.slot))
-          (stored_settles x g (L.Store n false from) rest y s.location s.address (looked x.table x.blocks g.call.site (of_place n)) s.leads v
-          (shaped v e) free stand
-          (house g.call.site (of_place n)) (house g.call.site (of_value from)) (Variable p.variable) p.spot p.points
-          (read_value x g rest (L.Store n false from) y from v e) refl)
-  store_line n true from y free =
-      using_settles x (starts g (L.Store n true from) rest) rest (g.call.temps.values from)
-      (λ v. at_place (scene_of (high x.table x.blocks (starts g (L.Store n true from) rest))) n true
-      (λ l. puts (scene_of (high x.table x.blocks (starts g (L.Store n true from) rest))) l v))
-      (λ v e. branch_settles x (starts g (L.Store n true from) rest) rest (g.has 0 n)
-      (puts (scene_of (high x.table x.blocks (starts g (L.Store n true from) rest))) (root_of (Standing 0 n) g.world) v) Fails
-      (λ h. by v e (global_root x g (L.Store n true from) rest y n m.shape m.is h)) (λ h. tt))
-    where
-      m : MayGet (shape_named (known x) is_global (globals_of x.table x.blocks) n) (shape_of_value from)
-      m = may_get_some (shape_named (known x) is_global (globals_of x.table x.blocks) n) (shape_of_value from)
-          (fits_here x.table x.blocks (body_of g) y.passed (L.Store n true from) rest y.stands)
-
-      by : (v : Value) → g.call.temps.values from ≡ Some v → GlobalRoot x g (L.Store n true from) rest y n m.shape → Settles x
-          (starts g (L.Store n true from) rest) rest
-          (puts (scene_of (high x.table x.blocks (starts g (L.Store n true from) rest))) (root_of (Standing 0 n) g.world) v)
-      by v e r =
-          let address : ℕ = own_data_at + r.global.datum in
-          let shaped = value_wider v m.shape m.other m.takes_it (value_shaped x g rest (L.Store n true from) y from v m.other m.is_other e) in
-          let from_place : FromPlace x.table x.blocks (all_sites x g (L.Store n true from) rest y) g.has (place_at 0 n) address m.shape = record {
-            site = r.start.site;
-            among = r.start.among;
-            number = n;
-            base = ap (λ l. Standing l n) (sym r.start.level);
-            filled = r.filled;
-            there = r.there;
-            home = r.home;
-            offset = 0;
-            path = (refl, r.global.look);
-            address = (let f : address_of r.start.site.base (house r.start.site (of_place n)).home ≡ own_data_at + r.global.datum = ap
-                (address_of r.start.site.base) r.global.home in omega (arith, f));
-          } in
-          let spot : spot_of (place (around x.table x.blocks (body_of g)) n true) ≡ Lies (Static r.global.datum)
-          = ap spot_of r.global.same ∙ spot_memory (house r.start.site (of_place n)) r.root.item.plain r.home ∙ ap Lies r.global.home in
-          subst (λ l. Settles x (starts g (L.Store n true from) rest) rest (puts (scene_of (high x.table x.blocks (starts g (L.Store n true from) rest))) l v))
-          (sym (subst (λ l. root_of (Standing l n) g.world ≡ place_at l n) r.start.level (ap (through (place_at r.start.site.level n)) r.root.slot)))
-          (stored_settles x g (L.Store n true from) rest y (place_at 0 n) address m.shape from_place v shaped free
-          (stands_next x.table x.blocks (body_of g) y.passed (L.Store n true from) rest y.stands) (place (around x.table x.blocks (body_of g)) n true)
-          (house g.call.site (of_value from))
-          (Static r.global.datum) spot refl (read_value x g rest (L.Store n true from) y from v e) refl)
+      by : (o : Option Ty) → value_type x g here rest y to ≡ o
+          → Settles x (starts g here rest) rest (block_does (known x) (scene_of (high x.table x.blocks (starts g here rest))) here)
+      by None none =
+          using_settles x (starts g here rest) rest (g.call.temps.values from)
+          (λ v. gives (scene_of (high x.table x.blocks (starts g here rest))) to (costs 1 (give v)))
+          (λ v e. silent_settles x g here rest y (with_value to g.call.temps v) (nothing_temps x g here rest y to v (no_target x g here rest y to none)) 1
+          (ap (λ h. passes h.bytes (house g.call.site (of_value to)) h (code_next x g here rest y)) (unnamed_value x g here rest y from (sym same ∙ none))))
+      by (Some t) typed =
+          let n = ordinal_shape (facts_in x.table) t (sym (ap (needs_no_type (facts_in x.table)) typed) ∙ fit.1) in
+          let s = target x g here rest y to t refl refl typed in
+          using_settles x (starts g here rest) rest (g.call.temps.values from)
+          (λ v. gives (scene_of (high x.table x.blocks (starts g here rest))) to (costs 1 (give v)))
+          (λ v e. let r = value_read x g here rest y from v t (sym same ∙ typed) s.numbers e in
+          moved_word x g here rest y to t v s r.1 (ap is_one_word n.1) (house g.call.site (of_value from)) true r.0.read
+          (passed_code x g here rest y to from v t s r.1 r.0))

@@ -1,130 +1,100 @@
--- What the routine does that lets words trade places.
-use Rattle.std.proofs.Common.{◌≡◌, ℕ, zero, suc, ◌+◌, ◌*◌, ◌^◌, ◌<◌, List, [], ◌∷◌, Some, Ok, true, false, sym, ap, subst}
-use Rattle.std.proofs.Common.{◌∙◌, arith}
-use Rattle.std.specs.Prelude.{◌==◌, not}
-use Rattle.std.proofs.lemmas.Bool.{eq-eqb, ne_eqb}
-use Rattle.rv32_isa.specs.declared.micro_op.Size.TheVariants.{Word}
+-- What it does to call the routine by which words at two addresses trade places.
+use Rattle.std.proofs.Common.{◌≡◌, ℕ, suc, ◌+◌, ◌*◌, ◌^◌, ◌<◌, ◌≤◌, List, ◌∷◌, refl, arith}
 use Rattle.rv32_isa.specs.Machine.{Lives}
-use Rattle.mid_code.specs.declared.word.WordOperation.TheVariants.{Add}
-use Rattle.mid_code.specs.declared.word.Test.TheVariants as test
-use Rattle.mid_code.specs.declared.word.WordInstr.{WordInstr}
-use Rattle.mid_code.specs.declared.word.WordInstr.TheVariants.{Label, Load, Store, Compute, Branch, Return}
-use Rattle.mid_code.specs.declared.word.WordProc.{WordProc}
-use Rattle.mid_code.specs.Memory.{Memory, number_at, with_number}
-use Rattle.mid_code.specs.Words.{computed, Vars, put, from_label}
-use Rattle.word_lowering.specs.declared.routines.TheConstants.{SWAP}
-use Rattle.word_lowering.specs.Routines.{routine, swap_lines}
-use Rattle.word_lowering.proofs.Cells.{MemoryLaw, Sized}
-use Rattle.word_lowering.proofs.Areas.{Cell, Area, put_cell, word_in}
-use Rattle.word_lowering.proofs.Runs.{Runs, then_runs, Within, at, run_label, run_load, run_store, run_compute, run_past, run_off}
-use Rattle.word_lowering.proofs.CopyRuns.{got, got_sum}
-use Rattle.word_lowering.proofs.Traded.{traded, with_traded, area_kept, pair, pair_cells}
+use Rattle.word_code.specs.declared.routine.TheConstants.{SWAP}
+use Rattle.word_code.specs.declared.word.WordInstr.{WordInstr}
+use Rattle.word_code.specs.declared.word.WordInstr.TheVariants.{Constant, Argument, Call}
+use Rattle.word_code.specs.declared.word.WordProc.{WordProc}
+use Rattle.word_code.specs.Memory.{Memory}
+use Rattle.word_code.specs.Words.{Vars, no_words, put}
+use Rattle.word_code.specs.Routines.{HasData}
+use Rattle.word_code.specs.RoutineTable.{Area, Separate, Moving}
+use Rattle.word_code.proofs.ForCallers.{MemoryLaw, Sized, Runs, then_runs, Within, at, run_constant, run_argument, got}
+use Rattle.word_lowering.specs.declared.homes.TheConstants.{FIRST, THIRD}
+use Rattle.word_lowering.specs.declared.homes.Home.{Home}
+use Rattle.word_lowering.specs.declared.homes.Home.TheVariants.{Variable, Placed, Static}
+use Rattle.word_lowering.specs.LineCode.{word_argument, swap_code}
+use Rattle.word_lowering.proofs.Moves.{IsHigh, address_runs, all_same, points_same, same_first, same_more, same_third}
+use Rattle.word_lowering.proofs.OrdinalRuns.{AllSame}
+use Rattle.word_lowering.proofs.RoutineCalls.{Reaches, awaiting}
+use Rattle.word_lowering.proofs.RoutineMemory.{Trade, swapped_trade}
+use Rattle.word_lowering.proofs.Scenes.{Points}
 
--- the lines from the label on
-abbrev pub swap_loop : List WordInstr
-swap_loop =
-    Label 0
-    ∷ Load 4 0 Word
-    ∷ Load 5 1 Word
-    ∷ Store 0 5 Word
-    ∷ Store 1 4 Word
-    ∷ Compute 0 Add 0 3
-    ∷ Compute 1 Add 1 3
-    ∷ Branch test.Unequal 0 2 0
-    ∷ Return 3
-    ∷ []
+module _ (law : MemoryLaw) (live : Lives) (procs : List WordProc) (c : Within) (from_first : c.proc.data_from ≡ 0) (m : Memory) where
+  -- ---- the address of a home becomes an argument
 
--- the lines behind the sums
-abbrev pub swap_test : List WordInstr
-swap_test = Branch test.Unequal 0 2 0 ∷ Return 3 ∷ []
-
-module _ (law : MemoryLaw) (live : Lives) (procs : List WordProc) (c : Within) (is : c.proc ≡ routine SWAP 3 6 swap_lines) (g : Vars) where
-  record Turn (m : Memory) (left right end : ℕ) (v : Vars) : Type 0 where
-    vars : Vars
-    onto : vars 0 ≡ Some (left + 4)
-    there : vars 1 ≡ Some (right + 4)
-    last : vars 2 ≡ Some end
-    four : vars 3 ≡ Some 4
-    runs : Runs live procs 7 (at c m swap_loop v g) (at c (traded m left right) swap_test vars g)
-
-  turn : (m : Memory) (left right end : ℕ) (v : Vars) → v 0 ≡ Some left → v 1 ≡ Some right → v 2 ≡ Some end → v 3 ≡ Some 4
-      → left + 4 < 2 ^ 32 → right + 4 < 2 ^ 32 → Sized m → Cell m left → Cell m right → Turn m left right end v
-  turn m left right end v e0 e1 e2 e3 small_left small_right sized here there =
-      let a : ℕ = word_in (number_at m left Word) in
-      let b : ℕ = word_in (number_at m right Word) in
-      let is_a : here.word ≡ a = sym (ap word_in here.reads) in
-      let is_b : there.word ≡ b = sym (ap word_in there.reads) in
-      let small_a : a < 2 ^ 32 = subst (λ x. x < 2 ^ 32) is_a here.small in
-      let small_b : b < 2 ^ 32 = subst (λ x. x < 2 ^ 32) is_b there.small in
-      let read_a : number_at m left Word ≡ Ok a = here.reads ∙ ap Ok is_a in
-      let read_b : number_at m right Word ≡ Ok b = there.reads ∙ ap Ok is_b in
-      let m1 : Memory = with_number m left Word b in
-      let m2 : Memory = with_number m1 right Word a in
-      let v1 : Vars = put v 4 a in
-      let v2 : Vars = put v1 5 b in
-      let v3 : Vars = put v2 0 (computed Add left 4) in
-      let v4 : Vars = put v3 1 (computed Add right 4) in
-      let r1 : Runs live procs 1 (at c m swap_loop v g)
-      (at c m (Load 4 0 Word ∷ Load 5 1 Word ∷ Store 0 5 Word ∷ Store 1 4 Word ∷ Compute 0 Add 0 3 ∷ Compute 1 Add 1 3 ∷ swap_test) v g)
-      = run_label live procs c m _ v g 0 in
-      let r2 : Runs live procs 1
-      (at c m (Load 4 0 Word ∷ Load 5 1 Word ∷ Store 0 5 Word ∷ Store 1 4 Word ∷ Compute 0 Add 0 3 ∷ Compute 1 Add 1 3 ∷ swap_test) v g)
-      (at c m (Load 5 1 Word ∷ Store 0 5 Word ∷ Store 1 4 Word ∷ Compute 0 Add 0 3 ∷ Compute 1 Add 1 3 ∷ swap_test) v1 g)
-      = run_load live procs c m _ v g 4 0 Word e0 read_a in
-      let r3 : Runs live procs 1 (at c m (Load 5 1 Word ∷ Store 0 5 Word ∷ Store 1 4 Word ∷ Compute 0 Add 0 3 ∷ Compute 1 Add 1 3 ∷ swap_test) v1 g)
-      (at c m (Store 0 5 Word ∷ Store 1 4 Word ∷ Compute 0 Add 0 3 ∷ Compute 1 Add 1 3 ∷ swap_test) v2 g)
-      = run_load live procs c m _ v1 g 5 1 Word e1 read_b in
-      let r4 : Runs live procs 1 (at c m (Store 0 5 Word ∷ Store 1 4 Word ∷ Compute 0 Add 0 3 ∷ Compute 1 Add 1 3 ∷ swap_test) v2 g)
-      (at c m1 (Store 1 4 Word ∷ Compute 0 Add 0 3 ∷ Compute 1 Add 1 3 ∷ swap_test) v2 g)
-      = run_store live procs c m _ v2 g 0 5 Word e0 (got b small_b) here.may in
-      let later : Cell m1 right = put_cell law m left b sized here small_b right there in
-      let r5 : Runs live procs 1 (at c m1 (Store 1 4 Word ∷ Compute 0 Add 0 3 ∷ Compute 1 Add 1 3 ∷ swap_test) v2 g)
-      (at c m2 (Compute 0 Add 0 3 ∷ Compute 1 Add 1 3 ∷ swap_test) v2 g)
-      = run_store live procs c m1 _ v2 g 1 4 Word e1 (got a small_a) later.may in
-      let r6 : Runs live procs 1 (at c m2 (Compute 0 Add 0 3 ∷ Compute 1 Add 1 3 ∷ swap_test) v2 g) (at c m2 (Compute 1 Add 1 3 ∷ swap_test) v3 g)
-      = run_compute live procs c m2 _ v2 g 0 Add 0 3 e0 e3 in
-      let r7 : Runs live procs 1 (at c m2 (Compute 1 Add 1 3 ∷ swap_test) v3 g) (at c m2 swap_test v4 g)
-      = run_compute live procs c m2 _ v3 g 1 Add 1 3 e1 e3 in
-      record {
-        vars = v4;
-        onto = got_sum left 4 small_left;
-        there = got_sum right 4 small_right;
-        last = e2;
-        four = e3;
-        runs = then_runs live procs (then_runs live procs (then_runs live procs r1 r2) (then_runs live procs r3 r4))
-            (then_runs live procs r5 (then_runs live procs r6 r7));
-      }
-
-  -- so many words trade places
-  pub record Swapped (words : ℕ) (m : Memory) (left right : ℕ) (v : Vars) : Type 0 where
+  pub record WordGiven (k : List WordInstr) (v g : Vars) (index : ℕ) (home : Home) (a : ℕ) : Type 0 where
     pub vars : Vars
-    pub four : vars 3 ≡ Some 4
-    pub runs : Runs live procs (8 * words) (at c m swap_loop v g) (at c (with_traded words m left right) (Return 3 ∷ []) vars g)
+    pub same : AllSame v vars
+    pub steps : ℕ
+    pub few : steps ≤ 2
+    pub runs : Runs live procs steps (at c m (word_argument index home k) v g) (at c m k vars (put g index a))
 
-  pub swaps : (n : ℕ) (m : Memory) (left right end : ℕ) (v : Vars) → v 0 ≡ Some left → v 1 ≡ Some right → v 2 ≡ Some end → v 3 ≡ Some 4
-      → end ≡ left + 4 * suc n → end < 2 ^ 32 → right + 4 * suc n < 2 ^ 32 → Sized m → Area m left (suc n) → Area m right (suc n)
-      → Swapped (suc n) m left right v
-  swaps zero m left right end v e0 e1 e2 e3 far small_left small_right sized here there =
-      let t = turn m left right end v e0 e1 e2 e3 (omega arith) (omega arith) sized here.0 there.0 in
-      let over : not (left + 4 == end) ≡ false = ap not (eq-eqb (left + 4) end (omega arith)) in
+  module _ (k : List WordInstr) (v g : Vars) (index a : ℕ) (small : a < 2 ^ 32) where
+    -- by FIRST
+    by_first : (home : Home) → Points c.base v home a
+        → Runs live procs 1 (at c m (word_argument index home k) v g) (at c m (Argument index FIRST ∷ k) (put v FIRST a) g)
+        → WordGiven k v g index home a
+    by_first home p front = record {
+      vars = put v FIRST a;
+      same = same_first v a;
+      steps = 2;
+      few = omega arith;
+      runs = then_runs live procs front (run_argument live procs c m k (put v FIRST a) g index FIRST (got a small));
+    }
+
+    pub word_given : (home : Home) → Points c.base v home a → WordGiven k v g index home a
+    word_given (Variable u) p =
+        record { vars = v; same = all_same v; steps = 1; few = omega arith; runs = run_argument live procs c m k v g index u p }
+    word_given (Placed n) p = by_first (Placed n) p (address_runs law live procs c from_first g m (Argument index FIRST ∷ k) v FIRST (Placed n) a p)
+    word_given (Static n) p = by_first (Static n) p (address_runs law live procs c from_first g m (Argument index FIRST ∷ k) v FIRST (Static n) a p)
+
+  -- ---- words trade places
+
+  pub record Swapped (k : List WordInstr) (n : ℕ) (left right : Home) (a b : ℕ) (v g : Vars) : Type 0 where
+    pub memory : Memory
+    pub vars : Vars
+    pub same : AllSame v vars
+    pub is : Trade m memory a b (4 * suc n)
+    pub steps : ℕ
+    pub some : 1 ≤ steps
+    pub few : steps ≤ 11 + 8 * suc n
+    pub runs : Runs live procs steps (at c m (swap_code left right (4 * suc n) k) v g) (at (awaiting c FIRST) memory k vars no_words)
+
+  pub swap_called : (own : ℕ) (statics : List ℕ) → Reaches live procs own statics → (k : List WordInstr) (n : ℕ) (left right : Home) (a b : ℕ) (v g : Vars)
+      → Points c.base v left a → IsHigh right → Points c.base v right b → a + 4 * suc n < 2 ^ 32 → b + 4 * suc n < 2 ^ 32 → Sized m
+      → HasData own statics m → Area m a (suc n) → Area m b (suc n) → Separate a b (4 * suc n) → Swapped k n left right a b v g
+  swap_called own statics reaches k n left right a b v g at_left high at_right small_a small_b sized data_there there here apart =
+      let bytes : ℕ = 4 * suc n in
+      let g1 : Vars = put g 0 a in
+      let g2 : Vars = put g1 1 b in
+      let g3 : Vars = put g2 2 bytes in
+      let small : bytes < 2 ^ 32 = omega (arith, small_a) in
+      let l4 : List WordInstr = Call FIRST SWAP ∷ k in
+      let l3 : List WordInstr = Argument 2 THIRD ∷ l4 in
+      let l2 : List WordInstr = Constant THIRD bytes ∷ l3 in
+      let l1 : List WordInstr = word_argument 1 right l2 in
+      let r1 = word_given l1 v g 0 a (omega (arith, small_a)) left at_left in
+      let v1 : Vars = r1.vars in
+      let r2 = word_given l2 v1 g1 1 b (omega (arith, small_b)) right (points_same law live procs c from_first g v v1 right b high r1.same at_right) in
+      let v2 : Vars = r2.vars in
+      let v3 : Vars = put v2 THIRD bytes in
+      let r3 = run_constant live procs c m l3 v2 g2 THIRD bytes in
+      let r4 = run_argument live procs c m l4 v3 g2 2 THIRD (got bytes small) in
+      let u : Moving = record { to = a; from = b; behind = n } in
+      let called = reaches.swaps u (at c m l4 v3 g3) FIRST k
+      (record { next = refl; given = (got a (omega (arith, small_a)), (got b (omega (arith, small_b)), (got bytes small, tt))) }) sized data_there
+      (there, here, apart) in
       record {
-        vars = t.vars;
-        four = t.four;
-        runs = then_runs live procs t.runs (run_past live procs c _ (Return 3 ∷ []) t.vars g test.Unequal 0 2 0 t.onto t.last over);
-      }
-  swaps (suc n) m left right end v e0 e1 e2 e3 far small_left small_right sized here there =
-      let t = turn m left right end v e0 e1 e2 e3 (omega arith) (omega arith) sized here.0 there.0 in
-      let m1 : Memory = traded m left right in
-      let p = pair law m left right sized here.0 there.0 in
-      let cells : (b : ℕ) → Cell m b → Cell m1 b = pair_cells law m left right p in
-      let again : not (left + 4 == end) ≡ true = ap not (ne_eqb (left + 4) end (λ e. omega arith)) in
-      let stands : from_label 0 c.proc.lines ≡ Some swap_loop = ap (λ p. from_label 0 p.lines) is in
-      let rest = swaps n m1 (left + 4) (right + 4) end t.vars t.onto t.there t.last t.four (omega arith) small_left (omega arith) p.second.sized
-      (area_kept m m1 cells (left + 4) (suc n) here.1) (area_kept m m1 cells (right + 4) (suc n) there.1) in
-      record {
-        vars = rest.vars;
-        four = rest.four;
-        runs = subst (λ k. Runs live procs k (at c m swap_loop v g) (at c (with_traded (suc (suc n)) m left right) (Return 3 ∷ []) rest.vars g))
-            (omega arith) (then_runs live procs (then_runs live procs t.runs
-            (run_off live procs c m1 (Return 3 ∷ []) t.vars g test.Unequal 0 2 0 swap_loop t.onto t.last again stands)) rest.runs);
+        memory = called.memory;
+        vars = put v3 FIRST called.word;
+        same = same_more v v1 (put v3 FIRST called.word) r1.same
+            (same_more v1 v2 (put v3 FIRST called.word) r2.same (same_more v2 v3 (put v3 FIRST called.word) (same_third v2 bytes)
+            (same_first v3 called.word)));
+        is = swapped_trade law u m called.memory sized there here called.leaves;
+        steps = (r1.steps + r2.steps) + ((1 + 1) + called.lines);
+        some = omega arith;
+        few = (let p = r1.few in let q = r2.few in let f = called.few in omega (arith, p, q, f));
+        runs = then_runs live procs (then_runs live procs r1.runs r2.runs)
+            (then_runs live procs (then_runs live procs r3 r4) called.steps);
       }

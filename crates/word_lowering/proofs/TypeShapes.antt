@@ -1,425 +1,348 @@
--- What places of a type look like, by its entry in the table: how many bytes they have, and whether they are one word.
-use Rattle.std.proofs.Common.{◌≡◌, ℕ, zero, suc, ◌+◌, ◌*◌, ◌≤◌, ◌<◌, List, [], ◌∷◌, length, Option, Some, None, Bool}
+-- What values of a type look like, by its entry in the table, distinct types looked through: how many bytes they have, whether they are one word,
+-- and where their parts are.
+use Rattle.std.proofs.Common.{◌≡◌, ◌⊎◌, inl, inr, ℕ, zero, suc, ◌+◌, ◌*◌, ◌≤◌, ◌<◌, List, [], ◌∷◌, length, take, Option, Some, None, Bool}
 use Rattle.std.proofs.Common.{true, false, refl, sym, ap, ap₂, subst, ◌∙◌, arith}
 use Rattle.std.specs.Prelude.{slice_get}
-use Rattle.std.proofs.lemmas.Bool.{or_parts, true≢false, false≢true}
+use Rattle.std.proofs.lemmas.Bool.{cases_lt}
+use Rattle.std.proofs.lemmas.Option.{slice_get_past}
 use Rattle.arc_base.specs.declared.place.Place.{Place}
 use Rattle.nim_types.specs.declared.types.TheConstants.{WORD_BYTES}
 use Rattle.nim_types.specs.declared.types.TypeDef.{TypeDef}
 use Rattle.nim_types.specs.declared.types.TypeDef.TheVariants as D
-use Rattle.nim_types.specs.Types.{Ty, int, bool, char, text, sequence, array, tuple, parameter, enum, object, distinct, ref, exception, Tys, no_types, types}
-use Rattle.nim_types.specs.Types.{Key, Field, Fact, members, fields, base, below, Facts, fact_of, if_same, same}
-use Rattle.nim_types.specs.Forms.{Form, row, parts, wrapped, Forms, forms, or_word, size, size_all, hooked, hooked_any, types_of}
-use Rattle.nim_types.specs.Forms.{form_in, forms_in, form_by, form_within, form_of, IsForm, of_text, of_sequence, of_any_sequence, of_array}
-use Rattle.nim_types.specs.Forms.{of_distinct, HasForm}
-use Rattle.nim_types.specs.Table.{type_at, key_of, meant, types_in, fields_with, fields_fact, said_of, and_said, facts_over, facts_in, IsWithin}
-use Rattle.nim_types.specs.Table.{WithinOnto, IsTable}
+use Rattle.nim_types.specs.Types as type
+use Rattle.nim_types.specs.Types.{Ty, Tys, Key, Field, Fact, members, fields, base, below, Facts, fact_of}
+use Rattle.nim_types.specs.Forms.{Form, plain, Forms, object_form, or_word, size, size_all, types_of, HasForm, IsForm, of_int, of_bool, of_char, of_text}
+use Rattle.nim_types.specs.Forms.{of_sequence, of_any_sequence, of_array, of_tuple, of_parameter, of_enum, of_object, of_distinct, of_ref, of_exception}
+use Rattle.nim_types.specs.Forms.{AreForms, none_of, more_of}
+use Rattle.nim_types.specs.Table.{type_at, types_at, key_of, types_in, fields_with, fields_fact, facts_in, IsWithin, WithinOnto, IsTable}
 use Rattle.nim_types.specs.Entries.{meant_at, said_at}
-use Rattle.nim_types.proofs.ForCallers.{the_form, entry_type, entry_said}
-use Rattle.mid_code.specs.Shapes.{Shape, Shapes, shape_in, shapes_in, shape_by, shape_within, shape_of}
-use Rattle.mid_code.specs.Shapes as look
-use Rattle.mid_code.proofs.ForCallers.{shape_bytes, shapes_bytes}
-use Rattle.word_lowering.specs.Stored.{bytes_at, base_or, base_within, entry_at, is_word, count_in, element_bytes, HaveForms}
+use Rattle.nim_types.proofs.ForCallers.{the_form, by_entry, said_by, fields_types}
+use Rattle.nim_program.specs.Kinds.{declared_kind}
+use Rattle.flat_code.specs.Shapes.{Shape, number, reference, block, elements, row, parts, Shapes, object_shape, shape_by, shape_within, shape_of}
+use Rattle.flat_code.proofs.ForCallers.{sorted_table, shapes_of, Matches, shaped}
+use Rattle.word_lowering.specs.Stored.{bytes_at, bytes_all, base_or, base_within, entry_at, is_word, parts_in, part_at, count_in, element_bytes, HaveForms}
 use Rattle.word_lowering.proofs.Options.{none_some, some_same}
+use Rattle.word_lowering.proofs.ShapeFacts.{never, shape_bytes, shapes_bytes, of_numbers}
+use Rattle.word_lowering.proofs.ShapePaths.{shapes_before}
 use Rattle.word_lowering.proofs.Sites.{is_one_word}
 
--- ---- bytes, where nothing is hooked
+-- ---- entries
 
--- of an enum nothing is said but its members
-abbrev pub IsOfEnum : Fact → Type 0
-IsOfEnum (members names) = Unit {0}
-IsOfEnum (fields all own_hooks) = ⊥
-IsOfEnum (base t) = ⊥
-IsOfEnum (below t) = ⊥
+-- what stands in an entry is before it
+pub within_at : (n : ℕ) (ds : List TypeDef) (i : ℕ) (d : TypeDef) → WithinOnto n ds → slice_get ds i ≡ Some d → IsWithin (n + i) d
+within_at n [] i d w h = absurd (none_some d h)
+within_at n (e ∷ ds) zero d w h =
+    let same : n ≡ n + 0 = omega arith in subst (λ m. IsWithin m d) same (subst (λ z. IsWithin n z) (some_same e d h) w.0)
+within_at n (e ∷ ds) (suc i) d w h =
+    let same : suc n + i ≡ n + suc i = omega arith in subst (λ m. IsWithin m d) same (within_at (suc n) ds i d w.1 h)
 
-no_times : (a b : ℕ) → 0 * a ≡ 0 * b
-no_times a b = omega arith
+-- the base of a distinct type
+pub base_below : (table : List TypeDef) → IsTable table → (i : ℕ) (name : List ℕ) (at : Place) (j : ℕ)
+    → slice_get table i ≡ Some (D.Distinct name at j) → j < i
+base_below table is i name at j e = let h : j < 0 + i = within_at 0 table i (D.Distinct name at j) is.within e in omega (arith, h)
 
-module _ (form : Ty → Form) (shape : Ty → Shape) (known : (ty : Ty) → hooked (form ty) ≡ false → shape_bytes (shape ty) ≡ size (form ty))
-    (enums : (key : Key) → shape_bytes (shape (enum key)) ≡ WORD_BYTES) where
-  mutual
-    bytes_in : (ty : Ty) → hooked (form_in form ty) ≡ false → shape_bytes (shape_in shape ty) ≡ size (form_in form ty)
-    bytes_in int h = refl
-    bytes_in bool h = refl
-    bytes_in char h = refl
-    bytes_in text h = absurd (true≢false h)
-    bytes_in (sequence t) h = absurd (true≢false h)
-    bytes_in (array zero t) h = ap or_word (no_times (shape_bytes (shape_in shape t)) (size (form_in form t)))
-    bytes_in (array (suc n) t) h = ap (λ b. or_word (suc n * b)) (bytes_in t h)
-    bytes_in (tuple names ts) h = ap or_word (all_in ts h)
-    bytes_in (parameter n) h = refl
-    bytes_in (enum key) h = enums key
-    bytes_in (object key arguments) h = known (object key arguments) h
-    bytes_in (distinct key) h = known (distinct key) h
-    bytes_in (ref name t) h = refl
-    bytes_in (exception key) h = refl
+-- no distinct type
+abbrev pub Stays : Option TypeDef → Type 0
+Stays o = (go : ℕ → ℕ) (i : ℕ) → base_or go i o ≡ i
 
-    all_in : (ts : Tys) → hooked_any (forms_in form ts) ≡ false → shapes_bytes (shapes_in shape ts) ≡ size_all (forms_in form ts)
-    all_in no_types h = refl
-    all_in (types t ts) h =
-        let p = or_parts (hooked (form_in form t)) (hooked_any (forms_in form ts)) h in ap₂ (λ a b. a + b) (bytes_in t p.0) (all_in ts p.1)
+pub stays_not : {A : Type 0} (name : List ℕ) (at : Place) (j : ℕ) → Stays (Some (D.Distinct name at j)) → A
+stays_not name at j s = let e : 1 ≡ 0 = s (λ k. 1) 0 in absurd (omega (arith, e))
 
-  bytes_by : (fact : Option Fact) → hooked (form_by form fact) ≡ false → shape_bytes (shape_by shape fact) ≡ size (form_by form fact)
-  bytes_by None h = refl
-  bytes_by (Some (members names)) h = refl
-  bytes_by (Some (fields all true)) h = absurd (true≢false h)
-  bytes_by (Some (fields all false)) h = ap or_word (all_in (types_of all) h)
-  bytes_by (Some (base t)) h = bytes_in t h
-  bytes_by (Some (below t)) h = refl
+pub data Looked : Option TypeDef → Type 0 where
+  a_distinct : (name : List ℕ) (at : Place) (j : ℕ) → Looked (Some (D.Distinct name at j))
+  another : (o : Option TypeDef) → Stays o → Looked o
 
--- an enum is one word
-enum_by : (shape : Ty → Shape) (fact : Option Fact) → ((f : Fact) → fact ≡ Some f → IsOfEnum f) → shape_bytes (shape_by shape fact) ≡ WORD_BYTES
-enum_by shape None h = refl
-enum_by shape (Some (members names)) h = refl
-enum_by shape (Some (fields all own_hooks)) h = absurd (h (fields all own_hooks) refl)
-enum_by shape (Some (base t)) h = absurd (h (base t) refl)
-enum_by shape (Some (below t)) h = refl
+pub look : (o : Option TypeDef) → Looked o
+look None = another None (λ go i. refl)
+look (Some D.Int) = another (Some D.Int) (λ go i. refl)
+look (Some D.Bool) = another (Some D.Bool) (λ go i. refl)
+look (Some D.Char) = another (Some D.Char) (λ go i. refl)
+look (Some D.Text) = another (Some D.Text) (λ go i. refl)
+look (Some (D.Seq j)) = another (Some (D.Seq j)) (λ go i. refl)
+look (Some (D.Param n)) = another (Some (D.Param n)) (λ go i. refl)
+look (Some (D.Enum name at all)) = another (Some (D.Enum name at all)) (λ go i. refl)
+look (Some (D.Array n j)) = another (Some (D.Array n j)) (λ go i. refl)
+look (Some (D.Tuple names is)) = another (Some (D.Tuple names is)) (λ go i. refl)
+look (Some (D.Object name at is all own tys)) = another (Some (D.Object name at is all own tys)) (λ go i. refl)
+look (Some (D.Distinct name at j)) = a_distinct name at j
+look (Some (D.Ref name j)) = another (Some (D.Ref name j)) (λ go i. refl)
+look (Some (D.Exception name at parent)) = another (Some (D.Exception name at parent)) (λ go i. refl)
 
-enum_first : (b : Bool) (all : List (List ℕ)) (rest : Option Fact) (fact : Fact) → if_same b (members all) rest ≡ Some fact
-    → (rest ≡ Some fact → IsOfEnum fact) → IsOfEnum fact
-enum_first true all rest fact e h = subst IsOfEnum (some_same (members all) fact e) tt
-enum_first false all rest fact e h = h e
+-- an object's declaration is known
+object_said : {facts : Facts} (key : Key) (arguments : Tys) (f : Form) → IsForm true facts (type.object key arguments) f
+    → (all : List Field) × (own : Bool) × (fact_of facts (type.object key arguments) ≡ Some (fields all own))
+object_said key arguments f (of_object {all = all} {own_hooks = own} e a) = (all, own, e)
 
-pub enum_facts : (ts : List Ty) (ds : List TypeDef) (key : Key) (fact : Fact) → fact_of (facts_over ts ds) (enum key) ≡ Some fact → IsOfEnum fact
-enum_facts ts [] key fact e = absurd (none_some fact e)
-enum_facts ts (D.Int ∷ ds) key fact e = enum_facts ts ds key fact e
-enum_facts ts (D.Bool ∷ ds) key fact e = enum_facts ts ds key fact e
-enum_facts ts (D.Char ∷ ds) key fact e = enum_facts ts ds key fact e
-enum_facts ts (D.Text ∷ ds) key fact e = enum_facts ts ds key fact e
-enum_facts ts (D.Seq i ∷ ds) key fact e = enum_facts ts ds key fact e
-enum_facts ts (D.Param n ∷ ds) key fact e = enum_facts ts ds key fact e
-enum_facts ts (D.Enum name at all ∷ ds) key fact e =
-    enum_first (same (enum (key_of name at)) (enum key)) all (fact_of (facts_over ts ds) (enum key)) fact e (enum_facts ts ds key fact)
-enum_facts ts (D.Array n i ∷ ds) key fact e = enum_facts ts ds key fact e
-enum_facts ts (D.Tuple names is ∷ ds) key fact e = enum_facts ts ds key fact e
-enum_facts ts (D.Object name at is all own_hooks tys ∷ ds) key fact e = by (fields_with ts all tys) e (enum_facts ts ds key fact)
-  where
-    by : (o : Option (List Field)) → fact_of (and_said (meant ts (D.Object name at is all own_hooks tys)) (fields_fact o own_hooks) (facts_over ts ds))
-        (enum key) ≡ Some fact
-        → (fact_of (facts_over ts ds) (enum key) ≡ Some fact → IsOfEnum fact) → IsOfEnum fact
-    by None e h = h e
-    by (Some fs) e h = h e
-enum_facts ts (D.Distinct name at i ∷ ds) key fact e = enum_facts ts ds key fact e
-enum_facts ts (D.Ref name i ∷ ds) key fact e = enum_facts ts ds key fact e
-enum_facts ts (D.Exception name at parent ∷ ds) key fact e = enum_facts ts ds key fact e
-
-module _ (table : List TypeDef) where
-  abbrev known_facts : Facts
-  known_facts = facts_in table
-
-  abbrev all_types : List Ty
-  all_types = types_in table
-
-  enums_within : (n : ℕ) (key : Key) → shape_bytes (shape_within n known_facts (enum key)) ≡ WORD_BYTES
-  enums_within zero key = refl
-  enums_within (suc n) key = enum_by (shape_within n known_facts) (fact_of known_facts (enum key)) (enum_facts all_types table key)
-
-  bytes_within : (n : ℕ) (ty : Ty) → hooked (form_within n known_facts ty) ≡ false → shape_bytes (shape_within n known_facts ty) ≡ size
-      (form_within n known_facts ty)
-  bytes_within zero ty h = refl
-  bytes_within (suc n) ty h =
-      bytes_by (form_within n known_facts) (shape_within n known_facts) (bytes_within n) (enums_within n) (fact_of known_facts ty) h
-
-  level_bytes : (n : ℕ) (ty : Ty) → hooked (form_in (form_within n known_facts) ty) ≡ false
-      → shape_bytes (shape_in (shape_within n known_facts) ty) ≡ size (form_in (form_within n known_facts) ty)
-  level_bytes n ty h = bytes_in (form_within n known_facts) (shape_within n known_facts) (bytes_within n) (enums_within n) ty h
-
-  pub type_shape_bytes : (ty : ℕ) → hooked (form_of known_facts (type_at all_types ty)) ≡ false
-      → shape_bytes (shape_of known_facts (type_at all_types ty)) ≡ bytes_at table ty
-  type_shape_bytes ty h = level_bytes (length known_facts) (type_at all_types ty) h
-
--- ---- how many entries say something
-
-abbrev said_one : Option Fact → ℕ → ℕ
-said_one None n = n
-said_one (Some fact) n = suc n
-
-one_more : (o : Option Fact) (m n : ℕ) → m ≤ n → said_one o m ≤ said_one o n
-one_more None m n h = h
-one_more (Some fact) m n h = omega (arith, h)
-
-one_next : (o : Option Fact) (n : ℕ) → said_one o (suc n) ≡ suc (said_one o n)
-one_next None n = refl
-one_next (Some fact) n = refl
-
-one_length : (ty : Ty) (o : Option Fact) (rest : Facts) → length (and_said ty o rest) ≡ said_one o (length rest)
-one_length ty None rest = refl
-one_length ty (Some fact) rest = refl
-
-module _ (ts : List Ty) where
-  abbrev said_in : List TypeDef → ℕ
-  said_in [] = 0
-  said_in (d ∷ ds) = said_one (said_of ts d) (said_in ds)
-
-  abbrev said_before : ℕ → List TypeDef → ℕ
-  said_before zero ds = 0
-  said_before (suc n) [] = 0
-  said_before (suc n) (d ∷ ds) = said_one (said_of ts d) (said_before n ds)
-
-  said_count : (ds : List TypeDef) → length (facts_over ts ds) ≡ said_in ds
-  said_count [] = refl
-  said_count (d ∷ ds) = one_length (meant ts d) (said_of ts d) (facts_over ts ds) ∙ ap (said_one (said_of ts d)) (said_count ds)
-
-  before_all : (n : ℕ) (ds : List TypeDef) → said_before n ds ≤ said_in ds
-  before_all zero ds = omega arith
-  before_all (suc n) [] = omega arith
-  before_all (suc n) (d ∷ ds) = one_more (said_of ts d) (said_before n ds) (said_in ds) (before_all n ds)
-
-  before_more : (n m : ℕ) (ds : List TypeDef) → n ≤ m → said_before n ds ≤ said_before m ds
-  before_more zero m ds h = omega arith
-  before_more (suc n) zero ds h = absurd (omega (arith, h))
-  before_more (suc n) (suc m) [] h = omega arith
-  before_more (suc n) (suc m) (d ∷ ds) h = one_more (said_of ts d) (said_before n ds) (said_before m ds) (before_more n m ds (omega (arith, h)))
-
-  before_said : (ds : List TypeDef) (i : ℕ) (d : TypeDef) (fact : Fact) → slice_get ds i ≡ Some d → said_of ts d ≡ Some fact
-      → said_before (suc i) ds ≡ suc (said_before i ds)
-  before_said [] i d fact h says = absurd (none_some d h)
-  before_said (e ∷ ds) zero d fact h says = ap (λ o. said_one o 0) (ap (said_of ts) (some_same e d h) ∙ says)
-  before_said (e ∷ ds) (suc i) d fact h says =
-      ap (said_one (said_of ts e)) (before_said ds i d fact h says) ∙ one_next (said_of ts e) (said_before i ds)
-
-base_below : (n : ℕ) (ds : List TypeDef) (i : ℕ) (name : List ℕ) (at : Place) (j : ℕ) → WithinOnto n ds → slice_get ds i ≡ Some
-    (D.Distinct name at j) → j < n + i
-base_below n [] i name at j w h = absurd (none_some (D.Distinct name at j) h)
-base_below n (d ∷ ds) zero name at j w h =
-    let k : j < n = subst (λ e. IsWithin n e) (some_same d (D.Distinct name at j) h) w.0 in omega (arith, k)
-base_below n (d ∷ ds) (suc i) name at j w h = let k = base_below (suc n) ds i name at j w.1 h in omega (arith, k)
-
--- ---- through distinct types
-
-abbrev pub IsNoDistinct : Option TypeDef → Type 0
-IsNoDistinct (Some (D.Distinct name at j)) = ⊥
-IsNoDistinct o = Unit {0}
-
-same_wrapped : (f g : Form) → wrapped f ≡ wrapped g → f ≡ g
-same_wrapped f g e = cc
-
-same_row : (m n : ℕ) (f g : Form) → row m f ≡ row n g → f ≡ g
-same_row m n f g e = cc
-
-pub same_parts : (fs gs : Forms) → parts fs ≡ parts gs → fs ≡ gs
-same_parts fs gs e = cc
-
-pub same_first : (f g : Form) (fs gs : Forms) → forms f fs ≡ forms g gs → (f ≡ g) × (fs ≡ gs)
-same_first f g fs gs e = (cc, cc)
-
-same_base : (t u : Ty) → Some (base t) ≡ Some (base u) → t ≡ u
-same_base t u e = cc
-
-pub same_fields : (xs ys : List Field) (x y : Bool) → Some (fields xs x) ≡ Some (fields ys y) → xs ≡ ys
-same_fields xs ys x y e = cc
-
-same_rows : (m n : ℕ) (s t : Shape) → look.row m s ≡ look.row n t → (m ≡ n) × (s ≡ t)
+same_rows : (m n : ℕ) (s t : Shape) → row m s ≡ row n t → (m ≡ n) × (s ≡ t)
 same_rows m n s t e = (cc, cc)
 
-pub same_shapes : (ss ts : Shapes) → look.parts ss ≡ look.parts ts → ss ≡ ts
+same_shapes : (ss ts : Shapes) → parts ss ≡ parts ts → ss ≡ ts
 same_shapes ss ts e = cc
 
-module _ (table : List TypeDef) (is_table : IsTable table) where
+abbrev is_row : Shape → Bool
+is_row (row n s) = true
+is_row s = false
+
+abbrev is_parts : Shape → Bool
+is_parts (parts ss) = true
+is_parts s = false
+
+no_row : {A : Type 0} {s t : Shape} → is_row s ≡ false → s ≡ t → is_row t ≡ true → A
+no_row a e b = never (sym a ∙ ap is_row e ∙ b)
+
+no_parts : {A : Type 0} {s t : Shape} → is_parts s ≡ false → s ≡ t → is_parts t ≡ true → A
+no_parts a e b = never (sym a ∙ ap is_parts e ∙ b)
+
+object_row : (own : Bool) (ss : Shapes) → is_row (object_shape own ss) ≡ false
+object_row true ss = refl
+object_row false ss = refl
+
+object_word : (own : Bool) (ss : Shapes) → is_one_word (object_shape own ss) ≡ false
+object_word true ss = refl
+object_word false ss = refl
+
+object_bytes : (own : Bool) (fs : Forms) (ss : Shapes) → shapes_bytes ss ≡ size_all fs → shape_bytes (object_shape own ss) ≡ size (object_form own fs)
+object_bytes true fs ss e = ap or_word e
+object_bytes false fs ss e = ap or_word e
+
+module _ (table : List TypeDef) where
   abbrev facts : Facts
   facts = facts_in table
 
   abbrev ts : List Ty
   ts = types_in table
 
-  some_said : (ty : ℕ) (o : Option TypeDef) → slice_get table ty ≡ o → (fact : Fact) → said_at ts o ≡ Some fact → 0 < said_before ts
-      (suc ty) table
-  some_said ty None e fact says = absurd (none_some fact says)
-  some_said ty (Some d) e fact says = let h = before_said ts table ty d fact e says in omega (arith, h)
+  -- ---- bytes
 
-  module _ (was : Bool) where
-    -- an entry that is no distinct type, of which a place looks so; its form is hooked as that of the whole is
-    pub record AtBase (s : Shape) (o : Option TypeDef) : Type 0 where
-      pub levels : ℕ
-      pub is : s ≡ shape_in (shape_within levels facts) (meant_at ts o)
-      pub form : Form
-      pub has : HasForm facts (meant_at ts o) form
-      pub gives : form_in (form_within levels facts) (meant_at ts o) ≡ form
-      pub alike : hooked form ≡ was
-      pub rest : IsNoDistinct o
-      pub said : fact_of facts (meant_at ts o) ≡ said_at ts o
-      pub enough : (fact : Fact) → said_at ts o ≡ Some fact → 0 < levels
+  enum_bytes : (known : Ty → Shape) (key : Key) (o : Option Fact) → fact_of facts (type.enum key) ≡ o → shape_bytes (shape_by known o) ≡ WORD_BYTES
+  enum_bytes known key None e = refl
+  enum_bytes known key (Some (members names)) e = refl
+  enum_bytes known key (Some (fields all own)) e = absurd (sorted_table table (type.enum key) (fields all own) e)
+  enum_bytes known key (Some (base t)) e = absurd (sorted_table table (type.enum key) (base t) e)
+  enum_bytes known key (Some (below t)) e = refl
 
-    inner : (n : ℕ) (u : Ty) (key : Key) → fact_of facts (distinct key) ≡ Some (base u) → (f : Form) → IsForm true facts (distinct key) f
-        → form_in (form_within (suc n) facts) (distinct key) ≡ f → hooked f ≡ was
-        → (g : Form) × HasForm facts u g × (form_in (form_within n facts) u ≡ g) × (hooked g ≡ was)
-    inner n u key said f (of_distinct {t = v} {f = g} d a) gives alike = (
-      g,
-      subst (λ z. HasForm facts z g) (same_base v u (sym d ∙ said)) a,
-      same_wrapped (form_in (form_within n facts) u) g (sym (ap (form_by (form_within n facts)) said) ∙ gives),
-      alike,
-    )
+  enum_within : (n : ℕ) (key : Key) → shape_bytes (shape_within n facts (type.enum key)) ≡ WORD_BYTES
+  enum_within zero key = refl
+  enum_within (suc n) key = enum_bytes (shape_within n facts) key (fact_of facts (type.enum key)) refl
 
-    stop : (ty n : ℕ) (f : Form) → said_before ts (suc ty) table ≤ n → HasForm facts (type_at ts ty) f → form_in (form_within n facts) (type_at ts ty)
-        ≡ f
-        → hooked f ≡ was → (o : Option TypeDef) → slice_get table ty ≡ o → IsNoDistinct o → AtBase
-        (shape_in (shape_within n facts) (type_at ts ty)) (slice_get table ty)
-    stop ty n f room has gives alike o e ends = record {
-      levels = n;
-      is = ap (shape_in (shape_within n facts)) (entry_type table is_table ty);
-      form = f;
-      has = subst (λ t. HasForm facts t f) (entry_type table is_table ty) has;
-      gives = ap (form_in (form_within n facts)) (sym (entry_type table is_table ty)) ∙ gives;
-      alike = alike;
-      rest = subst IsNoDistinct (sym e) ends;
-      said = entry_said table is_table ty;
-      enough = λ fact says. let h = some_said ty (slice_get table ty) refl fact says in omega (arith, h, room);
-    }
+  -- a declared type looks as its declaration says
+  declared_look : {ty : Ty} {f : Form} (fact : Fact) → HasForm facts ty f → Matches facts (declared_kind (fact_of facts ty)) (shape_of facts ty)
+      → fact_of facts ty ≡ Some fact → Matches facts (declared_kind (Some fact)) (shape_of facts ty)
+  declared_look {ty} fact has m e = subst (λ o. Matches facts (declared_kind o) (shape_of facts ty)) e m
 
-    abbrev Walks : ℕ → ℕ → Type 0
-    Walks m ty = (j k : ℕ) (g : Form) → j < ty → said_before ts (suc j) table ≤ k → HasForm facts (type_at ts j) g
-        → form_in (form_within k facts) (type_at ts j) ≡ g → hooked g ≡ was
-        → AtBase (shape_in (shape_within k facts) (type_at ts j)) (slice_get table (base_within m table j))
+  mutual
+    bytes_of : {ty : Ty} {f : Form} → HasForm facts ty f → shape_bytes (shape_of facts ty) ≡ size f
+    bytes_of of_int = refl
+    bytes_of of_bool = refl
+    bytes_of of_char = refl
+    bytes_of of_text = refl
+    bytes_of (of_sequence d a) = refl
+    bytes_of (of_any_sequence d) = refl
+    bytes_of (of_array {n} a) = ap (λ b. or_word (n * b)) (bytes_of a)
+    bytes_of (of_tuple a) = ap or_word (all_bytes a)
+    bytes_of of_parameter = refl
+    bytes_of (of_enum {key}) = enum_within (length facts) key
+    bytes_of (of_object {key} {arguments} {all} {own_hooks} {fs} e a) =
+        let whole : HasForm facts (type.object key arguments) (object_form own_hooks fs) = of_object e a in
+        ap shape_bytes (declared_look (fields all own_hooks) whole (shaped facts (sorted_table table) whole).matches e)
+        ∙ object_bytes own_hooks fs (shapes_of facts (types_of all)) (all_bytes a)
+    bytes_of (of_distinct {key} {t} e a) =
+        let whole : HasForm facts (type.distinct key) _ = of_distinct e a in
+        ap shape_bytes (declared_look (base t) whole (shaped facts (sorted_table table) whole).matches e) ∙ bytes_of a
+    bytes_of of_ref = refl
+    bytes_of of_exception = refl
 
-    through : (m ty n : ℕ) (f : Form) → said_before ts (suc ty) table ≤ n → HasForm facts (type_at ts ty) f → form_in (form_within n facts)
-        (type_at ts ty) ≡ f
-        → hooked f ≡ was → Walks m ty → (name : List ℕ) (at : Place) (j : ℕ) → slice_get table ty ≡ Some (D.Distinct name at j)
-        → AtBase (shape_in (shape_within n facts) (type_at ts ty)) (slice_get table (base_within m table j))
-    through m ty zero f room has gives alike go name at j e =
-        let h = before_said ts table ty (D.Distinct name at j) (base (type_at ts j)) e refl in absurd (omega (arith, h, room))
-    through m ty (suc n) f room has gives alike go name at j e =
-        let key : Key = key_of name at in
-        let is : type_at ts ty ≡ distinct key = entry_type table is_table ty ∙ ap (meant_at ts) e in
-        let said : fact_of facts (distinct key) ≡ Some (base (type_at ts j)) =
-        sym (ap (λ o. fact_of facts (meant_at ts o)) e) ∙ entry_said table is_table ty ∙ ap (said_at ts) e in
-        let r = inner n (type_at ts j) key said f (subst (λ t. HasForm facts t f) is has)
-        (ap (form_in (form_within (suc n) facts)) (sym is) ∙ gives) alike in
-        let below : j < 0 + ty = base_below 0 table ty name at j is_table.within e in
-        let less : j < ty = omega (arith, below) in
-        let h = before_said ts table ty (D.Distinct name at j) (base (type_at ts j)) e refl in
-        let before = before_more ts (suc j) ty table (omega (arith, less)) in
-        subst (λ s. AtBase s (slice_get table (base_within m table j)))
-        (sym (ap (shape_in (shape_within (suc n) facts)) is ∙ ap (shape_by (shape_within n facts)) said))
-        (go j n r.0 less (omega (arith, h, before, room)) r.1 r.2 r.3)
+    all_bytes : {tys : Tys} {fs : Forms} → AreForms true facts tys fs → shapes_bytes (shapes_of facts tys) ≡ size_all fs
+    all_bytes none_of = refl
+    all_bytes (more_of a s) = ap₂ (λ m n. m + n) (bytes_of a) (all_bytes s)
 
-    by_entry : (m ty n : ℕ) (f : Form) → said_before ts (suc ty) table ≤ n → HasForm facts (type_at ts ty) f → form_in (form_within n facts)
-        (type_at ts ty) ≡ f
-        → hooked f ≡ was → Walks m ty → (o : Option TypeDef) → slice_get table ty ≡ o
-        → AtBase (shape_in (shape_within n facts) (type_at ts ty)) (slice_get table (base_or (base_within m table) ty o))
-    by_entry m ty n f room has gives alike go (Some (D.Distinct name at j)) e = through m ty n f room has gives alike go name at j e
-    by_entry m ty n f room has gives alike go None e = stop ty n f room has gives alike None e tt
-    by_entry m ty n f room has gives alike go (Some D.Int) e = stop ty n f room has gives alike (Some D.Int) e tt
-    by_entry m ty n f room has gives alike go (Some D.Bool) e = stop ty n f room has gives alike (Some D.Bool) e tt
-    by_entry m ty n f room has gives alike go (Some D.Char) e = stop ty n f room has gives alike (Some D.Char) e tt
-    by_entry m ty n f room has gives alike go (Some D.Text) e = stop ty n f room has gives alike (Some D.Text) e tt
-    by_entry m ty n f room has gives alike go (Some (D.Seq i)) e = stop ty n f room has gives alike (Some (D.Seq i)) e tt
-    by_entry m ty n f room has gives alike go (Some (D.Param i)) e = stop ty n f room has gives alike (Some (D.Param i)) e tt
-    by_entry m ty n f room has gives alike go (Some (D.Enum name at all)) e = stop ty n f room has gives alike (Some (D.Enum name at all)) e tt
-    by_entry m ty n f room has gives alike go (Some (D.Array k i)) e = stop ty n f room has gives alike (Some (D.Array k i)) e tt
-    by_entry m ty n f room has gives alike go (Some (D.Tuple names is)) e = stop ty n f room has gives alike (Some (D.Tuple names is)) e tt
-    by_entry m ty n f room has gives alike go (Some (D.Object name at is all own tys)) e =
-        stop ty n f room has gives alike (Some (D.Object name at is all own tys)) e tt
-    by_entry m ty n f room has gives alike go (Some (D.Ref name i)) e = stop ty n f room has gives alike (Some (D.Ref name i)) e tt
-    by_entry m ty n f room has gives alike go (Some (D.Exception name at parent)) e = stop ty n f room has gives alike (Some (D.Exception name at parent)) e tt
+  -- ---- what an entry says
 
-    walk : (m ty n : ℕ) (f : Form) → ty < m → said_before ts (suc ty) table ≤ n → HasForm facts (type_at ts ty) f
-        → form_in (form_within n facts) (type_at ts ty) ≡ f → hooked f ≡ was
-        → AtBase (shape_in (shape_within n facts) (type_at ts ty)) (slice_get table (base_within m table ty))
-    walk zero ty n f lt room has gives alike = absurd (omega (arith, lt))
-    walk (suc m) ty n f lt room has gives alike =
-        by_entry m ty n f room has gives alike (λ j k g less more h s p. walk m j k g (omega (arith, lt, less)) more h s p) (slice_get table ty) refl
+  abbrev pub Looks : Option TypeDef → Shape → Type 0
+  Looks None s = s ≡ number None
+  Looks (Some D.Int) s = s ≡ number None
+  Looks (Some D.Bool) s = s ≡ number (Some 2)
+  Looks (Some D.Char) s = s ≡ number (Some 256)
+  Looks (Some D.Text) s = s ≡ block
+  Looks (Some (D.Seq i)) s = s ≡ elements (shape_of facts (type_at ts i))
+  Looks (Some (D.Param n)) s = s ≡ number None
+  Looks (Some (D.Enum name at all)) s = s ≡ number (Some (length all))
+  Looks (Some (D.Array n i)) s = s ≡ row n (shape_of facts (type_at ts i))
+  Looks (Some (D.Tuple names is)) s = s ≡ parts (shapes_of facts (types_at ts is))
+  Looks (Some (D.Object name at is all own tys)) s = s ≡ object_shape own (shapes_of facts (types_at ts tys))
+  Looks (Some (D.Distinct name at i)) s = ⊥
+  Looks (Some (D.Ref name i)) s = s ≡ reference
+  Looks (Some (D.Exception name at parent)) s = s ≡ number None
 
-  -- of each type
-  pub any_base : HaveForms table → (ty : ℕ) → ty < length table
-      → AtBase (hooked (form_of facts (type_at ts ty))) (shape_of facts (type_at ts ty)) (entry_at table ty)
-  any_base have ty lt =
-      let h = have ty lt in
-      let all = before_all ts (suc ty) table in
-      let count = said_count ts table in
-      walk (hooked (form_of facts (type_at ts ty))) (length table) ty (length facts) h.0 lt (omega (arith, all, count)) h.1 (the_form h.1)
-      (sym (ap hooked (the_form h.1)))
+  entry_looks : (o : Option TypeDef) (f : Form) → HasForm facts (meant_at ts o) f → fact_of facts (meant_at ts o) ≡ said_at ts o → Stays o
+      → Looks o (shape_of facts (meant_at ts o))
+  entry_looks None f has said stays = refl
+  entry_looks (Some D.Int) f has said stays = refl
+  entry_looks (Some D.Bool) f has said stays = refl
+  entry_looks (Some D.Char) f has said stays = refl
+  entry_looks (Some D.Text) f has said stays = refl
+  entry_looks (Some (D.Seq i)) f has said stays = refl
+  entry_looks (Some (D.Param n)) f has said stays = refl
+  entry_looks (Some (D.Enum name at all)) f has said stays =
+      declared_look (members all) has (shaped facts (sorted_table table) has).matches said
+  entry_looks (Some (D.Array n i)) f has said stays = refl
+  entry_looks (Some (D.Tuple names is)) f has said stays = refl
+  entry_looks (Some (D.Object name at is all own tys)) f has said stays = by (fields_with ts all tys) refl
+    where
+      key : Key
+      key = key_of name at
 
-  -- of one that isn't hooked
-  pub at_base : HaveForms table → (ty : ℕ) → ty < length table → hooked (form_of facts (type_at ts ty)) ≡ false
-      → AtBase false (shape_of facts (type_at ts ty)) (entry_at table ty)
-  at_base have ty lt plain = subst (λ w. AtBase w (shape_of facts (type_at ts ty)) (entry_at table ty)) plain (any_base have ty lt)
+      by : (o : Option (List Field)) → fields_with ts all tys ≡ o
+          → shape_of facts (type.object key (types_at ts is)) ≡ object_shape own (shapes_of facts (types_at ts tys))
+      by None e =
+          let told = object_said key (types_at ts is) f has in
+          absurd (none_some (fields told.0 told.1) (sym (said ∙ ap (λ z. fields_fact z own) e) ∙ told.2))
+      by (Some fs) e =
+          declared_look (fields fs own) has (shaped facts (sorted_table table) has).matches (said ∙ ap (λ z. fields_fact z own) e)
+          ∙ ap (λ z. object_shape own (shapes_of facts z)) (fields_types ts all tys fs e)
+  entry_looks (Some (D.Distinct name at i)) f has said stays = stays_not name at i stays
+  entry_looks (Some (D.Ref name i)) f has said stays = refl
+  entry_looks (Some (D.Exception name at parent)) f has said stays = refl
 
-  -- ---- what such an entry says
+  -- ---- of each type of a table
 
-  pub element_is : (n j : ℕ) (g : Form) → HasForm facts (type_at ts j) g → form_in (form_within n facts) (type_at ts j) ≡ g → hooked g ≡ false
-      → bytes_at table j ≡ shape_bytes (shape_in (shape_within n facts) (type_at ts j))
-  element_is n j g has gives plain =
-      ap size (the_form has ∙ sym gives) ∙ sym (level_bytes table n (type_at ts j) (ap hooked gives ∙ plain))
+  module _ (is_table : IsTable table) (have : HaveForms table) where
+    pub beyond_int : (ty : ℕ) → length table ≤ ty → type_at ts ty ≡ type.int
+    beyond_int ty ge = by_entry table is_table ty None (slice_get_past table ty ge)
 
-  fields_look : (known : Ty → Shape) (o : Option (List Field)) (own : Bool) → is_one_word (shape_by known (fields_fact o own)) ≡ false
-  fields_look known None own = refl
-  fields_look known (Some fs) own = refl
+    pub has_form : (ty : ℕ) → (f : Form) × HasForm facts (type_at ts ty) f
+    has_form ty = by (cases_lt ty (length table))
+      where
+        by : (ty < length table) ⊎ (length table ≤ ty) → (f : Form) × HasForm facts (type_at ts ty) f
+        by (inl lt) = have ty lt
+        by (inr ge) = (plain, subst (λ t. HasForm facts t plain) (sym (beyond_int ty ge)) of_int)
 
-  word_at : (o : Option TypeDef) (n : ℕ) (f : Form) → IsForm true facts (meant_at ts o) f → hooked f ≡ false → IsNoDistinct o
-      → fact_of facts (meant_at ts o) ≡ said_at ts o → ((fact : Fact) → said_at ts o ≡ Some fact → 0 < n)
-      → is_one_word (shape_in (shape_within n facts) (meant_at ts o)) ≡ is_word o
-  word_at None n f has plain ends said some = refl
-  word_at (Some D.Int) n f has plain ends said some = refl
-  word_at (Some D.Bool) n f has plain ends said some = refl
-  word_at (Some D.Char) n f has plain ends said some = refl
-  word_at (Some D.Text) n f of_text plain ends said some = absurd (true≢false plain)
-  word_at (Some (D.Seq i)) n f (of_sequence d a) plain ends said some = absurd (true≢false plain)
-  word_at (Some (D.Seq i)) n f (of_any_sequence d) plain ends said some = absurd (true≢false d)
-  word_at (Some (D.Param i)) n f has plain ends said some = refl
-  word_at (Some (D.Enum name at all)) zero f has plain ends said some = let h = some (members all) refl in absurd (omega (arith, h))
-  word_at (Some (D.Enum name at all)) (suc n) f has plain ends said some = ap (λ o. is_one_word (shape_by (shape_within n facts) o)) said
-  word_at (Some (D.Array k i)) n f has plain ends said some = refl
-  word_at (Some (D.Tuple names is)) n f has plain ends said some = refl
-  word_at (Some (D.Object name at is all own tys)) zero f has plain ends said some = refl
-  word_at (Some (D.Object name at is all own tys)) (suc n) f has plain ends said some =
-      ap (λ o. is_one_word (shape_by (shape_within n facts) o)) said ∙ fields_look (shape_within n facts) (fields_with ts all tys) own
-  word_at (Some (D.Distinct name at i)) n f has plain ends said some = absurd ends
-  word_at (Some (D.Ref name i)) n f has plain ends said some = refl
-  word_at (Some (D.Exception name at parent)) n f has plain ends said some = refl
+    pub type_bytes : (ty : ℕ) → bytes_at table ty ≡ shape_bytes (shape_of facts (type_at ts ty))
+    type_bytes ty = let h = has_form ty in ap size (the_form h.1) ∙ sym (bytes_of h.1)
 
-  pub type_is_word : HaveForms table → (ty : ℕ) → ty < length table → hooked (form_of facts (type_at ts ty)) ≡ false
-      → is_one_word (shape_of facts (type_at ts ty)) ≡ is_word (entry_at table ty)
-  type_is_word have ty lt plain =
-      let a = at_base have ty lt plain in ap is_one_word a.is ∙ word_at (entry_at table ty) a.levels a.form a.has a.alike a.rest a.said a.enough
+    -- a distinct type looks as its base
+    distinct_looks : (ty : ℕ) (name : List ℕ) (at : Place) (j : ℕ) → slice_get table ty ≡ Some (D.Distinct name at j)
+        → shape_of facts (type_at ts ty) ≡ shape_of facts (type_at ts j)
+    distinct_looks ty name at j e =
+        let is = by_entry table is_table ty (Some (D.Distinct name at j)) e in
+        let h = has_form ty in
+        let has : HasForm facts (type.distinct (key_of name at)) h.0 = subst (λ t. HasForm facts t h.0) is h.1 in
+        ap (shape_of facts) is
+        ∙ declared_look (base (type_at ts j)) has (shaped facts (sorted_table table) has).matches (said_by table is_table ty (Some (D.Distinct name at j)) e)
 
-  -- arrays
+    looks_at : (m ty : ℕ) → ty < m → Looks (slice_get table (base_within m table ty)) (shape_of facts (type_at ts ty))
+    looks_at zero ty lt = absurd (omega (arith, lt))
+    looks_at (suc m) ty lt = by (slice_get table ty) refl (look (slice_get table ty)) (λ j l. looks_at m j (omega (arith, l, lt)))
+      where
+        by : (o : Option TypeDef) → slice_get table ty ≡ o → Looked o
+            → ((j : ℕ) → j < ty → Looks (slice_get table (base_within m table j)) (shape_of facts (type_at ts j)))
+            → Looks (slice_get table (base_or (base_within m table) ty o)) (shape_of facts (type_at ts ty))
+        by o e (another p stays) lower =
+            let h = has_form ty in
+            let is = by_entry table is_table ty o e in
+            subst (λ q. Looks q (shape_of facts (type_at ts ty))) (sym (ap (slice_get table) (stays (base_within m table) ty) ∙ e))
+            (subst (λ t. Looks o (shape_of facts t)) (sym is)
+            (entry_looks o h.0 (subst (λ t. HasForm facts t h.0) is h.1) (said_by table is_table ty o e) stays))
+        by o e (a_distinct name at j) lower =
+            subst (λ s. Looks (slice_get table (base_within m table j)) s) (sym (distinct_looks ty name at j e))
+            (lower j (base_below table is_table ty name at j e))
 
-  abbrev is_row : Shape → Bool
-  is_row (look.row n s) = true
-  is_row s = false
+    pub none_stays : (m ty : ℕ) → slice_get table ty ≡ None → base_within m table ty ≡ ty
+    none_stays zero ty e = refl
+    none_stays (suc m) ty e = ap (base_or (base_within m table) ty) e
 
-  fields_no_row : (known : Ty → Shape) (o : Option (List Field)) (own : Bool) → is_row (shape_by known (fields_fact o own)) ≡ false
-  fields_no_row known None own = refl
-  fields_no_row known (Some fs) own = refl
+    pub type_looks : (ty : ℕ) → Looks (entry_at table ty) (shape_of facts (type_at ts ty))
+    type_looks ty = by (cases_lt ty (length table))
+      where
+        by : (ty < length table) ⊎ (length table ≤ ty) → Looks (entry_at table ty) (shape_of facts (type_at ts ty))
+        by (inl lt) = looks_at (length table) ty lt
+        by (inr ge) =
+            let none = slice_get_past table ty ge in
+            subst (λ q. Looks q (shape_of facts (type_at ts ty))) (sym (ap (slice_get table) (none_stays (length table) ty none) ∙ none))
+            (ap (shape_of facts) (beyond_int ty ge))
 
-  abbrev RowIs : Option TypeDef → ℕ → Shape → Type 0
-  RowIs o count s = (count_in o ≡ count) × (0 < count → element_bytes table o ≡ shape_bytes s)
+    -- ---- words
 
-  array_at : (m j n : ℕ) (f : Form) → IsForm true facts (array m (type_at ts j)) f → form_in (form_within n facts) (array m (type_at ts j)) ≡ f
-      → hooked f ≡ false
-      → RowIs (Some (D.Array m j)) m (shape_in (shape_within n facts) (type_at ts j))
-  array_at zero j n f has gives plain = (refl, λ some. absurd (omega (arith, some)))
-  array_at (suc m) j n f (of_array {f = g} a) gives plain =
-      (refl, λ some. element_is n j g a (same_row (suc m) (suc m) (form_in (form_within n facts) (type_at ts j)) g gives) plain)
+    word_at : (o : Option TypeDef) (s : Shape) → Looks o s → of_numbers s ≡ true → is_one_word s ≡ is_word o
+    word_at None s l n = ap is_one_word l
+    word_at (Some D.Int) s l n = ap is_one_word l
+    word_at (Some D.Bool) s l n = ap is_one_word l
+    word_at (Some D.Char) s l n = ap is_one_word l
+    word_at (Some D.Text) s l n = never (sym (ap of_numbers l) ∙ n)
+    word_at (Some (D.Seq i)) s l n = never (sym (ap of_numbers l) ∙ n)
+    word_at (Some (D.Param k)) s l n = ap is_one_word l
+    word_at (Some (D.Enum name at all)) s l n = ap is_one_word l
+    word_at (Some (D.Array k i)) s l n = ap is_one_word l
+    word_at (Some (D.Tuple names is)) s l n = ap is_one_word l
+    word_at (Some (D.Object name at is all own tys)) s l n = ap is_one_word l ∙ object_word own (shapes_of facts (types_at ts tys))
+    word_at (Some (D.Distinct name at i)) s l n = absurd l
+    word_at (Some (D.Ref name i)) s l n = never (sym (ap of_numbers l) ∙ n)
+    word_at (Some (D.Exception name at parent)) s l n = ap is_one_word l
 
-  row_at : (o : Option TypeDef) (n : ℕ) (f : Form) → IsForm true facts (meant_at ts o) f → form_in (form_within n facts) (meant_at ts o) ≡ f
-      → hooked f ≡ false
-      → IsNoDistinct o → fact_of facts (meant_at ts o) ≡ said_at ts o → (count : ℕ) (s : Shape)
-      → shape_in (shape_within n facts) (meant_at ts o) ≡ look.row count s → RowIs o count s
-  row_at None n f has gives plain ends said count s e = absurd (false≢true (ap is_row e))
-  row_at (Some D.Int) n f has gives plain ends said count s e = absurd (false≢true (ap is_row e))
-  row_at (Some D.Bool) n f has gives plain ends said count s e = absurd (false≢true (ap is_row e))
-  row_at (Some D.Char) n f has gives plain ends said count s e = absurd (false≢true (ap is_row e))
-  row_at (Some D.Text) n f has gives plain ends said count s e = absurd (false≢true (ap is_row e))
-  row_at (Some (D.Seq i)) n f has gives plain ends said count s e = absurd (false≢true (ap is_row e))
-  row_at (Some (D.Param i)) n f has gives plain ends said count s e = absurd (false≢true (ap is_row e))
-  row_at (Some (D.Enum name at all)) zero f has gives plain ends said count s e = absurd (false≢true (ap is_row e))
-  row_at (Some (D.Enum name at all)) (suc n) f has gives plain ends said count s e =
-      absurd (false≢true (sym (ap (λ o. is_row (shape_by (shape_within n facts) o)) said) ∙ ap is_row e))
-  row_at (Some (D.Array m j)) n f has gives plain ends said count s e =
-      let r = array_at m j n f has gives plain in
-      let q = same_rows m count (shape_in (shape_within n facts) (type_at ts j)) s e in
-      (q.0, λ some. r.1 (omega (arith, some, q.0)) ∙ ap shape_bytes q.1)
-  row_at (Some (D.Tuple names is)) n f has gives plain ends said count s e = absurd (false≢true (ap is_row e))
-  row_at (Some (D.Object name at is all own tys)) zero f has gives plain ends said count s e = absurd (false≢true (ap is_row e))
-  row_at (Some (D.Object name at is all own tys)) (suc n) f has gives plain ends said count s e =
-      absurd (false≢true (sym (ap (λ o. is_row (shape_by (shape_within n facts) o)) said ∙ fields_no_row (shape_within n facts)
-      (fields_with ts all tys) own) ∙ ap is_row e))
-  row_at (Some (D.Distinct name at i)) n f has gives plain ends said count s e = absurd ends
-  row_at (Some (D.Ref name i)) n f has gives plain ends said count s e = absurd (false≢true (ap is_row e))
-  row_at (Some (D.Exception name at parent)) n f has gives plain ends said count s e = absurd (false≢true (ap is_row e))
+    pub type_is_word : (ty : ℕ) → of_numbers (shape_of facts (type_at ts ty)) ≡ true
+        → is_one_word (shape_of facts (type_at ts ty)) ≡ is_word (entry_at table ty)
+    type_is_word ty n = word_at (entry_at table ty) (shape_of facts (type_at ts ty)) (type_looks ty) n
 
-  pub type_row : HaveForms table → (ty : ℕ) → ty < length table → hooked (form_of facts (type_at ts ty)) ≡ false
-      → (count : ℕ) (s : Shape) → shape_of facts (type_at ts ty) ≡ look.row count s → RowIs (entry_at table ty) count s
-  type_row have ty lt plain count s e =
-      let a = at_base have ty lt plain in row_at (entry_at table ty) a.levels a.form a.has a.gives a.alike a.rest a.said count s (sym a.is ∙ e)
+    -- ---- elements
+
+    abbrev RowIs : Option TypeDef → ℕ → Shape → Type 0
+    RowIs o count s = (count_in o ≡ count) × (0 < count → element_bytes table o ≡ shape_bytes s)
+
+    row_at : (o : Option TypeDef) (s : Shape) → Looks o s → (count : ℕ) (t : Shape) → s ≡ row count t → RowIs o count t
+    row_at None s l count t e = no_row refl (sym l ∙ e) refl
+    row_at (Some D.Int) s l count t e = no_row refl (sym l ∙ e) refl
+    row_at (Some D.Bool) s l count t e = no_row refl (sym l ∙ e) refl
+    row_at (Some D.Char) s l count t e = no_row refl (sym l ∙ e) refl
+    row_at (Some D.Text) s l count t e = no_row refl (sym l ∙ e) refl
+    row_at (Some (D.Seq i)) s l count t e = no_row refl (sym l ∙ e) refl
+    row_at (Some (D.Param k)) s l count t e = no_row refl (sym l ∙ e) refl
+    row_at (Some (D.Enum name at all)) s l count t e = no_row refl (sym l ∙ e) refl
+    row_at (Some (D.Array k i)) s l count t e =
+        let r = same_rows k count (shape_of facts (type_at ts i)) t (sym l ∙ e) in
+        (r.0, λ some. type_bytes i ∙ ap shape_bytes r.1)
+    row_at (Some (D.Tuple names is)) s l count t e = no_row refl (sym l ∙ e) refl
+    row_at (Some (D.Object name at is all own tys)) s l count t e = no_row (object_row own (shapes_of facts (types_at ts tys))) (sym l ∙ e) refl
+    row_at (Some (D.Distinct name at i)) s l count t e = absurd l
+    row_at (Some (D.Ref name i)) s l count t e = no_row refl (sym l ∙ e) refl
+    row_at (Some (D.Exception name at parent)) s l count t e = no_row refl (sym l ∙ e) refl
+
+    pub type_row : (ty count : ℕ) (s : Shape) → shape_of facts (type_at ts ty) ≡ row count s → RowIs (entry_at table ty) count s
+    type_row ty count s e = row_at (entry_at table ty) (shape_of facts (type_at ts ty)) (type_looks ty) count s e
+
+    -- ---- parts
+
+    bytes_before : (is : List ℕ) (i : ℕ) → bytes_all table (take i is) ≡ shapes_before (shapes_of facts (types_at ts is)) i
+    bytes_before [] zero = refl
+    bytes_before [] (suc i) = refl
+    bytes_before (j ∷ is) zero = refl
+    bytes_before (j ∷ is) (suc i) = ap₂ (λ m n. m + n) (type_bytes j) (bytes_before is i)
+
+    parts_before : (is : List ℕ) (ss : Shapes) (i : ℕ) → parts (shapes_of facts (types_at ts is)) ≡ parts ss
+        → bytes_all table (take i is) ≡ shapes_before ss i
+    parts_before is ss i e = bytes_before is i ∙ ap (λ z. shapes_before z i) (same_shapes (shapes_of facts (types_at ts is)) ss e)
+
+    object_parts : (own : Bool) (is : List ℕ) (ss : Shapes) (i : ℕ) → object_shape own (shapes_of facts (types_at ts is)) ≡ parts ss
+        → bytes_all table (take i is) ≡ shapes_before ss i
+    object_parts true is ss i e = no_parts refl e refl
+    object_parts false is ss i e = parts_before is ss i e
+
+    parts_by : (o : Option TypeDef) (s : Shape) → Looks o s → (ss : Shapes) (i : ℕ) → s ≡ parts ss
+        → bytes_all table (take i (parts_in o)) ≡ shapes_before ss i
+    parts_by None s l ss i e = no_parts refl (sym l ∙ e) refl
+    parts_by (Some D.Int) s l ss i e = no_parts refl (sym l ∙ e) refl
+    parts_by (Some D.Bool) s l ss i e = no_parts refl (sym l ∙ e) refl
+    parts_by (Some D.Char) s l ss i e = no_parts refl (sym l ∙ e) refl
+    parts_by (Some D.Text) s l ss i e = no_parts refl (sym l ∙ e) refl
+    parts_by (Some (D.Seq j)) s l ss i e = no_parts refl (sym l ∙ e) refl
+    parts_by (Some (D.Param k)) s l ss i e = no_parts refl (sym l ∙ e) refl
+    parts_by (Some (D.Enum name at all)) s l ss i e = no_parts refl (sym l ∙ e) refl
+    parts_by (Some (D.Array k j)) s l ss i e = no_parts refl (sym l ∙ e) refl
+    parts_by (Some (D.Tuple names is)) s l ss i e = parts_before is ss i (sym l ∙ e)
+    parts_by (Some (D.Object name at is all own tys)) s l ss i e = object_parts own tys ss i (sym l ∙ e)
+    parts_by (Some (D.Distinct name at j)) s l ss i e = absurd l
+    parts_by (Some (D.Ref name j)) s l ss i e = no_parts refl (sym l ∙ e) refl
+    parts_by (Some (D.Exception name at parent)) s l ss i e = no_parts refl (sym l ∙ e) refl
+
+    -- where a part is, by the table
+    pub type_part : (ty : ℕ) (ss : Shapes) (i : ℕ) → shape_of facts (type_at ts ty) ≡ parts ss → part_at table ty i ≡ shapes_before ss i
+    type_part ty ss i e = parts_by (entry_at table ty) (shape_of facts (type_at ts ty)) (type_looks ty) ss i e

@@ -1,21 +1,24 @@
 -- Values that lines read and give: where they are, and what is true behind a line that gives one.
-use Rattle.std.proofs.Common.{◌≡◌, ◌≢◌, ◌⊎◌, inl, inr, ℕ, ◌≤◌, List, [], Some, Bool, true, false}
+use Rattle.std.proofs.Common.{◌≡◌, ◌≢◌, ◌⊎◌, inl, inr, ℕ, ℤ, ◌≤◌, List, Option, Some, Bool, true, false}
 use Rattle.std.proofs.Common.{refl, sym, ap, subst, ◌∙◌}
 use Rattle.std.specs.Prelude.{nat_eq}
 use Rattle.std.proofs.lemmas.Bool.{eq-eqb, ne_eqb, cond-true, cond-false}
-use Rattle.nim_core.specs.Ints.{fits as is_int_number}
-use Rattle.nim_core.specs.Values.{Value, number_of}
-use Rattle.mid_code.specs.declared.block.BlockLine.{BlockLine}
-use Rattle.mid_code.specs.declared.place.PlaceKind.{PlaceKind}
-use Rattle.mid_code.specs.declared.place.PlaceKind.TheVariants as K
-use Rattle.mid_code.specs.declared.line.Line.{Line}
-use Rattle.mid_code.specs.Memory.{Memory}
-use Rattle.mid_code.specs.Words.{Vars}
-use Rattle.mid_code.specs.Scene.{with_value, put, known_in}
-use Rattle.mid_code.specs.Shapes.{Shape, has_shape}
-use Rattle.mid_code.specs.Fits.{is_value, shape_named}
-use Rattle.mid_code.proofs.ForCallers.{never}
+use Rattle.nim_program.specs.Ints.{fits as is_int_number}
+use Rattle.nim_types.specs.Types.{Ty}
+use Rattle.nim_types.specs.Table.{facts_in}
+use Rattle.nim_meaning.specs.Values.{Value, Number, number_of}
+use Rattle.nim_meaning.specs.State.{World}
+use Rattle.flat_code.specs.declared.block.BlockLine.{BlockLine}
+use Rattle.flat_code.specs.declared.place.PlaceKind.{PlaceKind}
+use Rattle.flat_code.specs.declared.place.PlaceKind.TheVariants as K
+use Rattle.word_code.specs.Memory.{Memory}
+use Rattle.word_code.specs.Words.{Vars}
+use Rattle.flat_code.specs.Scene.{with_value, put, known_in}
+use Rattle.flat_code.specs.Shapes.{number, has_shape, shape_of}
+use Rattle.flat_code.specs.Fits.{is_value, place_named, if_type_of}
+use Rattle.word_lowering.proofs.ShapeFacts.{never, of_numbers}
 use Rattle.word_lowering.specs.declared.homes.TheConstants.{OWN_FROM}
+use Rattle.word_lowering.specs.declared.homes.Alias.TheVariants as alias
 use Rattle.word_lowering.specs.declared.homes.Home.TheVariants.{Variable}
 use Rattle.word_lowering.specs.declared.homes.Housed.{Housed}
 use Rattle.word_lowering.specs.declared.spots.Spot.TheVariants.{Held}
@@ -27,13 +30,14 @@ use Rattle.word_lowering.specs.LineCode.{variable_in, variable_of}
 use Rattle.word_lowering.proofs.Options.{some_same}
 use Rattle.word_lowering.proofs.OrdinalRuns.{AllBut}
 use Rattle.word_lowering.proofs.Moves.{single_word}
-use Rattle.word_lowering.proofs.LineFits.{number_fits}
-use Rattle.word_lowering.proofs.Sites.{room, Housing, in_variable, by_address, in_places, in_data, InVariable, InMemory, Site, data_end, is_one_word}
-use Rattle.word_lowering.proofs.Sites.{IsHoused, IsBody}
-use Rattle.word_lowering.proofs.Scenes.{Name, of_value, At, Call, house, IsThere, looked, IsItem}
+use Rattle.word_lowering.proofs.LineFits.{number_fits, number_value}
+use Rattle.word_lowering.proofs.Sites.{Body, type_of, room, Housing, in_variable, by_address, in_places, in_data, InVariable, InMemory, Site}
+use Rattle.word_lowering.proofs.Sites.{data_end, is_one_word}
+use Rattle.word_lowering.proofs.Sites.{IsHoused, IsTextual, IsBody}
+use Rattle.word_lowering.proofs.Scenes.{Name, of_value, of_location, of_place, kind_in, number_in, At, Call, house, IsNamed, IsThere, looked, IsItem, Holding}
 use Rattle.word_lowering.proofs.SitesApart.{houses, variables_apart}
-use Rattle.word_lowering.proofs.Keeping.{spot_held, value_no_location, value_no_place, call, nowhere, Kept, New, worlds_same}
-use Rattle.word_lowering.proofs.Related.{Both, body_of, low, StandAt}
+use Rattle.word_lowering.proofs.Keeping.{own_text, spot_held, value_no_location, value_no_place, call, nowhere, Kept, New, worlds_same}
+use Rattle.word_lowering.proofs.Related.{Both, body_of, StandAt}
 use Rattle.word_lowering.proofs.Lines.{Basis, changed, starts, IsGood, all_sites, good_changed, waits_below}
 
 -- a temporary's place holds no address
@@ -51,8 +55,50 @@ pub record InWord (h : Housed) : Type 0 where
   pub spot : spot_of h ≡ Held variable
 
 module _ (x : Basis) where
-  pub in_word : (s : Site) (t : ℕ) → IsBody x.table x.blocks s.body → IsThere x.table x.blocks s (of_value t)
-      → is_one_word (looked x.table x.blocks s (of_value t)) ≡ true → InWord (house s (of_value t))
+  -- ---- what is there
+
+  abbrev pub type_in : (is_kind : PlaceKind → Bool) → Body → ℕ → Option Ty
+  type_in is_kind b n = if_type_of (known_in x.table) (place_named is_kind b.proc.places n)
+
+  -- a name with a type is there, and has that type
+  pub record HasType (s : Site) (name : Name) (ty : Ty) : Type 0 where
+    pub named : IsNamed s name
+    pub typed : type_of x.table (house s name) ≡ ty
+
+  pub has_type : (s : Site) (name : Name) (ty : Ty) → IsBody x.table x.blocks s.body → type_in (kind_in name) s.body (number_in name) ≡ Some ty
+      → HasType s name ty
+  has_type s name ty b e = let n = b.named (kind_in name) (number_in name) ty e in record { named = n.0; typed = n.1 }
+
+  pub look_of : (s : Site) (name : Name) (ty : Ty) → HasType s name ty → looked x.table s name ≡ shape_of (facts_in x.table) ty
+  look_of s name ty h = ap (shape_of (facts_in x.table)) h.typed
+
+  abbrev pub with_home : {s : Site} {name : Name} → IsNamed s name → (house s name).alias ≡ alias.Own → IsThere s name
+  with_home n own = record { among = n.among; number = n.number; kind = n.kind; own = own }
+
+  -- a value of numbers has a home
+  pub value_there : (s : Site) (t : ℕ) → IsBody x.table x.blocks s.body → IsNamed s (of_value t) → of_numbers (looked x.table s (of_value t)) ≡ true
+      → IsThere s (of_value t)
+  value_there s t b n numbers = by (b.values t n)
+    where
+      by : ((house s (of_value t)).alias ≡ alias.Own) ⊎ IsTextual x.table x.blocks (house s (of_value t)) → IsThere s (of_value t)
+      by (inl own) = with_home n own
+      by (inr text) = never (sym (ap of_numbers text.look) ∙ numbers)
+
+  -- all locations lead to numbers
+  pub location_of_numbers : (s : Site) (t : ℕ) → IsBody x.table x.blocks s.body → IsNamed s (of_location t)
+      → of_numbers (looked x.table s (of_location t)) ≡ true
+  location_of_numbers s t b n = b.locations t n
+
+  pub place_there : (s : Site) (p : ℕ) → IsBody x.table x.blocks s.body → IsNamed s (of_place p) → IsThere s (of_place p)
+  place_there s p b n = with_home n (b.places (house s (of_place p)) n.among n.kind)
+
+  pub numbers_there : (s : Site) (name : Name) → IsBody x.table x.blocks s.body → IsThere s name → of_numbers (looked x.table s name) ≡ true
+  numbers_there s name b there = (houses x.table x.blocks s name b there).numbers
+
+  -- ---- words
+
+  pub in_word : (s : Site) (t : ℕ) → IsBody x.table x.blocks s.body → IsThere s (of_value t) → is_one_word (looked x.table s (of_value t)) ≡ true
+      → InWord (house s (of_value t))
   in_word s t b there one = by z.where_is
     where
       z : IsHoused x.table x.blocks s.body (house s (of_value t))
@@ -73,35 +119,35 @@ module _ (x : Basis) where
       by (in_places at e plain whole within) = absurd (subst InVariable e inside)
       by (in_data at e plain whole low within start) = absurd (subst InVariable e inside)
 
-  -- ---- what is there
-
-  -- a value temporary of some shape, in a procedure
-  pub named_value : (s : Site) (t : ℕ) (shape : Shape) → IsBody x.table x.blocks s.body
-      → shape_named (known_in x.table) is_value s.body.proc.places t ≡ Some shape
-      → IsThere x.table x.blocks s (of_value t) × (looked x.table x.blocks s (of_value t) ≡ shape)
-  named_value s t shape b e =
-      let n = b.named is_value t shape e in
-      (record { among = n.among; number = n.number; kind = n.kind; shape = refl }, n.shape)
-
   -- the word of an operand
   pub record Operand (c : Call) (t : ℕ) (v : Value) : Type 0 where
     pub fits : is_int_number (number_of v) ≡ true
     pub high : OWN_FROM ≤ variable_of (house c.site (of_value t))
     pub word_is : c.vars (variable_of (house c.site (of_value t))) ≡ Some (word (number_of v))
+    pub number : ℤ
+    pub is : v ≡ Number number
+    pub shaped : has_shape v (looked x.table c.site (of_value t)) ≡ true
 
-  pub operand : (m : Memory) (c : Call) (t : ℕ) (v : Value) (shape : Shape) → IsBody x.table x.blocks c.site.body
-      → IsItem x.table x.blocks m c (of_value t) v → looked x.table x.blocks c.site (of_value t) ≡ shape → is_one_word shape ≡ true → Operand c t v
-  operand m c t v shape b item e one =
-      let z = in_word c.site t b item.there (ap is_one_word e ∙ one) in
+  pub operand : (m : Memory) (w : World) (from : List Site) (c : Call) (t : ℕ) (v : Value) (values : Option ℕ) → IsBody x.table x.blocks c.site.body
+      → Holding x.table m w from c → IsNamed c.site (of_value t) → c.temps.values t ≡ Some v
+      → looked x.table c.site (of_value t) ≡ number values → Operand c t v
+  operand m w from c t v values b hold named e look =
+      let there = value_there c.site t b named (ap of_numbers look) in
+      let item = hold.items (of_value t) v there e in
+      let z = in_word c.site t b there (ap is_one_word look) in
+      let n = number_value v values (subst (λ s. has_shape v s ≡ true) look item.shaped) in
       record {
-        fits = number_fits v (looked x.table x.blocks c.site (of_value t)) item.shaped;
+        fits = number_fits v (looked x.table c.site (of_value t)) item.shaped;
         high = subst (λ u. OWN_FROM ≤ u) (sym z.is) z.high;
         word_is = ap c.vars z.is ∙ subst (λ p. At m c.site.base c.vars p v) z.spot item.at;
+        number = n.0;
+        is = n.1;
+        shaped = item.shaped;
       }
 
   -- ---- a temporary gets an ordinal
 
-  module _ (g : Both) (line : Line) (rest : List BlockLine) (y : IsGood x (starts g line rest)) where
+  module _ (g : Both) (line : BlockLine) (rest : List BlockLine) (y : IsGood x (starts g line rest)) where
     body : IsBody x.table x.blocks (body_of g)
     body = y.linked.0
 
@@ -120,16 +166,21 @@ module _ (x : Basis) where
         by true e = (v, cond-true (nat_eq u t) (Some v) (g.call.temps.values u) e)
         by false e = (w, cond-false (nat_eq u t) (Some v) (g.call.temps.values u) e ∙ h)
 
+    -- a temporary other than one that gets a value
+    pub different : (t u : ℕ) → (g.call.site.level ≢ g.call.site.level) ⊎ (of_value u ≢ of_value t) → u ≢ t
+    different t u (inl ne) e = ne refl
+    different t u (inr ne) e = ne (ap of_value e)
+
     -- to a variable
-    pub good_word : (free : y.passed ≡ []) (t : ℕ) (v : Value) (vars : Vars) → IsThere x.table x.blocks g.call.site (of_value t)
-        → has_shape v (looked x.table x.blocks g.call.site (of_value t)) ≡ true → is_one_word (looked x.table x.blocks g.call.site (of_value t)) ≡ true
+    pub good_word : (after : List BlockLine) (t : ℕ) (v : Value) (vars : Vars) → IsThere g.call.site (of_value t)
+        → has_shape v (looked x.table g.call.site (of_value t)) ≡ true → is_one_word (looked x.table g.call.site (of_value t)) ≡ true
         → AllBut g.call.vars (variable_of (house g.call.site (of_value t))) vars
-        → vars (variable_of (house g.call.site (of_value t))) ≡ Some (single_word v) → StandAt x.table x.blocks (body_of g) [] rest
-        → (awaits : ℕ) → IsGood x (changed g rest (with_value g.call.temps t v) vars g.memory g.words awaits g.world g.has)
-    good_word free t v vars there shaped one but is stands awaits =
-        good_changed x g line rest y free g.call.site (of_value t) (with_value g.call.temps t v) vars g.memory g.words awaits g.world g.has
+        → vars (variable_of (house g.call.site (of_value t))) ≡ Some (single_word v) → StandAt x.table x.blocks (body_of g) after
+        → (awaits : ℕ) → IsGood x (changed g after (with_value t g.call.temps v) vars g.memory g.words awaits g.world)
+    good_word after t v vars there shaped one but is stands awaits =
+        good_changed x g line rest y after g.call.site (of_value t) (with_value t g.call.temps v) vars g.memory g.words awaits g.world
         y.memory (nowhere refl)
-        (worlds_same x.table x.blocks x.small (all_sites x g line rest y) y.linked g.call.site (of_value t) g.world g.has)
+        (worlds_same x.table x.blocks x.small (all_sites x g line rest y) y.linked g.call.site (of_value t) g.world)
         kept (λ e. new)
         (λ c from i e. absurd (waits_below x g line rest y c i e)) y.frames y.levels stands
       where
@@ -137,48 +188,42 @@ module _ (x : Basis) where
         z = in_word g.call.site t body there one
 
         kept : Kept x.table x.blocks x.small (all_sites x g line rest y) y.linked g.call.site (of_value t) g.call.site g.call.temps
-            (with_value g.call.temps t v) g.call.vars vars
+            (with_value t g.call.temps v) g.call.vars vars
         kept = record {
-          values = λ u away. put_away t v u (different u away);
-          locations = λ u away. refl;
+          values = λ u other away. put_away t v u (different t u away);
+          places = λ u away. refl;
+          texts = λ u n k i text away. put_away t v u (different t u away);
           still = λ u w h. put_still t v u w h;
           variables = λ f u other away home. but.others u (above f u other home) (apart f u other away home);
           left = but.left;
         }
           where
-            different : (u : ℕ) → (g.call.site.level ≢ g.call.site.level) ⊎ (of_value u ≢ of_value t) → u ≢ t
-            different u (inl ne) e = ne refl
-            different u (inr ne) e = ne (ap of_value e)
-
-            above : (f : Name) (u : ℕ) → IsThere x.table x.blocks g.call.site f → (house g.call.site f).home ≡ Variable u → OWN_FROM ≤ u
+            above : (f : Name) (u : ℕ) → IsThere g.call.site f → (house g.call.site f).home ≡ Variable u → OWN_FROM ≤ u
             above f u other home = by (houses x.table x.blocks g.call.site f body other).where_is
               where
-                the : ℕ → OWN_FROM ≤ u → OWN_FROM ≤ u
-                the n h = h
-
                 by : Housing (room (body_of g)) FIXED_BYTES (data_end x.table x.blocks) (body_of g).start (house g.call.site f) → OWN_FROM ≤ u
                 by (in_variable w e plain low is_word) = subst (λ n. OWN_FROM ≤ n) (ap variable_in (sym e ∙ home)) low
                 by (by_address w e address low) = subst (λ n. OWN_FROM ≤ n) (ap variable_in (sym e ∙ home)) low
                 by (in_places at e plain whole within) = absurd (subst InMemory (sym e ∙ home) tt)
                 by (in_data at e plain whole low within start) = absurd (subst InMemory (sym e ∙ home) tt)
 
-            apart : (f : Name) (u : ℕ) → IsThere x.table x.blocks g.call.site f → (g.call.site.level ≢ g.call.site.level) ⊎ (f ≢ of_value t)
+            apart : (f : Name) (u : ℕ) → IsThere g.call.site f → (g.call.site.level ≢ g.call.site.level) ⊎ (f ≢ of_value t)
                 → (house g.call.site f).home ≡ Variable u → u ≢ variable_of (house g.call.site (of_value t))
             apart f u other (inl ne) home e = ne refl
             apart f u other (inr ne) home e =
                 variables_apart x.table x.blocks g.call.site (of_value t) f z.variable u body there other (λ s. ne (sym s)) z.home home (e ∙ z.is)
 
-        new : New x.table x.blocks x.small (all_sites x g line rest y) y.linked g.call.site (of_value t) g.memory g.world g.has
-            (all_sites x g line rest y) (call g.call.site (with_value g.call.temps t v) vars)
+        new : New x.table x.blocks x.small (all_sites x g line rest y) y.linked g.call.site (of_value t) g.memory g.world (all_sites x g line rest y)
+            (call g.call.site (with_value t g.call.temps v) vars)
         new = record {
-          item = λ u h. subst (λ w. IsItem x.table x.blocks g.memory (call g.call.site (with_value g.call.temps t v) vars) (of_value t) w) (put_here t v u h)
+          item = λ u i h. subst (λ w. IsItem x.table g.memory (call g.call.site (with_value t g.call.temps v) vars) (of_value t) w) (put_here t v u h)
               (record {
                 there = there;
                 plain = value_plain (house g.call.site (of_value t)).kind there.kind;
                 shaped = shaped;
                 at = subst (λ p. At g.memory g.call.site.base vars p v) (sym z.spot) (ap vars (sym z.is) ∙ is);
               });
-          led = λ u there e h. absurd (value_no_location t u (sym e));
-          known = λ n e h. absurd (value_no_place t n (sym e));
+          text = λ u n k w e a h. own_text g.call.site (of_value u) n k (subst (IsThere g.call.site) (sym e) there) a;
+          led = λ u other e n h. absurd (value_no_location t u (sym e));
           filled = λ n e h. absurd (value_no_place t n (sym e));
         }

@@ -1,29 +1,25 @@
 -- All of word code, from what makes its parts.
 use Rattle.std.proofs.Common.{◌≡◌, ℕ, zero, suc, ◌-◌, List, [], ◌∷◌, ◌++◌, length, Some, slice_get}
 use Rattle.std.proofs.Common.{sym, ap, ap₂, ◌∙◌, arith}
-use Rattle.std.proofs.Common.{map, ◌+◌, ◌==◌, ◌&&◌, nat_le, true, false, subst, add-one, length-append}
+use Rattle.std.proofs.Common.{map, ◌+◌, ◌==◌, ◌&&◌, nat_le, true, false, add-one, length-append}
 use Rattle.std.proofs.lemmas.Bool.{true≢false}
 use Rattle.std.proofs.lemmas.Option.{none-some, same_Some}
 use Rattle.nim_types.specs.declared.types.TypeDef.{TypeDef}
-use Rattle.nim_types.specs.Table.{IsTable}
-use Rattle.mid_code.specs.declared.block.BlockProc.{BlockProc}
-use Rattle.mid_code.specs.declared.block.Blocks.{Blocks}
-use Rattle.mid_code.specs.declared.word.WordProc.{WordProc}
-use Rattle.mid_code.specs.declared.word.WordCode.{WordCode}
-use Rattle.mid_code.specs.Codes.{block_plain}
-use Rattle.mid_code.specs.Running.{last_of}
+use Rattle.flat_code.specs.declared.block.BlockLine.{BlockLine}
+use Rattle.flat_code.specs.declared.code.CodeProc.{CodeProc}
+use Rattle.flat_code.specs.declared.code.Code.{Code}
+use Rattle.word_code.specs.declared.word.WordProc.{WordProc}
+use Rattle.word_code.specs.declared.word.WordCode.{WordCode}
+use Rattle.flat_code.specs.Codes.{block_plain}
+use Rattle.flat_code.specs.Running.{last_of}
 use Rattle.word_lowering.specs.declared.homes.Layout.{Layout}
 use Rattle.word_lowering.specs.Emission.{Puts}
 use Rattle.word_lowering.specs.LineCode.{Around, no_layout, proc_number}
-use Rattle.word_lowering.specs.Routines.{and_routines}
 use Rattle.word_lowering.specs.Texts.{texts_of, texts_in, padded, data_in}
 use Rattle.word_lowering.specs.Lowered.{word_proc, with_own, if_runs, word_procs, no_proc, all_layouts, around_start, lowered}
 use Rattle.word_lowering.specs.declared.may_lower.TheConstants.{MOST_DATA}
-use Rattle.word_lowering.specs.MayLower.{defs_may, procs_may, may_lower}
-use Rattle.word_lowering.specs.Lowers.{Lowers}
-use Rattle.word_lowering.specs.Stored.{HaveForms}
-use Rattle.word_lowering.proofs.Cells.{MemoryLaw}
-use Rattle.word_lowering.proofs.BlocksFollowed.{lowers}
+use Rattle.word_lowering.specs.MayLower.{defs_may, labels_may, procs_may, may_lower}
+use Rattle.word_lowering.specs.Lowers.{IsLowered}
 
 -- the last item, by its number
 last_at : {A : Type 0} (none : A) (xs : List A) (n : ℕ) (x : A) → suc n ≡ length xs → slice_get xs n ≡ Some x → last_of none xs ≡ x
@@ -38,15 +34,15 @@ last_is none [] x f = absurd (none-some x f)
 last_is none (y ∷ xs) x f = last_at none (y ∷ xs) (length (y ∷ xs) - 1) x (omega arith) f
 
 -- the procedures as they are put together
-pub procs_are : (x : Around) (start : BlockProc) (procs : List BlockProc) (p : WordProc) (first second third : List WordProc)
-    → p ≡ word_proc x 0 start → first ≡ [] ++ p ∷ [] → Puts first second and_routines → third ≡ second ++ word_procs x 0 x.layouts procs
-    → third ≡ word_proc x 0 start ∷ and_routines (word_procs x 0 x.layouts procs)
-procs_are x start procs p first second third e f g h =
-    h ∙ g (word_procs x 0 x.layouts procs) ∙ ap (λ l. l ++ and_routines (word_procs x 0 x.layouts procs)) f
-    ∙ ap (λ q. q ∷ and_routines (word_procs x 0 x.layouts procs)) e
+pub procs_are : (x : Around) (start : CodeProc BlockLine) (procs : List (CodeProc BlockLine)) (p : WordProc) (first second : List WordProc)
+    → p ≡ word_proc x 0 start → first ≡ [] ++ p ∷ [] → second ≡ first ++ word_procs x 0 x.layouts procs
+    → second ≡ word_proc x 0 start ∷ word_procs x 0 x.layouts procs
+procs_are x start procs p first second e f h =
+    h ∙ ap (λ l. l ++ word_procs x 0 x.layouts procs) f ∙ ap (λ q. q ∷ word_procs x 0 x.layouts procs) e
 
 -- one procedure more
-pub next_proc : (x y : Around) (index next behind text : ℕ) (owns more : List Layout) (own : Layout) (left rest : List BlockProc) (p : BlockProc)
+pub next_proc : (x y : Around) (index next behind text : ℕ) (owns more : List Layout) (own : Layout)
+    (left rest : List (CodeProc BlockLine)) (p : CodeProc BlockLine)
     (old new all : List WordProc) → left ≡ p ∷ rest → owns ≡ own ∷ more → (length rest == 0) ≡ false
     → text ≡ length (texts_of (map block_plain p.lines)) → y ≡ with_own x own (behind - text) → next ≡ index + 1
     → Puts old new (if_runs y.own.runs (word_proc y (proc_number index) p))
@@ -54,7 +50,7 @@ pub next_proc : (x y : Around) (index next behind text : ℕ) (owns more : List 
     → (new ++ word_procs x next more rest ≡ all) × (behind - text ≡ length (texts_in rest))
 next_proc x y index next behind text owns more own left [] p old new all a b some t around i puts h g = absurd (true≢false some)
 next_proc x y index next behind text owns more own left (q ∷ ps) p old new all a b some t around i puts h g =
-    let rest : List BlockProc = q ∷ ps in
+    let rest : List (CodeProc BlockLine) = q ∷ ps in
     let behind_all = g ∙ ap (λ l. length (texts_in l)) a in
     let long = length-append (texts_in rest) (texts_of (map block_plain p.lines)) in
     let e : behind - text ≡ length (texts_in rest) = omega (arith, behind_all, long, t) in
@@ -63,33 +59,33 @@ next_proc x y index next behind text owns more own left (q ∷ ps) p old new all
       ap (λ n. new ++ word_procs x n more rest) (i ∙ add-one index)
           ∙ puts later
           ∙ ap (λ z. old ++ if_runs z.own.runs (word_proc z (proc_number index) p) later) f
-          ∙ ap₂ (λ (os : List Layout) (ls : List BlockProc). old ++ word_procs x index os ls) (sym b) (sym a)
+          ∙ ap₂ (λ (os : List Layout) (ls : List (CodeProc BlockLine)). old ++ word_procs x index os ls) (sym b) (sym a)
           ∙ h,
       e,
     )
 
-module _ (table : List TypeDef) (blocks : Blocks) where
-  abbrev made : Layout → BlockProc → Around → WordCode
+module _ (table : List TypeDef) (blocks : Code BlockLine) where
+  abbrev made : Layout → CodeProc BlockLine → Around → WordCode
   made own start x = record {
-    procs = word_proc x 0 start ∷ and_routines (word_procs x 0 x.layouts blocks.procs);
+    procs = word_proc x 0 start ∷ word_procs x 0 x.layouts blocks.procs;
     statics = padded (data_in table own.free.datum blocks.procs);
   }
 
-  abbrev made_of : List Layout → Layout → BlockProc → WordCode
+  abbrev made_of : List Layout → Layout → CodeProc BlockLine → WordCode
   made_of all own start = made own start (around_start table all own)
 
-  abbrev last_start : BlockProc
+  abbrev last_start : CodeProc BlockLine
   last_start = last_of no_proc blocks.procs
 
   abbrev made_by : List Layout → WordCode
   made_by all = made_of all (last_of no_layout all) last_start
 
-  abbrev both : List WordProc → List ℕ → WordCode
+  abbrev pub both : List WordProc → List ℕ → WordCode
   both procs statics = record { procs = procs; statics = statics }
 
-  pub whole : (all : List Layout) (own : Layout) (start : BlockProc) (x : Around) (procs : List WordProc) (statics : List ℕ)
+  pub whole : (all : List Layout) (own : Layout) (start : CodeProc BlockLine) (x : Around) (procs : List WordProc) (statics : List ℕ)
       → all ≡ all_layouts table blocks.procs → last_of no_layout all ≡ own → last_start ≡ start → x ≡ around_start table all own
-      → procs ≡ word_proc x 0 start ∷ and_routines (word_procs x 0 x.layouts blocks.procs)
+      → procs ≡ word_proc x 0 start ∷ word_procs x 0 x.layouts blocks.procs
       → statics ≡ padded (data_in table own.free.datum blocks.procs)
       → ◌≡◌ {A = WordCode} (record { procs = procs; statics = statics }) (lowered table blocks)
   whole all own start x procs statics a b c d e f =
@@ -100,23 +96,24 @@ module _ (table : List TypeDef) (blocks : Blocks) where
       ∙ ap made_by a
 
   -- from the slices that the code has
-  pub whole_by : (slice : List BlockProc) (slices : List Layout) (own : Layout) (start : BlockProc) (x : Around)
+  pub whole_by : (slice : List (CodeProc BlockLine)) (slices : List Layout) (own : Layout) (start : CodeProc BlockLine) (x : Around)
       (procs : List WordProc) (statics bytes : List ℕ)
       → slice ≡ blocks.procs → slices ≡ all_layouts table blocks.procs
       → slice_get slices (length slices - 1) ≡ Some own → slice_get slice (length slice - 1) ≡ Some start
-      → x ≡ around_start table slices own → procs ≡ word_proc x 0 start ∷ and_routines (word_procs x 0 x.layouts slice)
+      → x ≡ around_start table slices own → procs ≡ word_proc x 0 start ∷ word_procs x 0 x.layouts slice
       → statics ≡ padded (data_in table own.free.datum slice)
-      → bytes ≡ statics → (procs_may table slices slice && (nat_le (length bytes) MOST_DATA && defs_may table)) ≡ true
-      → IsTable table → HaveForms table → MemoryLaw → Lowers table blocks (both procs statics)
-  whole_by slice slices own start x procs statics bytes s there o f around h d b may is_table have law =
+      → bytes ≡ statics → (procs_may table slices slice && (nat_le (length bytes) MOST_DATA && (defs_may table && labels_may slice))) ≡ true
+      → IsLowered table blocks (both procs statics)
+  whole_by slice slices own start x procs statics bytes s there o f around h d b may =
       let is : ◌≡◌ {A = WordCode} (both procs statics) (lowered table blocks) =
       whole slices own start x procs statics there (last_is no_layout slices own o)
       (ap (λ ps. last_of no_proc ps) (sym s) ∙ last_is no_proc slice start f) around
-      (h ∙ ap (λ ps. word_proc x 0 start ∷ and_routines (word_procs x 0 x.layouts ps)) s)
+      (h ∙ ap (λ ps. word_proc x 0 start ∷ word_procs x 0 x.layouts ps) s)
       (d ∙ ap (λ ps. padded (data_in table own.free.datum ps)) s) in
       let tested : may_lower table blocks ≡ true =
-      sym (ap (λ ls. procs_may table ls slice && (nat_le (length bytes) MOST_DATA && defs_may table)) there
-      ∙ ap (λ ps. procs_may table (all_layouts table blocks.procs) ps && (nat_le (length bytes) MOST_DATA && defs_may table)) s
-      ∙ ap (λ bs. procs_may table (all_layouts table blocks.procs) blocks.procs && (nat_le (length bs) MOST_DATA && defs_may table))
+      sym (ap (λ ls. procs_may table ls slice && (nat_le (length bytes) MOST_DATA && (defs_may table && labels_may slice))) there
+      ∙ ap (λ ps. procs_may table (all_layouts table blocks.procs) ps && (nat_le (length bytes) MOST_DATA && (defs_may table && labels_may ps))) s
+      ∙ ap (λ bs. procs_may table (all_layouts table blocks.procs) blocks.procs
+      && (nat_le (length bs) MOST_DATA && (defs_may table && labels_may blocks.procs)))
       (b ∙ ap (λ (code : WordCode). code.statics) is)) ∙ may in
-      subst (λ (code : WordCode). Lowers table blocks code) (sym is) (lowers table blocks is_table have tested law)
+      record { is = is; may = tested }

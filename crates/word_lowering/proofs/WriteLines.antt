@@ -1,44 +1,52 @@
--- Lines that write ordinals are followed.
-use Rattle.std.proofs.Common.{◌≡◌, ℕ, ◌+◌, ◌*◌, ◌%◌, ◌^◌, ◌<◌, ◌≤◌, ℤ, List}
-use Rattle.std.proofs.Common.{[], ◌∷◌, length, Some, true, Ok, Err, refl, ap, ap₂, subst, ◌∙◌}
+-- Code that writes ordinals.
+use Rattle.std.proofs.Common.{◌≡◌, ℕ, ◌+◌, ◌*◌, ◌%◌, ◌^◌, ◌<◌, ◌≤◌, ℤ, pos, negsuc, List}
+use Rattle.std.proofs.Common.{[], ◌∷◌, length, Some, true, Ok, Err, refl, ap, subst, ◌∙◌}
 use Rattle.std.proofs.Common.{arith}
 use Rattle.std.specs.Prelude.{◌==◌, if◌then◌else◌}
 use Rattle.std.specs.Fmt.{signed_decimal}
+use Rattle.std.proofs.lemmas.Fmt.{decimal_nonempty}
+use Rattle.std.proofs.lemmas.Int.{ints}
 use Rattle.arc_base.specs.Event.{writes}
 use Rattle.arc_base.specs.declared.outside.Stream.TheVariants.{Out}
 use Rattle.arc_base.specs.Simulation.{Steps}
-use Rattle.rv32_isa.specs.Image.{statics_at}
 use Rattle.rv32_isa.specs.Values.{added, subtracted, shifted_left}
 use Rattle.rv32_isa.specs.declared.micro_op.Size.TheVariants.{Byte, Word}
 use Rattle.rv32_isa.specs.declared.machine.FaultKind.TheVariants.{Misaligned}
-use Rattle.rv32_isa.specs.Steps.{number_of}
-use Rattle.nim_core.specs.Ints.{fits as is_int_number}
-use Rattle.mid_code.specs.declared.block.BlockLine.{BlockLine}
-use Rattle.mid_code.specs.declared.line.Line.{Line}
-use Rattle.mid_code.specs.declared.word.WordOperation.TheVariants as operation
-use Rattle.mid_code.specs.declared.word.WordInstr.{WordInstr}
-use Rattle.mid_code.specs.declared.word.WordInstr.TheVariants.{Constant, Compute, Datum, Load, Store}
-use Rattle.mid_code.specs.Memory.{Memory, bytes_at, number_at, own_data_at}
-use Rattle.mid_code.specs.Words.{Vars, no_words, put, WordState, scene_of as word_scene, settled, using, shows}
+use Rattle.rv32_isa.specs.Steps.{number_of, low_bytes}
+use Rattle.nim_program.specs.Ints.{fits as is_int_number}
+use Rattle.flat_code.specs.declared.block.BlockLine.{BlockLine}
+use Rattle.word_code.specs.declared.word.WordOperation.TheVariants as operation
+use Rattle.word_code.specs.declared.word.WordInstr.{WordInstr}
+use Rattle.word_code.specs.declared.word.WordInstr.TheVariants.{Constant, Compute, Datum, Load, Store}
+use Rattle.word_code.specs.Memory.{Memory, bytes_at, number_at, own_data_at, with_number}
+use Rattle.word_code.specs.Words.{Vars, no_words, put}
+use Rattle.word_code.proofs.ForCallers.{got, at, on, then_runs, run_datum, run_constant, run_compute, run_load, run_store}
 use Rattle.word_lowering.specs.declared.homes.TheConstants.{FIRST, SECOND, THIRD, OWN_FROM}
 use Rattle.word_lowering.specs.declared.texts.TheConstants.{FIXED_BYTES, FALSE_AT}
 use Rattle.word_lowering.specs.Operations.{word}
 use Rattle.word_lowering.specs.LineCode.{write_code, number_code, bool_code, char_code, name_code}
-use Rattle.word_lowering.proofs.CopyRuns.{got}
-use Rattle.word_lowering.proofs.Runs.{Runs, at, none, one, on, then_runs, run_datum, run_constant, run_compute, run_load, run_store}
 use Rattle.word_lowering.proofs.OrdinalRuns.{AllSame, put_low}
-use Rattle.word_lowering.proofs.Moves.{all_same, same_first, same_second, same_third, same_more}
-use Rattle.word_lowering.proofs.DigitBytes.{over, put_one, put_near, put_length, byte_may, byte_put, bytes_here, same_digits, digit_put}
-use Rattle.word_lowering.proofs.NumberRuns.{number_called}
+use Rattle.word_lowering.proofs.Moves.{same_first, same_second, same_third, same_more}
 use Rattle.word_lowering.proofs.Sites.{data_end}
-use Rattle.word_lowering.proofs.Related.{Both, procs, within, IsText}
-use Rattle.word_lowering.proofs.Lines.{Basis, starts, IsGood, lower}
-use Rattle.word_lowering.proofs.TextLines.{TextAt}
-use Rattle.word_lowering.proofs.Told.{room_for_digits, Tells}
+use Rattle.word_lowering.proofs.Related.{Both, within, IsText}
+use Rattle.word_lowering.proofs.Lines.{Basis, all_procs, starts, IsGood, lower}
+use Rattle.word_lowering.proofs.TextLines.{TextAt, text_still, write_one}
+use Rattle.word_lowering.proofs.Told.{Tells, told_letter, told_none, told_scratch}
+use Rattle.rv32_isa.specs.Words.{word_bytes}
+use Rattle.rv32_isa.specs.Values.{signed}
+use Rattle.word_code.specs.declared.routine.TheConstants.{NUMBER}
+use Rattle.word_code.specs.declared.word.WordInstr.TheVariants.{Call}
+use Rattle.word_code.specs.Memory.{with_number}
+use Rattle.word_code.specs.RoutineTable.{WritesNumber}
+use Rattle.word_code.proofs.ForCallers.{run_argument, store_here, store_rewritten}
+use Rattle.word_lowering.proofs.Arithmetic.{fits_signed, signed_word, word_small}
+use Rattle.word_lowering.proofs.RoutineCalls.{awaiting}
+use Rattle.word_lowering.proofs.Lines.{data_there, letter_there}
 
 -- a name in the data: where it begins, and where it ends, behind the names before it
 pub record NameAt (x : Basis) (ends names a : ℕ) (text : List ℕ) : Type 0 where
   pub from : ℕ
+  pub some : 1 ≤ length text
   pub here : TextAt x (names + from) text
   pub begins : number_at x.first (own_data_at + (ends + 4 * a)) Word ≡ Ok from
   pub begins_text : IsText x.table x.blocks (own_data_at + (ends + 4 * a)) 4
@@ -46,22 +54,16 @@ pub record NameAt (x : Basis) (ends names a : ℕ) (text : List ℕ) : Type 0 wh
   pub closes_text : IsText x.table x.blocks (own_data_at + (ends + 4 * a) + 4) 4
   pub small : own_data_at + (ends + 4 * a) + 4 < 2 ^ 32
 
-module _ (x : Basis) (least : FIXED_BYTES ≤ data_end x.table x.blocks) (g : Both) (line : Line) (rest : List BlockLine)
+one_byte : (n : ℕ) → n < 256 → low_bytes Byte n ≡ n ∷ []
+unfolding word_bytes
+one_byte n small = let e : n % 256 ≡ n = omega (arith, small) in ap (λ b. b ∷ []) e
+
+number_some : (z : ℤ) → is_int_number z ≡ true → 1 ≤ length (signed_decimal z)
+number_some (pos n) f = let h = fits_signed (pos n) f in decimal_nonempty n (omega (arith, ints, h))
+number_some (negsuc n) f = omega arith
+
+module _ (x : Basis) (least : FIXED_BYTES ≤ data_end x.table x.blocks) (g : Both) (line : BlockLine) (rest : List BlockLine)
     (y : IsGood x (starts g line rest)) where
-  -- the last line of each
-  write_one : (m : Memory) (k : List WordInstr) (v : Vars) (a n : ℕ) (text : List ℕ) → v FIRST ≡ Some a → v SECOND ≡ Some n → bytes_at m a n
-      ≡ Some text
-      → Steps (lower x) 1 (at (within x.table x.blocks g) m (write_code k) v g.words) (writes Out text) 1 (at (within x.table x.blocks g) m k v g.words)
-  write_one m k v a n text e1 e2 here =
-      let s : WordState = at (within x.table x.blocks g) m (write_code k) v g.words in
-      one (lower x) (ap₂ (λ o p. settled x.live (procs x.table x.blocks) s k
-      (using o (λ b. using p (λ e. shows (word_scene s) Out (bytes_at m b e))))) e1 e2
-      ∙ ap (λ o. settled x.live (procs x.table x.blocks) s k (shows (word_scene s) Out o)) here)
-
-  -- a text that is in memory from the beginning
-  text_still : (from : ℕ) (text : List ℕ) → TextAt x from text → bytes_at g.memory (own_data_at + from) (length text) ≡ Some text
-  text_still from text t = y.memory.texts (own_data_at + from) (length text) t.is_text ∙ t.bytes
-
   word_still : (b : ℕ) → IsText x.table x.blocks b 4 → number_at g.memory b Word ≡ number_at x.first b Word
   word_still b h = ap (λ o. if b % 4 == 0 then number_of o else Err Misaligned) (y.memory.texts b 4 h)
 
@@ -70,18 +72,28 @@ module _ (x : Basis) (least : FIXED_BYTES ≤ data_end x.table x.blocks) (g : Bo
   pub number_tells : (z : ℤ) (from : ℕ) (k : List WordInstr) → is_int_number z ≡ true → g.call.vars from ≡ Some (word z)
       → Tells x least g line rest y (number_code from k) k (signed_decimal z)
   number_tells z from k f e =
-      let w = number_called g.memory (room_for_digits x least g.memory y.memory) x.live (procs x.table x.blocks) (within x.table x.blocks g) k g.call.vars
-      _ refl z from g.words f e in
+      let v : Vars = g.call.vars in
+      let words : Vars = put g.words 0 (word z) in
+      let small = word_small z f in
+      let r1 = run_argument x.live (all_procs x) (within x.table x.blocks g) g.memory (Call FIRST NUMBER ∷ k) v g.words 0 from e in
+      let called = x.kept WritesNumber (word z) (at (within x.table x.blocks g) g.memory (Call FIRST NUMBER ∷ k) v words) FIRST k
+      (record { next = refl; given = (got (word z) small, tt) }) y.memory.sized (data_there x g.memory y.memory) small in
+      let all = on (lower x) r1 called.steps in
+      let few = called.few in
+      let some = number_some z f in
+      let text : signed_decimal (signed (word z)) ≡ signed_decimal z = ap signed_decimal (signed_word z f) in
+      let long = ap length text in
       record {
-        vars = put g.call.vars FIRST 1;
-        same = same_first g.call.vars 1;
-        statics = w.statics;
-        others = w.others;
+        vars = put v FIRST called.word;
+        same = same_first v called.word;
+        memory = called.memory;
+        told = told_scratch x least g.memory called.memory y.memory called.leaves;
         words = no_words;
         awaits = FIRST;
-        count = w.lines;
-        few = w.few;
-        steps = w.steps;
+        count = 1 + called.lines;
+        few = omega (arith, few, long, some);
+        steps = subst (λ t. Steps (lower x) (1 + called.lines) (at (within x.table x.blocks g) g.memory (number_code from k) v g.words) (writes Out t)
+            (1 + called.lines) (at (awaiting (within x.table x.blocks g) FIRST) called.memory k (put v FIRST called.word) no_words)) text all;
       }
 
   -- ---- a char
@@ -90,42 +102,37 @@ module _ (x : Basis) (least : FIXED_BYTES ≤ data_end x.table x.blocks) (g : Bo
       → Tells x least g line rest y (char_code from k) k (n ∷ [])
   char_tells n from k small high e =
       let m : Memory = g.memory in
-      let s : List ℕ = put_one m.statics 8 n in
+      let m1 : Memory = with_number m own_data_at Byte n in
       let a : ℕ = own_data_at + 0 + 0 in
       let v1 : Vars = put g.call.vars FIRST a in
       let v2 : Vars = put v1 SECOND 1 in
-      let wide : 24 ≤ length m.statics = room_for_digits x least m y.memory in
+      let may = letter_there x m y.memory in
       let l3 : List WordInstr = write_code k in
       let l2 : List WordInstr = Constant SECOND 1 ∷ l3 in
       let l1 : List WordInstr = Store FIRST from Byte ∷ l2 in
-      let e1 : v1 FIRST ≡ Some (statics_at + 8) = got (statics_at + 8) (omega arith) in
+      let e1 : v1 FIRST ≡ Some own_data_at = got own_data_at (omega arith) in
       let e2 : v1 from ≡ Some n = put_low g.call.vars FIRST a from (omega arith) high ∙ e in
-      let r1 = run_datum x.live (procs x.table x.blocks) (within x.table x.blocks g) m l1 g.call.vars g.words FIRST 0 in
-      let r2 = run_store x.live (procs x.table x.blocks) (within x.table x.blocks g) m l2 v1 g.words FIRST from Byte e1 e2
-      (byte_may m m.statics 8 (omega (arith, wide))) in
-      let s0 : WordState = at (within x.table x.blocks g) m (char_code from k) g.call.vars g.words in
-      let r12 : Runs x.live (procs x.table x.blocks) 2 s0 (at (within x.table x.blocks g) (over m s) l2 v1 g.words)
-      = subst (λ q. Runs x.live (procs x.table x.blocks) 2 s0 (at (within x.table x.blocks g) q l2 v1 g.words))
-      (byte_put m m.statics 8 n small (omega (arith, wide)))
-      (then_runs x.live (procs x.table x.blocks) r1 r2) in
-      let r3 = run_constant x.live (procs x.table x.blocks) (within x.table x.blocks g) (over m s) l3 v1 g.words SECOND 1 in
-      let here : bytes_at (over m s) (statics_at + 8) 1 ≡ Some (n ∷ [])
-      = bytes_here m s 8 1 (omega arith) (omega (arith, wide, put_length m.statics 8 n)) ∙ ap Some (put_near m.statics 8 n 0 (omega (arith, wide))) in
+      let r1 = run_datum x.live (all_procs x) (within x.table x.blocks g) m l1 g.call.vars g.words FIRST 0 in
+      let r2 = run_store x.live (all_procs x) (within x.table x.blocks g) m l2 v1 g.words FIRST from Byte e1 e2 may in
+      let r3 = run_constant x.live (all_procs x) (within x.table x.blocks g) m1 l3 v1 g.words SECOND 1 in
+      let here : bytes_at m1 own_data_at 1 ≡ Some (n ∷ [])
+      = store_here x.law m own_data_at Byte n y.memory.sized may ∙ ap Some (one_byte n small) in
       record {
         vars = v2;
         same = same_more g.call.vars v1 v2 (same_first g.call.vars a) (same_second v1 1);
-        statics = s;
-        others = digit_put m m.statics (same_digits m) 8 n (omega arith);
+        memory = m1;
+        told = told_letter x least m m1 y.memory (store_rewritten x.law m own_data_at Byte n y.memory.sized may);
         words = g.words;
         awaits = g.awaits;
         count = 4;
         few = omega arith;
-        steps = on (lower x) (then_runs x.live (procs x.table x.blocks) r12 r3) (write_one (over m s) k v2 (statics_at + 8) 1 (n ∷ []) e1 refl here);
+        steps = on (lower x) (then_runs x.live (all_procs x) (then_runs x.live (all_procs x) r1 r2) r3)
+            (write_one x least g line rest y m1 k v2 own_data_at 1 (n ∷ []) e1 refl here);
       }
 
   -- ---- a bool
 
-  pub bool_tells : (a from : ℕ) (text : List ℕ) (k : List WordInstr) → a < 2 → length text + a ≡ 5 → TextAt x (20 + 8 * a) text
+  pub bool_tells : (a from : ℕ) (text : List ℕ) (k : List WordInstr) → a < 2 → length text + a ≡ 5 → TextAt x (8 + 8 * a) text
       → OWN_FROM ≤ from
       → g.call.vars from ≡ Some a → Tells x least g line rest y (bool_code from k) k text
   bool_tells a from text k less long t high e =
@@ -133,14 +140,14 @@ module _ (x : Basis) (least : FIXED_BYTES ≤ data_end x.table x.blocks) (g : Bo
       let v : Vars = g.call.vars in
       let v1 : Vars = put v FIRST 3 in
       let v2 : Vars = put v1 FIRST (shifted_left a 3) in
-      let v3 : Vars = put v2 SECOND (own_data_at + 0 + 20) in
-      let v4 : Vars = put v3 FIRST (added (own_data_at + 0 + 20) (8 * a)) in
+      let v3 : Vars = put v2 SECOND (own_data_at + 0 + 8) in
+      let v4 : Vars = put v3 FIRST (added (own_data_at + 0 + 8) (8 * a)) in
       let v5 : Vars = put v4 SECOND 5 in
       let v6 : Vars = put v5 SECOND (subtracted 5 a) in
       let s1 : AllSame v v1 = same_first v 3 in
       let s2 : AllSame v v2 = same_more v v1 v2 s1 (same_first v1 (shifted_left a 3)) in
-      let s3 : AllSame v v3 = same_more v v2 v3 s2 (same_second v2 (own_data_at + 0 + 20)) in
-      let s4 : AllSame v v4 = same_more v v3 v4 s3 (same_first v3 (added (own_data_at + 0 + 20) (8 * a))) in
+      let s3 : AllSame v v3 = same_more v v2 v3 s2 (same_second v2 (own_data_at + 0 + 8)) in
+      let s4 : AllSame v v4 = same_more v v3 v4 s3 (same_first v3 (added (own_data_at + 0 + 8) (8 * a))) in
       let s5 : AllSame v v5 = same_more v v4 v5 s4 (same_second v4 5) in
       let s6 : AllSame v v6 = same_more v v5 v6 s5 (same_second v5 (subtracted 5 a)) in
       let l6 : List WordInstr = write_code k in
@@ -150,31 +157,32 @@ module _ (x : Basis) (least : FIXED_BYTES ≤ data_end x.table x.blocks) (g : Bo
       let l2 : List WordInstr = Datum SECOND FALSE_AT ∷ l3 in
       let l1 : List WordInstr = Compute FIRST operation.ShiftLeft from FIRST ∷ l2 in
       let shift : shifted_left a 3 % 2 ^ 32 ≡ 8 * a = omega (arith, less) in
-      let place : added (own_data_at + 0 + 20) (8 * a) % 2 ^ 32 ≡ own_data_at + (20 + 8 * a) = omega (arith, less) in
+      let place : added (own_data_at + 0 + 8) (8 * a) % 2 ^ 32 ≡ own_data_at + (8 + 8 * a) = omega (arith, less) in
       let count : subtracted 5 a % 2 ^ 32 ≡ length text = omega (arith, less, long) in
-      let r1 = run_constant x.live (procs x.table x.blocks) (within x.table x.blocks g) m l1 v g.words FIRST 3 in
-      let r2 = run_compute x.live (procs x.table x.blocks) (within x.table x.blocks g) m l2 v1 g.words FIRST operation.ShiftLeft from FIRST
+      let r1 = run_constant x.live (all_procs x) (within x.table x.blocks g) m l1 v g.words FIRST 3 in
+      let r2 = run_compute x.live (all_procs x) (within x.table x.blocks g) m l2 v1 g.words FIRST operation.ShiftLeft from FIRST
       (s1.others from high ∙ e) refl in
-      let r3 = run_datum x.live (procs x.table x.blocks) (within x.table x.blocks g) m l3 v2 g.words SECOND FALSE_AT in
-      let r4 = run_compute x.live (procs x.table x.blocks) (within x.table x.blocks g) m l4 v3 g.words FIRST operation.Add SECOND FIRST
-      (got (own_data_at + 0 + 20) (omega arith))
+      let r3 = run_datum x.live (all_procs x) (within x.table x.blocks g) m l3 v2 g.words SECOND FALSE_AT in
+      let r4 = run_compute x.live (all_procs x) (within x.table x.blocks g) m l4 v3 g.words FIRST operation.Add SECOND FIRST
+      (got (own_data_at + 0 + 8) (omega arith))
       (ap Some shift) in
-      let r5 = run_constant x.live (procs x.table x.blocks) (within x.table x.blocks g) m l5 v4 g.words SECOND 5 in
-      let r6 = run_compute x.live (procs x.table x.blocks) (within x.table x.blocks g) m l6 v5 g.words SECOND operation.Subtract SECOND from refl
+      let r5 = run_constant x.live (all_procs x) (within x.table x.blocks g) m l5 v4 g.words SECOND 5 in
+      let r6 = run_compute x.live (all_procs x) (within x.table x.blocks g) m l6 v5 g.words SECOND operation.Subtract SECOND from refl
       (s5.others from high ∙ e) in
-      let w = write_one m k v6 (own_data_at + (20 + 8 * a)) (length text) text (ap Some place) (ap Some count) (text_still (20 + 8 * a) text t) in
+      let w = write_one x least g line rest y m k v6 (own_data_at + (8 + 8 * a)) (length text) text (ap Some place) (ap Some count)
+      (text_still x least g line rest y (8 + 8 * a) text t) in
       record {
         vars = v6;
         same = s6;
-        statics = m.statics;
-        others = same_digits m;
+        memory = m;
+        told = told_none x least m y.memory;
         words = g.words;
         awaits = g.awaits;
         count = 7;
-        few = omega arith;
-        steps = on (lower x) (then_runs x.live (procs x.table x.blocks)
-            (then_runs x.live (procs x.table x.blocks) (then_runs x.live (procs x.table x.blocks) r1 r2)
-            (then_runs x.live (procs x.table x.blocks) r3 r4)) (then_runs x.live (procs x.table x.blocks) r5 r6)) w;
+        few = omega (arith, long, less);
+        steps = on (lower x) (then_runs x.live (all_procs x)
+            (then_runs x.live (all_procs x) (then_runs x.live (all_procs x) r1 r2)
+            (then_runs x.live (all_procs x) r3 r4)) (then_runs x.live (all_procs x) r5 r6)) w;
       }
 
   -- ---- a member of an enum
@@ -227,51 +235,37 @@ module _ (x : Basis) (least : FIXED_BYTES ≤ data_end x.table x.blocks) (g : Bo
       let next : added p 4 % 2 ^ 32 ≡ p + 4 = omega (arith, near) in
       let count : subtracted (t.from + n) t.from % 2 ^ 32 ≡ n = omega (arith, far) in
       let first : added (own_data_at + 0 + names) t.from % 2 ^ 32 ≡ own_data_at + (names + t.from) = omega (arith, far) in
-      let r1 = run_constant x.live (procs x.table x.blocks) (within x.table x.blocks g) m l1 v g.words FIRST 2 in
-      let r2 = run_compute x.live (procs x.table x.blocks) (within x.table x.blocks g) m l2 v1 g.words FIRST operation.ShiftLeft from FIRST
+      let r1 = run_constant x.live (all_procs x) (within x.table x.blocks g) m l1 v g.words FIRST 2 in
+      let r2 = run_compute x.live (all_procs x) (within x.table x.blocks g) m l2 v1 g.words FIRST operation.ShiftLeft from FIRST
       (s1.others from high ∙ e) refl in
-      let r3 = run_datum x.live (procs x.table x.blocks) (within x.table x.blocks g) m l3 v2 g.words SECOND ends in
-      let r4 = run_compute x.live (procs x.table x.blocks) (within x.table x.blocks g) m l4 v3 g.words SECOND operation.Add SECOND FIRST
+      let r3 = run_datum x.live (all_procs x) (within x.table x.blocks g) m l3 v2 g.words SECOND ends in
+      let r4 = run_compute x.live (all_procs x) (within x.table x.blocks g) m l4 v3 g.words SECOND operation.Add SECOND FIRST
       (got (own_data_at + 0 + ends) (omega (arith, near))) (ap Some shift) in
-      let r5 = run_load x.live (procs x.table x.blocks) (within x.table x.blocks g) m l5 v4 g.words FIRST SECOND Word (ap Some place)
+      let r5 = run_load x.live (all_procs x) (within x.table x.blocks g) m l5 v4 g.words FIRST SECOND Word (ap Some place)
       (word_still p t.begins_text ∙ t.begins) in
-      let r6 = run_constant x.live (procs x.table x.blocks) (within x.table x.blocks g) m l6 v5 g.words THIRD 4 in
-      let r7 = run_compute x.live (procs x.table x.blocks) (within x.table x.blocks g) m l7 v6 g.words SECOND operation.Add SECOND THIRD (ap Some place) refl in
-      let r8 = run_load x.live (procs x.table x.blocks) (within x.table x.blocks g) m l8 v7 g.words SECOND SECOND Word (ap Some next)
+      let r6 = run_constant x.live (all_procs x) (within x.table x.blocks g) m l6 v5 g.words THIRD 4 in
+      let r7 = run_compute x.live (all_procs x) (within x.table x.blocks g) m l7 v6 g.words SECOND operation.Add SECOND THIRD (ap Some place) refl in
+      let r8 = run_load x.live (all_procs x) (within x.table x.blocks g) m l8 v7 g.words SECOND SECOND Word (ap Some next)
       (word_still (p + 4) t.closes_text ∙ t.closes) in
-      let r9 = run_compute x.live (procs x.table x.blocks) (within x.table x.blocks g) m l9 v8 g.words SECOND operation.Subtract SECOND FIRST
+      let r9 = run_compute x.live (all_procs x) (within x.table x.blocks g) m l9 v8 g.words SECOND operation.Subtract SECOND FIRST
       (got (t.from + n) (omega (arith, far))) (got t.from (omega (arith, far))) in
-      let r10 = run_datum x.live (procs x.table x.blocks) (within x.table x.blocks g) m l10 v9 g.words THIRD names in
-      let r11 = run_compute x.live (procs x.table x.blocks) (within x.table x.blocks g) m l11 v10 g.words FIRST operation.Add THIRD FIRST
+      let r10 = run_datum x.live (all_procs x) (within x.table x.blocks g) m l10 v9 g.words THIRD names in
+      let r11 = run_compute x.live (all_procs x) (within x.table x.blocks g) m l11 v10 g.words FIRST operation.Add THIRD FIRST
       (got (own_data_at + 0 + names) (omega (arith, far))) (got t.from (omega (arith, far))) in
-      let w = write_one m k v11 (own_data_at + (names + t.from)) n text (ap Some first) (ap Some count) (text_still (names + t.from) text t.here) in
-      let front = then_runs x.live (procs x.table x.blocks) (then_runs x.live (procs x.table x.blocks) (then_runs x.live (procs x.table x.blocks) r1 r2)
-      (then_runs x.live (procs x.table x.blocks) r3 r4)) (then_runs x.live (procs x.table x.blocks) (then_runs x.live (procs x.table x.blocks) r5 r6)
-      (then_runs x.live (procs x.table x.blocks) r7 r8)) in
-      let back = then_runs x.live (procs x.table x.blocks) r9 (then_runs x.live (procs x.table x.blocks) r10 r11) in
+      let w = write_one x least g line rest y m k v11 (own_data_at + (names + t.from)) n text (ap Some first) (ap Some count)
+      (text_still x least g line rest y (names + t.from) text t.here) in
+      let front = then_runs x.live (all_procs x) (then_runs x.live (all_procs x) (then_runs x.live (all_procs x) r1 r2)
+      (then_runs x.live (all_procs x) r3 r4)) (then_runs x.live (all_procs x) (then_runs x.live (all_procs x) r5 r6)
+      (then_runs x.live (all_procs x) r7 r8)) in
+      let back = then_runs x.live (all_procs x) r9 (then_runs x.live (all_procs x) r10 r11) in
       record {
         vars = v11;
         same = s11;
-        statics = m.statics;
-        others = same_digits m;
+        memory = m;
+        told = told_none x least m y.memory;
         words = g.words;
         awaits = g.awaits;
         count = 12;
-        few = omega arith;
-        steps = on (lower x) (then_runs x.live (procs x.table x.blocks) front back) w;
+        few = (let some = t.some in omega (arith, some));
+        steps = on (lower x) (then_runs x.live (all_procs x) front back) w;
       }
-
-  -- ---- nothing
-
-  pub none_tells : (k : List WordInstr) → Tells x least g line rest y k k []
-  none_tells k = record {
-    vars = g.call.vars;
-    same = all_same g.call.vars;
-    statics = g.memory.statics;
-    others = same_digits g.memory;
-    words = g.words;
-    awaits = g.awaits;
-    count = 0;
-    few = omega arith;
-    steps = none (lower x) (at (within x.table x.blocks g) g.memory k g.call.vars g.words);
-  }

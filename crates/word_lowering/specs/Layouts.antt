@@ -1,50 +1,39 @@
--- Where the places and temporaries of a procedure are in word code. An ordinal is a variable, unless a line needs its address; a
--- location is one too, with the address to which it leads. All else is in memory: globals in the data, the rest in the places of the
--- call. No public contract speaks of it.
-use Rattle.std.specs.Prelude.{ℕ, suc, ◌+◌, nat_eq, Bool, true, false, not, ◌&&◌, ◌||◌, List, [], ◌∷◌}
-use Rattle.std.specs.Prelude.{map}
+-- Where the places and temporaries of a procedure are in word code. An ordinal is a variable, unless a line hands its address on; a location is one
+-- too, with the address to which it leads, unless it is another name for a place or a value. All else is in memory: globals in the data, the rest in
+-- the places of the call. No public contract speaks of it.
+use Rattle.std.specs.Prelude.{ℕ, suc, ◌+◌, Bool, true, false, not, ◌&&◌, List, [], ◌∷◌, map}
 use Rattle.nim_types.specs.declared.types.TypeDef.{TypeDef}
 use Rattle.nim_types.specs.declared.types.TheConstants.{WORD_BYTES}
-use Rattle.nim_core.specs.declared.program.Mode.TheVariants.{Var}
-use Rattle.mid_code.specs.declared.line.Line.{Line}
-use Rattle.mid_code.specs.declared.line.Line.TheVariants as L
-use Rattle.mid_code.specs.declared.place.PlaceKind.{PlaceKind}
-use Rattle.mid_code.specs.declared.place.PlaceKind.TheVariants as K
-use Rattle.mid_code.specs.declared.place.FlatPlace.{FlatPlace}
-use Rattle.mid_code.specs.declared.block.BlockProc.{BlockProc}
-use Rattle.mid_code.specs.Codes.{block_plain}
-use Rattle.word_lowering.specs.declared.homes.TheConstants.{OWN_FROM}
+use Rattle.nim_program.specs.declared.program.Mode.TheVariants.{Var}
+use Rattle.flat_code.specs.declared.line.Line.{Line}
+use Rattle.flat_code.specs.declared.place.PlaceKind.{PlaceKind}
+use Rattle.flat_code.specs.declared.place.PlaceKind.TheVariants as K
+use Rattle.flat_code.specs.declared.place.FlatPlace.{FlatPlace}
+use Rattle.flat_code.specs.declared.block.BlockLine.{BlockLine}
+use Rattle.flat_code.specs.declared.code.CodeProc.{CodeProc}
+use Rattle.flat_code.specs.Codes.{block_plain}
+use Rattle.word_lowering.specs.declared.homes.TheConstants.{FIRST, OWN_FROM}
+use Rattle.word_lowering.specs.declared.homes.Alias.{Alias}
+use Rattle.word_lowering.specs.declared.homes.Alias.TheVariants.{Own}
 use Rattle.word_lowering.specs.declared.homes.Home.{Home}
 use Rattle.word_lowering.specs.declared.homes.Home.TheVariants.{Variable, Placed, Static}
 use Rattle.word_lowering.specs.declared.homes.Housed.{Housed}
 use Rattle.word_lowering.specs.declared.homes.Free.{Free}
 use Rattle.word_lowering.specs.declared.homes.Layout.{Layout}
 use Rattle.word_lowering.specs.Stored.{bytes_at, entry_at, is_word}
-pub use Rattle.word_lowering.specs.Lookups.{nowhere, is_sort, found, is_param, is_result, params_in, result_in, param_before, is_address}
-pub use Rattle.word_lowering.specs.Lookups.{kept_by, kept_in}
+use Rattle.word_lowering.specs.Aliases.{alias_for, addressed, is_among}
+pub use Rattle.word_lowering.specs.Lookups.{nowhere, is_sort, found, is_param, is_result, params_in, result_in, is_address, kept_by, kept_in}
 
 -- ---- homes
 
--- the places of a call whose address a line takes
-abbrev pub and_root : Line → List ℕ → List ℕ
-and_root (L.Root to place false) rest = place ∷ rest
-and_root line rest = rest
-
-abbrev pub roots_in : List Line → List ℕ
-roots_in [] = []
-roots_in (line ∷ lines) = and_root line (roots_in lines)
-
-abbrev pub is_among : ℕ → List ℕ → Bool
-is_among n [] = false
-is_among n (m ∷ ms) = nat_eq m n || is_among n ms
-
--- what is in a variable: an address, and a word whose own address isn't taken
-abbrev pub is_kept : (rooted word : Bool) → PlaceKind → Bool
-is_kept rooted word K.Location = true
-is_kept rooted word (K.Param Var) = true
-is_kept rooted word K.Counter = true
-is_kept rooted word K.Temp = word
-is_kept rooted word kind = word && not rooted
+-- what is in a variable: an address, and a word whose own address isn't needed
+abbrev pub is_kept : (addressed word : Bool) → PlaceKind → Bool
+is_kept addressed word K.Location = true
+is_kept addressed word K.Within = true
+is_kept addressed word (K.Param Var) = true
+is_kept addressed word K.Counter = true
+is_kept addressed word K.Temp = word
+is_kept addressed word kind = word && not addressed
 
 -- globals are those of the start code
 abbrev pub is_static : (start : Bool) → PlaceKind → Bool
@@ -61,6 +50,15 @@ free_behind true kept bytes free = record free { datum = free.datum + bytes }
 free_behind false true bytes free = record free { variable = suc free.variable }
 free_behind false false bytes free = record free { byte = free.byte + bytes }
 
+-- another name has no home
+abbrev pub home_by : Alias → Home → Home
+home_by Own home = home
+home_by alias home = Variable FIRST
+
+abbrev pub free_by : Alias → (before behind : Free) → Free
+free_by Own before behind = behind
+free_by alias before behind = before
+
 -- a number that a loop keeps is a word, whatever its type says
 abbrev pub word_by : PlaceKind → Bool → Bool
 word_by K.Counter word = true
@@ -70,7 +68,7 @@ abbrev pub bytes_by : PlaceKind → ℕ → ℕ
 bytes_by K.Counter bytes = WORD_BYTES
 bytes_by kind bytes = bytes
 
-module _ (table : List TypeDef) (start : Bool) (roots : List ℕ) where
+module _ (table : List TypeDef) (start : Bool) (lines : List Line) where
   abbrev pub place_word : FlatPlace → Bool
   place_word p = word_by p.kind (is_word (entry_at table p.ty))
 
@@ -78,7 +76,10 @@ module _ (table : List TypeDef) (start : Bool) (roots : List ℕ) where
   place_bytes p = bytes_by p.kind (bytes_at table p.ty)
 
   abbrev pub place_kept : FlatPlace → Bool
-  place_kept p = is_kept (is_among p.number roots) (place_word p) p.kind
+  place_kept p = is_kept (is_among p.number (addressed lines)) (place_word p) p.kind
+
+  abbrev pub place_alias : FlatPlace → Alias
+  place_alias p = alias_for p.kind p.number lines
 
   abbrev pub housed : Free → FlatPlace → Housed
   housed free p = record {
@@ -87,11 +88,12 @@ module _ (table : List TypeDef) (start : Bool) (roots : List ℕ) where
     ty = p.ty;
     bytes = place_bytes p;
     is_word = place_word p;
-    home = home_at (is_static start p.kind) (place_kept p) free;
+    alias = place_alias p;
+    home = home_by (place_alias p) (home_at (is_static start p.kind) (place_kept p) free);
   }
 
   abbrev pub behind : Free → FlatPlace → Free
-  behind free p = free_behind (is_static start p.kind) (place_kept p) (place_bytes p) free
+  behind free p = free_by (place_alias p) free (free_behind (is_static start p.kind) (place_kept p) (place_bytes p) free)
 
   abbrev pub all_housed : Free → List FlatPlace → List Housed
   all_housed free [] = []
@@ -109,14 +111,17 @@ is_empty (x ∷ xs) = false
 abbrev pub free_at : ℕ → Free
 free_at datum = record { variable = OWN_FROM; byte = 0; datum = datum }
 
-abbrev pub layout_of : List TypeDef → (start : Bool) → (datum : ℕ) → BlockProc → Layout
-layout_of table start datum p = record {
-  all = all_housed table start (roots_in (map block_plain p.lines)) (free_at datum) p.places;
-  free = behind_all table start (roots_in (map block_plain p.lines)) (free_at datum) p.places;
-  runs = not (is_empty p.lines);
+abbrev pub laid : List TypeDef → (start : Bool) → (datum : ℕ) → List BlockLine → List FlatPlace → Layout
+laid table start datum lines places = record {
+  all = all_housed table start (map block_plain lines) (free_at datum) places;
+  free = behind_all table start (map block_plain lines) (free_at datum) places;
+  runs = not (is_empty lines);
 }
 
+abbrev pub layout_of : List TypeDef → (start : Bool) → (datum : ℕ) → CodeProc BlockLine → Layout
+layout_of table start datum p = laid table start datum p.lines p.places
+
 -- the last procedure is the start code
-abbrev pub layouts : List TypeDef → (datum : ℕ) → List BlockProc → List Layout
+abbrev pub layouts : List TypeDef → (datum : ℕ) → List (CodeProc BlockLine) → List Layout
 layouts table datum [] = []
 layouts table datum (p ∷ ps) = layout_of table (is_empty ps) datum p ∷ layouts table datum ps

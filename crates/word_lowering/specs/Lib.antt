@@ -1,4 +1,6 @@
 pub mod Stored
+pub mod Aliases
+pub mod Survey
 pub mod Lookups
 pub mod Layouts
 pub mod PlaceTable
@@ -6,10 +8,8 @@ pub mod Emission
 pub mod Spots
 pub mod Operations
 pub mod Texts
-pub mod Routines
 pub mod LineCode
 pub mod Scope
-pub mod SaidBehind
 pub mod Lowered
 pub mod MayLower
 pub mod Lowers

@@ -1,29 +1,34 @@
 -- The word code of block code: for each line some lines, which stand before those of the lines behind it. The code of a line is a function of
 -- it and of the lines behind it. No public contract speaks of it.
-use Rattle.std.specs.Prelude.{ℕ, zero, suc, ◌+◌, ◌-◌, ◌^◌, ◌*◌, Bool, true, false, if◌then◌else◌, List, [], ◌∷◌, length}
-use Rattle.std.specs.Prelude.{Option, Some, None, slice_get}
+use Rattle.std.specs.Prelude.{ℕ, zero, suc, ◌+◌, ◌-◌, ◌^◌, ◌*◌, Bool, true, false, List, [], ◌∷◌, length, map, Option, Some, None, slice_get}
 use Rattle.arc_base.specs.declared.outside.Stream.TheVariants.{Out}
 use Rattle.nim_types.specs.declared.types.TypeDef.{TypeDef}
 use Rattle.nim_types.specs.declared.types.TypeDef.TheVariants as D
-use Rattle.nim_core.specs.declared.expr.Measure.{Measure}
-use Rattle.nim_core.specs.declared.expr.Measure.TheVariants.{Len, High}
-use Rattle.nim_core.specs.declared.program.TheConstants.{ACTIVE_CALLS}
-use Rattle.nim_core.specs.Traps.{IndexOutOfBounds, LengthChanged, CallDepth}
+use Rattle.nim_program.specs.declared.operation.Measure.{Measure}
+use Rattle.nim_program.specs.declared.operation.Measure.TheVariants.{Len, High}
+use Rattle.nim_program.specs.declared.operation.Operation.{Operation}
+use Rattle.nim_program.specs.declared.operation.Operation.TheVariants as O
+use Rattle.nim_program.specs.declared.operation.Operator.{Operator}
+use Rattle.nim_program.specs.declared.program.TheConstants.{ACTIVE_CALLS}
+use Rattle.nim_program.specs.Traps.{IndexOutOfBounds, LengthChanged, CallDepth}
 use Rattle.rv32_isa.specs.declared.micro_op.Size.TheVariants.{Byte, Word as whole}
 use Rattle.rv32_isa.specs.Values.{subtracted}
-use Rattle.mid_code.specs.declared.line.Line.{Line}
-use Rattle.mid_code.specs.declared.line.Line.TheVariants as L
-use Rattle.mid_code.specs.declared.line.Piece.{Piece}
-use Rattle.mid_code.specs.declared.line.Piece.TheVariants as P
-use Rattle.mid_code.specs.declared.line.FieldFrom.{FieldFrom}
-use Rattle.mid_code.specs.declared.word.WordOperation.TheVariants as operation
-use Rattle.mid_code.specs.declared.word.Test.TheVariants as test
-use Rattle.mid_code.specs.declared.word.WordInstr.{WordInstr}
-use Rattle.mid_code.specs.declared.word.WordInstr.TheVariants.{Label, Constant, Copy, Compute, Sum, Place, Datum, Load, Store, Jump, Branch}
-use Rattle.mid_code.specs.declared.word.WordInstr.TheVariants.{Argument, Call, Return, Write, Exit}
-use Rattle.mid_code.specs.Sizes.{is_line_end}
-use Rattle.mid_code.specs.Fits.{is_value, is_location, is_own, is_declared, is_global}
-use Rattle.word_lowering.specs.declared.homes.TheConstants.{LEFT, FIRST, SECOND, THIRD}
+use Rattle.flat_code.specs.declared.line.From.{From}
+use Rattle.flat_code.specs.declared.line.From.TheVariants as F
+use Rattle.flat_code.specs.declared.line.Line.{Line}
+use Rattle.flat_code.specs.declared.line.Line.TheVariants as L
+use Rattle.flat_code.specs.declared.line.Piece.{Piece}
+use Rattle.flat_code.specs.declared.line.Piece.TheVariants as P
+use Rattle.flat_code.specs.Fits.{is_value, is_location, is_own, is_declared, is_global}
+use Rattle.word_code.specs.declared.routine.TheConstants.{SWAP, NUMBER, PROCS_FROM}
+use Rattle.word_code.specs.declared.word.WordOperation.TheVariants as operation
+use Rattle.word_code.specs.declared.word.Test.TheVariants as test
+use Rattle.word_code.specs.declared.word.WordInstr.{WordInstr}
+use Rattle.word_code.specs.declared.word.WordInstr.TheVariants.{Label, Constant, Copy, Compute, Sum, Place, Datum, Load, Store, Jump, Branch}
+use Rattle.word_code.specs.declared.word.WordInstr.TheVariants.{Argument, Call, Return, Write, Exit}
+use Rattle.word_lowering.specs.declared.homes.TheConstants.{LEFT, FIRST, SECOND, THIRD, FOURTH, FIFTH}
+use Rattle.word_lowering.specs.declared.homes.Alias.{Alias}
+use Rattle.word_lowering.specs.declared.homes.Alias.TheVariants as alias
 use Rattle.word_lowering.specs.declared.homes.Home.{Home}
 use Rattle.word_lowering.specs.declared.homes.Home.TheVariants.{Variable, Placed, Static}
 use Rattle.word_lowering.specs.declared.homes.Housed.{Housed}
@@ -31,22 +36,32 @@ use Rattle.word_lowering.specs.declared.homes.Layout.{Layout}
 use Rattle.word_lowering.specs.declared.spots.Spot.{Spot}
 use Rattle.word_lowering.specs.declared.spots.Spot.TheVariants.{Held, Lies}
 use Rattle.word_lowering.specs.declared.texts.TheConstants.{LINE_END_AT, FALSE_AT}
-use Rattle.word_lowering.specs.declared.routines.TheConstants.{SWAP, NUMBER, PROCS_FROM}
 use Rattle.word_lowering.specs.declared.setting.Setting.{Setting}
-use Rattle.word_lowering.specs.Stored.{base_at, entry_at, part_at, count_in, element_bytes}
-use Rattle.word_lowering.specs.Layouts.{free_at, nowhere, found, param_before, result_in}
-use Rattle.word_lowering.specs.Spots.{spot_of, shifted, address, moved, moves, cleared, clears, handed}
-use Rattle.word_lowering.specs.Operations.{word, trap_label, binary_code, unary_code, compare_code, narrow_code, unless_code, fits_code, count_code}
-use Rattle.word_lowering.specs.Texts.{names_before, texts_of}
+use Rattle.word_lowering.specs.Stored.{base_at, entry_at, part_at, count_in, element_bytes, limit_at}
+use Rattle.word_lowering.specs.Layouts.{free_at, nowhere, found, params_in, result_in}
+use Rattle.word_lowering.specs.Spots.{spot_of, shifted, address, moved, moves, passes, cleared, clears, starts, handed}
+use Rattle.word_lowering.specs.Operations.{word, trap_label, binary_code, unary_code, compare_code, narrow_code, unless_code, if_code, fits_code}
+use Rattle.word_lowering.specs.Operations.{beyond_code, turn_code}
+use Rattle.word_lowering.specs.Aliases.{text_in}
+use Rattle.word_lowering.specs.Texts.{names_before}
 
--- ---- labels: those of traps are below 6, those of the lines are even, and those that code of a line has are odd
+-- ---- labels: those of traps are below 8, those of the lines are even, and those that code of a line has are odd
 
 abbrev pub own_label : ℕ → ℕ
-own_label name = 6 + 2 * name
+own_label name = 8 + 2 * name
 
--- of the line that has so many lines behind it
+-- a line has one for its code, and one for each argument of a call
+abbrev pub arguments_of : Line → List From
+arguments_of (L.Call to how ty proc from) = from
+arguments_of line = []
+
+abbrev pub labels_in : List Line → ℕ
+labels_in [] = 0
+labels_in (line ∷ rest) = suc (length (arguments_of line)) + labels_in rest
+
+-- of the line that has these lines behind it
 abbrev pub label_before : List Line → ℕ
-label_before rest = 7 + 2 * length rest
+label_before rest = 9 + 2 * labels_in rest
 
 -- ---- constants
 
@@ -55,26 +70,41 @@ abbrev pub unless_zero : Home → ℕ → List WordInstr → List WordInstr
 unless_zero to zero k = k
 unless_zero to (suc n) k = address FIRST to ∷ Constant SECOND (suc n) ∷ Store FIRST SECOND whole ∷ k
 
+-- what comes with the heap isn't built
 abbrev pub pieces_code : Home → List Piece → List WordInstr → List WordInstr
 pieces_code to [] k = k
 pieces_code to (P.Ordinal z ∷ pieces) k = unless_zero to (word z) (pieces_code (shifted 4 to) pieces k)
 pieces_code to (P.Parts zero ∷ pieces) k = pieces_code (shifted 4 to) pieces k
-pieces_code to (P.Parts (suc n) ∷ pieces) k = pieces_code to pieces k
+pieces_code to (P.Elements zero ∷ pieces) k = pieces_code (shifted 4 to) pieces k
+pieces_code to (piece ∷ pieces) k = pieces_code to pieces k
+
+abbrev pub truth_word : Bool → ℕ
+truth_word true = 1
+truth_word false = 0
 
 -- the words of pieces: a value without parts has one that nobody looks at
 abbrev pub piece_words : List Piece → List ℕ
 piece_words [] = []
 piece_words (P.Ordinal z ∷ pieces) = word z ∷ piece_words pieces
 piece_words (P.Parts zero ∷ pieces) = 0 ∷ piece_words pieces
-piece_words (P.Parts (suc n) ∷ pieces) = piece_words pieces
+piece_words (P.Elements zero ∷ pieces) = 0 ∷ piece_words pieces
+piece_words (piece ∷ pieces) = piece_words pieces
 
 abbrev pub first_word : List ℕ → ℕ
 first_word [] = 0
 first_word (n ∷ ns) = n
 
-abbrev pub constant_code : Housed → Spot → List Piece → List WordInstr → List WordInstr
-constant_code to (Held v) pieces k = Constant v (first_word (piece_words pieces)) ∷ k
-constant_code to (Lies home) pieces k = cleared to.is_word to.bytes (Lies home) (pieces_code home pieces k)
+abbrev pub constant_at : Housed → Spot → List Piece → List WordInstr → List WordInstr
+constant_at to (Held v) pieces k = Constant v (first_word (piece_words pieces)) ∷ k
+constant_at to (Lies home) pieces k = cleared to.is_word to.bytes (Lies home) (pieces_code home pieces k)
+
+-- a text stands in the data
+abbrev pub constant_by : Option (List ℕ) → Housed → List Piece → List WordInstr → List WordInstr
+constant_by None to pieces k = constant_at to (spot_of to) pieces k
+constant_by (Some text) to pieces k = k
+
+abbrev pub constant_code : Housed → List Piece → List WordInstr → List WordInstr
+constant_code to pieces k = constant_by (text_in pieces) to pieces k
 
 -- ---- locations
 
@@ -82,37 +112,36 @@ abbrev pub measure_word : Measure → ℕ → ℕ
 measure_word Len n = n
 measure_word High n = subtracted n 1
 
-abbrev pub part_code : (to from at : ℕ) → List WordInstr → List WordInstr
-part_code to from at k = Sum to from at ∷ k
+-- the address so many bytes behind that of a home
+abbrev pub part_code : (to : ℕ) → Home → (at : ℕ) → List WordInstr → List WordInstr
+part_code to (Variable v) at k = Sum to v at ∷ k
+part_code to (Placed from) at k = Place to (from + at) ∷ k
+part_code to (Static from) at k = Datum to (from + at) ∷ k
 
-abbrev pub item_code : (to from index count bytes : ℕ) → List WordInstr → List WordInstr
-item_code to from index count bytes k =
-    Constant FIRST count ∷ Branch test.NotBelow index FIRST (trap_label IndexOutOfBounds)
-    ∷ Constant FIRST bytes ∷ Compute FIRST operation.Multiply index FIRST
-    ∷ Compute to operation.Add from FIRST
-    ∷ k
+-- as many bytes as FIRST says behind that of a home
+abbrev pub behind_code : (to : ℕ) → Home → List WordInstr → List WordInstr
+behind_code to (Variable v) k = Compute to operation.Add v FIRST ∷ k
+behind_code to home k = address SECOND home ∷ Compute to operation.Add SECOND FIRST ∷ k
 
-abbrev pub swap_code : (left right bytes : ℕ) → List WordInstr → List WordInstr
+-- that of an element of so many bytes
+abbrev pub element_code : (to : ℕ) → Home → (index bytes : ℕ) → List WordInstr → List WordInstr
+element_code to home index bytes k = Constant FIRST bytes ∷ Compute FIRST operation.Multiply index FIRST ∷ behind_code to home k
+
+-- the same of an index that has to be inside
+abbrev pub item_code : (to : ℕ) → Home → (index count bytes : ℕ) → List WordInstr → List WordInstr
+item_code to home index count bytes k =
+    Constant FIRST count ∷ Branch test.NotBelow index FIRST (trap_label IndexOutOfBounds) ∷ element_code to home index bytes k
+
+-- an argument that is the word in a variable, or the address of a home
+abbrev pub word_argument : (index : ℕ) → Home → List WordInstr → List WordInstr
+word_argument index (Variable v) k = Argument index v ∷ k
+word_argument index home k = address FIRST home ∷ Argument index FIRST ∷ k
+
+abbrev pub swap_code : (left right : Home) → (bytes : ℕ) → List WordInstr → List WordInstr
 swap_code left right bytes k =
-    Constant THIRD bytes ∷ Argument 0 left ∷ Argument 1 right ∷ Argument 2 THIRD ∷ Call FIRST SWAP ∷ k
+    word_argument 0 left (word_argument 1 right (Constant THIRD bytes ∷ Argument 2 THIRD ∷ Call FIRST SWAP ∷ k))
 
 -- ---- calls
-
--- the procedure that the next call calls, and how many arguments are given before it
-abbrev pub callee_behind : List Line → Option ℕ
-callee_behind [] = None
-callee_behind (L.Call to proc ∷ rest) = Some proc
-callee_behind (line ∷ rest) = callee_behind rest
-
-abbrev pub and_argument : Line → ℕ → ℕ
-and_argument (L.Argument from) n = suc n
-and_argument (L.ArgumentAt from) n = suc n
-and_argument line n = n
-
-abbrev pub arguments_behind : List Line → ℕ
-arguments_behind [] = 0
-arguments_behind (L.Call to proc ∷ rest) = 0
-arguments_behind (line ∷ rest) = and_argument line (arguments_behind rest)
 
 abbrev pub no_layout : Layout
 no_layout = record { all = []; free = free_at 0; runs = false }
@@ -189,15 +218,52 @@ name_code ends names from k =
     ∷ Datum THIRD names ∷ Compute FIRST operation.Add THIRD FIRST
     ∷ write_code k
 
+-- so many bytes of the data; nothing is done for none
 abbrev pub text_code : (at bytes : ℕ) → List WordInstr → List WordInstr
-text_code at bytes k = Datum FIRST at ∷ Constant SECOND bytes ∷ write_code k
+text_code at zero k = k
+text_code at (suc n) k = Datum FIRST at ∷ Constant SECOND (suc n) ∷ write_code k
 
--- a text of a literal, which has so many bytes of its own behind those of the lines behind it
-abbrev pub literal_code : (at : ℕ) → List ℕ → List WordInstr → List WordInstr
-literal_code at text k = if is_line_end text then text_code LINE_END_AT 1 k else text_code at (length text) k
+-- a text that a temporary is another name for
+abbrev pub literal_code : (literals : ℕ) → Alias → List WordInstr → List WordInstr
+literal_code literals (alias.Text behind bytes) k = text_code (literals + behind) bytes k
+literal_code literals other k = k
 
 abbrev pub exit_code : List WordInstr → List WordInstr
 exit_code k = Constant FIRST 0 ∷ Exit FIRST ∷ k
+
+-- ---- operations on operands
+
+-- the operand at a position
+abbrev pub operand_at : List Housed → ℕ → Housed
+operand_at [] i = nowhere
+operand_at (h ∷ hs) zero = h
+operand_at (h ∷ hs) (suc i) = operand_at hs i
+
+abbrev pub converted_code : Option ℕ → (to from : Housed) → List WordInstr → List WordInstr
+converted_code None to from k = moves to from k
+converted_code (Some values) to from k = narrow_code (variable_of to) (variable_of from) values k
+
+-- the number at a spot becomes another one
+abbrev pub updated_code : (label : ℕ) → Operator → Spot → (by : ℕ) → List WordInstr → List WordInstr
+updated_code label operator (Held v) by k = binary_code label operator v v by k
+updated_code label operator (Lies home) by k =
+    address SECOND home ∷ Load FOURTH SECOND whole ∷ binary_code label operator FOURTH FOURTH by (address FIRST home ∷ Store FIRST FOURTH whole ∷ k)
+
+-- by 1 without a second operand
+abbrev pub update_code : (label : ℕ) → Operator → List Housed → List WordInstr → List WordInstr
+update_code label operator [] k = k
+update_code label operator (to ∷ []) k = Constant FIFTH 1 ∷ updated_code label operator (spot_of to) FIFTH k
+update_code label operator (to ∷ by ∷ rest) k = updated_code label operator (spot_of to) (variable_of by) k
+
+-- with a status or without
+abbrev pub quit_code : List Housed → List WordInstr → List WordInstr
+quit_code [] k = exit_code k
+quit_code (status ∷ rest) k = Exit (variable_of status) ∷ k
+
+-- parts one behind the other
+abbrev pub parts_code : Home → List Housed → List WordInstr → List WordInstr
+parts_code to [] k = k
+parts_code to (h ∷ hs) k = moved h.is_word h.bytes (Lies to) (spot_of h) (parts_code (shifted h.bytes to) hs k)
 
 -- ---- lines of a procedure
 
@@ -213,15 +279,31 @@ module _ (x : Around) where
   abbrev pub value : ℕ → Housed
   value t = found is_value t x.own.all
 
-  abbrev pub location : ℕ → Housed
-  location t = found is_location t x.own.all
-
   abbrev pub own_place : ℕ → Housed
   own_place p = found is_own p x.own.all
 
   abbrev pub place : ℕ → (global : Bool) → Housed
   place p true = found is_global p x.globals
   place p false = found is_declared p x.own.all
+
+  -- what a temporary with a location leads to: a place or a value that it is another name for, or what stands at the address in its variable
+  abbrev pub named : Alias → Housed → Housed
+  named (alias.Place p global) own = place p global
+  named (alias.Value t) own = value t
+  named other own = own
+
+  abbrev pub location_by : Housed → Housed
+  location_by own = named own.alias own
+
+  abbrev pub location : ℕ → Housed
+  location t = location_by (found is_location t x.own.all)
+
+  abbrev pub operand : From → Housed
+  operand (F.Value t) = value t
+  operand (F.Place t) = location t
+
+  abbrev pub operands : List From → List Housed
+  operands from = map operand from
 
   -- the variables of an ordinal and of a location
   abbrev pub held : ℕ → ℕ
@@ -233,32 +315,33 @@ module _ (x : Around) where
   abbrev pub layout_at : ℕ → Layout
   layout_at proc = or_none (slice_get x.layouts proc)
 
-  -- ---- what values are made of
+  -- how many elements what stands at a location has, and how many bytes each
+  abbrev pub count_at : ℕ → ℕ
+  count_at t = count_in (entry_at x.table (location t).ty)
 
-  -- parts one behind the other
-  abbrev pub parts_code : Home → List ℕ → List WordInstr → List WordInstr
-  parts_code to [] k = k
-  parts_code to (t ∷ ts) k =
-      moved (value t).is_word (value t).bytes (Lies to) (spot_of (value t)) (parts_code (shifted (value t).bytes to) ts k)
+  abbrev pub bytes_each : ℕ → ℕ
+  bytes_each t = element_bytes x.table (entry_at x.table (location t).ty)
 
   -- fields of an object of a type
-  abbrev pub fields_code : Home → (ty : ℕ) → List FieldFrom → List WordInstr → List WordInstr
-  fields_code to ty [] k = k
-  fields_code to ty (f ∷ fs) k =
-      moved (value f.from).is_word (value f.from).bytes (Lies (shifted (part_at x.table ty f.field) to)) (spot_of (value f.from)) (fields_code to ty fs k)
+  abbrev pub fields_code : Home → (ty : ℕ) → (fields : List ℕ) → List Housed → List WordInstr → List WordInstr
+  fields_code to ty [] hs k = k
+  fields_code to ty (field ∷ fields) [] k = k
+  fields_code to ty (field ∷ fields) (h ∷ hs) k =
+      moved h.is_word h.bytes (Lies (shifted (part_at x.table ty field) to)) (spot_of h) (fields_code to ty fields hs k)
 
   -- ---- calls
 
-  -- Where an argument goes: parameters are counted from the last one, by the arguments that are given behind this one.
-  abbrev pub param_for : Option ℕ → (behind : ℕ) → Housed
-  param_for None behind = nowhere
-  param_for (Some proc) behind = param_before behind (layout_at proc).all
-
-  -- a parameter in memory is behind the places of this call, where those of the next one begin
+  -- an argument to its parameter: one in memory is behind the places of this call, where those of the next one begin
   abbrev pub argument_code : (label : ℕ) → (param : Home) → Housed → List WordInstr → List WordInstr
-  argument_code label (Variable v) from k = Argument v (variable_of from) ∷ k
+  argument_code label (Variable v) from k = word_argument v from.home k
   argument_code label (Placed at) from k = Place FIRST (x.own.free.byte + at) ∷ handed label from.bytes (spot_of from) k
   argument_code label (Static at) from k = k
+
+  -- the labels of their code are behind the line's own one, the last argument's first
+  abbrev pub arguments_code : (label : ℕ) → (params : List Housed) → List Housed → List WordInstr → List WordInstr
+  arguments_code label [] hs k = k
+  arguments_code label (p ∷ ps) [] k = k
+  arguments_code label (p ∷ ps) (h ∷ hs) k = argument_code (label + 2 * suc (length hs)) p.home h (arguments_code label ps hs k)
 
   -- the result, where it is no word, is still where the call had it
   abbrev pub result_code : Housed → Option Housed → List WordInstr → List WordInstr
@@ -269,21 +352,22 @@ module _ (x : Around) where
   entered_code proc to (Held v) k = Call v (proc_number proc) ∷ k
   entered_code proc to (Lies home) k = Call FIRST (proc_number proc) ∷ result_code to (result_in (layout_at proc).all) k
 
-  abbrev pub given_code : (proc : ℕ) → Option ℕ → List WordInstr → List WordInstr
-  given_code proc None k = Call FIRST (proc_number proc) ∷ k
-  given_code proc (Some t) k = entered_code proc (value t) (spot_of (value t)) k
+  abbrev pub given_code : (proc to : ℕ) → List WordInstr → List WordInstr
+  given_code proc to k = entered_code proc (value to) (spot_of (value to)) k
 
-  abbrev pub nothing_code : Option ℕ → List WordInstr → List WordInstr
-  nothing_code None k = k
-  nothing_code (Some t) k = Constant (held t) 0 ∷ k
+  abbrev pub nothing_code : (ty : Option ℕ) → (to : ℕ) → List WordInstr → List WordInstr
+  nothing_code None to k = k
+  nothing_code (Some ty) to k = Constant (held to) 0 ∷ k
 
-  -- a procedure without lines gives nothing
-  abbrev pub called_code : (proc : ℕ) → Option ℕ → (runs : Bool) → List WordInstr → List WordInstr
-  called_code proc to true k = Argument LEFT FIRST ∷ given_code proc to k
-  called_code proc to false k = nothing_code to k
+  -- a procedure without lines takes nothing and gives nothing
+  abbrev pub called_code : (runs : Bool) → (label proc : ℕ) → (ty : Option ℕ) → (to : ℕ) → List Housed → List WordInstr → List WordInstr
+  called_code true label proc ty to hs k =
+      arguments_code label (params_in (layout_at proc).all) hs
+      (checked_code x.setting.start (Argument LEFT FIRST ∷ given_code proc to k))
+  called_code false label proc ty to hs k = checked_code x.setting.start (nothing_code ty to k)
 
-  abbrev pub call_code : (proc : ℕ) → Option ℕ → List WordInstr → List WordInstr
-  call_code proc to k = checked_code x.setting.start (called_code proc to (layout_at proc).runs k)
+  abbrev pub call_code : (label proc : ℕ) → (ty : Option ℕ) → (to : ℕ) → List From → List WordInstr → List WordInstr
+  call_code label proc ty to from k = called_code (layout_at proc).runs label proc ty to (operands from) k
 
   -- the start code ends the program
   abbrev pub return_code : (start : Bool) → Option ℕ → List WordInstr → List WordInstr
@@ -293,67 +377,100 @@ module _ (x : Around) where
 
   -- ---- writing
 
-  -- The text of an ordinal by what its type is; `enum` is the type's number. What the table lacks is an int.
-  abbrev pub ordinal_code : Option TypeDef → (enum from : ℕ) → List WordInstr → List WordInstr
-  ordinal_code None enum from k = number_code from k
-  ordinal_code (Some D.Int) enum from k = number_code from k
-  ordinal_code (Some D.Bool) enum from k = bool_code from k
-  ordinal_code (Some D.Char) enum from k = char_code from k
-  ordinal_code (Some (D.Enum name at members)) enum from k = name_code (x.setting.ends + 4 * names_before x.table enum) x.setting.names from k
-  ordinal_code _ enum from k = k
+  -- The text of an operand by what its type is; `enum` is the type's number. What the table lacks is an int.
+  abbrev pub written_code : Option TypeDef → (enum : ℕ) → Housed → List WordInstr → List WordInstr
+  written_code None enum from k = number_code (variable_of from) k
+  written_code (Some D.Int) enum from k = number_code (variable_of from) k
+  written_code (Some D.Bool) enum from k = bool_code (variable_of from) k
+  written_code (Some D.Char) enum from k = char_code (variable_of from) k
+  written_code (Some D.Text) enum from k = literal_code x.setting.literals from.alias k
+  written_code (Some (D.Enum name at members)) enum from k =
+      name_code (x.setting.ends + 4 * names_before x.table enum) x.setting.names (variable_of from) k
+  written_code _ enum from k = k
+
+  abbrev pub typed_code : Option ℕ → Housed → List WordInstr → List WordInstr
+  typed_code None from k = k
+  typed_code (Some ty) from k = written_code (entry_at x.table ty) (base_at x.table ty) from k
+
+  -- operands of types, one behind the other
+  abbrev pub texts_code : List (Option ℕ) → List Housed → List WordInstr → List WordInstr
+  texts_code [] hs k = k
+  texts_code (ty ∷ tys) [] k = k
+  texts_code (ty ∷ tys) (h ∷ hs) k = typed_code ty h (texts_code tys hs k)
+
+  -- ---- operations, a row each: with a label of its own, by the type of the value and those of the operands. What comes with the heap isn't built.
+
+  abbrev pub row_code : Operation → (label : ℕ) → Option ℕ → List (Option ℕ) → Housed → List Housed → List WordInstr → List WordInstr
+  row_code O.Default label ty of to hs k = starts to.bytes to k
+  row_code (O.Unary operator) label ty of to hs k = unary_code operator (variable_of to) (variable_of (operand_at hs 0)) k
+  row_code (O.Binary operator) label ty of to hs k =
+      binary_code label operator (variable_of to) (variable_of (operand_at hs 0)) (variable_of (operand_at hs 1)) k
+  row_code (O.Compare comparison) label ty of to hs k =
+      compare_code comparison (variable_of to) (variable_of (operand_at hs 0)) (variable_of (operand_at hs 1)) k
+  row_code O.Convert label ty of to hs k = converted_code (limit_at x.table ty) to (operand_at hs 0) k
+  row_code O.Make label ty of to hs k = parts_code to.home hs k
+  row_code (O.Measure measure) label ty of to hs k =
+      Constant (variable_of to) (measure_word measure (count_in (entry_at x.table (operand_at hs 0).ty))) ∷ k
+  row_code O.Echo label ty of to hs k = texts_code of hs (text_code LINE_END_AT 1 k)
+  row_code O.Quit label ty of to hs k = quit_code hs k
+  row_code O.Assign label ty of to hs k = moves (operand_at hs 0) (operand_at hs 1) k
+  row_code (O.Update operator) label ty of to hs k = update_code label operator hs k
+  row_code O.Move label ty of to hs k = moves to (operand_at hs 0) (clears (operand_at hs 0) k)
+  row_code O.Swap label ty of to hs k = swap_code (operand_at hs 0).home (operand_at hs 1).home (operand_at hs 0).bytes k
+  row_code _ label ty of to hs k = k
 
   -- ---- lines
 
-  abbrev pub line_code : Line → (rest : List Line) → List WordInstr → List WordInstr
-  line_code L.Pass rest k = k
-  line_code (L.Ordinal to z) rest k = Constant (held to) (word z) ∷ k
-  line_code (L.Constant to pieces) rest k = constant_code (value to) (spot_of (value to)) pieces k
-  line_code (L.Default to ty) rest k = clears (value to) k
-  line_code (L.Copy to from) rest k = moves (value to) (value from) k
-  line_code (L.Narrow to from values) rest k = narrow_code (held to) (held from) values k
-  line_code (L.Unary to operator from) rest k = unary_code operator (held to) (held from) k
-  line_code (L.Binary to operator left right) rest k = binary_code (label_before rest) operator (held to) (held left) (held right) k
-  line_code (L.Compare to comparison left right) rest k = compare_code comparison (held to) (held left) (held right) k
-  line_code (L.Make to parts) rest k = parts_code (value to).home parts k
-  line_code (L.Construct to ty parts) rest k = clears (value to) (fields_code (value to).home ty parts k)
-  line_code (L.Fetch to p global) rest k = moves (value to) (place p global) k
-  line_code (L.Store p global from) rest k = moves (place p global) (value from) k
-  line_code (L.Fill p from) rest k = moves (own_place p) (value from) k
-  line_code (L.Blank p ty) rest k = clears (own_place p) k
-  line_code (L.FillAt p from) rest k = moves (own_place p) (location from) k
-  line_code (L.Root to p global) rest k = address (led to) (place p global).home ∷ k
-  line_code (L.Fresh to from) rest k = address (led to) (value from).home ∷ k
-  line_code (L.Part to from field) rest k =
-      part_code (led to) (led from) (part_at x.table (location from).ty field) k
-  line_code (L.Item to from index) rest k =
-      item_code (led to) (led from) (held index) (count_in (entry_at x.table (location from).ty))
-      (element_bytes x.table (entry_at x.table (location from).ty)) k
-  line_code (L.Get to from) rest k = moves (value to) (location from) k
-  line_code (L.Put at from) rest k = moves (location at) (value from) k
-  line_code (L.MoveOut to at ty) rest k = moves (value to) (location at) (clears (location at) k)
-  line_code (L.Swap left right) rest k = swap_code (led left) (led right) (location left).bytes k
-  line_code (L.Measure to measure from) rest k =
-      Constant (held to) (measure_word measure (count_in (entry_at x.table (location from).ty))) ∷ k
-  line_code (L.Still from len) rest k =
-      Constant FIRST (count_in (entry_at x.table (location from).ty)) ∷ Branch test.Unequal (held len) FIRST (trap_label LengthChanged) ∷ k
-  line_code (L.Label name) rest k = Label (own_label name) ∷ k
-  line_code (L.Jump to) rest k = Jump (own_label to) ∷ k
-  line_code (L.Unless from to) rest k = unless_code (held from) (own_label to) k
-  line_code (L.Fits from low high to) rest k = fits_code (held from) (own_label to) low high k
-  line_code (L.Uncovered to) rest k = Jump (own_label to) ∷ k
-  line_code (L.Count counter last inclusive more) rest k =
-      count_code (label_before rest) (held counter) (held last) inclusive (held more) k
-  line_code (L.Argument from) rest k =
-      argument_code (label_before rest) (param_for (callee_behind rest) (arguments_behind rest)).home (value from) k
-  line_code (L.ArgumentAt from) rest k =
-      argument_code (label_before rest) (param_for (callee_behind rest) (arguments_behind rest)).home (location from) k
-  line_code (L.Call to proc) rest k = call_code proc to k
-  line_code (L.Return result) rest k = return_code x.setting.start result k
-  line_code (L.Write from ty) rest k = ordinal_code (entry_at x.table ty) (base_at x.table ty) (held from) k
-  line_code (L.WriteText text) rest k = literal_code (x.setting.literals + length (texts_of rest)) text k
-  line_code (L.Quit status) rest k = Exit (held status) ∷ k
-  line_code L.QuitZero rest k = exit_code k
+  abbrev pub line_code : Line → (label : ℕ) → List WordInstr → List WordInstr
+  line_code (L.Apply to operation how ty of from) label k = row_code operation label ty of (value to) (operands from) k
+  line_code (L.Construct to how ty fields from) label k = clears (value to) (fields_code (value to).home ty fields (operands from) k)
+  line_code (L.Constant to how ty pieces) label k = constant_code (value to) pieces k
+  line_code (L.Call to how ty proc from) label k = call_code label proc ty to from k
+  line_code (L.Get to from how site ty) label k = moves (value to) (location from) k
+  line_code (L.Look to from) label k = moves (value to) (location from) k
+  line_code (L.Root to p global) label k = k
+  line_code (L.Fresh to from) label k = k
+  line_code (L.Part to from field) label k = part_code (led to) (location from).home (part_at x.table (location from).ty field) k
+  line_code (L.Item to from index) label k = item_code (led to) (location from).home (held index) (count_at from) (bytes_each from) k
+  -- refs come with the heap
+  line_code (L.Object to from) label k = k
+  line_code (L.Pass to from how ty) label k = passes (value from).bytes (value to) (value from) k
+  line_code (L.Truth to holds) label k = Constant (held to) (truth_word holds) ∷ k
+  line_code (L.Fill p from) label k = moves (own_place p) (value from) k
+  line_code (L.Blank p ty) label k = clears (own_place p) k
+  line_code (L.Give p from) label k = moves (own_place p) (value from) k
+  line_code (L.Zero to) label k = Constant (held to) 0 ∷ k
+  line_code (L.Length to from) label k = Constant (held to) (count_at from) ∷ k
+  line_code (L.Still from len) label k = Constant FIRST (count_at from) ∷ Branch test.Unequal (held len) FIRST (trap_label LengthChanged) ∷ k
+  line_code (L.Element to from index) label k =
+      element_code FIFTH (location from).home (held index) (bytes_each from)
+      (moved (value to).is_word (value to).bytes (spot_of (value to)) (Lies (Variable FIFTH)) k)
+  line_code (L.Beyond counter last inclusive to) label k = beyond_code inclusive (held counter) (held last) (own_label to) k
+  line_code (L.Next counter last) label k = Sum (held counter) (held counter) 1 ∷ k
+  line_code (L.Label name) label k = Label (own_label name) ∷ k
+  line_code (L.Jump to) label k = Jump (own_label to) ∷ k
+  line_code (L.Unless from to) label k = unless_code (held from) (own_label to) k
+  line_code (L.Fits from low high to) label k = fits_code (held from) (own_label to) low high k
+  line_code L.Enter label k = k
+  line_code (L.Turn to) label k = Jump (own_label to) ∷ k
+  line_code (L.TurnIf from to) label k = if_code (held from) (own_label to) k
+  line_code (L.CountTurn counter last inclusive to) label k = turn_code label (held counter) (held last) inclusive (own_label to) k
+  line_code (L.Return result) label k = return_code x.setting.start result k
 
   abbrev pub lines_code : List Line → List WordInstr → List WordInstr
   lines_code [] k = k
-  lines_code (line ∷ rest) k = line_code line rest (lines_code rest k)
+  lines_code (line ∷ rest) k = line_code line (label_before rest) (lines_code rest k)
+
+-- ---- lines of control: labels, lines that may lead to one, and the next number of a loop
+
+abbrev pub is_control : Line → Bool
+is_control (L.Beyond counter last inclusive to) = true
+is_control (L.Next counter last) = true
+is_control (L.Label name) = true
+is_control (L.Jump to) = true
+is_control (L.Unless from to) = true
+is_control (L.Fits from low high to) = true
+is_control (L.Turn to) = true
+is_control (L.TurnIf from to) = true
+is_control (L.CountTurn counter last inclusive to) = true
+is_control line = false

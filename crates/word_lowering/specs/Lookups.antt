@@ -1,20 +1,20 @@
 -- Looking up places among those of a procedure. No public contract speaks of it.
-use Rattle.std.specs.Prelude.{ℕ, suc, nat_eq, Bool, true, false, ◌&&◌, if◌then◌else◌, List, [], ◌∷◌, length, Option, Some, None}
-use Rattle.nim_types.specs.declared.types.TheConstants.{WORD_BYTES}
-use Rattle.nim_core.specs.declared.program.Mode.TheVariants.{Var}
-use Rattle.mid_code.specs.declared.place.PlaceKind.{PlaceKind}
-use Rattle.mid_code.specs.declared.place.PlaceKind.TheVariants as K
-use Rattle.mid_code.specs.Fits.{is_value, is_location, is_own, is_declared, is_global}
+use Rattle.std.specs.Prelude.{ℕ, suc, nat_eq, Bool, true, false, ◌&&◌, if◌then◌else◌, List, [], ◌∷◌, Option, Some, None}
+use Rattle.nim_program.specs.declared.program.Mode.TheVariants.{Var}
+use Rattle.flat_code.specs.declared.place.PlaceKind.{PlaceKind}
+use Rattle.flat_code.specs.declared.place.PlaceKind.TheVariants as K
+use Rattle.flat_code.specs.Fits.{is_value, is_location, is_own, is_declared, is_global}
 use Rattle.word_lowering.specs.declared.homes.TheConstants.{FIRST}
+use Rattle.word_lowering.specs.declared.homes.Alias.TheVariants as alias
 use Rattle.word_lowering.specs.declared.homes.Home.{Home}
 use Rattle.word_lowering.specs.declared.homes.Home.TheVariants.{Variable}
 use Rattle.word_lowering.specs.declared.homes.Housed.{Housed}
 use Rattle.word_lowering.specs.declared.homes.Sort.{Sort}
 use Rattle.word_lowering.specs.declared.homes.Sort.TheVariants.{Value, Location, Own, Declared, Global}
 
--- what isn't there; no line of code that fits names it
+-- What isn't there: it has no bytes. Lines of code that fits name it where they have no value.
 abbrev pub nowhere : Housed
-nowhere = record { number = 0; kind = K.Temp; ty = 0; bytes = WORD_BYTES; is_word = true; home = Variable FIRST }
+nowhere = record { number = 0; kind = K.Temp; ty = 0; bytes = 0; is_word = true; alias = alias.Own; home = Variable FIRST }
 
 -- the kinds among which a line seeks a place
 abbrev pub is_sort : Sort → PlaceKind → Bool
@@ -45,14 +45,10 @@ abbrev pub result_in : List Housed → Option Housed
 result_in [] = None
 result_in (h ∷ hs) = if is_result h.kind then Some h else result_in hs
 
--- the parameter that has so many behind it
-abbrev pub param_before : (behind : ℕ) → List Housed → Housed
-param_before behind [] = nowhere
-param_before behind (h ∷ hs) = if is_param h.kind && nat_eq (length (params_in hs)) behind then h else param_before behind hs
-
 -- a place that holds an address, and not a value
 abbrev pub is_address : PlaceKind → Bool
 is_address K.Location = true
+is_address K.Within = true
 is_address (K.Param Var) = true
 is_address kind = false
 

@@ -1,26 +1,23 @@
--- The word code of block code as a whole: the start code first, then the routines, then the procedures in their order. No public contract
--- speaks of it.
+-- The word code of block code as a whole: the start code first, then the procedures in their order. It calls routines by their numbers. No public
+-- contract speaks of it.
 use Rattle.std.specs.Prelude.{ℕ, suc, nat_eq, ◌+◌, Bool, true, false, ◌||◌, if◌then◌else◌}
-use Rattle.std.specs.Prelude.{List, [], ◌∷◌, length, map, Option, Some, None}
+use Rattle.std.specs.Prelude.{List, [], ◌∷◌, ◌++◌, length, map, Option, Some, None}
 use Rattle.nim_types.specs.declared.types.TypeDef.{TypeDef}
-use Rattle.nim_core.specs.declared.expr.UnaryOperator.{UnaryOperator}
-use Rattle.nim_core.specs.declared.expr.UnaryOperator.TheVariants as unary
-use Rattle.nim_core.specs.declared.expr.Operator.{Operator}
-use Rattle.nim_core.specs.declared.expr.Operator.TheVariants as binary
-use Rattle.nim_core.specs.Traps.{Trap, Overflow, DivisionByZero, IndexOutOfBounds, OutOfRange, LengthChanged, CallDepth}
-use Rattle.mid_code.specs.declared.place.HookOf.{HookOf}
-use Rattle.mid_code.specs.declared.line.Line.{Line}
-use Rattle.mid_code.specs.declared.line.Line.TheVariants as L
-use Rattle.mid_code.specs.declared.block.BlockProc.{BlockProc}
-use Rattle.mid_code.specs.declared.block.Blocks.{Blocks}
-use Rattle.mid_code.specs.declared.word.WordInstr.{WordInstr}
-use Rattle.mid_code.specs.declared.word.WordInstr.TheVariants.{Label, Call}
-use Rattle.mid_code.specs.declared.word.ProcKind.{ProcKind}
-use Rattle.mid_code.specs.declared.word.ProcKind.TheVariants as kind
-use Rattle.mid_code.specs.declared.word.WordProc.{WordProc}
-use Rattle.mid_code.specs.declared.word.WordCode.{WordCode}
-use Rattle.mid_code.specs.Codes.{block_plain}
-use Rattle.mid_code.specs.Running.{last_of}
+use Rattle.nim_program.specs.declared.program.HookOf.{HookOf}
+use Rattle.nim_program.specs.Traps.{Trap, Overflow, DivisionByZero, IndexOutOfBounds, OutOfRange, LengthChanged, CallDepth}
+use Rattle.flat_code.specs.declared.line.Line.{Line}
+use Rattle.flat_code.specs.declared.block.BlockLine.{BlockLine}
+use Rattle.flat_code.specs.declared.code.Code.{Code}
+use Rattle.flat_code.specs.declared.code.CodeProc.{CodeProc}
+use Rattle.flat_code.specs.Codes.{block_plain}
+use Rattle.flat_code.specs.Running.{last_of}
+use Rattle.word_code.specs.declared.word.WordInstr.{WordInstr}
+use Rattle.word_code.specs.declared.word.WordInstr.TheVariants.{Label, Branch, Call}
+use Rattle.word_code.specs.declared.word.ProcKind.{ProcKind}
+use Rattle.word_code.specs.declared.word.ProcKind.TheVariants as kind
+use Rattle.word_code.specs.declared.word.WordProc.{WordProc}
+use Rattle.word_code.specs.declared.word.WordCode.{WordCode}
+use Rattle.word_code.specs.RoutineTable.{trap_number}
 use Rattle.word_lowering.specs.declared.homes.TheConstants.{FIRST, OWN_FROM}
 use Rattle.word_lowering.specs.declared.homes.Housed.{Housed}
 use Rattle.word_lowering.specs.declared.homes.Layout.{Layout}
@@ -29,73 +26,54 @@ use Rattle.word_lowering.specs.Layouts.{is_empty, layouts, params_in, result_in,
 use Rattle.word_lowering.specs.Spots.{clears}
 use Rattle.word_lowering.specs.Operations.{trap_label}
 use Rattle.word_lowering.specs.Texts.{padded, names_at, literals_at, texts_in, data_in}
-use Rattle.word_lowering.specs.Routines.{trap_number, and_routines}
 use Rattle.word_lowering.specs.LineCode.{Around, no_layout, lines_code, proc_number}
 
 -- ---- procedures
-
-abbrev pub is_call : Line → Bool
-is_call (L.Call to proc) = true
-is_call line = false
 
 -- the result is at its default
 abbrev pub result_cleared : Option Housed → List WordInstr → List WordInstr
 result_cleared None k = k
 result_cleared (Some r) k = clears r k
 
--- whether the code of an operation may lead to the label of a trap, and that of a line
-abbrev pub operation_leads : (label : ℕ) → Operator → Bool
-operation_leads label binary.Add = nat_eq label (trap_label Overflow)
-operation_leads label binary.Subtract = nat_eq label (trap_label Overflow)
-operation_leads label binary.Multiply = nat_eq label (trap_label Overflow)
-operation_leads label binary.Divide = nat_eq label (trap_label Overflow) || nat_eq label (trap_label DivisionByZero)
-operation_leads label binary.Modulo = nat_eq label (trap_label DivisionByZero)
-operation_leads label operator = false
+-- whether one of these lines branches to a label
+abbrev pub branches_to : (label : ℕ) → WordInstr → Bool
+branches_to label (Branch test left right to) = nat_eq label to
+branches_to label line = false
 
-abbrev pub negation_leads : (label : ℕ) → UnaryOperator → Bool
-negation_leads label unary.Negate = nat_eq label (trap_label Overflow)
-negation_leads label operator = false
-
-abbrev pub line_leads : (label : ℕ) → Line → Bool
-line_leads label (L.Narrow to from values) = nat_eq label (trap_label OutOfRange)
-line_leads label (L.Unary to operator from) = negation_leads label operator
-line_leads label (L.Binary to operator left right) = operation_leads label operator
-line_leads label (L.Item to from index) = nat_eq label (trap_label IndexOutOfBounds)
-line_leads label (L.Still from len) = nat_eq label (trap_label LengthChanged)
-line_leads label (L.Call to proc) = nat_eq label (trap_label CallDepth)
-line_leads label line = false
-
-abbrev pub lines_lead : (label : ℕ) → List Line → Bool
-lines_lead label [] = false
-lines_lead label (line ∷ rest) = line_leads label line || lines_lead label rest
+abbrev pub any_branches : (label : ℕ) → List WordInstr → Bool
+any_branches label [] = false
+any_branches label (line ∷ lines) = branches_to label line || any_branches label lines
 
 -- the label of a trap with the call of its routine, which doesn't come back
 abbrev pub trap_code : (leads : Bool) → (label routine : ℕ) → List WordInstr → List WordInstr
 trap_code true label routine k = Label label ∷ Call FIRST routine ∷ k
 trap_code false label routine k = k
 
--- it is there where one of the lines may lead to it
-abbrev pub trap_end : List Line → Trap → List WordInstr → List WordInstr
-trap_end lines trap k = trap_code (lines_lead (trap_label trap) lines) (trap_label trap) (trap_number trap) k
+-- it is there where one of the lines leads to it
+abbrev pub trap_end : List WordInstr → Trap → List WordInstr → List WordInstr
+trap_end lines trap k = trap_code (any_branches (trap_label trap) lines) (trap_label trap) (trap_number trap) k
 
--- what stands at the end of a procedure with these lines
-abbrev pub last_code : List Line → List WordInstr → List WordInstr
-last_code lines k = trap_end lines Overflow (trap_end lines DivisionByZero (trap_end lines IndexOutOfBounds
-    (trap_end lines OutOfRange (trap_end lines LengthChanged (trap_end lines CallDepth k)))))
+-- what stands behind these lines at the end of a procedure
+abbrev pub last_code : List WordInstr → List WordInstr
+last_code lines = trap_end lines Overflow (trap_end lines DivisionByZero (trap_end lines IndexOutOfBounds
+    (trap_end lines OutOfRange (trap_end lines LengthChanged (trap_end lines CallDepth [])))))
+
+abbrev pub and_last : List WordInstr → List WordInstr
+and_last lines = lines ++ last_code lines
+
+abbrev pub code_of : Around → List Line → List WordInstr
+code_of x lines = and_last (result_cleared (result_in x.own.all) (lines_code x lines []))
 
 abbrev pub kind_of : Option HookOf → ProcKind
 kind_of None = kind.Counted
 kind_of (Some hook) = kind.Hook hook.kind hook.of
-
-abbrev pub code_of : Around → List Line → List WordInstr
-code_of x lines = result_cleared (result_in x.own.all) (lines_code x lines (last_code lines []))
 
 abbrev pub kind_in : (start : Bool) → Option HookOf → ProcKind
 kind_in true hook = kind.Counted
 kind_in false hook = kind_of hook
 
 -- a procedure of some number
-abbrev pub word_proc : Around → (number : ℕ) → BlockProc → WordProc
+abbrev pub word_proc : Around → (number : ℕ) → CodeProc BlockLine → WordProc
 word_proc x number p = record {
   number = number;
   kind = kind_in x.setting.start p.hook;
@@ -119,23 +97,23 @@ if_runs true p procs = p ∷ procs
 if_runs false p procs = procs
 
 -- the procedures, the first of which has an index, with their layouts; the last one is the start code, which isn't among them
-abbrev pub word_procs : Around → (index : ℕ) → List Layout → List BlockProc → List WordProc
+abbrev pub word_procs : Around → (index : ℕ) → List Layout → List (CodeProc BlockLine) → List WordProc
 word_procs x index owns [] = []
 word_procs x index [] (p ∷ ps) = []
 word_procs x index (own ∷ owns) (p ∷ ps) =
     if is_empty ps then [] else
     if_runs own.runs (word_proc (with_own x own (length (texts_in ps))) (proc_number index) p) (word_procs x (suc index) owns ps)
 
-abbrev pub no_proc : BlockProc
+abbrev pub no_proc : CodeProc BlockLine
 no_proc = record { first = 0; span = 0; places = []; lines = []; hook = None }
 
-abbrev pub all_layouts : List TypeDef → List BlockProc → List Layout
+abbrev pub all_layouts : List TypeDef → List (CodeProc BlockLine) → List Layout
 all_layouts table procs = layouts table FIXED_BYTES procs
 
-abbrev pub start_layout : List TypeDef → List BlockProc → Layout
+abbrev pub start_layout : List TypeDef → List (CodeProc BlockLine) → Layout
 start_layout table procs = last_of no_layout (all_layouts table procs)
 
-abbrev pub globals_end : List TypeDef → List BlockProc → ℕ
+abbrev pub globals_end : List TypeDef → List (CodeProc BlockLine) → ℕ
 globals_end table procs = (start_layout table procs).free.datum
 
 -- what is around the start code, which has this layout
@@ -153,16 +131,16 @@ around_start table all own = record {
   };
 }
 
-abbrev pub start_around : List TypeDef → List BlockProc → Around
+abbrev pub start_around : List TypeDef → List (CodeProc BlockLine) → Around
 start_around table procs = around_start table (all_layouts table procs) (start_layout table procs)
 
-abbrev pub lowered_procs : Around → List BlockProc → List WordProc
-lowered_procs x procs = word_proc x 0 (last_of no_proc procs) ∷ and_routines (word_procs x 0 x.layouts procs)
+abbrev pub lowered_procs : Around → List (CodeProc BlockLine) → List WordProc
+lowered_procs x procs = word_proc x 0 (last_of no_proc procs) ∷ word_procs x 0 x.layouts procs
 
-abbrev pub data_of : List TypeDef → List BlockProc → List ℕ
+abbrev pub data_of : List TypeDef → List (CodeProc BlockLine) → List ℕ
 data_of table procs = padded (data_in table (globals_end table procs) procs)
 
-abbrev pub lowered : List TypeDef → Blocks → WordCode
+abbrev pub lowered : List TypeDef → Code BlockLine → WordCode
 lowered table blocks = record {
   procs = lowered_procs (start_around table blocks.procs) blocks.procs;
   statics = data_of table blocks.procs;

@@ -3,18 +3,18 @@
 use Rattle.std.specs.Prelude.{ℕ, ◌^◌, ◌-◌, ℤ, ◌-ℤ◌, int_lt, min, Bool, true, false, List, ◌∷◌, if◌then◌else◌, unsigned_abs}
 use Rattle.std.specs.Ordering.{int_eq}
 use Rattle.std.specs.Int.{w32, cast_unsigned}
-use Rattle.nim_core.specs.declared.expr.UnaryOperator.{UnaryOperator}
-use Rattle.nim_core.specs.declared.expr.UnaryOperator.TheVariants as unary
-use Rattle.nim_core.specs.declared.expr.Operator.{Operator}
-use Rattle.nim_core.specs.declared.expr.Operator.TheVariants as binary
-use Rattle.nim_core.specs.declared.expr.Comparison.{Comparison}
-use Rattle.nim_core.specs.declared.expr.Comparison.TheVariants as comparison
-use Rattle.nim_core.specs.Traps.{Trap, Overflow, DivisionByZero, IndexOutOfBounds, OutOfRange, LengthChanged, CallDepth}
-use Rattle.mid_code.specs.declared.word.WordOperation.{WordOperation}
-use Rattle.mid_code.specs.declared.word.WordOperation.TheVariants as operation
-use Rattle.mid_code.specs.declared.word.Test.TheVariants as test
-use Rattle.mid_code.specs.declared.word.WordInstr.{WordInstr}
-use Rattle.mid_code.specs.declared.word.WordInstr.TheVariants.{Label, Constant, Copy, Compute, Branch}
+use Rattle.nim_program.specs.declared.operation.UnaryOperator.{UnaryOperator}
+use Rattle.nim_program.specs.declared.operation.UnaryOperator.TheVariants as unary
+use Rattle.nim_program.specs.declared.operation.Operator.{Operator}
+use Rattle.nim_program.specs.declared.operation.Operator.TheVariants as binary
+use Rattle.nim_program.specs.declared.operation.Comparison.{Comparison}
+use Rattle.nim_program.specs.declared.operation.Comparison.TheVariants as comparison
+use Rattle.nim_program.specs.Traps.{Trap, Overflow, DivisionByZero, IndexOutOfBounds, OutOfRange, NilDereference, LengthChanged, CallDepth, OutOfMemory}
+use Rattle.word_code.specs.declared.word.WordOperation.{WordOperation}
+use Rattle.word_code.specs.declared.word.WordOperation.TheVariants as operation
+use Rattle.word_code.specs.declared.word.Test.TheVariants as test
+use Rattle.word_code.specs.declared.word.WordInstr.{WordInstr}
+use Rattle.word_code.specs.declared.word.WordInstr.TheVariants.{Label, Constant, Copy, Compute, Sum, Jump, Branch}
 use Rattle.word_lowering.specs.declared.homes.TheConstants.{FIRST, SECOND, THIRD}
 
 -- the word of an int, in two's complement
@@ -29,6 +29,8 @@ trap_label IndexOutOfBounds = 2
 trap_label OutOfRange = 3
 trap_label LengthChanged = 4
 trap_label CallDepth = 5
+trap_label NilDereference = 6
+trap_label OutOfMemory = 7
 
 -- -1 and the least int
 abbrev pub minus_one : ℕ
@@ -139,17 +141,25 @@ fits_code from label low high k =
     ∷ Branch test.NotBelow SECOND FIRST label
     ∷ k
 
--- FIRST says whether there is a turn more. A number that is less than the last one has a next number; where the last one is none of the
--- loop, that has to be less too, which is so where the number is less than the last one less FIRST.
-abbrev pub below_code : (inclusive : Bool) → (counter last : ℕ) → List WordInstr → List WordInstr
-below_code true counter last k = Compute FIRST operation.Less counter last ∷ k
-below_code false counter last k =
-    Compute FIRST operation.Less counter last ∷ Compute SECOND operation.Subtract last FIRST ∷ Compute FIRST operation.Less counter SECOND ∷ k
+-- the opposite
+abbrev pub if_code : (from label : ℕ) → List WordInstr → List WordInstr
+if_code from label k = Constant FIRST 0 ∷ Branch test.Unequal from FIRST label ∷ k
 
--- then the number is one more; else it stays, and nothing more comes
-abbrev pub next_code : (label counter more : ℕ) → List WordInstr → List WordInstr
-next_code label counter more k =
-    Compute counter operation.Add counter FIRST ∷ Constant SECOND 0 ∷ Branch test.Unequal FIRST SECOND label ∷ Constant more 0 ∷ Label label ∷ k
+-- ---- the numbers of loops
 
-abbrev pub count_code : (label counter last : ℕ) → (inclusive : Bool) → (more : ℕ) → List WordInstr → List WordInstr
-count_code label counter last inclusive more k = below_code inclusive counter last (next_code label counter more k)
+-- on at a label where a number is none of the loop
+abbrev pub beyond_code : (inclusive : Bool) → (counter last label : ℕ) → List WordInstr → List WordInstr
+beyond_code true counter last label k = Branch test.Less last counter label ∷ k
+beyond_code false counter last label k = Branch test.AtLeast counter last label ∷ k
+
+-- A number that is less than the last one has a next one. Where the last one is none of the loop, that has to be less too, which is so where the
+-- number is less than the last one less 1, and less than that one.
+abbrev pub unless_less : (inclusive : Bool) → (counter last label : ℕ) → List WordInstr → List WordInstr
+unless_less true counter last label k = Branch test.AtLeast counter last label ∷ k
+unless_less false counter last label k =
+    Compute FIRST operation.Less counter last ∷ Compute SECOND operation.Subtract last FIRST ∷ Branch test.AtLeast counter SECOND label ∷ k
+
+-- the next turn begins at a label, unless there is none: then on at the code's own one
+abbrev pub turn_code : (own counter last : ℕ) → (inclusive : Bool) → (label : ℕ) → List WordInstr → List WordInstr
+turn_code own counter last inclusive label k =
+    unless_less inclusive counter last own (Sum counter counter 1 ∷ Jump label ∷ Label own ∷ k)

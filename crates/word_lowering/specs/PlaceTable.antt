@@ -1,7 +1,7 @@
 -- The places of a procedure by their numbers, and its parameters. No public contract speaks of it.
 use Rattle.std.specs.Prelude.{◌≡◌, ℕ, nat_eq, Bool, List, [], drop, Option, Some, None}
 use Rattle.std.specs.HashMap.{HashMap, get}
-use Rattle.mid_code.specs.declared.place.PlaceKind.{PlaceKind}
+use Rattle.flat_code.specs.declared.place.PlaceKind.{PlaceKind}
 use Rattle.word_lowering.specs.declared.homes.Housed.{Housed}
 use Rattle.word_lowering.specs.Lookups.{found, params_in}
 

@@ -1,17 +1,17 @@
 -- Code that moves values between variables and memory. Each piece of code stands before what follows. No public contract speaks of it.
-use Rattle.std.specs.Prelude.{ℕ, ◌+◌, Bool, true, false, List, ◌∷◌}
+use Rattle.std.specs.Prelude.{ℕ, zero, suc, ◌+◌, Bool, true, false, List, ◌∷◌}
 use Rattle.rv32_isa.specs.declared.micro_op.Size.TheVariants.{Word as whole}
-use Rattle.mid_code.specs.declared.word.WordOperation.TheVariants as operation
-use Rattle.mid_code.specs.declared.word.Test.TheVariants as test
-use Rattle.mid_code.specs.declared.word.WordInstr.{WordInstr}
-use Rattle.mid_code.specs.declared.word.WordInstr.TheVariants.{Label, Constant, Copy, Compute, Place, Datum, Load, Store, Branch, Argument, Call}
+use Rattle.word_code.specs.declared.word.WordOperation.TheVariants as operation
+use Rattle.word_code.specs.declared.word.Test.TheVariants as test
+use Rattle.word_code.specs.declared.word.WordInstr.{WordInstr}
+use Rattle.word_code.specs.declared.word.WordInstr.TheVariants.{Label, Constant, Copy, Compute, Place, Datum, Load, Store, Branch, Argument, Call}
 use Rattle.word_lowering.specs.declared.homes.TheConstants.{FIRST, SECOND, THIRD, FOURTH, FIFTH}
 use Rattle.word_lowering.specs.declared.homes.Home.{Home}
 use Rattle.word_lowering.specs.declared.homes.Home.TheVariants.{Variable, Placed, Static}
 use Rattle.word_lowering.specs.declared.homes.Housed.{Housed}
 use Rattle.word_lowering.specs.declared.spots.Spot.{Spot}
 use Rattle.word_lowering.specs.declared.spots.Spot.TheVariants.{Held, Lies}
-use Rattle.word_lowering.specs.declared.routines.TheConstants.{COPY, CLEAR}
+use Rattle.word_code.specs.declared.routine.TheConstants.{COPY, CLEAR}
 use Rattle.word_lowering.specs.Layouts.{is_address}
 
 -- a value is held by a variable, or lies in memory: at an address that a variable has, or where the place is
@@ -49,6 +49,11 @@ moved word bytes (Lies to) (Lies from) k = address FIRST to ∷ address SECOND f
 abbrev pub moves : (to from : Housed) → List WordInstr → List WordInstr
 moves to from k = moved from.is_word from.bytes (spot_of to) (spot_of from) k
 
+-- the same of a value that is there
+abbrev pub passes : (bytes : ℕ) → (to from : Housed) → List WordInstr → List WordInstr
+passes zero to from k = k
+passes (suc n) to from k = moves to from k
+
 -- zeros at the address in FIRST
 abbrev pub zeros : (word : Bool) → (bytes : ℕ) → List WordInstr → List WordInstr
 zeros true bytes k = Constant SECOND 0 ∷ Store FIRST SECOND whole ∷ k
@@ -61,6 +66,11 @@ cleared word bytes (Lies to) k = address FIRST to ∷ zeros word bytes k
 -- a value becomes that at which its type starts, whose words are all 0
 abbrev pub clears : Housed → List WordInstr → List WordInstr
 clears to k = cleared to.is_word to.bytes (spot_of to) k
+
+-- the same of what is there
+abbrev pub starts : (bytes : ℕ) → Housed → List WordInstr → List WordInstr
+starts zero to k = k
+starts (suc n) to k = clears to k
 
 -- From an address to that in FIRST, word by word, with a label of its own. No routine is called, since that would lose the arguments
 -- that were given so far.

@@ -1,5 +1,5 @@
 -- Values in memory: how many bytes those of a type have, by its number in the table, and where their parts stand.
-use Rattle.std.specs.Prelude.{◌<◌, ℕ, zero, suc, ◌+◌, Bool, true, false, List, [], ◌∷◌, length, take, Option, Some, slice_get}
+use Rattle.std.specs.Prelude.{◌<◌, ℕ, zero, suc, ◌+◌, Bool, true, false, List, [], ◌∷◌, length, take, Option, Some, None, slice_get}
 use Rattle.nim_types.specs.declared.types.TypeDef.{TypeDef}
 use Rattle.nim_types.specs.declared.types.TypeDef.TheVariants as D
 use Rattle.nim_types.specs.Table.{type_at, types_in, facts_in}
@@ -57,6 +57,18 @@ count_in _ = 0
 abbrev pub element_bytes : List TypeDef → Option TypeDef → ℕ
 element_bytes table (Some (D.Array n ty)) = bytes_at table ty
 element_bytes table _ = 0
+
+-- ---- conversions
+
+-- how many values a type has to which an int is converted with a check
+abbrev pub limit_in : Option TypeDef → Option ℕ
+limit_in (Some D.Char) = Some 256
+limit_in (Some (D.Enum name at members)) = Some (length members)
+limit_in _ = None
+
+abbrev pub limit_at : List TypeDef → Option ℕ → Option ℕ
+limit_at table None = None
+limit_at table (Some ty) = limit_in (slice_get table ty)
 
 -- ---- no type contains itself by value
 

@@ -1,23 +1,29 @@
 // The word code of calls and returns.
-ghost use Rattle.std.specs.Prelude.{◌≡◌, IfOk, OnOk};
+ghost use Rattle.std.specs.Prelude.{◌≡◌, ◌∷◌, ◌+◌, ◌*◌, suc, IfOk, OnOk};
 ghost use Rattle.word_lowering.specs.Emission.{Puts};
-ghost use Rattle.word_lowering.specs.LineCode.{proc_number, left_at, result_code, given_code};
-ghost use Rattle.word_lowering.specs.LineCode.{checked_code, nothing_code, called_code, call_code};
-ghost use Rattle.word_lowering.specs.LineCode.{layout_at, back_code};
-ghost use Rattle.word_lowering.specs.LineCode.{return_code, exit_code};
+ghost use Rattle.word_lowering.specs.LineCode.{proc_number, left_at, result_code, entered_code};
+ghost use Rattle.word_lowering.specs.LineCode.{argument_code, arguments_code, operands, value};
+ghost use Rattle.word_lowering.specs.LineCode.{checked_code, nothing_code, given_code};
+ghost use Rattle.word_lowering.specs.LineCode.{call_code, back_code, return_code, exit_code};
+ghost use Rattle.word_lowering.specs.Layouts.{params_in};
+ghost use Rattle.word_lowering.specs.LineCode.{layout_at};
 ghost use Rattle.word_lowering.specs.Scope.{around_of};
+ghost use Rattle.word_lowering.specs.Spots.{spot_of};
 
 use crate::homes::{FIRST, Home, Housed, LEFT, SECOND};
 use crate::layouts::result_in;
+use crate::locations::emit_word_argument;
 use crate::operations::DEPTH;
-use crate::routines::PROCS_FROM;
 use crate::scope::Scope;
 use crate::spots::{
-    Spot, address, argument, branch, call, constant, emit, emit_moved, load, spot_of, sum, sum_with,
+    Spot, address, argument, branch, call, constant, emit, emit_handed, emit_moved, load, spot_of,
+    sum, sum_with,
 };
 use arc_base::{Items, Memory};
-use mid_code::{Test, WordInstr};
-use nim_core::ACTIVE_CALLS;
+use flat_code::From;
+use nim_program::ACTIVE_CALLS;
+use nim_types::TypeId;
+use word_code::{PROCS_FROM, Test, WordInstr};
 
 // What makes a word one less.
 const ONE_LESS: u32 = u32::MAX;
@@ -57,39 +63,103 @@ fn emit_result(
     }
 }
 
-// Calls a procedure whose arguments are given.
-fn emit_given(
+// Calls a procedure whose arguments are given, with its result to a spot.
+fn emit_entered(
     code: &mut Items<WordInstr>,
     x: &Scope,
     proc: u32,
-    to: Option<u32>,
+    to: Housed,
+    spot: Spot,
 ) -> Result<(), Memory>
-    ensures { OnOk result (Puts code.old code.new (given_code (around_of x.now) proc to)) }
+    ensures { OnOk result (Puts code.old code.new (entered_code (around_of x.now) proc to spot)) }
 {
     let callee = proc_number(proc)?;
-    match to {
-        None => emit(code, &[call(FIRST, callee)]),
-        Some(t) => {
-            let place = x.value(t);
-            match spot_of(place) {
-                Spot::Held(v) => emit(code, &[call(v, callee)]),
-                Spot::Lies(_) => {
-                    emit(code, &[call(FIRST, callee)])?;
-                    emit_result(code, x, place, result_in(x.places_of(proc)))
-                }
-            }
+    match spot {
+        Spot::Held(v) => emit(code, &[call(v, callee)]),
+        Spot::Lies(_) => {
+            emit(code, &[call(FIRST, callee)])?;
+            emit_result(code, x, to, result_in(x.places_of(proc)))
         }
     }
 }
 
-// What a procedure without lines gives.
-fn emit_nothing(code: &mut Items<WordInstr>, x: &Scope, to: Option<u32>) -> Result<(), Memory>
-    ensures { OnOk result (Puts code.old code.new (nothing_code (around_of x.now) to)) }
+fn emit_given(code: &mut Items<WordInstr>, x: &Scope, proc: u32, to: u32) -> Result<(), Memory>
+    ensures { OnOk result (Puts code.old code.new (given_code (around_of x.now) proc to)) }
 {
-    match to {
+    let place = x.value(to);
+    emit_entered(code, x, proc, place, spot_of(place))
+}
+
+// What a procedure without lines gives.
+fn emit_nothing(
+    code: &mut Items<WordInstr>,
+    x: &Scope,
+    ty: Option<TypeId>,
+    to: u32,
+) -> Result<(), Memory>
+    ensures { OnOk result (Puts code.old code.new (nothing_code (around_of x.now) ty to)) }
+{
+    match ty {
         None => Ok(()),
-        Some(t) => emit(code, &[constant(x.held(t), 0)]),
+        Some(_) => emit(code, &[constant(x.held(to), 0)]),
     }
+}
+
+// An argument to its parameter, in code that may have a label of its own.
+fn emit_argument(
+    code: &mut Items<WordInstr>,
+    x: &Scope,
+    label: u32,
+    param: Home,
+    from: Housed,
+) -> Result<(), Memory>
+    ensures { OnOk result (Puts code.old code.new
+        (argument_code (around_of x.now) label param from)) }
+{
+    match param {
+        Home::Variable(v) => emit_word_argument(code, v, from.home),
+        Home::Placed(at) => {
+            let at = sum(x.own.free.byte, at)?;
+            emit(code, &[WordInstr::Place { to: FIRST, at }])?;
+            emit_handed(code, label, from.bytes, spot_of(from))
+        }
+        Home::Static(_) => Ok(()),
+    }
+}
+
+// The label for an argument that has so many behind it.
+fn argument_label(label: u32, behind: usize) -> Result<u32, Memory>
+    ensures { IfOk result (λ own. own ≡ label + 2 * suc behind) }
+{
+    if behind >= (u32::MAX / 2) as usize {
+        return Err(Memory);
+    }
+    sum(label, 2 * (behind as u32 + 1))
+}
+
+fn emit_arguments(
+    code: &mut Items<WordInstr>,
+    x: &Scope,
+    label: u32,
+    params: &[Housed],
+    from: &[From],
+) -> Result<(), Memory>
+    ensures { OnOk result (Puts code.old code.new
+        (arguments_code (around_of x.now) label params.now
+        (operands (around_of x.now) from.now))) }
+{
+    let mut params = params;
+    let mut left = from;
+    while let Some((param, more)) = params.split_first() {
+        let Some((operand, rest)) = left.split_first() else {
+            break;
+        };
+        let own = argument_label(label, rest.len())?;
+        emit_argument(code, x, own, param.home, x.operand(*operand))?;
+        params = more;
+        left = rest;
+    }
+    Ok(())
 }
 
 // How many calls may be active behind the new one, unless that is one too many.
@@ -112,34 +182,45 @@ fn emit_checked(code: &mut Items<WordInstr>, start: bool) -> Result<(), Memory>
     )
 }
 
-// A call that isn't one too many.
-fn emit_called(
+// A call of a procedure with lines.
+fn emit_running(
     code: &mut Items<WordInstr>,
     x: &Scope,
+    label: u32,
     proc: u32,
-    to: Option<u32>,
+    to: u32,
+    from: &[From],
 ) -> Result<(), Memory>
-    ensures { OnOk result (Puts code.old code.new
-        (called_code (around_of x.now) proc to (layout_at (around_of x.now) proc).runs)) }
+    ensures { OnOk result (Puts code.old code.new (λ k.
+        arguments_code (around_of x.now) label (params_in (layout_at (around_of x.now) proc).all)
+        (operands (around_of x.now) from.now)
+        (checked_code x.now.setting.start (WordInstr.Argument LEFT FIRST
+        ∷ given_code (around_of x.now) proc to k)))) }
 {
-    if !x.runs(proc) {
-        return emit_nothing(code, x, to);
-    }
+    emit_arguments(code, x, label, x.params_of(proc), from)?;
+    emit_checked(code, x.setting.start)?;
     emit(code, &[argument(LEFT, FIRST)])?;
     emit_given(code, x, proc, to)
 }
 
-/// A call, unless it is one too many.
+/// A call, unless it is one too many; with labels of its own.
 pub fn emit_call(
     code: &mut Items<WordInstr>,
     x: &Scope,
+    label: u32,
     proc: u32,
-    to: Option<u32>,
+    ty: Option<TypeId>,
+    to: u32,
+    from: &[From],
 ) -> Result<(), Memory>
-    ensures { OnOk result (Puts code.old code.new (call_code (around_of x.now) proc to)) }
+    ensures { OnOk result (Puts code.old code.new
+        (call_code (around_of x.now) label proc ty to from.now)) }
 {
+    if x.runs(proc) {
+        return emit_running(code, x, label, proc, to, from);
+    }
     emit_checked(code, x.setting.start)?;
-    emit_called(code, x, proc, to)
+    emit_nothing(code, x, ty, to)
 }
 
 // Returns with a result.

@@ -1,6 +1,6 @@
 // Where the places and temporaries of a procedure are in word code.
 use crate::place_table::PlaceTable;
-use mid_code::PlaceKind;
+use flat_code::PlaceKind;
 use nim_types::TypeId;
 
 /// The variable of how many calls may still be active behind the running one. It is the first
@@ -17,10 +17,10 @@ pub const SECOND: u32 = 2;
 /// Another one; how many bytes there are.
 pub const THIRD: u32 = 3;
 
-/// Another one.
+/// Another one; the number at a location that becomes another one.
 pub const FOURTH: u32 = 4;
 
-/// Another one.
+/// Another one; the address of an element.
 pub const FIFTH: u32 = 5;
 
 /// The first variable that a procedure has for its own places: from here on come its parameters,
@@ -38,6 +38,20 @@ pub enum Home {
     Static(u32),
 }
 
+/// What a temporary is another name for. It has no home of its own then.
+#[derive(Clone, Copy)]
+pub enum Alias {
+    /// Nothing: it has one.
+    Own,
+    /// The location of a declared place: of the call, or of the start code where it is `global`.
+    Place { place: u32, global: bool },
+    /// The location of the value in a temporary.
+    Value(u32),
+    /// A text that stands in the data: so many bytes from behind so many bytes of the procedure's
+    /// literals on.
+    Text { behind: u32, bytes: u32 },
+}
+
 /// A place or a temporary, and where it is.
 #[derive(Clone, Copy)]
 pub struct Housed {
@@ -49,6 +63,7 @@ pub struct Housed {
     pub bytes: u32,
     /// Whether that value is one word: an ordinal.
     pub is_word: bool,
+    pub alias: Alias,
     pub home: Home,
 }
 

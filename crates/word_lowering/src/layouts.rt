@@ -1,63 +1,41 @@
 // Where the places and temporaries of each procedure are.
 ghost use Rattle.std.specs.Prelude.{◌≡◌, ◌++◌, ◌∷◌, [], map, IfOk, OnOk};
-ghost use Rattle.mid_code.specs.Codes.{block_plain};
-ghost use Rattle.word_lowering.specs.Layouts.{roots_in, is_among, is_kept, is_static, home_at};
-ghost use Rattle.word_lowering.specs.Layouts.{free_behind, housed, behind, all_housed, behind_all};
-ghost use Rattle.word_lowering.specs.Layouts.{layout_of, layouts};
+ghost use Rattle.flat_code.specs.Codes.{block_plain};
+ghost use Rattle.word_lowering.specs.Aliases.{is_among, addressed, alias_for};
+ghost use Rattle.word_lowering.specs.Layouts.{is_kept, is_static, home_at, free_behind};
+ghost use Rattle.word_lowering.specs.Layouts.{home_by, free_by, housed, behind};
+ghost use Rattle.word_lowering.specs.Layouts.{all_housed, behind_all, laid, layout_of, layouts};
 ghost use Rattle.word_lowering.specs.Layouts.{is_sort, is_param, params_in};
 ghost use Rattle.word_lowering.specs.Layouts.{result_in, kept_in, nowhere};
+ghost use Rattle.word_lowering.specs.Survey.{IsSurvey};
 ghost use Rattle.word_lowering.specs.Stored.{HaveForms};
 
-use crate::homes::{FIRST, Free, Home, Housed, Layout, OWN_FROM, Sort};
+use crate::addresses::{addressed, is_among};
+use crate::aliases::put_aliases;
+use crate::homes::{Alias, FIRST, Free, Home, Housed, Layout, OWN_FROM, Sort};
 use crate::place_table::places_of;
 use crate::spots::sum;
 use crate::stored::{bytes_at, is_word};
+use crate::survey::Survey;
 use arc_base::{Items, Memory};
-use mid_code::{BlockLine, BlockProc, FlatPlace, Line, PlaceKind};
-use nim_core::Mode;
+use flat_code::{BlockLine, CodeProc, FlatPlace, PlaceKind};
+use nim_program::Mode;
 use nim_types::{TypeTable, WORD_BYTES};
 use std::alloc::Global;
+use std::collections::HashMap;
 
-// The places of a call whose address a line takes.
-fn roots_in(alloc: Global, lines: &[BlockLine]) -> Result<Items<u32>, Memory>
-    ensures { IfOk result (λ roots. roots ≡ roots_in (map block_plain lines.now)) }
-{
-    let mut roots = Items::new(alloc);
-    for line in lines {
-        if let BlockLine::Plain(
-            Line::Root {
-                place,
-                global: false,
-                ..
-            },
-        ) = line
-        {
-            roots.push(*place)?;
-        }
-    }
-    Ok(roots)
-}
-
-fn is_among(number: u32, roots: &[u32]) -> bool
-    ensures { result ≡ is_among number roots.now }
-{
-    for root in roots {
-        if *root == number {
-            return true;
-        }
-    }
-    false
-}
-
-// What is in a variable: an address, and a word whose own address isn't taken. No line takes that
-// of a temporary, so none is looked for among the roots.
-fn is_kept(number: u32, roots: &[u32], word: bool, kind: PlaceKind) -> bool
-    ensures { result ≡ is_kept (is_among number roots.now) word kind }
+// What is in a variable: an address, and a word whose own address isn't needed. That of a temporary
+// never is, so none is looked for among the addressed.
+fn is_kept(number: u32, addressed: &[u32], word: bool, kind: PlaceKind) -> bool
+    ensures { result ≡ is_kept (is_among number addressed.now) word kind }
 {
     match kind {
-        PlaceKind::Location | PlaceKind::Param(Mode::Var) | PlaceKind::Counter => true,
+        PlaceKind::Location
+        | PlaceKind::Within
+        | PlaceKind::Param(Mode::Var)
+        | PlaceKind::Counter => true,
         PlaceKind::Temp => word,
-        _ => word && !is_among(number, roots),
+        _ => word && !is_among(number, addressed),
     }
 }
 
@@ -96,16 +74,28 @@ fn free_behind(fixed: bool, kept: bool, bytes: u32, free: Free) -> Result<Free, 
     Ok(free)
 }
 
+// Another name has no home.
+fn home_by(alias: Alias, home: Home) -> Home
+    ensures { result ≡ home_by alias home }
+{
+    match alias {
+        Alias::Own => home,
+        _ => Home::Variable(FIRST),
+    }
+}
+
 // Where one place is.
 fn housed(
     types: &TypeTable,
     start: bool,
-    roots: &[u32],
+    survey: &Survey,
     free: Free,
     place: &FlatPlace,
 ) -> Result<Housed, Memory>
-    requires { HaveForms types.now }
-    ensures { IfOk result (λ h. h ≡ housed types.now start roots.now free place.now) }
+    requires forms { HaveForms types.now }
+    requires survey { IsSurvey survey.now }
+    ensures { IfOk result (λ h. h
+        ≡ housed types.now start (map block_plain survey.now.lines.now) free place.now) }
 {
     let counts = matches!(place.kind, PlaceKind::Counter);
     let word = counts || is_word(types, place.ty);
@@ -114,42 +104,54 @@ fn housed(
     } else {
         bytes_at(types, place.ty)?
     };
-    let kept = is_kept(place.number, roots, word, place.kind);
+    let kept = is_kept(place.number, survey.addressed, word, place.kind);
+    let alias = survey.alias(place.kind, place.number);
     Ok(Housed {
         number: place.number,
         kind: place.kind,
         ty: place.ty,
         bytes,
         is_word: word,
-        home: home_at(is_static(start, place.kind), kept, free),
+        alias,
+        home: home_by(alias, home_at(is_static(start, place.kind), kept, free)),
     })
 }
 
 // What isn't taken behind it.
-fn behind(roots: &[u32], start: bool, free: Free, place: Housed) -> Result<Free, Memory>
-    ensures { IfOk result (λ other. other ≡ free_behind (is_static start place.kind)
-        (is_kept (is_among place.number roots.now) place.is_word place.kind) place.bytes free) }
+fn behind(survey: &Survey, start: bool, free: Free, place: Housed) -> Result<Free, Memory>
+    requires { IsSurvey survey.now }
+    ensures { IfOk result (λ other. other ≡ free_by place.alias free
+        (free_behind (is_static start place.kind)
+        (is_kept (is_among place.number (addressed (map block_plain survey.now.lines.now)))
+        place.is_word place.kind) place.bytes free)) }
 {
-    let kept = is_kept(place.number, roots, place.is_word, place.kind);
-    free_behind(is_static(start, place.kind), kept, place.bytes, free)
+    match place.alias {
+        Alias::Own => {
+            let kept = is_kept(place.number, survey.addressed, place.is_word, place.kind);
+            free_behind(is_static(start, place.kind), kept, place.bytes, free)
+        }
+        _ => Ok(free),
+    }
 }
 
 // Adds where a place is, and what isn't taken behind it.
 fn put_housed(
     types: &TypeTable,
     start: bool,
-    roots: &[u32],
+    survey: &Survey,
     all: &mut Items<Housed>,
     free: &mut Free,
     place: &FlatPlace,
 ) -> Result<(), Memory>
-    requires { HaveForms types.now }
-    ensures all { OnOk result (all.new ≡
-        all.old ++ housed types.now start roots.now free.old place.now ∷ []) }
-    ensures free { OnOk result (free.new ≡ behind types.now start roots.now free.old place.now) }
+    requires forms { HaveForms types.now }
+    requires survey { IsSurvey survey.now }
+    ensures all { OnOk result (all.new ≡ all.old
+        ++ housed types.now start (map block_plain survey.now.lines.now) free.old place.now ∷ []) }
+    ensures free { OnOk result (free.new
+        ≡ behind types.now start (map block_plain survey.now.lines.now) free.old place.now) }
 {
-    let h = housed(types, start, roots, *free, place)?;
-    let other = behind(roots, start, *free, h)?;
+    let h = housed(types, start, survey, *free, place)?;
+    let other = behind(survey, start, *free, h)?;
     all.push(h)?;
     *free = other;
     Ok(())
@@ -159,21 +161,48 @@ fn put_housed(
 fn put_all_housed(
     types: &TypeTable,
     start: bool,
-    roots: &[u32],
+    survey: &Survey,
     all: &mut Items<Housed>,
     free: &mut Free,
     places: &[FlatPlace],
 ) -> Result<(), Memory>
-    requires { HaveForms types.now }
-    ensures all { OnOk result (all.new ≡
-        all.old ++ all_housed types.now start roots.now free.old places.now) }
-    ensures free { OnOk result (free.new ≡
-        behind_all types.now start roots.now free.old places.now) }
+    requires forms { HaveForms types.now }
+    requires survey { IsSurvey survey.now }
+    ensures all { OnOk result (all.new ≡ all.old
+        ++ all_housed types.now start (map block_plain survey.now.lines.now) free.old places.now) }
+    ensures free { OnOk result (free.new
+        ≡ behind_all types.now start (map block_plain survey.now.lines.now) free.old places.now) }
 {
     for place in places {
-        put_housed(types, start, roots, all, free, place)?;
+        put_housed(types, start, survey, all, free, place)?;
     }
     Ok(())
+}
+
+// The layout of a procedure with these places and lines.
+fn laid(
+    alloc: Global,
+    types: &TypeTable,
+    start: bool,
+    datum: u32,
+    survey: &Survey,
+    places: &[FlatPlace],
+) -> Result<Layout, Memory>
+    requires forms { HaveForms types.now }
+    requires survey { IsSurvey survey.now }
+    ensures { IfOk result (λ own. own
+        ≡ laid types.now start datum survey.now.lines.now places.now) }
+{
+    let mut homes = Items::new(alloc);
+    let mut free = Free {
+        variable: OWN_FROM,
+        byte: 0,
+        datum,
+    };
+    put_all_housed(types, start, survey, &mut homes, &mut free, places)?;
+    let all = places_of(alloc, homes)?;
+    let runs = !survey.lines.is_empty();
+    Ok(Layout { all, free, runs })
 }
 
 /// The layout of a procedure, where the data of globals begins at a byte.
@@ -182,25 +211,23 @@ pub fn layout_of(
     types: &TypeTable,
     start: bool,
     datum: u32,
-    proc: &BlockProc,
+    proc: &CodeProc<BlockLine>,
 ) -> Result<Layout, Memory>
     requires { HaveForms types.now }
     ensures { IfOk result (λ own. own ≡ layout_of types.now start datum proc.now) }
 {
     let lines = proc.lines.as_slice();
-    let listed = roots_in(alloc, lines)?;
-    let roots = listed.as_slice();
-    let places = proc.places.as_slice();
-    let mut homes = Items::new(alloc);
-    let mut free = Free {
-        variable: OWN_FROM,
-        byte: 0,
-        datum,
+    let mut values = HashMap::new(alloc);
+    let mut locations = HashMap::new(alloc);
+    put_aliases(lines, &mut values, &mut locations)?;
+    let needed = addressed(alloc, lines)?;
+    let survey = Survey {
+        lines,
+        values: &values,
+        locations: &locations,
+        addressed: needed.as_slice(),
     };
-    put_all_housed(types, start, roots, &mut homes, &mut free, places)?;
-    let all = places_of(alloc, homes)?;
-    let runs = !lines.is_empty();
-    Ok(Layout { all, free, runs })
+    laid(alloc, types, start, datum, &survey, proc.places.as_slice())
 }
 
 /// The layouts of all procedures, the last of which is the start code.
@@ -208,7 +235,7 @@ pub fn layouts(
     alloc: Global,
     types: &TypeTable,
     datum: u32,
-    procs: &[BlockProc],
+    procs: &[CodeProc<BlockLine>],
 ) -> Result<Items<Layout>, Memory>
     requires { HaveForms types.now }
     ensures { IfOk result (λ all. all ≡ layouts types.now datum procs.now) }
@@ -228,7 +255,7 @@ pub fn is_declared(kind: PlaceKind) -> bool
 {
     !matches!(
         kind,
-        PlaceKind::Temp | PlaceKind::Counter | PlaceKind::Location
+        PlaceKind::Temp | PlaceKind::Counter | PlaceKind::Location | PlaceKind::Within
     )
 }
 
@@ -238,7 +265,7 @@ pub fn is_sort(sort: Sort, kind: PlaceKind) -> bool
 {
     match sort {
         Sort::Value => matches!(kind, PlaceKind::Temp | PlaceKind::Counter),
-        Sort::Location => matches!(kind, PlaceKind::Location),
+        Sort::Location => matches!(kind, PlaceKind::Location | PlaceKind::Within),
         Sort::Own => !matches!(kind, PlaceKind::Param(Mode::Var)) && is_declared(kind),
         Sort::Declared => is_declared(kind),
         Sort::Global => matches!(kind, PlaceKind::Global),
@@ -253,8 +280,9 @@ pub fn nowhere() -> Housed
         number: 0,
         kind: PlaceKind::Temp,
         ty: 0,
-        bytes: WORD_BYTES,
+        bytes: 0,
         is_word: true,
+        alias: Alias::Own,
         home: Home::Variable(FIRST),
     }
 }

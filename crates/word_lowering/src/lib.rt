@@ -1,8 +1,11 @@
 //! Block code becomes word code: values in places and temporaries become words and bytes in memory.
 #![tactic(auto)]
 
+mod addresses;
+mod aliases;
 mod calls;
 mod homes;
+mod labels;
 mod layouts;
 mod line_code;
 mod locations;
@@ -10,23 +13,23 @@ mod lowering;
 mod may_lower;
 mod operations;
 mod place_table;
-mod routines;
-mod said_behind;
+mod rows;
 mod scope;
 mod setting;
 mod spots;
 mod stored;
+mod survey;
 mod tails;
 mod texts;
 mod values;
+mod writing;
 
-pub use homes::{Free, Home, Housed, Layout, Sort};
-pub use lowering::{
-    MORE_DATA, MOST_HEAP, ROUTINE_CHAIN, ROUTINE_ROOM, ROUTINE_VARIABLES, ROUTINES_WEIGHT,
-    WORD_PACE, words,
-};
+pub use aliases::Names;
+pub use homes::{Alias, Free, Home, Housed, Layout, Sort};
+pub use lowering::{MORE_DATA, MOST_HEAP, ROUTINES_WEIGHT, WORD_PACE, words};
 pub use may_lower::{MOST_DATA, MOST_ROOM, MOST_VARS};
 pub use place_table::PlaceTable;
 pub use scope::Scope;
 pub use setting::Setting;
 pub use spots::Spot;
+pub use survey::Survey;

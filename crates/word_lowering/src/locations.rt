@@ -1,116 +1,122 @@
-// The word code of locations, and of arguments.
-ghost use Rattle.std.specs.Prelude.{◌≡◌, map, OnOk};
-ghost use Rattle.mid_code.specs.Codes.{block_plain};
-ghost use Rattle.word_lowering.specs.SaidBehind.{IsSaidBehind};
+// The word code of locations.
+ghost use Rattle.std.specs.Prelude.{◌≡◌, OnOk};
 ghost use Rattle.word_lowering.specs.Emission.{Puts};
-ghost use Rattle.word_lowering.specs.LineCode.{label_before, part_code, item_code, swap_code};
-ghost use Rattle.word_lowering.specs.LineCode.{measure_word, callee_behind, arguments_behind};
-ghost use Rattle.word_lowering.specs.LineCode.{value, location, held, led, param_for};
-ghost use Rattle.word_lowering.specs.LineCode.{argument_code};
-ghost use Rattle.word_lowering.specs.Scope.{around_of};
-ghost use Rattle.word_lowering.specs.Spots.{moves, clears};
-ghost use Rattle.word_lowering.specs.Stored.{HaveForms, part_at, count_in, entry_at, element_bytes};
+ghost use Rattle.word_lowering.specs.LineCode.{part_code, behind_code, element_code, item_code};
+ghost use Rattle.word_lowering.specs.LineCode.{word_argument, swap_code, measure_word};
 
-use crate::homes::{FIRST, Home, Housed, THIRD};
-use crate::layouts::nowhere;
+use crate::homes::{FIRST, Home, SECOND, THIRD};
 use crate::operations::INDEX;
-use crate::routines::SWAP;
-use crate::said_behind::SaidBehind;
-use crate::scope::{Scope, label_before, variable_of};
-use crate::spots::{
-    argument, branch, call, compute, constant, emit, emit_clears, emit_handed, emit_moves, spot_of,
-    sum, sum_with,
-};
-use crate::stored::{count_in, element_bytes, part_at};
+use crate::spots::{address, argument, branch, call, compute, constant, emit, sum, sum_with};
 use arc_base::{Items, Memory};
-use mid_code::{BlockLine, Test, WordInstr, WordOperation};
-use nim_core::Measure;
+use nim_program::Measure;
+use word_code::{SWAP, Test, WordInstr, WordOperation};
 
-// The address of a part, so many bytes behind that of the whole.
-fn emit_offset(code: &mut Items<WordInstr>, to: u32, from: u32, at: u32) -> Result<(), Memory>
-    ensures { OnOk result (Puts code.old code.new (part_code to from at)) }
+/// The address so many bytes behind that of a home.
+pub fn emit_part(code: &mut Items<WordInstr>, to: u32, home: Home, at: u32) -> Result<(), Memory>
+    ensures { OnOk result (Puts code.old code.new (part_code to home at)) }
 {
-    emit(code, &[sum_with(to, from, at)])
+    match home {
+        Home::Variable(v) => emit(code, &[sum_with(to, v, at)]),
+        Home::Placed(from) => {
+            let at = sum(from, at)?;
+            emit(code, &[WordInstr::Place { to, at }])
+        }
+        Home::Static(from) => {
+            let at = sum(from, at)?;
+            emit(code, &[WordInstr::Datum { to, at }])
+        }
+    }
 }
 
-pub fn emit_part(
+// As many bytes as the first variable says behind that of a home.
+fn emit_behind(code: &mut Items<WordInstr>, to: u32, home: Home) -> Result<(), Memory>
+    ensures { OnOk result (Puts code.old code.new (behind_code to home)) }
+{
+    match home {
+        Home::Variable(v) => emit(code, &[compute(to, WordOperation::Add, v, FIRST)]),
+        _ => emit(
+            code,
+            &[
+                address(SECOND, home),
+                compute(to, WordOperation::Add, SECOND, FIRST),
+            ],
+        ),
+    }
+}
+
+/// The address of an element of so many bytes.
+pub fn emit_element(
     code: &mut Items<WordInstr>,
-    x: &Scope,
     to: u32,
-    from: u32,
-    field: u32,
+    home: Home,
+    index: u32,
+    bytes: u32,
 ) -> Result<(), Memory>
-    requires { HaveForms x.now.types.now }
-    ensures { OnOk result (Puts code.old code.new
-        (part_code (led (around_of x.now) to) (led (around_of x.now) from)
-        (part_at x.now.types.now (location (around_of x.now) from).ty field))) }
+    ensures { OnOk result (Puts code.old code.new (element_code to home index bytes)) }
 {
-    let at = part_at(x.types, x.type_at(from), field)?;
-    let (there, here) = (x.led(to), x.led(from));
-    emit_offset(code, there, here, at)
+    emit(
+        code,
+        &[
+            constant(FIRST, bytes),
+            compute(FIRST, WordOperation::Multiply, index, FIRST),
+        ],
+    )?;
+    emit_behind(code, to, home)
 }
 
+/// The same of an index that has to be inside.
 pub fn emit_item(
     code: &mut Items<WordInstr>,
-    x: &Scope,
     to: u32,
-    from: u32,
+    home: Home,
     index: u32,
+    count: u32,
+    bytes: u32,
 ) -> Result<(), Memory>
-    requires { HaveForms x.now.types.now }
-    ensures { OnOk result (Puts code.old code.new
-        (item_code (led (around_of x.now) to) (led (around_of x.now) from)
-        (held (around_of x.now) index)
-        (count_in (entry_at x.now.types.now (location (around_of x.now) from).ty))
-        (element_bytes x.now.types.now
-        (entry_at x.now.types.now (location (around_of x.now) from).ty)))) }
+    ensures { OnOk result (Puts code.old code.new (item_code to home index count bytes)) }
 {
-    let ty = x.type_at(from);
-    let bytes = element_bytes(x.types, ty)?;
-    let count = count_in(x.types, ty);
-    let index = x.held(index);
     emit(
         code,
         &[
             constant(FIRST, count),
             branch(Test::NotBelow, index, FIRST, INDEX),
-            constant(FIRST, bytes),
-            compute(FIRST, WordOperation::Multiply, index, FIRST),
-            compute(x.led(to), WordOperation::Add, x.led(from), FIRST),
         ],
-    )
+    )?;
+    emit_element(code, to, home, index, bytes)
 }
 
+/// An argument that is the word in a variable, or the address of a home.
+pub fn emit_word_argument(code: &mut Items<WordInstr>, index: u32, home: Home) -> Result<(), Memory>
+    ensures { OnOk result (Puts code.old code.new (word_argument index home)) }
+{
+    match home {
+        Home::Variable(v) => emit(code, &[argument(index, v)]),
+        _ => emit(code, &[address(FIRST, home), argument(index, FIRST)]),
+    }
+}
+
+/// So many bytes at two homes trade places.
 pub fn emit_swap(
     code: &mut Items<WordInstr>,
-    left: u32,
-    right: u32,
+    left: Home,
+    right: Home,
     bytes: u32,
 ) -> Result<(), Memory>
     ensures { OnOk result (Puts code.old code.new (swap_code left right bytes)) }
 {
+    emit_word_argument(code, 0, left)?;
+    emit_word_argument(code, 1, right)?;
     emit(
         code,
         &[
             constant(THIRD, bytes),
-            argument(0, left),
-            argument(1, right),
             argument(2, THIRD),
             call(FIRST, SWAP),
         ],
     )
 }
 
-pub fn emit_move_out(code: &mut Items<WordInstr>, x: &Scope, to: u32, at: u32) -> Result<(), Memory>
-    ensures { OnOk result (Puts code.old code.new (λ k. moves (value (around_of x.now) to)
-        (location (around_of x.now) at) (clears (location (around_of x.now) at) k))) }
-{
-    let there = x.location(at);
-    emit_moves(code, x.value(to), there)?;
-    emit_clears(code, there)
-}
-
-// `len` or `high` of what has so many elements.
+/// `len` or `high` of what has so many elements.
 pub fn measure_word(measure: Measure, count: u32) -> u32
     ensures { result ≡ measure_word measure count }
 {
@@ -118,54 +124,4 @@ pub fn measure_word(measure: Measure, count: u32) -> u32
         Measure::Len => count,
         Measure::High => count.wrapping_sub(1),
     }
-}
-
-// Where an argument goes that has so many behind it.
-fn param_for(x: &Scope, callee: Option<u32>, behind: u32) -> Housed
-    ensures { result ≡ param_for (around_of x.now) callee behind }
-{
-    match callee {
-        Some(proc) => x.param(proc, behind),
-        None => nowhere(),
-    }
-}
-
-// An argument that goes somewhere, in code that may have a label of its own.
-fn emit_argument_to(
-    code: &mut Items<WordInstr>,
-    x: &Scope,
-    label: u32,
-    to: Home,
-    from: Housed,
-) -> Result<(), Memory>
-    ensures { OnOk result (Puts code.old code.new
-        (argument_code (around_of x.now) label to from)) }
-{
-    match to {
-        Home::Variable(v) => emit(code, &[argument(v, variable_of(from))]),
-        Home::Placed(at) => {
-            let at = sum(x.own.free.byte, at)?;
-            emit(code, &[WordInstr::Place { to: FIRST, at }])?;
-            emit_handed(code, label, from.bytes, spot_of(from))
-        }
-        Home::Static(_) => Ok(()),
-    }
-}
-
-pub fn emit_argument(
-    code: &mut Items<WordInstr>,
-    x: &Scope,
-    rest: &[BlockLine],
-    said: SaidBehind,
-    from: Housed,
-) -> Result<(), Memory>
-    requires { IsSaidBehind (map block_plain rest.now) said }
-    ensures { OnOk result (Puts code.old code.new (argument_code (around_of x.now)
-        (label_before (map block_plain rest.now))
-        (param_for (around_of x.now) (callee_behind (map block_plain rest.now))
-        (arguments_behind (map block_plain rest.now))).home from)) }
-{
-    let to = param_for(x, said.callee, said.arguments);
-    let label = label_before(rest)?;
-    emit_argument_to(code, x, label, to.home, from)
 }

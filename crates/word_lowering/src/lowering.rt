@@ -1,51 +1,43 @@
 // From block code to word code.
 ghost use Rattle.std.specs.Prelude.{◌≡◌, ◌∷◌, ◌++◌, map, IfOk, OnOk};
-ghost use Rattle.mid_code.specs.Codes.{block_plain};
+ghost use Rattle.flat_code.specs.Codes.{block_plain};
 ghost use Rattle.word_lowering.specs.Emission.{Puts};
 ghost use Rattle.word_lowering.specs.LineCode.{proc_number};
 ghost use Rattle.word_lowering.specs.Lowered.{result_cleared, kind_of, kind_in, code_of, word_proc};
 ghost use Rattle.word_lowering.specs.Lowered.{with_own, if_runs, word_procs, all_layouts, around_start};
-ghost use Rattle.word_lowering.specs.Lowers.{Lowers};
-ghost use Rattle.word_lowering.specs.Routines.{and_routines};
+ghost use Rattle.word_lowering.specs.Lowers.{LowersWithRuntime};
 ghost use Rattle.word_lowering.specs.Scope.{around_of};
 ghost use Rattle.word_lowering.specs.Stored.{HaveForms};
 
 use crate::calls::proc_number;
 use crate::homes::{Housed, Layout, OWN_FROM};
+use crate::labels::labels_may;
 use crate::layouts::{kept_in, layouts, result_in};
 use crate::line_code::emit_lines;
 use crate::may_lower::may_lower;
-use crate::routines::push_routines;
 use crate::scope::Scope;
 use crate::setting::Setting;
 use crate::spots::{emit_clears, sum};
 use crate::tails::emit_last;
 use crate::texts::{FIXED_BYTES, data, literals_at, names_at, text_bytes, texts_bytes};
 use arc_base::{Items, Memory};
-use mid_code::{BlockLine, BlockProc, Blocks, HookOf, ProcKind, WordCode, WordInstr, WordProc};
+use flat_code::{BlockLine, Blocks, CodeProc};
+use nim_program::HookOf;
 use nim_types::TypeTable;
 use rv32_isa::memories;
 use std::alloc::Global;
+use word_code::{ProcKind, WordCode, WordInstr, WordProc};
 
 /// Word code has at most so many lines carried out for each work of the block code that it is of.
 pub const WORD_PACE: u32 = 16;
 
-/// Word code has at most so many lines and procedures beside what block code weighs: its routines,
-/// and a start code without lines.
-pub const ROUTINES_WEIGHT: u32 = 100;
+/// With a runtime word code has at most so many lines and procedures beside what block code weighs:
+/// the routines, and a start code without lines.
+pub const ROUTINES_WEIGHT: u32 = 108;
 
-/// How many bytes of places a routine may have, a procedure whose calls don't count.
-pub const ROUTINE_ROOM: u32 = 0;
-
-/// How many variables a routine may have.
-pub const ROUTINE_VARIABLES: u32 = 9;
-
-/// How many calls of routines may stand in a chain, each made by the one before it: they call
-/// nothing.
-pub const ROUTINE_CHAIN: u32 = 1;
-
-/// Data has at most so many bytes beside those of globals, of names of enums and of texts.
-pub const MORE_DATA: u32 = 4_092;
+/// Without a runtime data has at most so many bytes beside those of globals, of names of enums and of
+/// texts.
+pub const MORE_DATA: u32 = 2_044;
 
 /// The greatest heap of a machine.
 pub const MOST_HEAP: u32 = 16_777_216;
@@ -67,7 +59,7 @@ fn code_of(alloc: Global, x: &Scope, lines: &[BlockLine]) -> Result<Items<WordIn
     let mut code = Items::new(alloc);
     emit_result(&mut code, result_in(x.own.all.as_slice()))?;
     emit_lines(&mut code, x, lines)?;
-    emit_last(&mut code, lines)?;
+    emit_last(&mut code)?;
     Ok(code)
 }
 
@@ -93,7 +85,12 @@ fn kind_in(start: bool, hook: Option<HookOf>) -> ProcKind
     }
 }
 
-fn word_proc(alloc: Global, x: &Scope, number: u32, proc: &BlockProc) -> Result<WordProc, Memory>
+fn word_proc(
+    alloc: Global,
+    x: &Scope,
+    number: u32,
+    proc: &CodeProc<BlockLine>,
+) -> Result<WordProc, Memory>
     requires { HaveForms x.now.types.now }
     ensures { IfOk result (λ p. p ≡ word_proc (around_of x.now) number proc.now) }
 {
@@ -129,7 +126,7 @@ fn push_proc(
     all: &mut Items<WordProc>,
     x: &Scope,
     index: u32,
-    proc: &BlockProc,
+    proc: &CodeProc<BlockLine>,
 ) -> Result<(), Memory>
     requires { HaveForms x.now.types.now }
     ensures { OnOk result (Puts all.old all.new
@@ -147,7 +144,7 @@ fn push_procs(
     alloc: Global,
     all: &mut Items<WordProc>,
     x: &Scope,
-    procs: &[BlockProc],
+    procs: &[CodeProc<BlockLine>],
 ) -> Result<(), Memory>
     requires { HaveForms x.now.types.now }
     ensures { OnOk result (all.new ≡
@@ -174,20 +171,19 @@ fn push_procs(
     Ok(())
 }
 
-// All procedures: the start code, the routines, and the others.
+// All procedures: the start code, and the others.
 fn all_procs(
     alloc: Global,
     x: &Scope,
-    start: &BlockProc,
-    procs: &[BlockProc],
+    start: &CodeProc<BlockLine>,
+    procs: &[CodeProc<BlockLine>],
 ) -> Result<Items<WordProc>, Memory>
     requires { HaveForms x.now.types.now }
     ensures { IfOk result (λ all. all ≡ word_proc (around_of x.now) 0 start.now
-        ∷ and_routines (word_procs (around_of x.now) 0 x.now.layouts.now procs.now)) }
+        ∷ word_procs (around_of x.now) 0 x.now.layouts.now procs.now) }
 {
     let mut all = Items::new(alloc);
     all.push(word_proc(alloc, x, 0, start)?)?;
-    push_routines(alloc, &mut all)?;
     push_procs(alloc, &mut all, x, procs)?;
     Ok(all)
 }
@@ -225,7 +221,7 @@ fn words_of(
 ) -> Result<WordCode, Memory>
     requires forms { HaveForms types.now }
     requires layouts { layouts.now ≡ all_layouts types.now blocks.now.procs }
-    ensures { IfOk result (λ code. Lowers types.now blocks.now code) }
+    ensures { IfOk result (λ code. LowersWithRuntime types.now blocks.now code) }
 {
     memories();
     let _types = types.count();
@@ -237,7 +233,8 @@ fn words_of(
         return Err(Memory);
     };
     let statics = data(alloc, types, own.free.datum, procs)?;
-    if !may_lower(types, layouts, procs, statics.as_slice()) {
+    let labels = labels_may(alloc, procs)?;
+    if !may_lower(types, layouts, procs, statics.as_slice(), labels) {
         return Err(Memory);
     }
     let x = start_scope(types, layouts, own)?;
@@ -245,13 +242,14 @@ fn words_of(
     Ok(WordCode { procs, statics })
 }
 
-/// The word code of block code.
+/// The word code of block code, which calls routines by their numbers: it is to be joined with a
+/// runtime.
 ///
 /// `Memory` comes too where a procedure takes more places, or all take more data, than the machine
 /// has, and where block code is such as no program makes (specs/MayLower.antt).
 pub fn words(alloc: Global, blocks: &Blocks, types: &TypeTable) -> Result<WordCode, Memory>
     requires { HaveForms types.now }
-    ensures { IfOk result (λ code. Lowers types.now blocks.now code) }
+    ensures { IfOk result (λ code. LowersWithRuntime types.now blocks.now code) }
 {
     let all = layouts(alloc, types, FIXED_BYTES, blocks.procs.as_slice())?;
     words_of(alloc, blocks, types, all.as_slice())

@@ -2,17 +2,17 @@
 ghost use Rattle.std.specs.Prelude.{◌≡◌, OnOk};
 ghost use Rattle.word_lowering.specs.Emission.{Puts};
 ghost use Rattle.word_lowering.specs.Operations.{binary_code, unary_code, compare_code};
-ghost use Rattle.word_lowering.specs.Operations.{narrow_code, unless_code, fits_code, count_code};
+ghost use Rattle.word_lowering.specs.Operations.{narrow_code, unless_code, if_code, fits_code};
 ghost use Rattle.word_lowering.specs.Operations.{sum_code, difference_code, product_code};
 ghost use Rattle.word_lowering.specs.Operations.{quotient_code, opposite_code};
 ghost use Rattle.word_lowering.specs.Operations.{computed_code, divisor_code, divided_code};
-ghost use Rattle.word_lowering.specs.Operations.{below_code, next_code};
+ghost use Rattle.word_lowering.specs.Operations.{beyond_code, unless_less, turn_code};
 
 use crate::homes::{FIRST, SECOND, THIRD};
-use crate::spots::{branch, compute, constant, emit};
+use crate::spots::{branch, compute, constant, emit, sum_with};
 use arc_base::{Items, Memory};
-use mid_code::{Test, WordInstr, WordOperation};
-use nim_core::{Comparison, Operator, UnaryOperator};
+use nim_program::{Comparison, Operator, UnaryOperator};
+use word_code::{Test, WordInstr, WordOperation};
 
 /// The label of the trap for an overflow.
 pub const OVERFLOW: u32 = 0;
@@ -288,14 +288,14 @@ pub fn emit_narrow(
     code: &mut Items<WordInstr>,
     to: u32,
     from: u32,
-    values: u32,
+    values: usize,
 ) -> Result<(), Memory>
     ensures { OnOk result (Puts code.old code.new (narrow_code to from values)) }
 {
     emit(
         code,
         &[
-            constant(FIRST, values.min(LEAST)),
+            constant(FIRST, values.min(LEAST as usize) as u32),
             branch(Test::NotBelow, from, FIRST, RANGE),
             copy(to, from),
         ],
@@ -309,6 +309,19 @@ pub fn emit_unless(code: &mut Items<WordInstr>, from: u32, label: u32) -> Result
     emit(
         code,
         &[constant(FIRST, 0), branch(Test::Equal, from, FIRST, label)],
+    )
+}
+
+/// The opposite.
+pub fn emit_if(code: &mut Items<WordInstr>, from: u32, label: u32) -> Result<(), Memory>
+    ensures { OnOk result (Puts code.old code.new (if_code from label)) }
+{
+    emit(
+        code,
+        &[
+            constant(FIRST, 0),
+            branch(Test::Unequal, from, FIRST, label),
+        ],
     )
 }
 
@@ -340,56 +353,65 @@ pub fn emit_fits(
     )
 }
 
-// Whether a loop has a turn more.
-fn emit_below(
+// ---- the numbers of loops
+
+/// On at a label where a number is none of the loop.
+pub fn emit_beyond(
     code: &mut Items<WordInstr>,
     inclusive: bool,
     counter: u32,
     last: u32,
+    label: u32,
 ) -> Result<(), Memory>
-    ensures { OnOk result (Puts code.old code.new (below_code inclusive counter last)) }
+    ensures { OnOk result (Puts code.old code.new (beyond_code inclusive counter last label)) }
 {
-    let below = compute(FIRST, WordOperation::Less, counter, last);
     if inclusive {
-        return emit(code, &[below]);
+        return emit(code, &[branch(Test::Less, last, counter, label)]);
+    }
+    emit(code, &[branch(Test::AtLeast, counter, last, label)])
+}
+
+// On at a label where a number has no next one in the loop.
+fn emit_unless_less(
+    code: &mut Items<WordInstr>,
+    inclusive: bool,
+    counter: u32,
+    last: u32,
+    label: u32,
+) -> Result<(), Memory>
+    ensures { OnOk result (Puts code.old code.new (unless_less inclusive counter last label)) }
+{
+    if inclusive {
+        return emit(code, &[branch(Test::AtLeast, counter, last, label)]);
     }
     emit(
         code,
         &[
-            below,
+            compute(FIRST, WordOperation::Less, counter, last),
             compute(SECOND, WordOperation::Subtract, last, FIRST),
-            compute(FIRST, WordOperation::Less, counter, SECOND),
+            branch(Test::AtLeast, counter, SECOND, label),
         ],
     )
 }
 
-// Then its number is one more; else there is no turn more.
-fn emit_next(code: &mut Items<WordInstr>, label: u32, counter: u32, more: u32) -> Result<(), Memory>
-    ensures { OnOk result (Puts code.old code.new (next_code label counter more)) }
-{
-    emit(
-        code,
-        &[
-            compute(counter, WordOperation::Add, counter, FIRST),
-            constant(SECOND, 0),
-            branch(Test::Unequal, FIRST, SECOND, label),
-            constant(more, 0),
-            WordInstr::Label { name: label },
-        ],
-    )
-}
-
-/// A loop's number becomes the next one, or there is no turn more; with a label of its own.
-pub fn emit_count(
+/// The next turn of a loop begins at a label, unless there is none; with a label of its own.
+pub fn emit_turn(
     code: &mut Items<WordInstr>,
-    label: u32,
+    own: u32,
     counter: u32,
     last: u32,
     inclusive: bool,
-    more: u32,
+    label: u32,
 ) -> Result<(), Memory>
-    ensures { OnOk result (Puts code.old code.new (count_code label counter last inclusive more)) }
+    ensures { OnOk result (Puts code.old code.new (turn_code own counter last inclusive label)) }
 {
-    emit_below(code, inclusive, counter, last)?;
-    emit_next(code, label, counter, more)
+    emit_unless_less(code, inclusive, counter, last, own)?;
+    emit(
+        code,
+        &[
+            sum_with(counter, counter, 1),
+            WordInstr::Jump { to: label },
+            WordInstr::Label { name: own },
+        ],
+    )
 }

@@ -1,8 +1,7 @@
 // The places and temporaries of a procedure, found by their numbers.
-ghost use Rattle.std.specs.Prelude.{◌≡◌, List, drop, nat_eq, IfOk};
+ghost use Rattle.std.specs.Prelude.{◌≡◌, drop, nat_eq, IfOk};
 ghost use Rattle.std.specs.HashMap.{get};
-ghost use Rattle.word_lowering.specs.declared.homes.Housed.{Housed as House};
-ghost use Rattle.word_lowering.specs.Lookups.{is_sort, found, params_in, param_before};
+ghost use Rattle.word_lowering.specs.Lookups.{is_sort, found, params_in};
 ghost use Rattle.word_lowering.specs.PlaceTable.{from_there, FindsFrom};
 
 use crate::homes::{Housed, Sort};
@@ -98,17 +97,6 @@ fn params_in(alloc: Global, all: &[Housed]) -> Result<Items<Housed>, Memory>
     Ok(params)
 }
 
-// The one that has so many behind it.
-fn param_before(behind: u32, params: &[Housed]) -> Housed
-    ensures { (all : List House) → params.now ≡ params_in all → result ≡ param_before behind all }
-{
-    let behind = behind as usize;
-    if behind >= params.len() {
-        return nowhere();
-    }
-    params[params.len() - 1 - behind]
-}
-
 /// The same places, found by their numbers.
 pub fn places_of(alloc: Global, all: Items<Housed>) -> Result<PlaceTable, Memory>
     ensures { IfOk result (λ places. places ≡ all) }
@@ -134,10 +122,10 @@ impl PlaceTable {
         found(start(self.all.as_slice(), at), sort, number)
     }
 
-    /// The parameter that has so many behind it.
-    pub fn param_before(&self, behind: u32) -> Housed
-        ensures { result ≡ param_before behind self.now }
+    /// The parameters among them.
+    pub fn params(&self) -> &[Housed]
+        ensures { result.now ≡ params_in self.now }
     {
-        param_before(behind, self.params.as_slice())
+        self.params.as_slice()
     }
 }

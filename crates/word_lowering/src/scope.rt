@@ -1,19 +1,23 @@
 // What is around the lines of a procedure.
-ghost use Rattle.std.specs.Prelude.{◌≡◌, map, IfOk};
-ghost use Rattle.mid_code.specs.Codes.{block_plain};
-ghost use Rattle.word_lowering.specs.Layouts.{param_before};
-ghost use Rattle.word_lowering.specs.LineCode.{own_label, label_before, value, location, own_place};
-ghost use Rattle.word_lowering.specs.LineCode.{place, held, led, layout_at, variable_of};
+ghost use Rattle.std.specs.Prelude.{◌≡◌, ◌+◌, ◌*◌, suc, length, map, IfOk};
+ghost use Rattle.flat_code.specs.Codes.{block_plain};
+ghost use Rattle.word_lowering.specs.Layouts.{params_in};
+ghost use Rattle.word_lowering.specs.LineCode.{own_label, arguments_of, labels_in};
+ghost use Rattle.word_lowering.specs.LineCode.{value, location_by, location, own_place, place};
+ghost use Rattle.word_lowering.specs.LineCode.{operand, operands, operand_at, held, led};
+ghost use Rattle.word_lowering.specs.LineCode.{layout_at, variable_of, count_at, bytes_each};
 ghost use Rattle.word_lowering.specs.Scope.{around_of};
+ghost use Rattle.word_lowering.specs.Stored.{HaveForms};
 
-use crate::homes::{FIRST, Home, Housed, Layout, Sort};
+use crate::homes::{Alias, FIRST, Home, Housed, Layout, Sort};
 use crate::layouts::nowhere;
 use crate::place_table::PlaceTable;
 use crate::setting::Setting;
 use crate::spots::sum;
+use crate::stored::{count_in, element_bytes};
 use arc_base::Memory;
-use mid_code::BlockLine;
-use nim_types::{TypeId, TypeTable};
+use flat_code::{BlockLine, From, Line, OwnedLine};
+use nim_types::TypeTable;
 
 /// What is around the lines of a procedure.
 #[derive(Clone, Copy)]
@@ -36,13 +40,6 @@ impl Scope<'_> {
         self.own.all.found(Sort::Value, t)
     }
 
-    /// A temporary with a location.
-    pub fn location(&self, t: u32) -> Housed
-        ensures { result ≡ location (around_of self.now) t }
-    {
-        self.own.all.found(Sort::Location, t)
-    }
-
     /// A declared place with a value of its own.
     pub fn own_place(&self, p: u32) -> Housed
         ensures { result ≡ own_place (around_of self.now) p }
@@ -61,6 +58,44 @@ impl Scope<'_> {
         }
     }
 
+    // What it is another name for, or itself.
+    fn named(&self, own: Housed) -> Housed
+        ensures { result ≡ location_by (around_of self.now) own }
+    {
+        match own.alias {
+            Alias::Place { place, global } => self.place(place, global),
+            Alias::Value(t) => self.value(t),
+            _ => own,
+        }
+    }
+
+    /// What a temporary with a location leads to.
+    pub fn location(&self, t: u32) -> Housed
+        ensures { result ≡ location (around_of self.now) t }
+    {
+        self.named(self.own.all.found(Sort::Location, t))
+    }
+
+    /// An operand.
+    pub fn operand(&self, from: From) -> Housed
+        ensures { result ≡ operand (around_of self.now) from }
+    {
+        match from {
+            From::Value(t) => self.value(t),
+            From::Place(t) => self.location(t),
+        }
+    }
+
+    /// The operand at a position, or nowhere.
+    pub fn operand_at(&self, from: &[From], index: usize) -> Housed
+        ensures { result ≡ operand_at (operands (around_of self.now) from.now) index }
+    {
+        match from.get(index) {
+            Some(x) => self.operand(*x),
+            None => nowhere(),
+        }
+    }
+
     /// The places of a procedure.
     pub fn places_of(&self, proc: u32) -> &[Housed]
         ensures { result.now ≡ (layout_at (around_of self.now) proc).all }
@@ -71,17 +106,17 @@ impl Scope<'_> {
         }
     }
 
-    /// The parameter of a procedure that has so many behind it.
-    pub fn param(&self, proc: u32, behind: u32) -> Housed
-        ensures { result ≡ param_before behind (layout_at (around_of self.now) proc).all }
+    /// Its parameters.
+    pub fn params_of(&self, proc: u32) -> &[Housed]
+        ensures { result.now ≡ params_in (layout_at (around_of self.now) proc).all }
     {
         match self.layouts.get(proc as usize) {
-            Some(layout) => layout.all.param_before(behind),
-            None => nowhere(),
+            Some(layout) => layout.all.params(),
+            None => &[],
         }
     }
 
-    /// Whether a procedure has lines.
+    /// Whether it has lines.
     pub fn runs(&self, proc: u32) -> bool
         ensures { result ≡ (layout_at (around_of self.now) proc).runs }
     {
@@ -98,18 +133,26 @@ impl Scope<'_> {
         variable_of(self.value(t))
     }
 
-    /// The type to which a location leads.
-    pub fn type_at(&self, t: u32) -> TypeId
-        ensures { result ≡ (location (around_of self.now) t).ty }
-    {
-        self.location(t).ty
-    }
-
     /// The variable of a location.
     pub fn led(&self, t: u32) -> u32
         ensures { result ≡ led (around_of self.now) t }
     {
         variable_of(self.location(t))
+    }
+
+    /// How many elements what stands at a location has.
+    pub fn count_at(&self, t: u32) -> u32
+        ensures { result ≡ count_at (around_of self.now) t }
+    {
+        count_in(self.types, self.location(t).ty)
+    }
+
+    /// How many bytes each of them has.
+    pub fn bytes_each(&self, t: u32) -> Result<u32, Memory>
+        requires { HaveForms self.now.types.now }
+        ensures { IfOk result (λ bytes. bytes ≡ bytes_each (around_of self.now) t) }
+    {
+        element_bytes(self.types, self.location(t).ty)
     }
 }
 
@@ -123,6 +166,8 @@ pub fn variable_of(place: Housed) -> u32
     }
 }
 
+// ---- labels
+
 /// The label of a name.
 pub fn own_label(name: u32) -> Result<u32, Memory>
     ensures { IfOk result (λ label. label ≡ own_label name) }
@@ -130,16 +175,48 @@ pub fn own_label(name: u32) -> Result<u32, Memory>
     if name > u32::MAX / 2 {
         return Err(Memory);
     }
-    sum(6, 2 * name)
+    sum(8, 2 * name)
 }
 
-/// The label of code that has one of its own, before these lines.
-pub fn label_before(rest: &[BlockLine]) -> Result<u32, Memory>
-    ensures { IfOk result (λ label. label ≡ label_before (map block_plain rest.now)) }
+fn with_arguments(from: &[From]) -> Result<u32, Memory>
+    ensures { IfOk result (λ n. n ≡ suc (length from.now)) }
 {
-    let count = rest.len();
-    if count > (u32::MAX / 2) as usize {
+    let count = from.len();
+    if count >= u32::MAX as usize {
         return Err(Memory);
     }
-    sum(7, 2 * count as u32)
+    Ok(count as u32 + 1)
+}
+
+/// How many labels a line has of its own.
+pub fn labels_of(line: &BlockLine) -> Result<u32, Memory>
+    ensures { IfOk result (λ n. n ≡ suc (length (arguments_of (block_plain line.now)))) }
+{
+    match line {
+        BlockLine::Plain(OwnedLine::Plain(Line::Call { from, .. })) => {
+            with_arguments(from.as_slice())
+        }
+        _ => Ok(1),
+    }
+}
+
+/// How many these lines have.
+pub fn labels_in(lines: &[BlockLine]) -> Result<u32, Memory>
+    ensures { IfOk result (λ n. n ≡ labels_in (map block_plain lines.now)) }
+{
+    let mut n = 0;
+    for line in lines {
+        n = sum(n, labels_of(line)?)?;
+    }
+    Ok(n)
+}
+
+/// The label of a line's code, where those behind it have so many.
+pub fn label_before(labels: u32) -> Result<u32, Memory>
+    ensures { IfOk result (λ label. label ≡ 9 + 2 * labels) }
+{
+    if labels > u32::MAX / 2 {
+        return Err(Memory);
+    }
+    sum(9, 2 * labels)
 }

@@ -1,16 +1,16 @@
 // Code that moves values between variables and memory.
-ghost use Rattle.std.specs.Prelude.{◌+◌, ◌≡◌, ◌++◌, IfOk, OnOk};
+ghost use Rattle.std.specs.Prelude.{◌+◌, ◌≡◌, ◌++◌, length, IfOk, OnOk};
 ghost use Rattle.word_lowering.specs.Emission.{Puts};
 ghost use Rattle.word_lowering.specs.Layouts.{is_address};
-ghost use Rattle.word_lowering.specs.Spots.{spot_of, shifted, address, moved, moves};
-ghost use Rattle.word_lowering.specs.Spots.{cleared, clears, handed};
+ghost use Rattle.word_lowering.specs.Spots.{spot_of, shifted, address, moved, moves, passes};
+ghost use Rattle.word_lowering.specs.Spots.{cleared, clears, starts, handed};
 
 use crate::homes::{FIFTH, FIRST, FOURTH, Home, Housed, SECOND, THIRD};
-use crate::routines::{CLEAR, COPY};
 use arc_base::{Items, Memory};
-use mid_code::{PlaceKind, Test, WordInstr, WordOperation};
-use nim_core::Mode;
+use flat_code::PlaceKind;
+use nim_program::Mode;
 use rv32_isa::Size;
+use word_code::{CLEAR, COPY, Test, WordInstr, WordOperation};
 
 /// Where a value is.
 #[derive(Clone, Copy)]
@@ -31,6 +31,17 @@ pub fn sum(a: u32, b: u32) -> Result<u32, Memory>
     Ok(a + b)
 }
 
+/// A number, and the bytes of a text.
+pub fn more(n: u32, text: &[u8]) -> Result<u32, Memory>
+    ensures { IfOk result (λ m. m ≡ n + length text.now) }
+{
+    let len = text.len();
+    if len > u32::MAX as usize {
+        return Err(Memory);
+    }
+    sum(n, len as u32)
+}
+
 /// Adds lines.
 pub fn emit(code: &mut Items<WordInstr>, lines: &[WordInstr]) -> Result<(), Memory>
     ensures { OnOk result (Puts code.old code.new (λ k. lines.now ++ k)) }
@@ -45,7 +56,10 @@ pub fn emit(code: &mut Items<WordInstr>, lines: &[WordInstr]) -> Result<(), Memo
 pub fn is_address(kind: PlaceKind) -> bool
     ensures { result ≡ is_address kind }
 {
-    matches!(kind, PlaceKind::Location | PlaceKind::Param(Mode::Var))
+    matches!(
+        kind,
+        PlaceKind::Location | PlaceKind::Within | PlaceKind::Param(Mode::Var)
+    )
 }
 
 /// Where the value of a place is, or the one to which it leads.
@@ -203,6 +217,16 @@ pub fn emit_moves(code: &mut Items<WordInstr>, to: Housed, from: Housed) -> Resu
     emit_moved(code, from.is_word, from.bytes, spot_of(to), spot_of(from))
 }
 
+/// The same of a value that is there: that has bytes.
+pub fn emit_passes(code: &mut Items<WordInstr>, to: Housed, from: Housed) -> Result<(), Memory>
+    ensures { OnOk result (Puts code.old code.new (passes from.bytes to from)) }
+{
+    if from.bytes == 0 {
+        return Ok(());
+    }
+    emit_moves(code, to, from)
+}
+
 /// A value becomes that at which its type starts.
 pub fn emit_cleared(
     code: &mut Items<WordInstr>,
@@ -240,6 +264,16 @@ pub fn emit_clears(code: &mut Items<WordInstr>, to: Housed) -> Result<(), Memory
     ensures { OnOk result (Puts code.old code.new (clears to)) }
 {
     emit_cleared(code, to.is_word, to.bytes, spot_of(to))
+}
+
+/// The same of what is there.
+pub fn emit_starts(code: &mut Items<WordInstr>, to: Housed) -> Result<(), Memory>
+    ensures { OnOk result (Puts code.old code.new (starts to.bytes to)) }
+{
+    if to.bytes == 0 {
+        return Ok(());
+    }
+    emit_clears(code, to)
 }
 
 /// A value goes to the address in the first variable, with a label for a loop.

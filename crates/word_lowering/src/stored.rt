@@ -1,7 +1,8 @@
 // How many bytes values of the table's types have, and where their parts stand.
-ghost use Rattle.std.specs.Prelude.{◌≡◌, IfOk, option_map, take};
+ghost use Rattle.std.specs.Prelude.{◌≡◌, IfOk, option_map, slice_get, take};
 ghost use Rattle.word_lowering.specs.Stored.{bytes_at, bytes_all, base_within, base_at, entry_at};
-ghost use Rattle.word_lowering.specs.Stored.{is_word, part_at, count_in, element_bytes, HaveForms};
+ghost use Rattle.word_lowering.specs.Stored.{is_word, part_at, count_in, element_bytes};
+ghost use Rattle.word_lowering.specs.Stored.{limit_in, limit_at, HaveForms};
 
 use crate::spots::sum;
 use arc_base::Memory;
@@ -115,5 +116,25 @@ pub fn element_bytes(types: &TypeTable, ty: TypeId) -> Result<u32, Memory>
     match entry_at(types, ty) {
         Some(TypeDef::Array { of, .. }) => bytes_at(types, *of),
         _ => Ok(0),
+    }
+}
+
+fn limit_in(types: &TypeTable, ty: TypeId) -> Option<usize>
+    ensures { result ≡ limit_in (slice_get types.now ty) }
+{
+    match entry(types, ty) {
+        Some(TypeDef::Char) => Some(256),
+        Some(TypeDef::Enum { members, .. }) => Some(members.as_slice().len()),
+        _ => None,
+    }
+}
+
+/// How many values a type has to which an int is converted with a check.
+pub fn limit_at(types: &TypeTable, ty: Option<TypeId>) -> Option<usize>
+    ensures { result ≡ limit_at types.now ty }
+{
+    match ty {
+        None => None,
+        Some(ty) => limit_in(types, ty),
     }
 }

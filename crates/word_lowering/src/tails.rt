@@ -1,59 +1,29 @@
 // The ends of procedures: labels of traps.
-ghost use Rattle.std.specs.Prelude.{◌≡◌, ◌<◌, ◌+◌, map, OnOk};
-ghost use Rattle.mid_code.specs.Codes.{block_plain};
+ghost use Rattle.std.specs.Prelude.{◌≡◌, ◌<◌, ◌+◌, OnOk};
 ghost use Rattle.word_lowering.specs.Emission.{Puts};
-ghost use Rattle.word_lowering.specs.Lowered.{operation_leads, negation_leads, line_leads};
-ghost use Rattle.word_lowering.specs.Lowered.{lines_lead, trap_code, last_code};
+ghost use Rattle.word_lowering.specs.Lowered.{branches_to, any_branches, trap_code, and_last};
 
 use crate::homes::FIRST;
 use crate::operations::{DEPTH, DIVISION, INDEX, LENGTH, OVERFLOW, RANGE};
-use crate::routines::TRAPS_FROM;
 use crate::spots::{call, emit};
 use arc_base::{Items, Memory};
-use mid_code::{BlockLine, Line, WordInstr};
-use nim_core::{Operator, UnaryOperator};
+use word_code::{TRAPS_FROM, WordInstr};
 
-// Whether the code of an operation may lead to the label of a trap.
-fn operation_leads(label: u32, operator: Operator) -> bool
-    ensures { result ≡ operation_leads label operator }
-{
-    match operator {
-        Operator::Add | Operator::Subtract | Operator::Multiply => label == OVERFLOW,
-        Operator::Divide => label == OVERFLOW || label == DIVISION,
-        Operator::Modulo => label == DIVISION,
-        _ => false,
-    }
-}
-
-fn negation_leads(label: u32, operator: UnaryOperator) -> bool
-    ensures { result ≡ negation_leads label operator }
-{
-    match operator {
-        UnaryOperator::Negate => label == OVERFLOW,
-        _ => false,
-    }
-}
-
-// Whether that of a line may.
-fn line_leads(label: u32, line: &BlockLine) -> bool
-    ensures { result ≡ line_leads label (block_plain line.now) }
+fn branches_to(label: u32, line: &WordInstr) -> bool
+    ensures { result ≡ branches_to label line.now }
 {
     match line {
-        BlockLine::Plain(Line::Narrow { .. }) => label == RANGE,
-        BlockLine::Plain(Line::Unary { operator, .. }) => negation_leads(label, *operator),
-        BlockLine::Plain(Line::Binary { operator, .. }) => operation_leads(label, *operator),
-        BlockLine::Plain(Line::Item { .. }) => label == INDEX,
-        BlockLine::Plain(Line::Still { .. }) => label == LENGTH,
-        BlockLine::Plain(Line::Call { .. }) => label == DEPTH,
+        WordInstr::Branch { to, .. } => label == *to,
         _ => false,
     }
 }
 
-fn lines_lead(label: u32, lines: &[BlockLine]) -> bool
-    ensures { result ≡ lines_lead label (map block_plain lines.now) }
+// Whether one of these lines branches to a label.
+fn any_branches(label: u32, lines: &[WordInstr]) -> bool
+    ensures { result ≡ any_branches label lines.now }
 {
     for line in lines {
-        if line_leads(label, line) {
+        if branches_to(label, line) {
             return true;
         }
     }
@@ -61,12 +31,11 @@ fn lines_lead(label: u32, lines: &[BlockLine]) -> bool
 }
 
 // The label of a trap with the call of its routine, which doesn't come back.
-fn emit_trap(code: &mut Items<WordInstr>, label: u32, lines: &[BlockLine]) -> Result<(), Memory>
-    requires { label < 6 }
-    ensures { OnOk result (Puts code.old code.new
-        (trap_code (lines_lead label (map block_plain lines.now)) label (TRAPS_FROM + label))) }
+fn emit_trap(code: &mut Items<WordInstr>, leads: bool, label: u32) -> Result<(), Memory>
+    requires { label < 8 }
+    ensures { OnOk result (Puts code.old code.new (trap_code leads label (TRAPS_FROM + label))) }
 {
-    if !lines_lead(label, lines) {
+    if !leads {
         return Ok(());
     }
     emit(
@@ -78,14 +47,21 @@ fn emit_trap(code: &mut Items<WordInstr>, label: u32, lines: &[BlockLine]) -> Re
     )
 }
 
-/// What stands at the end of a procedure with these lines.
-pub fn emit_last(code: &mut Items<WordInstr>, lines: &[BlockLine]) -> Result<(), Memory>
-    ensures { OnOk result (Puts code.old code.new (last_code (map block_plain lines.now))) }
+/// Adds what stands at the end of a procedure with these lines.
+pub fn emit_last(code: &mut Items<WordInstr>) -> Result<(), Memory>
+    ensures { OnOk result (code.new ≡ and_last code.old) }
 {
-    emit_trap(code, OVERFLOW, lines)?;
-    emit_trap(code, DIVISION, lines)?;
-    emit_trap(code, INDEX, lines)?;
-    emit_trap(code, RANGE, lines)?;
-    emit_trap(code, LENGTH, lines)?;
-    emit_trap(code, DEPTH, lines)
+    let lines = code.as_slice();
+    let overflow = any_branches(OVERFLOW, lines);
+    let division = any_branches(DIVISION, lines);
+    let index = any_branches(INDEX, lines);
+    let range = any_branches(RANGE, lines);
+    let length = any_branches(LENGTH, lines);
+    let depth = any_branches(DEPTH, lines);
+    emit_trap(code, overflow, OVERFLOW)?;
+    emit_trap(code, division, DIVISION)?;
+    emit_trap(code, index, INDEX)?;
+    emit_trap(code, range, RANGE)?;
+    emit_trap(code, length, LENGTH)?;
+    emit_trap(code, depth, DEPTH)
 }

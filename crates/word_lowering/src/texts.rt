@@ -1,53 +1,33 @@
 // The data of word code.
-ghost use Rattle.std.specs.Prelude.{◌≡◌, ◌+◌, ◌-◌, ◌++◌, length, map, replicate, IfOk, OnOk};
-ghost use Rattle.mid_code.specs.Codes.{block_plain};
-ghost use Rattle.mid_code.specs.Sizes.{is_line_end};
+ghost use Rattle.std.specs.Prelude.{◌≡◌, ◌+◌, ◌++◌, length, map, replicate, IfOk, OnOk};
+ghost use Rattle.flat_code.specs.Codes.{block_plain};
 ghost use Rattle.rv32_isa.specs.Words.{word_bytes};
 ghost use Rattle.word_lowering.specs.Emission.{Puts};
-ghost use Rattle.word_lowering.specs.Texts.{own_text, text_of, texts_of, texts_in, all_names};
+ghost use Rattle.word_lowering.specs.Texts.{texts_of, texts_in, all_names};
 ghost use Rattle.word_lowering.specs.Texts.{joined_all, starts_from, names_before, members_of};
 ghost use Rattle.word_lowering.specs.Texts.{ends_from, names_at, literals_at, data_in, padded};
 
-use crate::spots::sum;
+use crate::aliases::text_of;
+use crate::spots::{more, sum};
 use arc_base::{Bytes, Memory};
-use mid_code::{BlockLine, BlockProc, Line};
+use flat_code::{BlockLine, CodeProc};
 use nim_types::{TypeDef, TypeId, TypeTable, WORD_BYTES};
 use std::alloc::Global;
 
 /// Where the line end stands.
-pub const LINE_END_AT: u32 = 16;
+pub const LINE_END_AT: u32 = 4;
 
 /// Where `false` stands.
-pub const FALSE_AT: u32 = 20;
-
-/// Where the line of a trap stands: of an overflow.
-pub const OVERFLOW_AT: u32 = 32;
-
-/// Of a division by zero.
-pub const DIVISION_AT: u32 = 48;
-
-/// Of an index.
-pub const INDEX_AT: u32 = 72;
-
-/// Of a value out of range.
-pub const RANGE_AT: u32 = 100;
-
-/// Of a changed length.
-pub const LENGTH_AT: u32 = 128;
-
-/// Of one call too many.
-pub const DEPTH_AT: u32 = 152;
+pub const FALSE_AT: u32 = 8;
 
 /// The bytes of what each program has. Globals stand behind them.
-pub const FIXED_BYTES: u32 = 176;
+pub const FIXED_BYTES: u32 = 20;
 
-/// The bytes in which the digits of a number are put together.
-const DIGIT_BYTES: usize = 16;
+/// The word of which the first byte is a character that is written.
+const LETTER_BYTES: usize = 4;
 
 /// The texts that each program has, each up to a whole number of words.
-const FIXED_TEXTS: &[u8] = b"\n\0\0\0false\0\0\0true\
-Error: overflow\nError: division by zero\nError: index out of bounds\n\0\
-Error: value out of range\n\0\0Error: length changed\n\0\0Error: call depth limit\n";
+const FIXED_TEXTS: &[u8] = b"\n\0\0\0false\0\0\0true";
 
 // So many zeros.
 fn push_zeros(bytes: &mut Bytes, count: usize) -> Result<(), Memory>
@@ -59,30 +39,6 @@ fn push_zeros(bytes: &mut Bytes, count: usize) -> Result<(), Memory>
         left -= 1;
     }
     Ok(())
-}
-
-/// Whether a text is a line end.
-pub fn is_line_end(text: &[u8]) -> bool
-    ensures { result ≡ is_line_end text.now }
-{
-    text.len() == 1 && text[0] == b'\n'
-}
-
-// The bytes that a line has of its own: a line end has none.
-fn own_text(text: &[u8]) -> &[u8]
-    ensures { result.now ≡ own_text text.now }
-{
-    if is_line_end(text) { &[] } else { text }
-}
-
-/// The text of a line.
-pub fn text_of(line: &BlockLine) -> &[u8]
-    ensures { result.now ≡ text_of (block_plain line.now) }
-{
-    match line {
-        BlockLine::Plain(Line::WriteText { bytes }) => own_text(bytes.as_slice()),
-        _ => &[],
-    }
 }
 
 // The texts of a procedure, those of the last line first.
@@ -98,7 +54,7 @@ fn push_texts_of(bytes: &mut Bytes, lines: &[BlockLine]) -> Result<(), Memory>
 }
 
 // Those of the last procedure come first.
-fn push_texts_in(bytes: &mut Bytes, procs: &[BlockProc]) -> Result<(), Memory>
+fn push_texts_in(bytes: &mut Bytes, procs: &[CodeProc<BlockLine>]) -> Result<(), Memory>
     ensures { OnOk result (bytes.new ≡ bytes.old ++ texts_in procs.now) }
 {
     let mut i = procs.len();
@@ -123,7 +79,7 @@ pub fn text_bytes(lines: &[BlockLine]) -> Result<u32, Memory>
 }
 
 /// How many bytes the texts of procedures have.
-pub fn texts_bytes(procs: &[BlockProc]) -> Result<u32, Memory>
+pub fn texts_bytes(procs: &[CodeProc<BlockLine>]) -> Result<u32, Memory>
     ensures { IfOk result (λ n. n ≡ length (texts_in procs.now)) }
 {
     let mut i = procs.len();
@@ -133,28 +89,6 @@ pub fn texts_bytes(procs: &[BlockProc]) -> Result<u32, Memory>
         n = sum(n, text_bytes(procs[i].lines.as_slice())?)?;
     }
     Ok(n)
-}
-
-/// A number, and the bytes of a text.
-pub fn more(n: u32, text: &[u8]) -> Result<u32, Memory>
-    ensures { IfOk result (λ m. m ≡ n + length text.now) }
-{
-    let len = text.len();
-    if len > u32::MAX as usize {
-        return Err(Memory);
-    }
-    sum(n, len as u32)
-}
-
-/// A number without the bytes of a text, or 0 where it is less.
-pub fn fewer(n: u32, text: &[u8]) -> u32
-    ensures { result ≡ n - length text.now }
-{
-    let len = text.len();
-    if len > n as usize {
-        return 0;
-    }
-    n - len as u32
 }
 
 // The names of an entry.
@@ -271,12 +205,12 @@ pub fn data(
     alloc: Global,
     types: &TypeTable,
     globals_end: u32,
-    procs: &[BlockProc],
+    procs: &[CodeProc<BlockLine>],
 ) -> Result<Bytes, Memory>
     ensures { IfOk result (λ bytes. bytes ≡ padded (data_in types.now globals_end procs.now)) }
 {
     let mut bytes = Bytes::new(alloc);
-    push_zeros(&mut bytes, DIGIT_BYTES)?;
+    push_zeros(&mut bytes, LETTER_BYTES)?;
     bytes.append(FIXED_TEXTS)?;
     push_zeros(&mut bytes, globals_end.saturating_sub(FIXED_BYTES) as usize)?;
     push_ends(&mut bytes, types)?;

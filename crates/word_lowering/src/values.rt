@@ -1,12 +1,14 @@
 // The word code of values with parts.
-ghost use Rattle.std.specs.Prelude.{◌≡◌, OnOk};
+ghost use Rattle.std.specs.Prelude.{◌≡◌, [], ◌∷◌, OnOk};
 ghost use Rattle.word_lowering.specs.Emission.{Puts};
-ghost use Rattle.word_lowering.specs.LineCode.{unless_zero, pieces_code, piece_words, first_word};
-ghost use Rattle.word_lowering.specs.LineCode.{constant_code, value, parts_code, fields_code};
+ghost use Rattle.word_lowering.specs.LineCode.{truth_word, unless_zero, pieces_code, piece_words};
+ghost use Rattle.word_lowering.specs.LineCode.{constant_at, constant_code, parts_code, fields_code};
+ghost use Rattle.word_lowering.specs.LineCode.{first_word, operands, value};
 ghost use Rattle.word_lowering.specs.Scope.{around_of};
 ghost use Rattle.word_lowering.specs.Spots.{spot_of, clears};
 ghost use Rattle.word_lowering.specs.Stored.{HaveForms};
 
+use crate::aliases::text_in;
 use crate::homes::{FIRST, Home, Housed, SECOND};
 use crate::scope::Scope;
 use crate::spots::{
@@ -14,8 +16,16 @@ use crate::spots::{
 };
 use crate::stored::part_at;
 use arc_base::{Items, Memory};
-use mid_code::{FieldFrom, Piece, WordInstr};
+use flat_code::{From, Piece};
 use nim_types::TypeId;
+use word_code::WordInstr;
+
+/// The word of a bool.
+pub fn truth_word(holds: bool) -> u32
+    ensures { result ≡ truth_word holds }
+{
+    if holds { 1 } else { 0 }
+}
 
 // A word that isn't 0 to where zeros stand.
 fn emit_unless_zero(code: &mut Items<WordInstr>, to: Home, word: u32) -> Result<(), Memory>
@@ -45,7 +55,8 @@ fn emit_pieces(code: &mut Items<WordInstr>, to: Home, pieces: &[Piece]) -> Resul
                 to = shifted(4, to)?;
             }
             Piece::Parts(0) => to = shifted(4, to)?,
-            Piece::Parts(_) => {}
+            Piece::Elements(0) => to = shifted(4, to)?,
+            _ => {}
         }
     }
     Ok(())
@@ -59,19 +70,16 @@ fn first_word(pieces: &[Piece]) -> u32
         match piece {
             Piece::Ordinal(z) => return z.cast_unsigned(),
             Piece::Parts(0) => return 0,
-            Piece::Parts(_) => {}
+            Piece::Elements(0) => return 0,
+            _ => {}
         }
     }
     0
 }
 
-/// The value of a constant.
-pub fn emit_constant(
-    code: &mut Items<WordInstr>,
-    to: Housed,
-    pieces: &[Piece],
-) -> Result<(), Memory>
-    ensures { OnOk result (Puts code.old code.new (constant_code to (spot_of to) pieces.now)) }
+// A constant that is no text.
+fn emit_constant_at(code: &mut Items<WordInstr>, to: Housed, pieces: &[Piece]) -> Result<(), Memory>
+    ensures { OnOk result (Puts code.old code.new (constant_at to (spot_of to) pieces.now)) }
 {
     match spot_of(to) {
         Spot::Held(v) => emit(code, &[constant(v, first_word(pieces))]),
@@ -82,18 +90,33 @@ pub fn emit_constant(
     }
 }
 
+/// The value of a constant.
+pub fn emit_constant(
+    code: &mut Items<WordInstr>,
+    to: Housed,
+    pieces: &[Piece],
+) -> Result<(), Memory>
+    ensures { OnOk result (Puts code.old code.new (constant_code to pieces.now)) }
+{
+    match text_in(pieces) {
+        None => emit_constant_at(code, to, pieces),
+        Some(_) => Ok(()),
+    }
+}
+
 /// Parts one behind the other.
 pub fn emit_parts(
     code: &mut Items<WordInstr>,
     x: &Scope,
     to: Home,
-    parts: &[u32],
+    parts: &[From],
 ) -> Result<(), Memory>
-    ensures { OnOk result (Puts code.old code.new (parts_code (around_of x.now) to parts.now)) }
+    ensures { OnOk result (Puts code.old code.new
+        (parts_code to (operands (around_of x.now) parts.now))) }
 {
     let mut to = to;
-    for t in parts {
-        let part = x.value(*t);
+    for from in parts {
+        let part = x.operand(*from);
         emit_moved(
             code,
             part.is_word,
@@ -106,28 +129,51 @@ pub fn emit_parts(
     Ok(())
 }
 
+// A field of an object of a type.
+fn emit_field(
+    code: &mut Items<WordInstr>,
+    x: &Scope,
+    to: Home,
+    ty: TypeId,
+    field: u32,
+    part: Housed,
+) -> Result<(), Memory>
+    requires { HaveForms x.now.types.now }
+    ensures { OnOk result (Puts code.old code.new (λ k.
+        fields_code (around_of x.now) to ty (field ∷ []) (part ∷ []) k)) }
+{
+    let there = shifted(part_at(x.types, ty, field)?, to)?;
+    emit_moved(
+        code,
+        part.is_word,
+        part.bytes,
+        Spot::Lies(there),
+        spot_of(part),
+    )
+}
+
 // Fields of an object of a type.
 fn emit_fields(
     code: &mut Items<WordInstr>,
     x: &Scope,
     to: Home,
     ty: TypeId,
-    fields: &[FieldFrom],
+    fields: &[u32],
+    parts: &[From],
 ) -> Result<(), Memory>
     requires { HaveForms x.now.types.now }
     ensures { OnOk result (Puts code.old code.new
-        (fields_code (around_of x.now) to ty fields.now)) }
+        (fields_code (around_of x.now) to ty fields.now (operands (around_of x.now) parts.now))) }
 {
-    for f in fields {
-        let part = x.value(f.from);
-        let there = shifted(part_at(x.types, ty, f.field)?, to)?;
-        emit_moved(
-            code,
-            part.is_word,
-            part.bytes,
-            Spot::Lies(there),
-            spot_of(part),
-        )?;
+    let mut numbers = fields;
+    let mut left = parts;
+    while let Some((field, more)) = numbers.split_first() {
+        let Some((from, rest)) = left.split_first() else {
+            break;
+        };
+        emit_field(code, x, to, ty, *field, x.operand(*from))?;
+        numbers = more;
+        left = rest;
     }
     Ok(())
 }
@@ -138,13 +184,15 @@ pub fn emit_construct(
     x: &Scope,
     to: u32,
     ty: TypeId,
-    fields: &[FieldFrom],
+    fields: &[u32],
+    parts: &[From],
 ) -> Result<(), Memory>
     requires { HaveForms x.now.types.now }
     ensures { OnOk result (Puts code.old code.new (λ k. clears (value (around_of x.now) to)
-        (fields_code (around_of x.now) (value (around_of x.now) to).home ty fields.now k))) }
+        (fields_code (around_of x.now) (value (around_of x.now) to).home ty fields.now
+        (operands (around_of x.now) parts.now) k))) }
 {
     let place = x.value(to);
     emit_clears(code, place)?;
-    emit_fields(code, x, place.home, ty, fields)
+    emit_fields(code, x, place.home, ty, fields, parts)
 }

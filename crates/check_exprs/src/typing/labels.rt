@@ -12,7 +12,7 @@ use expr_parts::labels::range_of;
 use expr_parts::scope::Scope;
 use expr_parts::value::Want;
 use expr_steps::choices::{Tests, label_from, label_place, with_label};
-use nim_core::Label;
+use nim_program::Label;
 use nim_tree::Expr as Tree;
 use nim_types::{TypeId, TypeTable};
 use std::alloc::Global;

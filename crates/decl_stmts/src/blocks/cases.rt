@@ -1,5 +1,5 @@
 // `case`.
-ghost use Rattle.std.specs.Prelude.{◌≡◌, ◌<◌, ◌++◌, [], List, Option, length, map, IfOk};
+ghost use Rattle.std.specs.Prelude.{◌≡◌, ◌<◌, ◌++◌, [], List, length, map, IfOk};
 ghost use Rattle.arc_base.specs.declared.place.Place.{Place};
 ghost use Rattle.arc_base.specs.Refusal.{Answers};
 ghost use Rattle.nim_tree.specs.Statements as tree;
@@ -7,12 +7,13 @@ ghost use Rattle.nim_tree.specs.Statements.{statements_of, branches_of};
 ghost use Rattle.nim_tree.specs.Terms.{term_of, parts_of};
 ghost use Rattle.nim_types.specs.Types.{Ty, Facts};
 ghost use Rattle.nim_types.specs.Table.{type_at, facts_in};
-ghost use Rattle.nim_core.specs.Program.{Label};
-ghost use Rattle.nim_core.specs.View.{label_of, arms_of, stmts_of};
+ghost use Rattle.nim_program.specs.Program.{Label};
+ghost use Rattle.nim_program.specs.View.{label_of, branch_labels, stmts_of};
+ghost use Rattle.decl_rules.specs.State.{ResultPlace as Gives};
 ghost use Rattle.decl_rules.specs.Stated.{stated, all_arms, covered};
 ghost use Rattle.expr_parts.specs.View.{Under, valued_of};
 ghost use Rattle.decl_parts.specs.declared.state.State.{State};
-ghost use Rattle.decl_parts.specs.View.{around_of, numbered_of, state_of, Beside};
+ghost use Rattle.decl_parts.specs.View.{around_of, numbered_of, state_of, arm_bodies_in, Beside};
 ghost use Rattle.decl_parts.specs.View.{InsideWithin, Ready, Over, Further, Stating, AllStatedSo};
 ghost use Rattle.decl_stmts.specs.ViewStated.{listed_stated};
 ghost use Rattle.decl_stmts.specs.ViewCases.{armed_as, arm_as, arm_rule, arm_behind};
@@ -28,9 +29,10 @@ use decl_parts::stmts::list_of;
 use decl_parts::typing::value_first;
 use decl_parts::values::{Numbered, selector_rule};
 use expr_builds::label_list::{Labels, cover_rule};
+use expr_parts::branches::selector_of;
 use expr_parts::value::{Value, Want};
 use expr_steps::choices::Tests;
-use nim_core::{CaseBranch, Node, Stmt};
+use nim_program::{CaseBranch, Node, Stmt};
 use nim_tree::{Branch as TreeBranch, Expr as Term, Stmt as Tree};
 use nim_types::{TypeId, TypeTable};
 use std::alloc::Global;
@@ -152,7 +154,7 @@ pub(crate) fn selection(
 ) -> Result<Vec<Stmt>, Stop>
     requires ready { Ready state.old }
     requires around { InsideWithin (length state.old.types) around.inside }
-    ensures { (ends : List Ty → Option Ty) → AllStatedSo state.old state.new (λ ts st. stated
+    ensures { (ends : List Ty → Gives) → AllStatedSo state.old state.new (λ ts st. stated
         (around_of ts around) (ends ts) st (tree.selects at (term_of selector.now)
         (branches_of branches.now) (statements_of otherwise.now))) result }
 {
@@ -278,11 +280,15 @@ fn covered(
     requires { value.ty < length state.now.types }
     ensures { (ts : List Ty) (b : Beside) → Over state.now ts
         → Answers (listed_stated ts b state.now) (covered_as lacks_else (facts_in state.now.types)
-        node (valued_of ts value) (arms_of ts arms.all.items) arms.labels
-        (stmts_of ts stmts.items) (state_of ts b state.now)) result }
+        node (valued_of ts value) (branch_labels arms.all.items)
+        (arm_bodies_in ts arms.all.items) arms.labels (stmts_of ts stmts.items)
+        (state_of ts b state.now)) result }
 {
     match check_covered(&state.types, node.at, value.ty, &arms.labels, lacks_else) {
-        Ok(()) => list_of(alloc, selection_of(node, value.expr, arms.all, stmts)),
+        Ok(()) => list_of(
+            alloc,
+            selection_of(node, selector_of(value.expr), arms.all, stmts),
+        ),
         Err(stop) => {
             drop(value);
             Err(stop)

@@ -1,11 +1,12 @@
 // `for`, whose variable stands in a scope of its own.
-ghost use Rattle.std.specs.Prelude.{◌≡◌, ◌<◌, List, Option, length, IfErr, OnOk};
+ghost use Rattle.std.specs.Prelude.{◌≡◌, ◌<◌, List, length, IfErr, OnOk};
 ghost use Rattle.arc_base.specs.declared.place.Stop.TheVariants as Stop;
 ghost use Rattle.nim_tree.specs.Statements as tree;
 ghost use Rattle.nim_tree.specs.Statements.{statements_of};
 ghost use Rattle.nim_tree.specs.Terms.{term_of};
 ghost use Rattle.nim_types.specs.Types.{Ty};
 ghost use Rattle.nim_types.specs.Table.{type_at};
+ghost use Rattle.decl_rules.specs.State.{ResultPlace as Gives};
 ghost use Rattle.decl_rules.specs.Stated.{stated};
 ghost use Rattle.decl_parts.specs.View.{around_of, numbered_of};
 ghost use Rattle.decl_parts.specs.View.{InsideWithin, Ready, AllStatedSo};
@@ -16,16 +17,17 @@ ghost use Rattle.decl_stmts.specs.ViewLoops.{ints_within, course_by, Begun};
 use crate::blocks::block;
 use arc_base::{Place, Stop};
 use decl_parts::names::place_of;
-use decl_parts::nodes::{count_of, each_of};
+use decl_parts::nodes::repetition_of;
 use decl_parts::state::{Around, State, after, leave};
 use decl_parts::stmts::list_of;
 use decl_parts::typing::{value_as_at, value_as_first, value_first};
 use decl_parts::values::{Numbered, element_rule};
+use expr_parts::nodes::{one_operand, two_operands};
 use expr_parts::paths::path_of;
 use expr_parts::scope::{Decl, What};
 use expr_parts::value::Want;
 use indent_scanner::normal_form;
-use nim_core::{Bounds, Node, Stmt};
+use nim_program::{Kind, Node, Operand, Stmt};
 use nim_tree::{Expr as Term, Name, Stmt as Tree};
 use nim_types::TypeId;
 use std::alloc::Global;
@@ -97,7 +99,7 @@ pub(crate) fn each_element(
 ) -> Result<Vec<Stmt>, Stop>
     requires ready { Ready state.old }
     requires around { InsideWithin (length state.old.types) around.inside }
-    ensures { (ends : List Ty → Option Ty) → AllStatedSo state.old state.new (λ ts st. stated
+    ensures { (ends : List Ty → Gives) → AllStatedSo state.old state.new (λ ts st. stated
         (around_of ts around) (ends ts) st (tree.counts at name.now (tree.each (term_of over.now))
         (statements_of body.now))) result }
 {
@@ -157,10 +159,17 @@ fn each_typed(
 {
     state.node = given.next;
     let path = path_of(alloc, given.value.expr)?;
+    let head = one_operand(alloc, Operand::At(path))?;
     let variable = place_of(alloc, state.place, name.text.as_slice(), name.at, ty)?;
     match loop_body(alloc, state, around, name, ty, body) {
-        Ok(stmts) => list_of(alloc, each_of(node, variable, path, stmts)),
-        Err(stop) => Err(stop),
+        Ok(stmts) => list_of(
+            alloc,
+            repetition_of(node, Kind::Each { variable }, head, stmts),
+        ),
+        Err(stop) => {
+            drop(head);
+            Err(stop)
+        }
     }
 }
 
@@ -179,7 +188,7 @@ pub(crate) fn each_int(
 ) -> Result<Vec<Stmt>, Stop>
     requires ready { Ready state.old }
     requires around { InsideWithin (length state.old.types) around.inside }
-    ensures { (ends : List Ty → Option Ty) → AllStatedSo state.old state.new (λ ts st. stated
+    ensures { (ends : List Ty → Gives) → AllStatedSo state.old state.new (λ ts st. stated
         (around_of ts around) (ends ts) st (tree.counts at name.now (course_by inclusive
         (term_of first.now) (term_of last.now)) (statements_of body.now))) result }
 {
@@ -254,16 +263,22 @@ fn ints_with(
 {
     state.node = to.next;
     let ints = state.scope.kinds.int;
+    let head = two_operands(
+        alloc,
+        Operand::Value(from.value.expr),
+        Operand::Value(to.value.expr),
+    )?;
     let variable = place_of(alloc, state.place, name.text.as_slice(), name.at, ints)?;
-    let bounds = Bounds {
-        first: from.value.expr,
-        last: to.value.expr,
-        inclusive,
-    };
     match loop_body(alloc, state, around, name, ints, body) {
-        Ok(stmts) => list_of(alloc, count_of(node, variable, bounds, stmts)),
+        Ok(stmts) => {
+            let kind = Kind::Count {
+                variable,
+                inclusive,
+            };
+            list_of(alloc, repetition_of(node, kind, head, stmts))
+        }
         Err(stop) => {
-            drop(bounds);
+            drop(head);
             Err(stop)
         }
     }

@@ -1,8 +1,7 @@
-use Rattle.std.proofs.Common.{ℕ, List}
 use Rattle.core_compiler.specs.Limits.{build_limits}
-use Rattle.source_compiler.specs.Compile.{IsNoProgram}
 use Rattle.arc_top.specs.Loads.{files_state}
-use Rattle.arc_top.proofs.Commands.{turned_away}
+use Rattle.arc_top.specs.Top.{IsTurnedDown}
+use Rattle.arc_top.proofs.Commands.{compiling_stops}
 use Rattle.arc_top.proofs.top.compile_main.Goals as goal
 
 pub returns-in-Ok-clause-compiled : goal.returns-in-Ok-clause-compiled
@@ -15,10 +14,8 @@ returns-clause-stops g c =
     let F = g.F.Files in
     let old = c.args.files.now in
     let new = c.load_file.new.files in
-    let source = c.as_slice.result.now in
-    turned_away build_limits c.args.main.now source
-    (λ code at. (name : List ℕ) → IsNoProgram (build_limits c.in-Err.ensures.decided.0) name source code at)
-    (λ code at h. (c.in-Err.ensures.decided.0, h c.args.main.now)) c.in-Err.why c.refuse.result
+    let decided = c.in-Err.ensures.decided in
+    compiling_stops c.args.main.now c.as_slice.result.now decided.0 c.in-Err.why c.refuse.result
     (files_state (F.held old) (F.load_faults old) (F.store_faults old) (F.calls old))
     (files_state (F.held new) (F.load_faults new) (F.store_faults new) (F.calls new))
-    (rw c.as_slice.ensures c.in_ok-source.ensures.gives) c.refuse.ensures c.in-Err.ensures.decided.1.refused
+    (rw c.as_slice.ensures c.in_ok-source.ensures.gives) c.refuse.ensures decided.1

@@ -1,5 +1,5 @@
 use Rattle.rv32_runner.specs.Streams.{feed, tally, streams}
-use Rattle.check_decls.specs.Modules.{program_in}
+use Rattle.source_compiler.specs.Source.{read_program}
 use Rattle.arc_top.specs.Loads.{files_state}
 use Rattle.arc_top.proofs.Commands.{mean_told}
 use Rattle.arc_top.proofs.top.mean_main.Goals as goal
@@ -17,7 +17,7 @@ returns-in-Ok g c =
     let out = c.args.out.now in
     let err = c.args.err.now in
     let after = c.run_program.new in
-    let program = program_in c.in-Ok.program in
+    let program = read_program c.in-Ok.program in
     record {
       means = mean_told c.args.main.now given.0 c.args.heap c.args.steps program
           (files_state (F.held old) (F.load_faults old) (F.store_faults old) (F.calls old))

@@ -1,9 +1,8 @@
 use Rattle.std.proofs.Common.{◌≡◌, length, drop}
 use Rattle.nim_tree.specs.Statements.{statements_of}
-use Rattle.nim_core.specs.View.{if_type}
 use Rattle.decl_rules.specs.State.{in_body}
 use Rattle.decl_rules.specs.Stated.{all_stated}
-use Rattle.decl_parts.specs.View.{state_of}
+use Rattle.decl_parts.specs.View.{if_result, state_of}
 use Rattle.decl_parts.proofs.ForCallers.{Left, steps_onto}
 use Rattle.check_decls.proofs.bodies.body_statements.Given as goal
 
@@ -11,7 +10,8 @@ use Rattle.check_decls.proofs.bodies.body_statements.Given as goal
 abbrev pub invariant-loop-tree : goal.invariant-loop-tree
 invariant-loop-tree l = record {
   left : l.left ≡ length (drop l.tree-index l.trees);
-  rest : Left l.fn.state l.state (λ ts b. all_stated (in_body (if_type ts l.gives)) (if_type ts l.gives) (state_of ts b l.fn.state) (statements_of l.fn.trees))
-      (λ ts b. all_stated (in_body (if_type ts l.gives)) (if_type ts l.gives) (state_of ts b l.state) (statements_of (drop l.tree-index l.trees)))
+  rest : Left l.fn.state l.state
+      (λ ts b. all_stated (in_body (if_result ts l.gives)) (if_result ts l.gives) (state_of ts b l.fn.state) (statements_of l.fn.trees))
+      (λ ts b. all_stated (in_body (if_result ts l.gives)) (if_result ts l.gives) (state_of ts b l.state) (statements_of (drop l.tree-index l.trees)))
       (λ ts. steps_onto ts l.all.items);
 }

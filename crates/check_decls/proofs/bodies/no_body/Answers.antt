@@ -1,6 +1,6 @@
 use Rattle.std.proofs.lemmas.Result.{err_from_is_err_and}
 use Rattle.std.specs.Prelude.{Option, None, Ok}
-use Rattle.nim_core.specs.declared.program.Body.{Body as RustBody}
+use Rattle.nim_program.specs.declared.program.Body.{Body as RustBody}
 use Rattle.decl_rules.specs.Bodies.{without_body}
 use Rattle.decl_parts.specs.View.{state_of}
 use Rattle.decl_parts.proofs.ForCallers.{stated_forgets, further_as, further_same}

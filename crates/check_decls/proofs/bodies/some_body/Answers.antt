@@ -1,16 +1,14 @@
-use Rattle.std.proofs.Common.{List, length, subst, sym, refl}
+use Rattle.std.proofs.Common.{length, subst, sym, refl}
 use Rattle.std.proofs.lemmas.Result.{err_from_is_err_and}
 use Rattle.std.specs.Prelude.{Ok, Some, Option}
 use Rattle.nim_tree.specs.Statements.{head_of, statements_of}
-use Rattle.nim_core.specs.declared.program.Body.{Body as RustBody}
+use Rattle.nim_program.specs.declared.program.Body.{Body as RustBody}
 use Rattle.decl_parts.specs.declared.state.State.{State as RustState}
-use Rattle.decl_parts.specs.View.{Stating, state_of}
+use Rattle.decl_parts.specs.View.{Stating, ResultWithin, state_of}
 use Rattle.decl_parts.proofs.ForCallers.{stated_forgets, further_as, further_same}
 use Rattle.decl_heads.specs.ViewHeads.{headed_of}
 use Rattle.check_decls.specs.ViewBodies.{bodied_as, some_body_rule}
-use Rattle.check_decls.proofs.Scopes.{body_goes, body_stops}
-use Rattle.nim_types.specs.declared.types.TypeDef.{TypeDef}
-use Rattle.nim_types.specs.Table.{IsBelow}
+use Rattle.check_decls.proofs.Scopes.{body_goes, body_stops, given_within}
 use Rattle.check_decls.proofs.bodies.some_body.Goals as goal
 
 pub returns-in-Ok-clause-stated : goal.returns-in-Ok-clause-stated
@@ -22,18 +20,21 @@ returns-in-Ok-clause-stated c = λ k.
     let whole : RustBody = record {
       first = old.place;
       places = c.saturating_sub-places.result;
+      before = old.node;
       result = c.in_ok-result.result;
       stmts = c.in-Ok.stmts;
     } in
     subst (λ (s : RustState). Stating old s (λ ts b (x : Option RustBody). bodied_as ts b s x)
     (λ ts b. some_body_rule (state_of ts b old) (head_of h) (headed_of ts g k) body) (Ok (Some whole))) (sym c.leave.ensures)
-    (body_goes old c.begin_body.new.state c.body_statements.new.state h g k body c.in_ok-result.result c.count-count.result c.in-Ok.stmts whole
-    c.requires.ready c.count-count.ensures c.in_ok-result.ensures.begun c.in-Ok.ensures refl c.saturating_sub-places.ensures refl refl)
+    (body_goes old c.begin_body.new.state c.body_statements.new.state h g k body c.in_ok-result.result c.count-count.result
+    c.place_given-gives.result c.in-Ok.stmts whole c.requires.ready c.count-count.ensures c.place_given-gives.ensures c.in_ok-result.ensures.begun
+    c.in-Ok.ensures refl c.saturating_sub-places.ensures refl refl refl)
 
 pub returns-in-Err-clause-stated : goal.returns-in-Err-clause-stated
 returns-in-Err-clause-stated c = λ k.
     body_stops c.args.state.now c.begin_body.new.state c.body_statements.new.state c.args.head.now c.args.signature.now k
-    (statements_of c.args.trees.now) c.in_ok-result.result c.in-Err.stop c.in_ok-result.ensures.begun c.in-Err.ensures
+    (statements_of c.args.trees.now) c.in_ok-result.result c.place_given-gives.result c.in-Err.stop c.place_given-gives.ensures
+    c.in_ok-result.ensures.begun c.in-Err.ensures
 
 pub returns-in_err-result-clause-stated : goal.returns-in_err-result-clause-stated
 returns-in_err-result-clause-stated c = λ k.
@@ -50,4 +51,5 @@ body_statements-requires-clause-ready c = c.in_ok-result.ensures.begun.ready
 
 pub body_statements-requires-clause-gives : goal.body_statements-requires-clause-gives
 body_statements-requires-clause-gives c =
-    subst (λ (l : List TypeDef). IsBelow (length l) c.args.signature.now.gives) (sym c.begin_body.ensures.types) c.requires.within.gives
+    let n = length c.begin_body.new.state.types in
+    subst (ResultWithin n) (sym c.place_given-gives.ensures) (given_within n c.in_ok-result.result c.in_ok-result.ensures.begun.within)

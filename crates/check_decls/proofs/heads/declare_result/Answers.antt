@@ -1,7 +1,7 @@
 use Rattle.std.proofs.Common.{ap, sym}
 use Rattle.std.specs.Prelude.{option_map}
 use Rattle.nim_tree.specs.Types.{written_of}
-use Rattle.nim_core.specs.View.{if_type}
+use Rattle.nim_program.specs.View.{if_type}
 use Rattle.decl_rules.specs.Bodies.{result_at}
 use Rattle.check_decls.proofs.Scopes.{result_written}
 use Rattle.check_decls.proofs.heads.declare_result.Goals as goal

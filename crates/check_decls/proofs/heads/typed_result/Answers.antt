@@ -1,7 +1,7 @@
 use Rattle.std.proofs.Common.{ap, sym, subst}
 use Rattle.std.specs.Prelude.{Some}
 use Rattle.nim_types.specs.Table.{IsBelow}
-use Rattle.nim_core.specs.View.{if_type}
+use Rattle.nim_program.specs.View.{if_type}
 use Rattle.decl_rules.specs.Bodies.{result_at}
 use Rattle.check_decls.proofs.Scopes.{result_typed}
 use Rattle.check_decls.proofs.heads.typed_result.Goals as goal

@@ -1,7 +1,7 @@
 use Rattle.std.proofs.Common.{Vec, Global, refl}
 use Rattle.std.specs.Prelude.{None}
 use Rattle.nim_tree.specs.Statements.{statement_of}
-use Rattle.nim_core.specs.declared.stmt.Stmt.{Stmt as RustStmt}
+use Rattle.nim_program.specs.declared.stmt.Stmt.{Stmt as RustStmt}
 use Rattle.decl_rules.specs.State.{in_module}
 use Rattle.decl_rules.specs.Stated.{stated}
 use Rattle.decl_parts.specs.View.{all_stated_as}

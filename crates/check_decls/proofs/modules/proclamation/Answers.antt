@@ -1,7 +1,7 @@
 use Rattle.std.proofs.Common.{List, [], ◌∙◌, ap, sym}
 use Rattle.std.specs.Prelude.{None, Ok}
 use Rattle.nim_tree.specs.Statements.{head_of, statements_of, proclaims}
-use Rattle.nim_core.specs.declared.stmt.Stmt.{Stmt as RustStmt}
+use Rattle.nim_program.specs.declared.stmt.Stmt.{Stmt as RustStmt}
 use Rattle.decl_rules.specs.State.{in_module, stated_as}
 use Rattle.decl_rules.specs.Stated.{stated}
 use Rattle.decl_parts.specs.View.{steps_of}

@@ -1,6 +1,6 @@
 use Rattle.std.proofs.Common.{subst}
 use Rattle.std.specs.Prelude.{OnOk}
-use Rattle.nim_core.specs.declared.program.Proc.{Proc}
+use Rattle.nim_program.specs.declared.program.Proc.{Proc}
 use Rattle.check_decls.specs.ViewBodies.{Noted}
 use Rattle.check_decls.proofs.procedures.note_body.Goals as goal
 

@@ -11,8 +11,9 @@ use Rattle.nim_tree.specs.Terms.{part, no_parts, term_of, parts_of, choices_of, 
 use Rattle.nim_tree.proofs.ForCallers.{called, indexed, listed, chosen, constructed, sequenced, tupled}
 use Rattle.nim_types.specs.Types.{Ty, Facts}
 use Rattle.nim_types.specs.Table.{type_at, AllBelow}
-use Rattle.nim_core.specs.Program.{Label, Ordinal, Text}
-use Rattle.nim_core.specs.View.{expr_of, label_of}
+use Rattle.nim_program.specs.Nodes.{literal}
+use Rattle.nim_program.specs.Program.{Label, NoArg, Number, Characters}
+use Rattle.nim_program.specs.View.{expr_of, label_of}
 use Rattle.expr_rules.specs.Answers.{Typed, node, gives, nothing, value_of, a_type, open_sequence, inner_by}
 use Rattle.expr_rules.specs.Choices.{Chosen, Picked, undecided, branch_want, range_of}
 use Rattle.expr_rules.specs.Constructions.{Plan, part_names, tuple_wants, array_want, sequence_want, plan_for, types_in}
@@ -26,7 +27,8 @@ use Rattle.expr_parts.specs.ViewReady.{ValuesWithin}
 use Rattle.expr_parts.proofs.ForCallers.{grown_same, grown_on, if_ok, next_item, none_left, bool_under, bool_below}
 use Rattle.expr_steps.specs.ViewDemands.{demand_of, special_of}
 use Rattle.expr_builds.specs.ViewBuilt.{plan_of, PlanWithin, FoundsWithin}
-use Rattle.expr_steps.specs.ViewChoices.{Tests, conditions_of, ConditionsWithin, next_condition, picked_of, PickedWithin, next_pick, tests_of, next_test}
+use Rattle.expr_steps.specs.ViewChoices.{Tests, conditions_of, ConditionsWithin, next_condition, picked_of, PickedWithin, next_pick, rows_of}
+use Rattle.expr_steps.specs.ViewChoices.{tests_of, next_test}
 use Rattle.expr_steps.specs.ViewChoices.{test_place}
 use Rattle.expr_steps.specs.ViewEndings.{tuple_end, array_end, sequence_end, object_end, field_end, call_end, new_sequence_end, unary_end, binary_end}
 use Rattle.expr_steps.specs.ViewEndings.{index_end, if_end, case_else_end}
@@ -52,7 +54,7 @@ use Rattle.check_exprs.proofs.Measuring.{part_light, choice_light, alone_item, t
 use Rattle.arc_base.specs.declared.place.Stop.TheVariants as stop
 use Rattle.nim_tree.specs.Terms as term
 use Rattle.nim_types.specs.Types as type
-use Rattle.nim_core.specs.View.{choices_of as expr_choices, picks_of as expr_picks}
+use Rattle.nim_program.specs.View.{choices_of as expr_choices}
 use Rattle.expr_rules.specs.Typed as typing
 use Rattle.expr_parts.specs.declared.value.Operand.TheVariants as operand
 use Rattle.expr_parts.specs.declared.branching.Branching.TheVariants as branching
@@ -67,8 +69,8 @@ typed-returns-in-Int t c =
     let z = to_z-of_z w32 c.in-Int.value (record { sfits = search rules }) in
     said_so (λ ts facts. typed (env_of ts facts c.args.scope.now) (want_of ts c.args.want) c.args.number (term_of c.args.tree.now))
     (λ ts facts u. ap (λ k. typed (env_of ts facts c.args.scope.now) (want_of ts c.args.want) c.args.number k) is ∙ ap
-    (λ v. gives (Ordinal (node c.args.number c.in-Int.at) type.int v) (suc c.args.number)) (sym z))
-    (stays c.args.types.now typed_of (λ ts facts. gives (Ordinal (node c.args.number c.in-Int.at) type.int (to_z w32 (of_z w32 c.in-Int.value)))
+    (λ v. gives (literal (node c.args.number c.in-Int.at) type.int (Number v)) (suc c.args.number)) (sym z))
+    (stays c.args.types.now typed_of (λ ts facts. gives (literal (node c.args.number c.in-Int.at) type.int (Number (to_z w32 (of_z w32 c.in-Int.value))))
     (suc c.args.number)) TypedWithin
     c.int_of.result c.int_of.ensures.answers c.int_of.ensures.within)
 
@@ -77,7 +79,8 @@ typed-returns-in-Char t c =
     let is = ap term_of c.in-Char.is in
     said_so (λ ts facts. typed (env_of ts facts c.args.scope.now) (want_of ts c.args.want) c.args.number (term_of c.args.tree.now))
     (λ ts facts u. ap (λ k. typed (env_of ts facts c.args.scope.now) (want_of ts c.args.want) c.args.number k) is)
-    (stays c.args.types.now typed_of (λ ts facts. gives (Ordinal (node c.args.number c.in-Char.at) type.char (pos c.in-Char.value)) (suc c.args.number))
+    (stays c.args.types.now typed_of (λ ts facts. gives (literal (node c.args.number c.in-Char.at) type.char (Number (pos c.in-Char.value)))
+    (suc c.args.number))
     TypedWithin
     c.char_of.result c.char_of.ensures.answers c.char_of.ensures.within)
 
@@ -86,7 +89,7 @@ typed-returns-in-Text t c =
     let is = ap term_of c.in-Text.is ∙ ap (term.text c.in-Text.at) (sym c.as_slice.ensures) in
     said_so (λ ts facts. typed (env_of ts facts c.args.scope.now) (want_of ts c.args.want) c.args.number (term_of c.args.tree.now))
     (λ ts facts u. ap (λ k. typed (env_of ts facts c.args.scope.now) (want_of ts c.args.want) c.args.number k) is)
-    (stays c.args.types.now typed_of (λ ts facts. gives (Text (node c.args.number c.in-Text.at) type.text (characters c.as_slice.result.now))
+    (stays c.args.types.now typed_of (λ ts facts. gives (literal (node c.args.number c.in-Text.at) type.text (Characters (characters c.as_slice.result.now)))
     (suc c.args.number)) TypedWithin
     c.text_of.result c.text_of.ensures.answers c.text_of.ensures.within)
 
@@ -1761,7 +1764,7 @@ branches::if_with_else-returns-in_err-given t c =
     (λ (ts : List Ty) (facts : Facts) (d : Chosen). if_go (env_of ts facts s) n at a d)
     (λ ts facts u. if_chain (env_of ts facts s) (want_of ts c.args.want) n at cs a (conditions_of ts none)
     (λ i. record {
-      choices = ap (expr_choices ts) c.new.ensures.items i;
+      parts = ap (λ all. expr_choices ts all NoArg) c.new.ensures.items i;
       values = ap undecided (c.inner_by.ensures.want ts ∙ ap inner_by (c.wanted.ensures.ty ts)) i;
       next = c.in_ok-first.ensures.next i;
     })) c.in_err-given.ensures)
@@ -1779,7 +1782,7 @@ branches::if_with_else-returns-in_err-last t c =
     (λ (ts : List Ty) (facts : Facts) (d : Chosen). if_go (env_of ts facts s) n at a d)
     (λ ts facts u. if_chain (env_of ts facts s) (want_of ts c.args.want) n at cs a (conditions_of ts none)
     (λ i. record {
-      choices = ap (expr_choices ts) c.new.ensures.items i;
+      parts = ap (λ all. expr_choices ts all NoArg) c.new.ensures.items i;
       values = ap undecided (c.inner_by.ensures.want ts ∙ ap inner_by (c.wanted.ensures.ty ts)) i;
       next = c.in_ok-first.ensures.next i;
     })) c.in_ok-given.ensures
@@ -1800,7 +1803,7 @@ branches::if_with_else-returns t c =
     (λ (ts : List Ty) (facts : Facts) (d : Chosen). if_go (env_of ts facts s) n at a d)
     (λ ts facts u. if_chain (env_of ts facts s) (want_of ts c.args.want) n at cs a (conditions_of ts none)
     (λ i. record {
-      choices = ap (expr_choices ts) c.new.ensures.items i;
+      parts = ap (λ all. expr_choices ts all NoArg) c.new.ensures.items i;
       values = ap undecided (c.inner_by.ensures.want ts ∙ ap inner_by (c.wanted.ensures.ty ts)) i;
       next = c.in_ok-first.ensures.next i;
     })) c.in_ok-given.ensures
@@ -2301,10 +2304,10 @@ branches::pick-returns-in_err-tests t c =
     exits c.in_err-tests.field-0.0 c.from_residual.result c.from_residual.ensures.1
     (stop_as picked_of (λ ts facts. pick_said (env_of ts facts s) (type_at ts c.args.ty) (picked_of ts before) tests a) PickedWithin
     (λ (ts : List Ty) (facts : Facts) (ls : Tests). and_then (typed (env_of ts facts s) (branch_want (branching_of ts before.values)) before.next a)
-    (λ x. next_pick (expr_picks ts before.picks.items) (branching_of ts before.values) ls x))
+    (λ x. next_pick (rows_of ts before.picks.items) (branching_of ts before.values) ls x))
     (λ ts facts u. ap (λ xs. and_then (labels_said (env_of ts facts s) (type_at ts c.args.ty) (no_tests before.labels) (parts_of xs))
     (λ ls. and_then (typed (env_of ts facts s) (branch_want (branching_of ts before.values)) before.next a)
-    (λ x. next_pick (expr_picks ts before.picks.items) (branching_of ts before.values) ls x))) (sym c.deref.ensures.value)) c.in_err-tests.ensures)
+    (λ x. next_pick (rows_of ts before.picks.items) (branching_of ts before.values) ls x))) (sym c.deref.ensures.value)) c.in_err-tests.ensures)
 
 pub branches::pick-returns-in_err-value : goal.branches::pick-returns-in_err-value
 branches::pick-returns-in_err-value t c =
@@ -2316,16 +2319,16 @@ branches::pick-returns-in_err-value t c =
     exits c.in_err-value.field-0.0 c.from_residual-in_err-value.result c.from_residual-in_err-value.ensures.1
     (go_as (λ ts facts. pick_said (env_of ts facts s) (type_at ts c.args.ty) (picked_of ts before) tests a)
     (λ (ts : List Ty) (facts : Facts) (ls : Tests). and_then (typed (env_of ts facts s) (branch_want (branching_of ts before.values)) before.next a)
-    (λ x. next_pick (expr_picks ts before.picks.items) (branching_of ts before.values) ls x))
+    (λ x. next_pick (rows_of ts before.picks.items) (branching_of ts before.values) ls x))
     (λ ts facts u. ap (λ xs. and_then (labels_said (env_of ts facts s) (type_at ts c.args.ty) (no_tests before.labels) (parts_of xs))
     (λ ls. and_then (typed (env_of ts facts s) (branch_want (branching_of ts before.values)) before.next a)
-    (λ x. next_pick (expr_picks ts before.picks.items) (branching_of ts before.values) ls x))) (sym c.deref.ensures.value)) c.in_ok-tests.ensures
+    (λ x. next_pick (rows_of ts before.picks.items) (branching_of ts before.values) ls x))) (sym c.deref.ensures.value)) c.in_ok-tests.ensures
     (stop_as picked_of (λ ts facts. and_then (typed (env_of ts facts s) (branch_want (branching_of ts before.values)) before.next a)
-    (λ x. next_pick (expr_picks ts before.picks.items) (branching_of ts before.values) (tests_of c.in_ok-tests.tests) x)) PickedWithin
-    (λ (ts : List Ty) (facts : Facts) (x : Typed). next_pick (expr_picks ts before.picks.items) (branching_of ts before.values)
+    (λ x. next_pick (rows_of ts before.picks.items) (branching_of ts before.values) (tests_of c.in_ok-tests.tests) x)) PickedWithin
+    (λ (ts : List Ty) (facts : Facts) (x : Typed). next_pick (rows_of ts before.picks.items) (branching_of ts before.values)
     (tests_of c.in_ok-tests.tests) x)
     (λ ts facts u. ap (λ w. and_then (typed (env_of ts facts s) w before.next a)
-    (λ x. next_pick (expr_picks ts before.picks.items) (branching_of ts before.values) (tests_of c.in_ok-tests.tests) x))
+    (λ x. next_pick (rows_of ts before.picks.items) (branching_of ts before.values) (tests_of c.in_ok-tests.tests) x))
     (sym (c.next_want.ensures.want ts))) c.in_err-value.ensures))
 
 pub branches::pick-returns : goal.branches::pick-returns
@@ -2337,18 +2340,18 @@ branches::pick-returns t c =
     let tests = parts_of x.tests.items in
     go_as (λ ts facts. pick_said (env_of ts facts s) (type_at ts c.args.ty) (picked_of ts before) tests a)
     (λ (ts : List Ty) (facts : Facts) (ls : Tests). and_then (typed (env_of ts facts s) (branch_want (branching_of ts before.values)) before.next a)
-    (λ x. next_pick (expr_picks ts before.picks.items) (branching_of ts before.values) ls x))
+    (λ x. next_pick (rows_of ts before.picks.items) (branching_of ts before.values) ls x))
     (λ ts facts u. ap (λ xs. and_then (labels_said (env_of ts facts s) (type_at ts c.args.ty) (no_tests before.labels) (parts_of xs))
     (λ ls. and_then (typed (env_of ts facts s) (branch_want (branching_of ts before.values)) before.next a)
-    (λ x. next_pick (expr_picks ts before.picks.items) (branching_of ts before.values) ls x))) (sym c.deref.ensures.value)) c.in_ok-tests.ensures
+    (λ x. next_pick (rows_of ts before.picks.items) (branching_of ts before.values) ls x))) (sym c.deref.ensures.value)) c.in_ok-tests.ensures
     (go_as (λ ts facts. and_then (typed (env_of ts facts s) (branch_want (branching_of ts before.values)) before.next a)
-    (λ x. next_pick (expr_picks ts before.picks.items) (branching_of ts before.values) (tests_of c.in_ok-tests.tests) x))
-    (λ (ts : List Ty) (facts : Facts) (x : Typed). next_pick (expr_picks ts before.picks.items) (branching_of ts before.values)
+    (λ x. next_pick (rows_of ts before.picks.items) (branching_of ts before.values) (tests_of c.in_ok-tests.tests) x))
+    (λ (ts : List Ty) (facts : Facts) (x : Typed). next_pick (rows_of ts before.picks.items) (branching_of ts before.values)
     (tests_of c.in_ok-tests.tests) x)
     (λ ts facts u. ap (λ w. and_then (typed (env_of ts facts s) w before.next a)
-    (λ x. next_pick (expr_picks ts before.picks.items) (branching_of ts before.values) (tests_of c.in_ok-tests.tests) x))
+    (λ x. next_pick (rows_of ts before.picks.items) (branching_of ts before.values) (tests_of c.in_ok-tests.tests) x))
     (sym (c.next_want.ensures.want ts))) c.in_ok-value.ensures
-    (stays c.typed.new.types picked_of (λ ts facts. next_pick (expr_picks ts before.picks.items) (branching_of ts before.values)
+    (stays c.typed.new.types picked_of (λ ts facts. next_pick (rows_of ts before.picks.items) (branching_of ts before.values)
     (tests_of c.in_ok-tests.tests) (typed_of ts c.in_ok-value.value))
     PickedWithin c.with_pick.result c.with_pick.ensures.answers c.with_pick.ensures.within))
 

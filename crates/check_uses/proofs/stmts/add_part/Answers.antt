@@ -1,5 +1,5 @@
 use Rattle.std.proofs.Common.{◌++◌, [], arith}
-use Rattle.nim_core.specs.View.{stmts_of}
+use Rattle.nim_program.specs.View.{stmts_of}
 use Rattle.decl_rules.specs.Occurrences.{in_block}
 use Rattle.check_uses.specs.Uses.{seen}
 use Rattle.check_uses.proofs.Adding.{block_next}

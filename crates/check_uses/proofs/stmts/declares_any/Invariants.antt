@@ -1,5 +1,5 @@
 use Rattle.std.proofs.Common.{◌≡◌, [], drop}
-use Rattle.nim_core.specs.View.{stmts_of}
+use Rattle.nim_program.specs.View.{stmts_of}
 use Rattle.decl_rules.specs.Whole.{declares_any}
 use Rattle.check_uses.proofs.stmts.declares_any.Given as goal
 

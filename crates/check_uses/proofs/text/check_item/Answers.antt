@@ -1,6 +1,6 @@
 use Rattle.std.proofs.Common.{◌∙◌, [], ap, sym}
 use Rattle.std.specs.Prelude.{take, drop}
-use Rattle.nim_core.specs.View.{stmts_of}
+use Rattle.nim_program.specs.View.{stmts_of}
 use Rattle.decl_rules.specs.Occurrences.{in_block}
 use Rattle.decl_rules.specs.Whole.{item_rule, occurrences_rule, if_in_time}
 use Rattle.check_uses.specs.Uses.{seen}

@@ -1,7 +1,7 @@
 use Rattle.std.proofs.Common.{◌∙◌, [], ap, sym}
 use Rattle.std.specs.Prelude.{◌∷◌, take, drop, slice_get}
 use Rattle.std.proofs.lemmas.Result.{on_ok_weaker}
-use Rattle.nim_core.specs.View.{stmts_of}
+use Rattle.nim_program.specs.View.{stmts_of}
 use Rattle.decl_rules.specs.State.{completes, code}
 use Rattle.decl_rules.specs.Whole.{declares_any}
 use Rattle.check_uses.specs.View.{block_at}

@@ -1,9 +1,18 @@
+use Rattle.std.proofs.Common.{sym, subst}
 use Rattle.std.proofs.lemmas.Result.{IfOk-weaker}
+use Rattle.core_compiler.specs.Stages.{AreWordsOf}
 use Rattle.core_compiler.proofs.Composing.{words_of_flat}
 use Rattle.core_compiler.proofs.program.words_of.Goals as goal
 
+-- `join` asks that no procedure is in both
+pub join-requires : goal.join-requires
+join-requires c = c.in_ok-words.ensures.apart c.in_ok-runtime.runtime c.in_ok-runtime.ensures
+
 pub returns : goal.returns
 returns c =
-    IfOk-weaker c.words.result _ _
-    (λ words low. words_of_flat c.agreement.ensures.law c.agreement.ensures.pace c.args.types.now c.args.flat.now c.in_ok-owned.owned c.in_ok-blocks.blocks
-    words c.in_ok-owned.ensures c.in_ok-blocks.ensures low) c.words.ensures
+    IfOk-weaker c.join.result _ _
+    (λ words is. subst (AreWordsOf c.args.types.now c.args.plan.now c.args.flat.now) (sym is)
+    (words_of_flat c.agreement.ensures.law c.agreement.ensures.pace c.args.types.now c.args.plan.now c.args.flat.now
+    c.in_ok-owned.owned c.in_ok-blocks.blocks c.in_ok-words.words c.in_ok-runtime.runtime
+    (c.in_ok-owned.ensures c.requires.ordered) c.in_ok-blocks.ensures c.in_ok-words.ensures c.in_ok-runtime.ensures))
+    c.join.ensures

@@ -1,6 +1,6 @@
 use Rattle.std.proofs.Common.{ap, ◌∙◌, Bool}
 use Rattle.std.specs.Prelude.{map}
-use Rattle.nim_core.specs.View.{if_type}
+use Rattle.nim_program.specs.View.{if_type}
 use Rattle.expr_parts.specs.View.{env_of, parameter_of}
 use Rattle.decl_rules.specs.Heads.{borrow_fits}
 use Rattle.decl_heads.proofs.Borrowers.{borrow_not, borrow_by}

@@ -2,7 +2,7 @@ use Rattle.std.proofs.Common.{ap, ◌∙◌}
 use Rattle.nim_types.specs.Types as type
 use Rattle.nim_types.specs.Types.{same}
 use Rattle.nim_types.specs.Table.{type_at}
-use Rattle.nim_core.specs.View.{if_type}
+use Rattle.nim_program.specs.View.{if_type}
 use Rattle.decl_heads.specs.ViewHeads.{is_bool_type}
 use Rattle.decl_heads.proofs.Borrowers.{bool_is}
 use Rattle.decl_heads.proofs.borrowing.gives_bool.Goals as goal

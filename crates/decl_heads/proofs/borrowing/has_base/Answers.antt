@@ -1,5 +1,5 @@
 use Rattle.std.proofs.Common.{ap, ◌∙◌}
-use Rattle.nim_core.specs.View.{if_type}
+use Rattle.nim_program.specs.View.{if_type}
 use Rattle.expr_parts.specs.View.{env_of}
 use Rattle.decl_rules.specs.Heads.{has_base}
 use Rattle.decl_heads.proofs.borrowing.has_base.Goals as goal

@@ -2,7 +2,7 @@ use Rattle.std.proofs.Common.{ap, ap₂, ◌∙◌, sym, Bool, List, ℕ}
 use Rattle.std.specs.Prelude.{map, ◌&&◌, not}
 use Rattle.nim_tree.specs.declared.name.Pragma.{Pragma}
 use Rattle.nim_tree.specs.Statements.{head_of}
-use Rattle.nim_core.specs.View.{if_type}
+use Rattle.nim_program.specs.View.{if_type}
 use Rattle.expr_parts.specs.View.{env_of, parameter_of}
 use Rattle.decl_rules.specs.Heads.{head_fits, name_fits, borrow_fits, has_pragma, is_borrow, is_error}
 use Rattle.decl_heads.proofs.borrowing.head_fits.Goals as goal

@@ -1,5 +1,5 @@
 use Rattle.std.proofs.Common.{◌∙◌}
-use Rattle.nim_core.specs.View.{if_type}
+use Rattle.nim_program.specs.View.{if_type}
 use Rattle.expr_parts.specs.View.{env_of, parameter_of}
 use Rattle.decl_heads.proofs.Borrowers.{two_by, two_not}
 use Rattle.decl_heads.proofs.borrowing.of_two.Goals as goal

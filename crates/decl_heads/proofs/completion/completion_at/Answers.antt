@@ -1,6 +1,6 @@
 use Rattle.std.proofs.Common.{ap, ◌∙◌, sym, subst, length}
 use Rattle.std.specs.Prelude.{map}
-use Rattle.nim_core.specs.View.{if_type}
+use Rattle.nim_program.specs.View.{if_type}
 use Rattle.expr_parts.specs.declared.scope.What.{What}
 use Rattle.expr_parts.specs.View.{parameter_of, entry_by, WhatWithin}
 use Rattle.expr_parts.proofs.ForCallers.{is_procedure}

@@ -1,6 +1,6 @@
 use Rattle.std.proofs.Common.{◌≡◌, ap, ◌∙◌, sym, refl, List, Bool, true, false, subst, length}
 use Rattle.std.specs.Prelude.{map, if◌then◌else◌}
-use Rattle.nim_core.specs.View.{if_type}
+use Rattle.nim_program.specs.View.{if_type}
 use Rattle.expr_parts.specs.declared.scope.Parameter.{Parameter}
 use Rattle.expr_parts.specs.View.{parameter_of, procedure_of, ParametersWithin}
 use Rattle.decl_rules.specs.State.{Item}

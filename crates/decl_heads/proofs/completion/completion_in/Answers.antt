@@ -1,7 +1,7 @@
 use Rattle.std.proofs.Common.{◌≡◌, ◌<◌, ℕ, suc, sym, refl, subst, ap, ◌∙◌, Some, length, drop, arith}
 use Rattle.std.specs.Prelude.{map, Option}
 use Rattle.nim_types.specs.Table.{facts_in}
-use Rattle.nim_core.specs.View.{if_type}
+use Rattle.nim_program.specs.View.{if_type}
 use Rattle.expr_parts.specs.View.{parameter_of, entry_of}
 use Rattle.expr_parts.specs.ViewDecls.{is_named, last_of}
 use Rattle.expr_parts.proofs.ForCallers.{found_below, next_smaller, up_to, what_within}

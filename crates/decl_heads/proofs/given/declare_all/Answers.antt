@@ -1,7 +1,7 @@
 use Rattle.std.proofs.Common.{◌≡◌, ◌<◌, ◌+◌, ◌++◌, ◌∙◌, ◌∷◌, []}
 use Rattle.std.proofs.Common.{List, length, take, map, ap, refl, sym, subst, arith, length-append}
 use Rattle.nim_types.specs.declared.types.TypeDef.{TypeDef}
-use Rattle.nim_core.specs.declared.program.Param.{Param}
+use Rattle.nim_program.specs.declared.program.Param.{Param}
 use Rattle.expr_parts.proofs.ForCallers.{take_all}
 use Rattle.decl_rules.specs.Heads.{with_parameters}
 use Rattle.decl_heads.specs.ViewHeads.{given_of, Declares}

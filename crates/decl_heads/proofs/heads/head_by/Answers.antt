@@ -4,8 +4,8 @@ use Rattle.arc_base.specs.Refusal.{and_then}
 use Rattle.nim_tree.specs.declared.name.Pragma.{Pragma}
 use Rattle.nim_tree.specs.Statements.{head_of}
 use Rattle.nim_types.specs.Table.{facts_in}
-use Rattle.nim_core.specs.View.{if_type}
-use Rattle.nim_core.specs.declared.program.Param.{Param}
+use Rattle.nim_program.specs.View.{if_type}
+use Rattle.nim_program.specs.declared.program.Param.{Param}
 use Rattle.expr_rules.specs.Answers.{Answer}
 use Rattle.expr_rules.specs.Env.{Parameter}
 use Rattle.expr_parts.specs.declared.scope.Parameter.{Parameter as RustParameter}

@@ -3,7 +3,7 @@ use Rattle.std.specs.Prelude.{map, Ok}
 use Rattle.std.proofs.lemmas.Result.{err_from_is_err_and}
 use Rattle.nim_types.specs.Types.{Ty}
 use Rattle.nim_types.specs.Table.{type_at}
-use Rattle.nim_core.specs.declared.program.Param.{Param}
+use Rattle.nim_program.specs.declared.program.Param.{Param}
 use Rattle.expr_parts.proofs.ForCallers.{grown_same}
 use Rattle.expr_parts.specs.View.{Grown}
 use Rattle.decl_rules.specs.State.{State}

@@ -2,7 +2,7 @@ use Rattle.std.proofs.Common.{◌≡◌, ◌∙◌, List, Bool, ap, sym, subst}
 use Rattle.std.specs.Prelude.{map, Ok, Err}
 use Rattle.arc_base.specs.Refusal.{Answers}
 use Rattle.nim_tree.specs.Statements.{head_of, Parameters, parameters_of}
-use Rattle.nim_core.specs.declared.program.Param.{Param}
+use Rattle.nim_program.specs.declared.program.Param.{Param}
 use Rattle.expr_parts.proofs.ForCallers.{answers_as, goes, stops, grown_on}
 use Rattle.decl_rules.specs.Heads.{has_result}
 use Rattle.decl_parts.specs.View.{state_of}

@@ -4,7 +4,7 @@ use Rattle.arc_base.specs.Refusal.{and_then}
 use Rattle.nim_tree.specs.declared.name.Name.{Name}
 use Rattle.nim_tree.specs.Statements.{parameters_of}
 use Rattle.nim_types.specs.Types.{Ty}
-use Rattle.nim_core.specs.declared.program.Param.{Param}
+use Rattle.nim_program.specs.declared.program.Param.{Param}
 use Rattle.decl_rules.specs.State.{State}
 use Rattle.decl_parts.specs.declared.state.State.{State as RustState}
 use Rattle.decl_parts.specs.View.{Ready}

@@ -2,7 +2,7 @@ use Rattle.std.proofs.Common.{◌+◌, List, drop, ap}
 use Rattle.std.proofs.Math.ListN.{drop_of_length-le}
 use Rattle.std.specs.Prelude.{map}
 use Rattle.nim_tree.specs.Statements.{parameters_of}
-use Rattle.nim_core.specs.declared.program.Param.{Param}
+use Rattle.nim_program.specs.declared.program.Param.{Param}
 use Rattle.decl_parts.proofs.ForCallers.{next_name}
 use Rattle.decl_heads.proofs.Grouping.{groups_none, groups_more, groups_stop, groups_end}
 use Rattle.decl_heads.proofs.signature.parameters.Goals as goal

@@ -3,8 +3,8 @@ use Rattle.std.specs.Prelude.{Ok}
 use Rattle.nim_tree.specs.declared.name.Name.{Name}
 use Rattle.nim_types.specs.Types.{Ty}
 use Rattle.nim_types.specs.Table.{type_at}
-use Rattle.nim_core.specs.declared.program.Mode.{Mode}
-use Rattle.nim_core.specs.declared.program.Param.{Param}
+use Rattle.nim_program.specs.declared.program.Mode.{Mode}
+use Rattle.nim_program.specs.declared.program.Param.{Param}
 use Rattle.decl_rules.specs.State.{State}
 use Rattle.decl_rules.specs.Heads.{given_as, mode_of}
 use Rattle.decl_parts.proofs.ForCallers.{ready_typed}

@@ -1,6 +1,6 @@
 use Rattle.std.proofs.Common.{◌∙◌, ◌∷◌, ap, List}
 use Rattle.std.specs.Prelude.{map}
-use Rattle.nim_core.specs.View.{if_type}
+use Rattle.nim_program.specs.View.{if_type}
 use Rattle.expr_parts.specs.declared.scope.Parameter.{Parameter}
 use Rattle.expr_parts.specs.View.{parameter_of}
 use Rattle.expr_parts.proofs.ForCallers.{nothing_left}

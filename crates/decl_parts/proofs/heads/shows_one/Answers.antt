@@ -1,6 +1,6 @@
 use Rattle.std.proofs.Common.{◌∙◌, ap, Bool}
 use Rattle.std.specs.Prelude.{not}
-use Rattle.nim_core.specs.View.{if_type}
+use Rattle.nim_program.specs.View.{if_type}
 use Rattle.expr_parts.specs.View.{parameter_of}
 use Rattle.decl_parts.proofs.Matching.{shower_by, shower_not}
 use Rattle.decl_parts.proofs.heads.shows_one.Goals as goal

@@ -3,7 +3,7 @@ use Rattle.std.proofs.lemmas.Result.{err_from_is_err_and}
 use Rattle.nim_tree.specs.Terms.{term_of}
 use Rattle.nim_types.specs.Types.{Ty}
 use Rattle.expr_rules.specs.Env.{Env}
-use Rattle.nim_core.specs.View.{if_type}
+use Rattle.nim_program.specs.View.{if_type}
 use Rattle.decl_rules.specs.Definitions.{definition_value}
 use Rattle.decl_parts.specs.View.{numbered_of, NumberedWithin}
 use Rattle.decl_parts.proofs.Judging.{typing_from, typing_forgets}

@@ -4,7 +4,7 @@ use Rattle.arc_base.specs.Refusal.{and_then}
 use Rattle.nim_tree.specs.Terms.{term_of}
 use Rattle.nim_types.specs.Types.{Ty}
 use Rattle.nim_types.specs.Table.{facts_in}
-use Rattle.nim_core.specs.View.{if_type}
+use Rattle.nim_program.specs.View.{if_type}
 use Rattle.expr_rules.specs.Answers.{Valued, Want}
 use Rattle.expr_rules.specs.Env.{Env}
 use Rattle.expr_parts.specs.View.{valued_of}

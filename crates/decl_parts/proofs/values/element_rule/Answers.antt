@@ -2,7 +2,7 @@ use Rattle.std.proofs.Common.{ap, ◌∙◌, length, subst}
 use Rattle.arc_base.specs.declared.place.Code.TheVariants.{NotTyped}
 use Rattle.arc_base.specs.declared.place.Stop.TheVariants as stop
 use Rattle.nim_types.specs.Table.{type_at, IsBelow}
-use Rattle.nim_core.specs.View.{expr_of, if_type}
+use Rattle.nim_program.specs.View.{expr_of, if_type}
 use Rattle.expr_rules.specs.Answers.{place_in}
 use Rattle.expr_rules.specs.Constructions.{element_type}
 use Rattle.expr_parts.proofs.ForCallers.{refuses, char_below, char_under}
@@ -23,6 +23,6 @@ pub returns-in-None-clause-answers : goal.returns-in-None-clause-answers
 returns-in-None-clause-answers c = λ ts facts u.
     let p = place_in (expr_of ts c.args.value.now.expr) in
     refuses (type_at ts) (element_or p (element_type (type_at ts c.args.value.now.ty))) NotTyped p c.refusal.result
-    (c.refusal.ensures ∙ ap (λ n. stop.Refused NotTyped n.at) (c.node_of.ensures ts))
+    (c.refusal.ensures ∙ ap (λ n. stop.Refused NotTyped n.at) (c.node.ensures ts))
     (ap (element_or p)
     (ap element_type (c.entry.ensures.means ts facts u) ∙ c.element_type.ensures.means ts (char_under u c.requires.kinds) ∙ ap (if_type ts) c.in-None.is))

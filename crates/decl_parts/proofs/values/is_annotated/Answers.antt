@@ -1,6 +1,6 @@
 use Rattle.std.proofs.Common.{ap, ◌∙◌}
 use Rattle.nim_types.specs.Table.{type_at}
-use Rattle.nim_core.specs.View.{if_type}
+use Rattle.nim_program.specs.View.{if_type}
 use Rattle.decl_parts.specs.View.{no_other_type}
 use Rattle.decl_parts.proofs.values.is_annotated.Goals as goal
 

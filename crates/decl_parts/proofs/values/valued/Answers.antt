@@ -1,6 +1,6 @@
 use Rattle.std.proofs.Common.{refl}
 use Rattle.std.specs.Prelude.{Ok}
-use Rattle.nim_core.specs.View.{expr_of}
+use Rattle.nim_program.specs.View.{expr_of}
 use Rattle.expr_rules.specs.Answers.{value_of}
 use Rattle.expr_parts.specs.View.{valued_of}
 use Rattle.expr_parts.proofs.ForCallers.{goes, stops}

@@ -4,7 +4,7 @@ use Rattle.arc_base.specs.Refusal.{and_then}
 use Rattle.nim_tree.specs.Terms.{term_of}
 use Rattle.nim_types.specs.Types.{Ty}
 use Rattle.nim_types.specs.Table.{type_at}
-use Rattle.nim_core.specs.View.{expr_of}
+use Rattle.nim_program.specs.View.{expr_of}
 use Rattle.expr_rules.specs.Answers.{Want}
 use Rattle.expr_rules.specs.Paths.{path_of}
 use Rattle.decl_rules.specs.State.{State, did}

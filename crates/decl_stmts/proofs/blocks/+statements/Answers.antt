@@ -16,11 +16,12 @@ use Rattle.nim_types.specs.Types as type
 use Rattle.nim_types.specs.Types.{Ty, Facts}
 use Rattle.nim_types.specs.Table.{type_at, facts_in}
 use Rattle.nim_types.specs.declared.types.TypeDef.{TypeDef}
-use Rattle.nim_core.specs.declared.stmt.Branch.{Branch as RustBranch}
-use Rattle.nim_core.specs.declared.stmt.Stmt.{Stmt as RustStmt}
-use Rattle.nim_core.specs.Program as P
-use Rattle.nim_core.specs.Program.{Label}
-use Rattle.nim_core.specs.View.{expr_of, path_of as path_in, declared_of, if_type, stmts_of, branches_of, arms_of, label_of}
+use Rattle.nim_program.specs.declared.stmt.Branch.{Branch as RustBranch}
+use Rattle.nim_program.specs.declared.stmt.Stmt.{Stmt as RustStmt}
+use Rattle.nim_program.specs.Program as P
+use Rattle.nim_program.specs.Program.{Label}
+use Rattle.nim_program.specs.Nodes.{one_value, two_values, one_path, selecting, blocks_of}
+use Rattle.nim_program.specs.View.{expr_of, path_of as path_in, declared_of, stmts_of, branch_conditions, branch_labels, label_of}
 use Rattle.expr_rules.specs.Answers.{Answer, Valued, node}
 use Rattle.expr_rules.specs.Env.{Env}
 use Rattle.expr_rules.specs.Typed.{labels}
@@ -30,9 +31,9 @@ use Rattle.expr_steps.specs.declared.choices.Tests.{Tests}
 use Rattle.expr_parts.proofs.ForCallers.{answers_as, bool_under, bool_below, int_under, int_below}
 use Rattle.decl_rules.specs.State.{Around, State, Stated, stated_as, and_more, Blocked, looping, does, up_to_node}
 use Rattle.decl_rules.specs.Bodies.{loop_variable}
-use Rattle.decl_rules.specs.Values.{Value, condition, value_as, element_rule, selector_rule}
+use Rattle.decl_rules.specs.Values.{Value, value_as, element_rule, selector_rule}
 use Rattle.decl_rules.specs.Stated.{Branched, Armed, stated, all_stated, all_branches, all_arms, covered}
-use Rattle.decl_parts.specs.View.{around_of, place_of, state_of, env_in, all_stated_as, numbered_of, Stating}
+use Rattle.decl_parts.specs.View.{around_of, place_of, if_result, bodies_in, arm_bodies_in, state_of, env_in, all_stated_as, numbered_of, Stating}
 use Rattle.decl_parts.specs.View.{Beside, InsideWithin}
 use Rattle.decl_parts.specs.declared.state.State.{State as RustState}
 use Rattle.decl_parts.proofs.ForCallers.{inside_more, further_as, further_on, further_same, further_to, further_typed, ready_typed, ready_grown}
@@ -187,7 +188,7 @@ all_branches-returns t c =
     let at = c.loop-tree in
     let e = drop_of_length-le c.args.trees.now c.loop-tree-test.false in
     left_ends (λ ts b (all : Vec RustBranch Global). branched_as ts b at.state all.items)
-    (λ ts b. record { branches = P.NoBranch; state = state_of ts b at.state }) at.all at.invariant.left
+    (λ ts b. record { tests = P.NoArg; blocks = []; state = state_of ts b at.state }) at.all at.invariant.left
     (λ ts b. ap (λ l. all_branches (around_of ts c.args.around) (state_of ts b at.state) (branches_in l)) e)
     (λ ts b. branches_done ts at.all.items (state_of ts b at.state))
 
@@ -321,15 +322,19 @@ pub choice_with-returns-in-Ok : goal.choice_with-returns-in-Ok
 choice_with-returns-in-Ok t c =
     let old = c.args.state.now in
     let new = c.block.new.state in
-    let branches = λ (ts : List Ty). branches_of ts c.args.all.items in
-    stated_goes (λ ts b (o : Blocked). Ok (stated_as (does (P.Branch c.args.node (branches ts) o.stmts) ∷ []) o.state)) c.in-Ok.ensures
-    (made_here new c.choice_of.result (λ ts. does (P.Branch c.args.node (branches ts) (stmts_of ts c.in-Ok.stmts.items)) ∷ []) c.list_of.result
+    let all = c.args.all.items in
+    let by = λ (ts : List Ty) (otherwise : P.Stmts).
+    P.Select c.args.node P.ByConditions (branch_conditions ts all) (blocks_of (bodies_in ts all) otherwise) in
+    stated_goes (λ ts b (o : Blocked). Ok (stated_as (does (by ts o.stmts) ∷ []) o.state)) c.in-Ok.ensures
+    (made_here new c.choice_of.result (λ ts. does (by ts (stmts_of ts c.in-Ok.stmts.items)) ∷ []) c.list_of.result
     c.in-Ok.ensures.stands.ready c.choice_of.ensures c.list_of.ensures.list c.list_of.ensures.memory)
 
 pub choice_with-returns-in-Err : goal.choice_with-returns-in-Err
 choice_with-returns-in-Err t c =
+    let all = c.args.all.items in
     stated_stops (λ ts b s. listed_stated ts b c.block.new.state s)
-    (λ ts b (o : Blocked). Ok (stated_as (does (P.Branch c.args.node (branches_of ts c.args.all.items) o.stmts) ∷ []) o.state)) c.in-Err.ensures
+    (λ ts b (o : Blocked). Ok (stated_as
+    (does (P.Select c.args.node P.ByConditions (branch_conditions ts all) (blocks_of (bodies_in ts all) o.stmts)) ∷ []) o.state)) c.in-Err.ensures
 
 pub choice_with-block-requires : goal.choice_with-block-requires
 choice_with-block-requires t c =
@@ -382,17 +387,30 @@ repetition-repetition_with-requires t c = (
 
 pub repetition_with-returns-in-Ok : goal.repetition_with-returns-in-Ok
 repetition_with-returns-in-Ok t c =
-    let test = λ (ts : List Ty). expr_of ts c.args.given.value.expr in
+    let head = λ (ts : List Ty). one_value (expr_of ts c.args.given.value.expr) in
+    let by = λ (os : P.Args) (body : P.Stmts). does (P.Loop c.args.node P.While os body) ∷ [] in
     stated_from refl refl refl
-    (stated_goes (λ ts b (z : Blocked). Ok (stated_as (does (P.While c.args.node (test ts) z.stmts) ∷ []) z.state)) c.in-Ok.ensures
-    (made_here c.block.new.state c.repetition_of.result (λ ts. does (P.While c.args.node (test ts) (stmts_of ts c.in-Ok.stmts.items)) ∷ []) c.list_of.result
-    c.in-Ok.ensures.stands.ready c.repetition_of.ensures c.list_of.ensures.list c.list_of.ensures.memory))
+    (stated_goes (λ ts b (z : Blocked). Ok (stated_as (by (head ts) z.stmts) z.state)) c.in-Ok.ensures
+    (made_here c.block.new.state c.repetition_of.result (λ ts. by (head ts) (stmts_of ts c.in-Ok.stmts.items)) c.list_of.result
+    c.in-Ok.ensures.stands.ready
+    (λ ts. c.repetition_of.ensures ts ∙ ap (λ os. by os (stmts_of ts c.in-Ok.stmts.items)) (c.in_ok-head.ensures.operands ts))
+    c.list_of.ensures.list c.list_of.ensures.memory))
 
 pub repetition_with-returns-in-Err : goal.repetition_with-returns-in-Err
 repetition_with-returns-in-Err t c =
     stated_from refl refl refl
     (stated_stops (λ ts b s. listed_stated ts b c.block.new.state s)
-    (λ ts b (z : Blocked). Ok (stated_as (does (P.While c.args.node (expr_of ts c.args.given.value.expr) z.stmts) ∷ []) z.state)) c.in-Err.ensures)
+    (λ ts b (z : Blocked). Ok (stated_as
+    (does (P.Loop c.args.node P.While (one_value (expr_of ts c.args.given.value.expr)) z.stmts) ∷ []) z.state)) c.in-Err.ensures)
+
+pub repetition_with-returns-in_err-head : goal.repetition_with-returns-in_err-head
+repetition_with-returns-in_err-head t c =
+    let old = c.args.state.now in
+    let start = record old { node = c.args.given.next } in
+    let p = err_from_is_err_and c.from_residual.result c.from_residual.ensures.1 in
+    rw (p.1, p.2) (stated_forgets (λ ts b s. listed_stated ts b start s)
+    (λ ts b. repetition_behind (around_of ts c.args.around) (state_of ts b old) c.args.node (statements_of c.args.body.now) (numbered_of ts c.args.given))
+    _ (further_as refl (further_same start)) c.in_err-head.ensures.memory)
 
 pub repetition_with-block-requires : goal.repetition_with-block-requires
 repetition_with-block-requires t c =
@@ -440,20 +458,21 @@ loops::each_typed-returns-in-Ok t c =
     let start = record old { node = c.args.given.next } in
     let a = λ (ts : List Ty). around_of ts c.args.around in
     let place = λ (ts : List Ty) (b : Beside). loop_variable (state_of ts b start) c.args.name.now (type_at ts c.args.ty) in
+    let by = λ (p : P.Declared) (q : P.Path) (block : P.Stmts). does (P.Loop c.args.node (P.Each p) (one_path q) block) ∷ [] in
     stated_from refl refl refl
     (stated_goes (λ ts b (z : Blocked). Ok (stated_as
-    (does (P.Each c.args.node (place ts b) (path_of (expr_of ts c.args.given.value.expr)) z.stmts) ∷ []) z.state))
+    (by (place ts b) (path_of (expr_of ts c.args.given.value.expr)) z.stmts) z.state))
     c.in-Ok.ensures
-    (stated_so (λ ts b. Ok (stated_as (does (P.Each c.args.node (place ts b) (path_of (expr_of ts c.args.given.value.expr))
-    (stmts_of ts c.in-Ok.stmts.items)) ∷ [])
+    (stated_so (λ ts b. Ok (stated_as (by (place ts b) (path_of (expr_of ts c.args.given.value.expr)) (stmts_of ts c.in-Ok.stmts.items))
     (state_of ts b new)))
-    (λ ts b u. ap₂ (λ (p : P.Declared) (q : P.Path). Ok
-    (stated_as (does (P.Each c.args.node p q (stmts_of ts c.in-Ok.stmts.items)) ∷ []) (state_of ts b new)))
+    (λ ts b u. ap₂ (λ (p : P.Declared) (q : P.Path). Ok (stated_as (by p q (stmts_of ts c.in-Ok.stmts.items)) (state_of ts b new)))
     (sym (c.in_ok-variable.ensures.place ts
     ∙ ap (λ x. place_of old.place x c.args.name.now.at (type_at ts c.args.ty)) c.as_slice.ensures)) (sym (c.in_ok-path.ensures.path ts)))
-    (made_here new c.each_of.result (λ ts. does (P.Each c.args.node (declared_of ts c.in_ok-variable.variable) (path_in ts c.in_ok-path.path)
-    (stmts_of ts c.in-Ok.stmts.items)) ∷ []) c.list_of.result c.in-Ok.ensures.stands.ready c.each_of.ensures c.list_of.ensures.list
-    c.list_of.ensures.memory)))
+    (made_here new c.repetition_of.result (λ ts. by (declared_of ts c.in_ok-variable.variable) (path_in ts c.in_ok-path.path)
+    (stmts_of ts c.in-Ok.stmts.items)) c.list_of.result c.in-Ok.ensures.stands.ready
+    (λ ts. c.repetition_of.ensures ts
+    ∙ ap (λ (os : P.Args). does (P.Loop c.args.node (P.Each (declared_of ts c.in_ok-variable.variable)) os (stmts_of ts c.in-Ok.stmts.items)) ∷ [])
+    (c.in_ok-head.ensures.operands ts)) c.list_of.ensures.list c.list_of.ensures.memory)))
 
 pub loops::each_typed-returns-in-Err : goal.loops::each_typed-returns-in-Err
 loops::each_typed-returns-in-Err t c =
@@ -461,8 +480,19 @@ loops::each_typed-returns-in-Err t c =
     let start = record old { node = c.args.given.next } in
     stated_from refl refl refl
     (stated_stops (λ ts b s. listed_stated ts b c.loop_body.new.state s)
-    (λ ts b (z : Blocked). Ok (stated_as (does (P.Each c.args.node (loop_variable (state_of ts b start) c.args.name.now (type_at ts c.args.ty))
-    (path_of (expr_of ts c.args.given.value.expr)) z.stmts) ∷ []) z.state)) c.in-Err.ensures)
+    (λ ts b (z : Blocked). Ok (stated_as
+    (does (P.Loop c.args.node (P.Each (loop_variable (state_of ts b start) c.args.name.now (type_at ts c.args.ty)))
+    (one_path (path_of (expr_of ts c.args.given.value.expr))) z.stmts) ∷ []) z.state)) c.in-Err.ensures)
+
+pub loops::each_typed-returns-in_err-head : goal.loops::each_typed-returns-in_err-head
+loops::each_typed-returns-in_err-head t c =
+    let old = c.args.state.now in
+    let start = record old { node = c.args.given.next } in
+    let p = err_from_is_err_and c.from_residual-in_err-head.result c.from_residual-in_err-head.ensures.1 in
+    rw (p.1, p.2) (stated_forgets (λ ts b s. listed_stated ts b start s)
+    (λ ts b. each_within (around_of ts c.args.around) (state_of ts b old) c.args.node c.args.name.now (statements_of c.args.body.now)
+    (numbered_of ts c.args.given) (type_at ts c.args.ty))
+    _ (further_as refl (further_same start)) c.in_err-head.ensures.memory)
 
 pub loops::each_typed-returns-in_err-path : goal.loops::each_typed-returns-in_err-path
 loops::each_typed-returns-in_err-path t c =
@@ -563,33 +593,32 @@ loops::ints_with-returns-in-Ok t c =
     let to = λ (ts : List Ty). expr_of ts c.args.to.value.expr in
     let kinds = c.requires.ready.all.kinds in
     let place = λ (ts : List Ty) (b : Beside) (ty : Ty). loop_variable (state_of ts b start) c.args.name.now ty in
-    let go = λ (ts : List Ty) (b : Beside) (z : Blocked). Ok
-    (stated_as (does (P.Count c.args.node (place ts b type.int) (from ts) (to ts) c.args.inclusive z.stmts) ∷ []) z.state) in
+    let by_place = λ (ts : List Ty) (p : P.Declared) (os : P.Args) (block : P.Stmts). does (P.Loop c.args.node (P.Count p c.args.inclusive) os block) ∷ [] in
+    let head = λ (ts : List Ty). two_values (from ts) (to ts) in
+    let go = λ (ts : List Ty) (b : Beside) (z : Blocked). Ok (stated_as (by_place ts (place ts b type.int) (head ts) z.stmts) z.state) in
     let by = λ (ts : List Ty) (b : Beside) (ty : Ty). and_then
     (loop_rule (around_of ts c.args.around) (state_of ts b start) c.args.name.now ty (statements_of c.args.body.now)) (go ts b) in
     stated_from refl refl refl
     (stated_so (λ ts b. by ts b type.int)
     (λ ts b u. ap (by ts b) (sym (int_under (c.in-Ok.ensures.further.over ts u) kinds)))
     (stated_goes go c.in-Ok.ensures
-    (stated_so (λ ts b. Ok (stated_as (does (P.Count c.args.node (place ts b type.int) (from ts) (to ts) c.args.inclusive
-    (stmts_of ts c.in-Ok.stmts.items)) ∷ [])
-    (state_of ts b new)))
-    (λ ts b u. ap (λ (p : P.Declared). Ok (stated_as
-    (does (P.Count c.args.node p (from ts) (to ts) c.args.inclusive (stmts_of ts c.in-Ok.stmts.items)) ∷ [])
-    (state_of ts b new)))
+    (stated_so (λ ts b. Ok (stated_as (by_place ts (place ts b type.int) (head ts) (stmts_of ts c.in-Ok.stmts.items)) (state_of ts b new)))
+    (λ ts b u. ap (λ (p : P.Declared). Ok (stated_as (by_place ts p (head ts) (stmts_of ts c.in-Ok.stmts.items)) (state_of ts b new)))
     (ap (place ts b) (sym (int_under (c.in-Ok.ensures.further.over ts u) kinds)) ∙ sym (c.in_ok-variable.ensures.place ts
     ∙ ap (λ x. place_of old.place x c.args.name.now.at (type_at ts old.scope.kinds.int)) c.as_slice.ensures)))
-    (made_here new c.count_of.result (λ ts. does (P.Count c.args.node (declared_of ts c.in_ok-variable.variable) (from ts) (to ts) c.args.inclusive
-    (stmts_of ts c.in-Ok.stmts.items)) ∷ []) c.list_of.result c.in-Ok.ensures.stands.ready c.count_of.ensures c.list_of.ensures.list
-    c.list_of.ensures.memory))))
+    (made_here new c.repetition_of.result (λ ts. by_place ts (declared_of ts c.in_ok-variable.variable) (head ts) (stmts_of ts c.in-Ok.stmts.items))
+    c.list_of.result c.in-Ok.ensures.stands.ready
+    (λ ts. c.repetition_of.ensures ts
+    ∙ ap (λ (os : P.Args). by_place ts (declared_of ts c.in_ok-variable.variable) os (stmts_of ts c.in-Ok.stmts.items)) (c.in_ok-head.ensures.operands ts))
+    c.list_of.ensures.list c.list_of.ensures.memory))))
 
 pub loops::ints_with-returns-in-Err : goal.loops::ints_with-returns-in-Err
 loops::ints_with-returns-in-Err t c =
     let old = c.args.state.now in
     let start = record old { node = c.args.to.next } in
     let go = λ (ts : List Ty) (b : Beside) (z : Blocked). Ok
-    (stated_as (does (P.Count c.args.node (loop_variable (state_of ts b start) c.args.name.now type.int)
-    (expr_of ts c.args.from.value.expr) (expr_of ts c.args.to.value.expr) c.args.inclusive z.stmts) ∷ []) z.state) in
+    (stated_as (does (P.Loop c.args.node (P.Count (loop_variable (state_of ts b start) c.args.name.now type.int) c.args.inclusive)
+    (two_values (expr_of ts c.args.from.value.expr) (expr_of ts c.args.to.value.expr)) z.stmts) ∷ []) z.state) in
     let by = λ (ts : List Ty) (b : Beside) (ty : Ty). and_then
     (loop_rule (around_of ts c.args.around) (state_of ts b start) c.args.name.now ty (statements_of c.args.body.now)) (go ts b) in
     stated_from refl refl refl
@@ -597,11 +626,21 @@ loops::ints_with-returns-in-Err t c =
     (λ ts b u. ap (by ts b) (sym (int_under (c.in-Err.ensures.further.over ts u) c.requires.ready.all.kinds)))
     (stated_stops (λ ts b s. listed_stated ts b c.loop_body.new.state s) go c.in-Err.ensures))
 
+pub loops::ints_with-returns-in_err-head : goal.loops::ints_with-returns-in_err-head
+loops::ints_with-returns-in_err-head t c =
+    let old = c.args.state.now in
+    let start = record old { node = c.args.to.next } in
+    let p = err_from_is_err_and c.from_residual.result c.from_residual.ensures.1 in
+    rw (p.1, p.2) (stated_forgets (λ ts b s. listed_stated ts b start s)
+    (λ ts b. ints_within (around_of ts c.args.around) (state_of ts b old) c.args.node c.args.name.now c.args.inclusive (statements_of c.args.body.now)
+    (numbered_of ts c.args.from) (numbered_of ts c.args.to))
+    _ (further_as refl (further_same start)) c.in_err-head.ensures.memory)
+
 pub loops::ints_with-returns-in_err-variable : goal.loops::ints_with-returns-in_err-variable
 loops::ints_with-returns-in_err-variable t c =
     let old = c.args.state.now in
     let start = record old { node = c.args.to.next } in
-    let p = err_from_is_err_and c.from_residual.result c.from_residual.ensures.1 in
+    let p = err_from_is_err_and c.from_residual-in_err-variable.result c.from_residual-in_err-variable.ensures.1 in
     rw (p.1, p.2) (stated_forgets (λ ts b s. listed_stated ts b start s)
     (λ ts b. ints_within (around_of ts c.args.around) (state_of ts b old) c.args.node c.args.name.now c.args.inclusive (statements_of c.args.body.now)
     (numbered_of ts c.args.from) (numbered_of ts c.args.to))
@@ -734,86 +773,86 @@ each-each_int-requires-in-Below t c =
 
 pub statement-returns-in-Discard : goal.statement-returns-in-Discard
 statement-returns-in-Discard t c =
-    stated_as_tree (λ ts. around_of ts c.args.around) (λ ts. if_type ts c.args.ends)
+    stated_as_tree (λ ts. around_of ts c.args.around) (λ ts. if_result ts c.args.ends)
     (ap statement_of c.in-Discard.is)
-    (c.discard.ensures (λ ts. around_of ts c.args.around) (λ ts. if_type ts c.args.ends))
+    (c.discard.ensures (λ ts. around_of ts c.args.around) (λ ts. if_result ts c.args.ends))
 
 pub statement-returns-in-Return : goal.statement-returns-in-Return
 statement-returns-in-Return t c =
-    stated_as_tree (λ ts. around_of ts c.args.around) (λ ts. if_type ts c.args.ends)
+    stated_as_tree (λ ts. around_of ts c.args.around) (λ ts. if_result ts c.args.ends)
     (ap statement_of c.in-Return.is)
-    (c.return_by.ensures (λ ts. if_type ts c.args.ends))
+    (c.return_by.ensures (λ ts. if_result ts c.args.ends))
 
 pub statement-returns-in-Break : goal.statement-returns-in-Break
 statement-returns-in-Break t c =
-    stated_as_tree (λ ts. around_of ts c.args.around) (λ ts. if_type ts c.args.ends)
+    stated_as_tree (λ ts. around_of ts c.args.around) (λ ts. if_result ts c.args.ends)
     (ap statement_of c.in-Break.is)
-    (c.break_loop.ensures (λ ts. if_type ts c.args.ends))
+    (c.break_loop.ensures (λ ts. if_result ts c.args.ends))
 
 pub statement-returns-in-Continue : goal.statement-returns-in-Continue
 statement-returns-in-Continue t c =
-    stated_as_tree (λ ts. around_of ts c.args.around) (λ ts. if_type ts c.args.ends)
+    stated_as_tree (λ ts. around_of ts c.args.around) (λ ts. if_result ts c.args.ends)
     (ap statement_of c.in-Continue.is)
-    (c.continue_loop.ensures (λ ts. if_type ts c.args.ends))
+    (c.continue_loop.ensures (λ ts. if_result ts c.args.ends))
 
 pub statement-returns-in-Eval : goal.statement-returns-in-Eval
 statement-returns-in-Eval t c =
-    stated_as_tree (λ ts. around_of ts c.args.around) (λ ts. if_type ts c.args.ends)
+    stated_as_tree (λ ts. around_of ts c.args.around) (λ ts. if_result ts c.args.ends)
     (ap statement_of c.in-Eval.is)
     (c.evaluate.ensures (λ ts. around_of ts c.args.around))
 
 pub statement-returns-in-Assign : goal.statement-returns-in-Assign
 statement-returns-in-Assign t c =
-    stated_as_tree (λ ts. around_of ts c.args.around) (λ ts. if_type ts c.args.ends)
+    stated_as_tree (λ ts. around_of ts c.args.around) (λ ts. if_result ts c.args.ends)
     (ap statement_of c.in-Assign.is)
-    (c.assign.ensures (λ ts. around_of ts c.args.around) (λ ts. if_type ts c.args.ends))
+    (c.assign.ensures (λ ts. around_of ts c.args.around) (λ ts. if_result ts c.args.ends))
 
 pub statement-returns-in-Command : goal.statement-returns-in-Command
 statement-returns-in-Command t c =
-    stated_as_tree (λ ts. around_of ts c.args.around) (λ ts. if_type ts c.args.ends)
+    stated_as_tree (λ ts. around_of ts c.args.around) (λ ts. if_result ts c.args.ends)
     (commands_by (ap statement_of c.in-Command.is) c.deref.ensures.value)
     (c.command.ensures (λ ts. around_of ts c.args.around))
 
 pub statement-returns-in-Types : goal.statement-returns-in-Types
 statement-returns-in-Types t c =
-    stated_as_tree (λ ts. around_of ts c.args.around) (λ ts. if_type ts c.args.ends)
+    stated_as_tree (λ ts. around_of ts c.args.around) (λ ts. if_result ts c.args.ends)
     (types_by (ap statement_of c.in-Types.is) c.deref-in-Types.ensures.value)
-    (c.type_section.ensures (λ ts. around_of ts c.args.around) (λ ts. if_type ts c.args.ends))
+    (c.type_section.ensures (λ ts. around_of ts c.args.around) (λ ts. if_result ts c.args.ends))
 
 pub statement-returns-in-Define : goal.statement-returns-in-Define
 statement-returns-in-Define t c =
-    stated_as_tree (λ ts. around_of ts c.args.around) (λ ts. if_type ts c.args.ends)
+    stated_as_tree (λ ts. around_of ts c.args.around) (λ ts. if_result ts c.args.ends)
     (defines_by (ap statement_of c.in-Define.is) c.deref-in-Define.ensures.value)
-    (c.defined.ensures (λ ts. if_type ts c.args.ends))
+    (c.defined.ensures (λ ts. if_result ts c.args.ends))
 
 pub statement-returns-in-If : goal.statement-returns-in-If
 statement-returns-in-If t c =
-    stated_as_tree (λ ts. around_of ts c.args.around) (λ ts. if_type ts c.args.ends)
+    stated_as_tree (λ ts. around_of ts c.args.around) (λ ts. if_result ts c.args.ends)
     (branches_by (ap statement_of c.in-If.is) c.branches.ensures c.closing.ensures)
-    (c.choice.ensures (λ ts. if_type ts c.args.ends))
+    (c.choice.ensures (λ ts. if_result ts c.args.ends))
 
 pub statement-returns-in-While : goal.statement-returns-in-While
 statement-returns-in-While t c =
-    stated_as_tree (λ ts. around_of ts c.args.around) (λ ts. if_type ts c.args.ends)
+    stated_as_tree (λ ts. around_of ts c.args.around) (λ ts. if_result ts c.args.ends)
     (repeats_by (ap statement_of c.in-While.is) c.body.ensures)
-    (c.repetition.ensures (λ ts. if_type ts c.args.ends))
+    (c.repetition.ensures (λ ts. if_result ts c.args.ends))
 
 pub statement-returns-in-Case : goal.statement-returns-in-Case
 statement-returns-in-Case t c =
-    stated_as_tree (λ ts. around_of ts c.args.around) (λ ts. if_type ts c.args.ends)
+    stated_as_tree (λ ts. around_of ts c.args.around) (λ ts. if_result ts c.args.ends)
     (selects_by (ap statement_of c.in-Case.is) c.branches-all.ensures c.closing-in-Case.ensures)
-    (c.selection.ensures (λ ts. if_type ts c.args.ends))
+    (c.selection.ensures (λ ts. if_result ts c.args.ends))
 
 pub statement-returns-in-For : goal.statement-returns-in-For
 statement-returns-in-For t c =
-    stated_as_tree (λ ts. around_of ts c.args.around) (λ ts. if_type ts c.args.ends)
+    stated_as_tree (λ ts. around_of ts c.args.around) (λ ts. if_result ts c.args.ends)
     (counts_by (ap statement_of c.in-For.is) c.body-in-For.ensures)
-    (c.each.ensures (λ ts. if_type ts c.args.ends))
+    (c.each.ensures (λ ts. if_result ts c.args.ends))
 
 pub statement-returns-in-Raise : goal.statement-returns-in-Raise
 statement-returns-in-Raise t c =
     let old = c.args.state.now in
-    let by = λ (ts : List Ty) (b : Beside) (s : Statement). stated (around_of ts c.args.around) (if_type ts c.args.ends) (state_of ts b old) s in
+    let by = λ (ts : List Ty) (b : Beside) (s : Statement). stated (around_of ts c.args.around) (if_result ts c.args.ends) (state_of ts b old) s in
     stated_refuses (λ ts b (all : Vec RustStmt Global). all_stated_as ts b old all.items)
     (λ ts b. by ts b (statement_of c.args.tree.now)) LeftOut _ c.refusal.result
     (further_same old) c.refusal.ensures (λ ts b u. ap (by ts b) (ap statement_of c.in-Raise.is))
@@ -821,7 +860,7 @@ statement-returns-in-Raise t c =
 pub statement-returns-in-Import : goal.statement-returns-in-Import
 statement-returns-in-Import t c =
     let old = c.args.state.now in
-    let by = λ (ts : List Ty) (b : Beside) (s : Statement). stated (around_of ts c.args.around) (if_type ts c.args.ends) (state_of ts b old) s in
+    let by = λ (ts : List Ty) (b : Beside) (s : Statement). stated (around_of ts c.args.around) (if_result ts c.args.ends) (state_of ts b old) s in
     stated_refuses (λ ts b (all : Vec RustStmt Global). all_stated_as ts b old all.items)
     (λ ts b. by ts b (statement_of c.args.tree.now)) LeftOut _ c.refusal-in-Import.result
     (further_same old) c.refusal-in-Import.ensures (λ ts b u. ap (by ts b) (ap statement_of c.in-Import.is))
@@ -829,7 +868,7 @@ statement-returns-in-Import t c =
 pub statement-returns-in-Try : goal.statement-returns-in-Try
 statement-returns-in-Try t c =
     let old = c.args.state.now in
-    let by = λ (ts : List Ty) (b : Beside) (s : Statement). stated (around_of ts c.args.around) (if_type ts c.args.ends) (state_of ts b old) s in
+    let by = λ (ts : List Ty) (b : Beside) (s : Statement). stated (around_of ts c.args.around) (if_result ts c.args.ends) (state_of ts b old) s in
     stated_refuses (λ ts b (all : Vec RustStmt Global). all_stated_as ts b old all.items)
     (λ ts b. by ts b (statement_of c.args.tree.now)) LeftOut _ c.refusal-in-Try.result
     (further_same old) c.refusal-in-Try.ensures (λ ts b u. ap (by ts b) (ap statement_of c.in-Try.is))
@@ -837,7 +876,7 @@ statement-returns-in-Try t c =
 pub statement-returns-in-Defer : goal.statement-returns-in-Defer
 statement-returns-in-Defer t c =
     let old = c.args.state.now in
-    let by = λ (ts : List Ty) (b : Beside) (s : Statement). stated (around_of ts c.args.around) (if_type ts c.args.ends) (state_of ts b old) s in
+    let by = λ (ts : List Ty) (b : Beside) (s : Statement). stated (around_of ts c.args.around) (if_result ts c.args.ends) (state_of ts b old) s in
     stated_refuses (λ ts b (all : Vec RustStmt Global). all_stated_as ts b old all.items)
     (λ ts b. by ts b (statement_of c.args.tree.now)) LeftOut _ c.refusal-in-Defer.result
     (further_same old) c.refusal-in-Defer.ensures (λ ts b u. ap (by ts b) (ap statement_of c.in-Defer.is))
@@ -845,7 +884,7 @@ statement-returns-in-Defer t c =
 pub statement-returns-in-Proc : goal.statement-returns-in-Proc
 statement-returns-in-Proc t c =
     let old = c.args.state.now in
-    let by = λ (ts : List Ty) (b : Beside) (s : Statement). stated (around_of ts c.args.around) (if_type ts c.args.ends) (state_of ts b old) s in
+    let by = λ (ts : List Ty) (b : Beside) (s : Statement). stated (around_of ts c.args.around) (if_result ts c.args.ends) (state_of ts b old) s in
     let is = ap statement_of c.in-Proc.is in
     stated_refuses (λ ts b (all : Vec RustStmt Global). all_stated_as ts b old all.items) (λ ts b. by ts b (statement_of c.args.tree.now)) NotTyped _
     c.refusal-in-Proc.result (further_same old) c.refusal-in-Proc.ensures
@@ -917,7 +956,7 @@ cases::all_arms-returns t c =
     let at = c.loop-tree in
     let e = drop_of_length-le c.args.trees.now c.loop-tree-test.false in
     left_ends (λ ts b (arms : RustArms). armed_as ts b at.state arms)
-    (λ ts b. record { arms = P.NoArm; labels = at.labels; state = state_of ts b at.state })
+    (λ ts b. record { rows = []; labels = at.labels; blocks = []; state = state_of ts b at.state })
     (record { all = at.all; labels = at.labels }) at.invariant.left
     (λ ts b. ap (λ l. all_arms (around_of ts c.args.around) (type_at ts c.args.ty) at.labels (state_of ts b at.state) (branches_in l)) e)
     (λ ts b. arms_done ts at.all.items at.labels (state_of ts b at.state))
@@ -1127,7 +1166,9 @@ cases::selection_else-returns-in-Ok t c = λ before f lt.
     let v = c.args.value in
     let arms = c.args.arms in
     let made = λ (ts : List Ty) (b : Beside) (o : Blocked). Ok
-    (stated_as (does (P.Select c.args.node (expr_of ts v.expr) (arms_of ts arms.all.items) o.stmts) ∷ []) o.state) in
+    (stated_as
+    (does (P.Select c.args.node (P.ByLabels (branch_labels arms.all.items)) (selecting (expr_of ts v.expr) P.NoArg)
+    (blocks_of (arm_bodies_in ts arms.all.items) o.stmts)) ∷ []) o.state) in
     stated_goes (λ ts b (o : Blocked). and_then
     (covered (facts_in before.types) c.args.node.at (type_at ts v.ty) arms.labels (statements_of c.args.otherwise.now))
     (λ _. made ts b o)) c.in-Ok.ensures
@@ -1147,7 +1188,9 @@ cases::selection_else-returns-in-Err t c = λ before f lt.
     let arms = c.args.arms in
     stated_stops (λ ts b s. listed_stated ts b c.block.new.state s)
     (λ ts b (o : Blocked). and_then (covered (facts_in before.types) c.args.node.at (type_at ts v.ty) arms.labels (statements_of c.args.otherwise.now))
-    (λ _. Ok (stated_as (does (P.Select c.args.node (expr_of ts v.expr) (arms_of ts arms.all.items) o.stmts) ∷ []) o.state))) c.in-Err.ensures
+    (λ _. Ok (stated_as
+    (does (P.Select c.args.node (P.ByLabels (branch_labels arms.all.items)) (selecting (expr_of ts v.expr) P.NoArg)
+    (blocks_of (arm_bodies_in ts arms.all.items) o.stmts)) ∷ []) o.state))) c.in-Err.ensures
 
 pub cases::selection_else-covered-requires : goal.cases::selection_else-covered-requires
 cases::selection_else-covered-requires t c = let l = c.in-Ok.ensures.further.length in omega (arith, l, c.requires.value)

@@ -1,6 +1,6 @@
 use Rattle.std.proofs.Common.{ap₂, ℕ, List}
 use Rattle.nim_types.specs.Table.{type_at}
-use Rattle.nim_core.specs.Program.{Literal}
+use Rattle.nim_program.specs.Program.{Literal}
 use Rattle.expr_rules.specs.Env.{constant}
 use Rattle.decl_stmts.proofs.constants.constant.Goals as goal
 

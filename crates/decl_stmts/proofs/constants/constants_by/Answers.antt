@@ -2,7 +2,7 @@ use Rattle.std.proofs.Common.{ap, List, ◌∙◌, sym, Some, None}
 use Rattle.std.specs.Prelude.{Option, option_map}
 use Rattle.nim_tree.specs.declared.name.Declared.{Declared}
 use Rattle.nim_tree.specs.Terms.{Term, term_of}
-use Rattle.nim_core.specs.View.{if_type}
+use Rattle.nim_program.specs.View.{if_type}
 use Rattle.decl_rules.specs.Definitions.{constants_by}
 use Rattle.decl_parts.specs.View.{state_of, Beside}
 use Rattle.decl_parts.proofs.ForCallers.{stated_so}

@@ -4,7 +4,7 @@ use Rattle.std.proofs.lemmas.List.{map-append}
 use Rattle.std.specs.Prelude.{map}
 use Rattle.indent_scanner.specs.Words.{normal}
 use Rattle.nim_types.specs.Table.{type_at}
-use Rattle.nim_core.specs.View.{literal_of}
+use Rattle.nim_program.specs.View.{literal_of}
 use Rattle.expr_rules.specs.Env.{constant}
 use Rattle.expr_parts.specs.View.{entry_of, DeclsWithin}
 use Rattle.decl_parts.specs.declared.state.State.{State as RustState}

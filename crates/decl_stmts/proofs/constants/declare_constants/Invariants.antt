@@ -2,7 +2,7 @@ use Rattle.std.proofs.Common.{◌≡◌, ◌++◌, ◌<◌, ℕ, List, drop}
 use Rattle.std.specs.Prelude.{map}
 use Rattle.nim_types.specs.Types.{Ty}
 use Rattle.nim_types.specs.Table.{type_at}
-use Rattle.nim_core.specs.View.{literal_of}
+use Rattle.nim_program.specs.View.{literal_of}
 use Rattle.expr_parts.specs.declared.scope.Decl.{Decl}
 use Rattle.expr_parts.specs.View.{entry_of, DeclsWithin}
 use Rattle.decl_rules.specs.Definitions.{constant_entries}

@@ -1,7 +1,7 @@
 use Rattle.std.proofs.Common.{refl}
 use Rattle.std.specs.Prelude.{Ok}
-use Rattle.nim_core.specs.Program.{Literal}
-use Rattle.nim_core.specs.View.{literal_of}
+use Rattle.nim_program.specs.Program.{Literal}
+use Rattle.nim_program.specs.View.{literal_of}
 use Rattle.expr_rules.specs.Constants.{constant_rule}
 use Rattle.expr_parts.specs.View.{valued_of}
 use Rattle.expr_parts.proofs.ForCallers.{goes, stops}

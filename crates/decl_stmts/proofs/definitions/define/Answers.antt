@@ -2,7 +2,7 @@ use Rattle.std.proofs.Common.{Vec, Global, List}
 use Rattle.std.specs.Prelude.{Option, option_map}
 use Rattle.nim_tree.specs.Terms.{term_of}
 use Rattle.nim_types.specs.Types.{Ty}
-use Rattle.nim_core.specs.declared.stmt.Stmt.{Stmt as RustStmt}
+use Rattle.nim_program.specs.declared.stmt.Stmt.{Stmt as RustStmt}
 use Rattle.decl_rules.specs.State.{State}
 use Rattle.decl_rules.specs.Definitions.{variables_rule}
 use Rattle.decl_parts.specs.View.{around_of, state_of, all_stated_as}

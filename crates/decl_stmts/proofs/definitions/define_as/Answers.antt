@@ -2,8 +2,8 @@ use Rattle.std.proofs.Common.{Vec, Global}
 use Rattle.std.proofs.lemmas.Result.{err_from_is_err_and}
 use Rattle.std.specs.Prelude.{option_map}
 use Rattle.nim_tree.specs.Terms.{term_of}
-use Rattle.nim_core.specs.declared.stmt.Stmt.{Stmt as RustStmt}
-use Rattle.nim_core.specs.View.{if_type}
+use Rattle.nim_program.specs.declared.stmt.Stmt.{Stmt as RustStmt}
+use Rattle.nim_program.specs.View.{if_type}
 use Rattle.decl_rules.specs.Definitions.{variables_rule}
 use Rattle.decl_parts.specs.View.{around_of, env_in, state_of, all_stated_as}
 use Rattle.decl_parts.proofs.ForCallers.{stated_forgets}

@@ -3,7 +3,7 @@ use Rattle.std.specs.Prelude.{option_map}
 use Rattle.arc_base.specs.Refusal.{and_then}
 use Rattle.nim_tree.specs.Terms.{term_of}
 use Rattle.nim_tree.specs.Types.{written_of}
-use Rattle.nim_core.specs.declared.stmt.Stmt.{Stmt as RustStmt}
+use Rattle.nim_program.specs.declared.stmt.Stmt.{Stmt as RustStmt}
 use Rattle.decl_rules.specs.State.{State}
 use Rattle.decl_rules.specs.Definitions.{variables_rule}
 use Rattle.decl_rules.specs.Written.{if_written}

@@ -4,7 +4,7 @@ use Rattle.std.specs.Prelude.{map, Ok}
 use Rattle.arc_base.specs.Refusal.{and_then}
 use Rattle.nim_tree.specs.Statements.{definition_of}
 use Rattle.nim_types.specs.Types.{Ty}
-use Rattle.nim_core.specs.declared.stmt.Stmt.{Stmt as RustStmt}
+use Rattle.nim_program.specs.declared.stmt.Stmt.{Stmt as RustStmt}
 use Rattle.decl_rules.specs.State.{Stated, stated_as, and_more}
 use Rattle.decl_rules.specs.Definitions.{definitions_rule}
 use Rattle.decl_parts.specs.View.{around_of, state_of, all_stated_as, Beside}

@@ -2,7 +2,7 @@ use Rattle.std.proofs.Common.{ℕ, List}
 use Rattle.std.specs.Prelude.{Ok}
 use Rattle.nim_tree.specs.Terms.{term_of}
 use Rattle.nim_types.specs.Types.{Ty}
-use Rattle.nim_core.specs.View.{if_type}
+use Rattle.nim_program.specs.View.{if_type}
 use Rattle.expr_rules.specs.Env.{Env}
 use Rattle.decl_rules.specs.State.{State}
 use Rattle.decl_rules.specs.Values.{Value}

@@ -2,7 +2,7 @@ use Rattle.std.proofs.Common.{ap, ◌∙◌, ◌++◌, ◌∷◌, [], sym, appen
 use Rattle.std.proofs.lemmas.List.{map-append}
 use Rattle.std.specs.Prelude.{map}
 use Rattle.nim_types.specs.Table.{type_at}
-use Rattle.nim_core.specs.View.{declared_of}
+use Rattle.nim_program.specs.View.{declared_of}
 use Rattle.decl_rules.specs.Definitions.{if_global}
 use Rattle.decl_parts.specs.View.{place_of}
 use Rattle.decl_stmts.proofs.definitions.note_global.Goals as goal

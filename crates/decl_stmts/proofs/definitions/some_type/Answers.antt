@@ -2,7 +2,7 @@ use Rattle.std.proofs.Common.{Some, List, refl}
 use Rattle.std.specs.Prelude.{Ok}
 use Rattle.nim_types.specs.Types.{Ty}
 use Rattle.nim_types.specs.Table.{IsBelow}
-use Rattle.nim_core.specs.View.{if_type}
+use Rattle.nim_program.specs.View.{if_type}
 use Rattle.expr_rules.specs.Env.{Env}
 use Rattle.decl_parts.proofs.ForCallers.{typing_then, typing_stops}
 use Rattle.decl_stmts.proofs.definitions.some_type.Goals as goal

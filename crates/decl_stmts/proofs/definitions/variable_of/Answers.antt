@@ -2,7 +2,7 @@ use Rattle.std.proofs.Common.{ap, List}
 use Rattle.std.specs.Prelude.{Option, option_map}
 use Rattle.nim_tree.specs.Terms.{Term, term_of}
 use Rattle.nim_types.specs.Types.{Ty}
-use Rattle.nim_core.specs.View.{if_type}
+use Rattle.nim_program.specs.View.{if_type}
 use Rattle.expr_rules.specs.Env.{Env}
 use Rattle.decl_rules.specs.State.{State}
 use Rattle.decl_rules.specs.Definitions.{variable_rule}

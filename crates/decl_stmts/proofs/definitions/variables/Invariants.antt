@@ -1,7 +1,7 @@
 use Rattle.std.proofs.Common.{drop, length}
 use Rattle.std.specs.Prelude.{option_map}
 use Rattle.nim_tree.specs.Terms.{term_of}
-use Rattle.nim_core.specs.View.{if_type}
+use Rattle.nim_program.specs.View.{if_type}
 use Rattle.expr_parts.specs.View.{DeclsWithin}
 use Rattle.decl_rules.specs.Definitions.{variables_rule}
 use Rattle.decl_parts.specs.View.{around_of, env_in}

@@ -1,16 +1,17 @@
-use Rattle.std.proofs.Common.{◌<◌, ◌∙◌, ap, subst, sym, length, ◌∷◌, [], List, Some}
+use Rattle.std.proofs.Common.{◌<◌, ◌∙◌, ap, subst, sym, length, ◌∷◌, [], List, Some, false}
 use Rattle.std.specs.Prelude.{Ok}
 use Rattle.indent_scanner.specs.Words.{normal}
 use Rattle.nim_types.specs.Types.{Ty}
 use Rattle.nim_types.specs.declared.types.TypeDef.{TypeDef}
 use Rattle.nim_types.specs.Table.{type_at}
-use Rattle.nim_core.specs.declared.stmt.Stmt.TheVariants as S
-use Rattle.nim_core.specs.Program as P
-use Rattle.nim_core.specs.View.{expr_of}
+use Rattle.nim_program.specs.declared.stmt.Stmt.TheVariants as S
+use Rattle.nim_program.specs.Nodes.{one_value}
+use Rattle.nim_program.specs.Program as P
+use Rattle.nim_program.specs.View.{expr_of}
 use Rattle.expr_rules.specs.Answers.{node}
 use Rattle.expr_rules.specs.Env.{Env, variable}
 use Rattle.expr_parts.specs.View.{entry_of}
-use Rattle.decl_rules.specs.State.{State, declares_as}
+use Rattle.decl_rules.specs.State.{State, declares}
 use Rattle.decl_rules.specs.Definitions.{initialised, is_var_binding}
 use Rattle.decl_parts.specs.View.{around_of, numbered_of, place_of}
 use Rattle.decl_stmts.proofs.Defining.{new_is, still_kept, defining_made, defining_forgets}
@@ -24,10 +25,10 @@ returns c =
     let d = c.args.name.now in
     defining_made (λ (ts : List Ty) (env : Env) (st : State). Ok
     (initialised (around_of ts c.args.around) c.args.at c.args.binding (numbered_of ts c.args.given) st d))
-    (S.Declare n c.in-Ok.place (Some c.args.given.value.expr)) c.in-Ok-variable.decl c.new_of.result (still_kept c.begin_variable.ensures.kept)
+    (S.Declare n c.in-Ok.place false (Some c.args.given.value.expr)) c.in-Ok-variable.decl c.new_of.result (still_kept c.begin_variable.ensures.kept)
     (λ ts b waits u.
     let ty = type_at ts c.args.given.value.ty in
-    let by = λ (p : P.Declared). declares_as n p (expr_of ts c.args.given.value.expr) ∷ [] in
+    let by = λ (p : P.Declared). declares n p false (one_value (expr_of ts c.args.given.value.expr)) ∷ [] in
     ap Ok (new_is ts b old new (around_of ts c.args.around) c.args.binding d ty c.args.given.next waits (entry_of ts c.in-Ok-variable.decl)
     (by (place_of old.place d.text d.at ty)) _
     (c.in-Ok.ensures.behind ts b) (c.in-Ok-variable.ensures.entry ts

@@ -1,13 +1,13 @@
-use Rattle.std.proofs.Common.{◌<◌, ◌∙◌, ap, subst, sym, length, ◌∷◌, [], Some, None, List, ℕ}
+use Rattle.std.proofs.Common.{◌<◌, ◌∙◌, ap, subst, sym, length, ◌∷◌, [], Some, None, List, ℕ, false}
 use Rattle.std.proofs.lemmas.Result.{err_from_is_err_and}
 use Rattle.std.specs.Prelude.{Ok}
 use Rattle.indent_scanner.specs.Words.{normal}
 use Rattle.nim_types.specs.Types.{Ty}
 use Rattle.nim_types.specs.declared.types.TypeDef.{TypeDef}
 use Rattle.nim_types.specs.Table.{type_at}
-use Rattle.nim_core.specs.declared.stmt.Stmt.TheVariants as S
-use Rattle.nim_core.specs.Program as P
-use Rattle.nim_core.specs.View.{declared_of}
+use Rattle.nim_program.specs.declared.stmt.Stmt.TheVariants as S
+use Rattle.nim_program.specs.Program as P
+use Rattle.nim_program.specs.View.{declared_of}
 use Rattle.expr_rules.specs.Answers.{node}
 use Rattle.expr_rules.specs.Env.{Env, variable}
 use Rattle.expr_parts.specs.View.{entry_of}
@@ -25,12 +25,12 @@ returns c =
     let d = c.args.name.now in
     defining_made (λ (ts : List Ty) (env : Env) (st : State). default_rule (around_of ts c.args.around) c.args.at c.args.binding
     (Some (type_at ts c.args.ty)) st d)
-    (S.Declare n c.in_ok-place.place None) c.in_ok-decl.decl c.new_of.result (still_kept c.begin_variable.ensures.kept)
+    (S.Declare n c.in_ok-place.place false None) c.in_ok-decl.decl c.new_of.result (still_kept c.begin_variable.ensures.kept)
     (λ ts b waits u.
     let ty = type_at ts c.args.ty in
     let a = around_of ts c.args.around in
     let st = declaring (state_of ts b old) waits in
-    let by = λ (p : P.Declared). declares n p ∷ [] in
+    let by = λ (p : P.Declared). declares n p false P.NoArg ∷ [] in
     let first = by (place_of old.place d.text d.at ty) in
     ap (λ (k : ℕ). Ok (stated_as first (with_variable st a c.args.binding d ty k))) (sym c.in_ok-next.ensures.next)
     ∙ ap Ok (new_is ts b old new a c.args.binding d ty c.in_ok-next.next waits (entry_of ts c.in_ok-decl.decl) first

@@ -4,13 +4,12 @@ use Rattle.arc_base.specs.Refusal.{and_then}
 use Rattle.nim_tree.specs.Terms as term
 use Rattle.nim_tree.specs.Terms.{term_of, parts_of}
 use Rattle.nim_types.specs.Types.{Ty}
-use Rattle.nim_core.specs.View.{if_type}
 use Rattle.expr_rules.specs.Answers.{node, Typed, Want}
 use Rattle.expr_rules.specs.Typed.{typed}
 use Rattle.decl_rules.specs.State.{State, did}
-use Rattle.decl_rules.specs.Values.{evaluated, result_want}
-use Rattle.decl_parts.specs.View.{Beside, state_of, env_in}
-use Rattle.decl_parts.proofs.ForCallers.{stated_so, type_goes, type_stops, ready_typed, below_more}
+use Rattle.decl_rules.specs.Values.{evaluated, given_want}
+use Rattle.decl_parts.specs.View.{Beside, state_of, env_in, if_result}
+use Rattle.decl_parts.proofs.ForCallers.{stated_so, type_goes, type_stops, ready_typed, result_more}
 use Rattle.decl_stmts.specs.ViewStated.{listed_stated}
 use Rattle.decl_stmts.proofs.statements.command.Goals as goal
 
@@ -18,31 +17,31 @@ pub returns-in-Ok : goal.returns-in-Ok
 returns-in-Ok c = λ a.
     let old = c.args.state.now in
     let n = node old.node c.args.at in
-    let go = λ (ts : List Ty) (st : State) (x : Typed). and_then (evaluated (if_type ts c.args.ends) n x.expr) (λ s. Ok (did st s x.next)) in
+    let go = λ (ts : List Ty) (st : State) (x : Typed). and_then (evaluated (if_result ts c.args.ends) n x.expr) (λ s. Ok (did st s x.next)) in
     let by = λ (ts : List Ty) (b : Beside) (w : Want). and_then
     (typed (env_in ts old) w (suc old.node) (term.call c.args.at (term_of c.args.callee.now) (parts_of c.args.operands.now))) (go ts (state_of ts b old)) in
-    stated_so (λ ts b. by ts b (result_want (if_type ts c.args.ends))) (λ ts b u. ap (by ts b) (sym (c.result_want.ensures.want ts)))
+    stated_so (λ ts b. by ts b (given_want (if_result ts c.args.ends))) (λ ts b u. ap (by ts b) (sym (c.given_want.ensures.want ts)))
     (type_goes go c.requires.ready c.in-Ok.ensures c.evaluation.ensures)
 
 pub returns-in-Err : goal.returns-in-Err
 returns-in-Err c = λ a.
     let old = c.args.state.now in
     let n = node old.node c.args.at in
-    let go = λ (ts : List Ty) (st : State) (x : Typed). and_then (evaluated (if_type ts c.args.ends) n x.expr) (λ s. Ok (did st s x.next)) in
+    let go = λ (ts : List Ty) (st : State) (x : Typed). and_then (evaluated (if_result ts c.args.ends) n x.expr) (λ s. Ok (did st s x.next)) in
     let by = λ (ts : List Ty) (b : Beside) (w : Want). and_then
     (typed (env_in ts old) w (suc old.node) (term.call c.args.at (term_of c.args.callee.now) (parts_of c.args.operands.now))) (go ts (state_of ts b old)) in
-    stated_so (λ ts b. by ts b (result_want (if_type ts c.args.ends))) (λ ts b u. ap (by ts b) (sym (c.result_want.ensures.want ts)))
+    stated_so (λ ts b. by ts b (given_want (if_result ts c.args.ends))) (λ ts b u. ap (by ts b) (sym (c.given_want.ensures.want ts)))
     (type_stops (λ ts b s. listed_stated ts b c.type_command.new.state s) (λ (ts : List Ty) (b : Beside). go ts (state_of ts b old)) c.in-Err.ensures)
 
 pub type_command-requires-clause-want : goal.type_command-requires-clause-want
-type_command-requires-clause-want c = c.result_want.ensures.within (length c.args.state.now.types) c.requires.ends
+type_command-requires-clause-want c = c.given_want.ensures.within (length c.args.state.now.types) c.requires.ends
 
 pub evaluation-requires-clause-ready : goal.evaluation-requires-clause-ready
 evaluation-requires-clause-ready c = ready_typed c.in-Ok.ensures c.requires.ready
 
 pub evaluation-requires-clause-ends : goal.evaluation-requires-clause-ends
 evaluation-requires-clause-ends c =
-    below_more (length c.args.state.now.types) (length c.type_command.new.state.types) c.args.ends c.type_command.ensures.grown.length c.requires.ends
+    result_more (length c.args.state.now.types) (length c.type_command.new.state.types) c.args.ends c.type_command.ensures.grown.length c.requires.ends
 
 pub evaluation-requires-clause-within : goal.evaluation-requires-clause-within
 evaluation-requires-clause-within c = c.in-Ok.ensures.fits

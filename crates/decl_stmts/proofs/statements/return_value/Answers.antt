@@ -1,9 +1,9 @@
 use Rattle.std.proofs.Common.{length, subst, ap, List}
-use Rattle.std.specs.Prelude.{Option}
 use Rattle.arc_base.specs.declared.place.Code.TheVariants.{NotTyped}
 use Rattle.arc_base.specs.Refusal.{and_then}
 use Rattle.nim_tree.specs.Terms.{term_of}
 use Rattle.nim_types.specs.Types.{Ty}
+use Rattle.decl_rules.specs.State.{ResultPlace}
 use Rattle.decl_rules.specs.Values.{procedure_rule}
 use Rattle.decl_parts.specs.declared.state.Inside.{Inside}
 use Rattle.decl_parts.specs.View.{inside_of, InsideWithin, state_of, Beside}
@@ -15,14 +15,14 @@ pub returns-in-Procedure : goal.returns-in-Procedure
 returns-in-Procedure c = λ ends.
     let old = c.args.state.now in
     let by = λ (ts : List Ty) (b : Beside) (i : Inside). and_then (procedure_rule c.args.at (inside_of ts i))
-    (λ (gives : Option Ty). return_behind (state_of ts b old) c.args.at (term_of c.args.value.now) gives) in
+    (λ (gives : ResultPlace). return_behind (state_of ts b old) c.args.at (term_of c.args.value.now) gives) in
     stated_so (λ ts b. by ts b c.args.around.inside) (λ ts b u. ap (by ts b) c.in-Procedure.is) c.return_from.ensures
 
 pub returns-in-ModuleCode : goal.returns-in-ModuleCode
 returns-in-ModuleCode c = λ ends.
     let old = c.args.state.now in
     let by = λ (ts : List Ty) (b : Beside) (i : Inside). and_then (procedure_rule c.args.at (inside_of ts i))
-    (λ (gives : Option Ty). return_behind (state_of ts b old) c.args.at (term_of c.args.value.now) gives) in
+    (λ (gives : ResultPlace). return_behind (state_of ts b old) c.args.at (term_of c.args.value.now) gives) in
     stated_refuses (λ ts b s. listed_stated ts b old s) (λ ts b. by ts b c.args.around.inside) NotTyped c.args.at c.refusal.result
     (further_same old) c.refusal.ensures
     (λ ts b u. ap (by ts b) c.in-ModuleCode.is)

@@ -1,5 +1,5 @@
 use Rattle.std.proofs.Common.{◌≡◌, ◌++◌, drop, map}
-use Rattle.plan_sets.specs.Order.{IsInOrder}
+use Rattle.nim_plan.specs.Order.{IsInOrder}
 use Rattle.flat_code.specs.Codes.{under}
 use Rattle.destructor_injection.proofs.owned.owned_lines.Given as goal
 

@@ -1,7 +1,7 @@
 use Rattle.std.proofs.Common.{ap, ◌∙◌}
 use Rattle.arc_base.specs.declared.place.Code.TheVariants.{CaseCover}
 use Rattle.nim_types.specs.Table.{type_at}
-use Rattle.nim_core.specs.View.{if_type}
+use Rattle.nim_program.specs.View.{if_type}
 use Rattle.expr_rules.specs.Choices.{cover_by, cover_rule}
 use Rattle.expr_parts.specs.View.{if_allowed}
 use Rattle.expr_parts.proofs.ForCallers.{answers_as}

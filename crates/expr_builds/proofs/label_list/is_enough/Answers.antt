@@ -1,6 +1,6 @@
 use Rattle.std.proofs.Common.{ap, ◌∙◌}
 use Rattle.nim_types.specs.Table.{type_at}
-use Rattle.nim_core.specs.View.{if_type}
+use Rattle.nim_program.specs.View.{if_type}
 use Rattle.expr_rules.specs.Builtins.{is_text}
 use Rattle.expr_rules.specs.Choices.{covers, span_of}
 use Rattle.expr_builds.proofs.Labelling.{enough_ordinals, enough_texts}

@@ -1,6 +1,6 @@
 use Rattle.std.proofs.Common.{sym, ap₂, ◌∙◌}
 use Rattle.nim_tree.specs.Terms.{parts_of}
-use Rattle.nim_core.specs.View.{if_type}
+use Rattle.nim_program.specs.View.{if_type}
 use Rattle.expr_rules.specs.Env.{known_next}
 use Rattle.expr_rules.specs.Constructions.{part_names, plan_as, plan_with}
 use Rattle.expr_parts.specs.View.{env_of, entry_by}

@@ -1,6 +1,6 @@
 use Rattle.std.proofs.Common.{ap}
 use Rattle.nim_types.specs.Table.{type_at}
-use Rattle.nim_core.specs.View.{if_type}
+use Rattle.nim_program.specs.View.{if_type}
 use Rattle.expr_rules.specs.Constructions.{fields_for, plan_with}
 use Rattle.expr_parts.specs.View.{env_of}
 use Rattle.expr_builds.specs.ViewBuilt.{plan_of}

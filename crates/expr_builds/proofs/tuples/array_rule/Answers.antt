@@ -1,7 +1,7 @@
 use Rattle.std.proofs.Common.{◌≡◌, sym, ap, ◌∙◌, []}
 use Rattle.std.specs.Prelude.{map}
 use Rattle.arc_base.specs.declared.place.Code.TheVariants.{NotTyped}
-use Rattle.nim_core.specs.View.{expr_of}
+use Rattle.nim_program.specs.View.{expr_of}
 use Rattle.expr_rules.specs.Constructions.{array_rule}
 use Rattle.expr_parts.specs.View.{valued_of}
 use Rattle.expr_parts.proofs.ForCallers.{refuses}

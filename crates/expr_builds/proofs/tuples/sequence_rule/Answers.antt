@@ -1,6 +1,6 @@
 use Rattle.std.proofs.Common.{◌≡◌, sym, ap, ◌∙◌, [], length}
 use Rattle.std.specs.Prelude.{map}
-use Rattle.nim_core.specs.View.{expr_of}
+use Rattle.nim_program.specs.View.{expr_of}
 use Rattle.expr_rules.specs.Constructions.{sequence_rule, empty_rule}
 use Rattle.expr_parts.specs.View.{valued_of, want_of}
 use Rattle.expr_parts.proofs.ForCallers.{answers_as}

@@ -4,7 +4,7 @@ use Rattle.std.specs.Vec.{vec_len}
 use Rattle.arc_base.specs.declared.place.Code.TheVariants.{NotTyped}
 use Rattle.nim_tree.specs.Terms.{parts_of}
 use Rattle.nim_types.specs.Table.{type_at, types_at, AllBelow}
-use Rattle.nim_core.specs.View.{expr_of}
+use Rattle.nim_program.specs.View.{expr_of}
 use Rattle.expr_rules.specs.Answers.{not_typed, types_of}
 use Rattle.expr_rules.specs.Constructions.{part_names, are_names, tuple_type, make_tuple, tuple_rule}
 use Rattle.expr_parts.specs.View.{valued_of, want_of}

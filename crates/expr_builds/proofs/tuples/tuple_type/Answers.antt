@@ -1,7 +1,7 @@
 use Rattle.std.proofs.Common.{sym, ap, ap₂, ◌∙◌}
 use Rattle.nim_types.specs.Types as type
 use Rattle.nim_types.specs.Table.{types_at}
-use Rattle.nim_core.specs.View.{if_type}
+use Rattle.nim_program.specs.View.{if_type}
 use Rattle.expr_rules.specs.Constructions.{tuple_type}
 use Rattle.expr_parts.specs.View.{want_of}
 use Rattle.expr_builds.specs.ViewBuilt.{or_tuple}

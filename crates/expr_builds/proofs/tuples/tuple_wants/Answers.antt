@@ -1,6 +1,6 @@
 use Rattle.std.proofs.Common.{ap, ◌∙◌, length}
 use Rattle.nim_types.specs.Table.{type_at}
-use Rattle.nim_core.specs.View.{if_type}
+use Rattle.nim_program.specs.View.{if_type}
 use Rattle.expr_rules.specs.Constructions.{tuple_wants}
 use Rattle.expr_builds.specs.ViewBuilt.{wants_of}
 use Rattle.expr_parts.proofs.ForCallers.{if_ok}

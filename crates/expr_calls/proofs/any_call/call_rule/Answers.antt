@@ -1,6 +1,6 @@
 use Rattle.std.proofs.Common.{sym, subst, ap, ◌∙◌, length}
 use Rattle.std.specs.Prelude.{map, Bool, if◌then◌else◌}
-use Rattle.nim_core.specs.View.{expr_of}
+use Rattle.nim_program.specs.View.{expr_of}
 use Rattle.nim_types.specs.Table.{IsBelow}
 use Rattle.expr_rules.specs.Names.{call_rule, call_named, echo_rule}
 use Rattle.expr_parts.specs.View.{operand_of, env_of}

@@ -1,4 +1,4 @@
-use Rattle.nim_core.specs.View.{expr_of}
+use Rattle.nim_program.specs.View.{expr_of}
 use Rattle.expr_rules.specs.Names.{callee_rule, method_rule}
 use Rattle.expr_parts.specs.View.{operand_of, env_of}
 use Rattle.expr_parts.proofs.ForCallers.{goes, stops}

@@ -1,6 +1,6 @@
 use Rattle.std.proofs.Common.{◌≡◌, ◌<◌, sym, subst, ap, ◌∙◌, length, Some, None}
 use Rattle.std.specs.Prelude.{option_map, IfSome}
-use Rattle.nim_core.specs.View.{expr_of}
+use Rattle.nim_program.specs.View.{expr_of}
 use Rattle.nim_types.specs.Table.{IsBelow}
 use Rattle.expr_rules.specs.Names.{field_or_call, field_rule}
 use Rattle.expr_parts.specs.View.{operand_of, env_of, found_of}

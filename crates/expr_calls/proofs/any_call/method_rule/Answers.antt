@@ -1,6 +1,6 @@
 use Rattle.std.proofs.Common.{[], ◌∷◌, ap, ◌∙◌}
 use Rattle.arc_base.specs.declared.place.Code.TheVariants.{NotTyped}
-use Rattle.nim_core.specs.View.{expr_of}
+use Rattle.nim_program.specs.View.{expr_of}
 use Rattle.expr_rules.specs.Names.{call_rule, method_by, method_rule}
 use Rattle.expr_parts.specs.View.{operand_of, env_of}
 use Rattle.expr_parts.proofs.ForCallers.{answers_as, refuses}

@@ -1,6 +1,6 @@
 use Rattle.std.proofs.Common.{[], ◌∷◌, ap, ◌∙◌}
 use Rattle.std.specs.Prelude.{Bool, codes, if◌then◌else◌}
-use Rattle.nim_core.specs.View.{expr_of}
+use Rattle.nim_program.specs.View.{expr_of}
 use Rattle.expr_rules.specs.Answers.{value}
 use Rattle.expr_rules.specs.Names.{call_rule}
 use Rattle.expr_rules.specs.Operators.{unary_rule}

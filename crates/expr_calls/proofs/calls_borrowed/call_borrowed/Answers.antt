@@ -1,7 +1,7 @@
 use Rattle.std.proofs.Common.{◌≡◌, [], ◌∷◌, subst, ap, ◌∙◌, length}
 use Rattle.std.specs.Prelude.{map, Some, true}
 use Rattle.arc_base.specs.declared.place.Code.TheVariants.{NotTyped}
-use Rattle.nim_core.specs.View.{expr_of}
+use Rattle.nim_program.specs.View.{expr_of}
 use Rattle.expr_rules.specs.Calls.{arguments_for, borrowed_call, called, comparison_named, comparisons}
 use Rattle.expr_parts.specs.View.{operand_of, parameter_of, procedure_of, fit, OperandsWithin}
 use Rattle.expr_operations.specs.ViewOperands.{IsGiven}

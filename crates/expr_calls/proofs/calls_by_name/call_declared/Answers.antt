@@ -1,7 +1,7 @@
 use Rattle.std.proofs.Common.{◌≡◌, sym, subst, length, ◌∙◌}
 use Rattle.std.specs.Prelude.{Some, map}
 use Rattle.arc_base.specs.Refusal.{Answers}
-use Rattle.nim_core.specs.View.{expr_of}
+use Rattle.nim_program.specs.View.{expr_of}
 use Rattle.expr_parts.specs.declared.scope.Procedure.{Procedure}
 use Rattle.expr_rules.specs.Calls.{called, arguments_for}
 use Rattle.expr_parts.specs.View.{procedure_of, fit, operand_of, WhatWithin}

@@ -1,7 +1,7 @@
 use Rattle.std.proofs.Common.{ap, subst, sym, length}
 use Rattle.std.specs.Prelude.{true, false}
 use Rattle.nim_types.specs.Table.{IsBelow}
-use Rattle.nim_core.specs.View.{expr_of}
+use Rattle.nim_program.specs.View.{expr_of}
 use Rattle.expr_rules.specs.Calls.{called}
 use Rattle.expr_parts.specs.View.{procedure_of, fit}
 use Rattle.expr_parts.proofs.ForCallers.{answers_as}

@@ -1,7 +1,7 @@
 use Rattle.std.proofs.Common.{subst, ap, ◌∙◌}
 use Rattle.std.specs.Prelude.{map, Bool, if◌then◌else◌}
 use Rattle.arc_base.specs.declared.place.Code.TheVariants.{Ambiguous}
-use Rattle.nim_core.specs.View.{expr_of}
+use Rattle.nim_program.specs.View.{expr_of}
 use Rattle.expr_rules.specs.Answers.{node}
 use Rattle.expr_rules.specs.Builtins.{operation_rule}
 use Rattle.expr_rules.specs.Calls.{fitting, one_of}

@@ -1,6 +1,6 @@
 use Rattle.std.proofs.Common.{sym, subst, ap, length}
 use Rattle.std.specs.Prelude.{map}
-use Rattle.nim_core.specs.View.{expr_of}
+use Rattle.nim_program.specs.View.{expr_of}
 use Rattle.nim_types.specs.Table.{type_at, IsBelow}
 use Rattle.expr_rules.specs.Answers.{node}
 use Rattle.expr_rules.specs.Builtins.{operation_rule}

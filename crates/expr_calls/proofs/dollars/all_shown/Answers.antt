@@ -3,8 +3,9 @@ use Rattle.std.specs.Prelude.{map}
 use Rattle.std.specs.Vec.{vec_len}
 use Rattle.std.specs.Vec.Iter.{into_iter_items}
 use Rattle.arc_base.specs.declared.place.Code.TheVariants.{NotTyped}
-use Rattle.nim_core.specs.declared.expr.Expr.{Expr}
-use Rattle.nim_core.specs.View.{exprs_of}
+use Rattle.nim_program.specs.declared.expr.Operand.{Operand as Argument}
+use Rattle.nim_program.specs.declared.expr.Operand.TheVariants as argument
+use Rattle.nim_program.specs.View.{operands_of}
 use Rattle.expr_rules.specs.Names.{all_shown}
 use Rattle.expr_parts.specs.View.{OperandsWithin, operand_of, env_of}
 use Rattle.expr_calls.specs.ViewCalls.{IsShown, shown_by}
@@ -25,8 +26,8 @@ loop-operand-init c =
           let env = env_of ts facts c.args.scope.now in
           let all = all_shown env (map (operand_of ts) c.args.operands.items) in
           none_before ts c.args.place all
-          ∙ ap (λ done. shown_behind ts done c.args.place all) (sym c.new-exprs.ensures.items)
-          ∙ ap (λ xs. shown_behind ts c.new-exprs.result.items c.args.place (all_shown env (map (operand_of ts) xs))) (sym items);
+          ∙ ap (λ done. shown_behind ts done c.args.place all) (sym c.new-shown.ensures.items)
+          ∙ ap (λ xs. shown_behind ts c.new-shown.result.items c.args.place (all_shown env (map (operand_of ts) xs))) (sym items);
     }
 
 pub loop-operand-preserved : goal.loop-operand-preserved
@@ -36,7 +37,7 @@ loop-operand-preserved c =
     let os = into_iter_items c.next.new.self in
     let n = length c.args.types.now in
     let steps : into_iter_items at.operand-iterator ≡ x ∷ os = c.in-Some.ensures.steps.0 in
-    let pushed : c.push.new.self.items ≡ at.exprs.items ++ c.in-Some-shown_of.expr ∷ [] = c.in_ok-push-in-Some-shown_of.ensures.items in
+    let pushed : c.push.new.self.items ≡ at.shown.items ++ argument.Value c.in-Some-shown_of.expr ∷ [] = c.in_ok-push-in-Some-shown_of.ensures.items in
     record {
       count = let was = at.invariant.count in let gone = c.in-Some.ensures.steps.1 in let short = ap length steps in omega arith;
       operands = (subst (OperandsWithin n) steps at.invariant.operands).1;
@@ -44,8 +45,8 @@ loop-operand-preserved c =
           let env = env_of ts facts c.args.scope.now in
           let h = subst (IsShown ts env (operand_of ts x)) c.in-Some-shown_of.is (c.shown_of.ensures ts facts u) in
           at.invariant.left ts facts u
-          ∙ ap (λ xs. shown_behind ts at.exprs.items c.args.place (all_shown env (map (operand_of ts) xs))) steps
-          ∙ one_shown ts env at.exprs.items c.args.place (operand_of ts x) (map (operand_of ts) os) c.in-Some-shown_of.expr h
+          ∙ ap (λ xs. shown_behind ts at.shown.items c.args.place (all_shown env (map (operand_of ts) xs))) steps
+          ∙ one_shown ts env at.shown.items c.args.place (operand_of ts x) (map (operand_of ts) os) c.in-Some-shown_of.expr h
           ∙ ap (λ done. shown_behind ts done c.args.place (all_shown env (map (operand_of ts) os))) (sym pushed);
     }
 
@@ -57,11 +58,12 @@ returns-in-None-shown_of c = λ ts facts u.
     let env = env_of ts facts c.args.scope.now in
     let steps : into_iter_items at.operand-iterator ≡ x ∷ os = c.in-Some.ensures.steps.0 in
     let h = subst (IsShown ts env (operand_of ts x)) c.in-None-shown_of.is (c.shown_of.ensures ts facts u) in
-    refuses {T = Vec Expr Global} (λ es. exprs_of ts es.items) (shown_by c.args.place (all_shown env (map (operand_of ts) c.args.operands.items))) NotTyped
+    refuses {T = Vec Argument Global} (λ os. operands_of ts os.items)
+    (shown_by c.args.place (all_shown env (map (operand_of ts) c.args.operands.items))) NotTyped
     c.args.place c.refusal.result c.refusal.ensures
     (at.invariant.left ts facts u
-    ∙ ap (λ xs. shown_behind ts at.exprs.items c.args.place (all_shown env (map (operand_of ts) xs))) steps
-    ∙ ap (shown_behind ts at.exprs.items c.args.place) (h (map (operand_of ts) os)))
+    ∙ ap (λ xs. shown_behind ts at.shown.items c.args.place (all_shown env (map (operand_of ts) xs))) steps
+    ∙ ap (shown_behind ts at.shown.items c.args.place) (h (map (operand_of ts) os)))
 
 pub returns : goal.returns
 returns c = λ ts facts u.
@@ -70,5 +72,5 @@ returns c = λ ts facts u.
     let empty : into_iter_items at.operand-iterator ≡ [] = nothing_left (into_iter_items at.operand-iterator)
     (sym at.invariant.count ∙ c.in-None.ensures.steps.0) in
     at.invariant.left ts facts u
-    ∙ ap (λ xs. shown_behind ts at.exprs.items c.args.place (all_shown env (map (operand_of ts) xs))) empty
-    ∙ shown_all ts env at.exprs.items c.args.place
+    ∙ ap (λ xs. shown_behind ts at.shown.items c.args.place (all_shown env (map (operand_of ts) xs))) empty
+    ∙ shown_all ts env at.shown.items c.args.place

@@ -14,5 +14,5 @@ invariant-loop-operand l = record {
   operands : OperandsWithin (length l.types) (into_iter_items l.operand-iterator);
   left : (ts : List Ty) (facts : Facts) → Under l.types ts facts
       → shown_by l.place (all_shown (env_of ts facts l.scope) (map (operand_of ts) l.fn.operands.items))
-      ≡ shown_behind ts l.exprs.items l.place (all_shown (env_of ts facts l.scope) (map (operand_of ts) (into_iter_items l.operand-iterator)));
+      ≡ shown_behind ts l.shown.items l.place (all_shown (env_of ts facts l.scope) (map (operand_of ts) (into_iter_items l.operand-iterator)));
 }

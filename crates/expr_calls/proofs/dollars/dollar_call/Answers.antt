@@ -1,7 +1,7 @@
 use Rattle.std.proofs.Common.{List, sym, subst, ap, ap₂, length}
 use Rattle.std.specs.Prelude.{map, codes}
 use Rattle.arc_base.specs.declared.place.Place.{Place}
-use Rattle.nim_core.specs.View.{expr_of}
+use Rattle.nim_program.specs.View.{expr_of}
 use Rattle.expr_rules.specs.Answers.{not_typed, Operand}
 use Rattle.expr_rules.specs.Calls.{fitting, one_of}
 use Rattle.expr_rules.specs.Env.{callable, known_as}
@@ -18,9 +18,9 @@ pub returns-clause-answers : goal.returns-clause-answers
 returns-clause-answers c = λ ts facts u.
     let env = env_of ts facts c.args.scope.now in
     let ps = callable (known_as env (codes "$")) in
-    let at = c.node_of.result.at in
+    let at = c.node.result.at in
     let said = λ (p : Place) (os : List Operand). one_of c.args.number p (codes "$") (fitting ps os) (not_typed p) in
     answers_as (expr_of ts) (dollar_call env c.args.number (valued_of ts c.args.value)) (said at (map (operand_of ts) c.in_ok-operands.operands.items))
     c.one_fitting.result
-    (ap₂ said (sym (ap (λ n. n.at) (c.node_of.ensures ts))) (ap (map (operand_of ts)) (sym c.in_ok-operands.ensures.only)))
+    (ap₂ said (sym (ap (λ n. n.at) (c.node.ensures ts))) (ap (map (operand_of ts)) (sym c.in_ok-operands.ensures.only)))
     (c.one_fitting.ensures.answers ts facts u)

@@ -1,6 +1,6 @@
 use Rattle.std.proofs.Common.{subst, sym}
 use Rattle.arc_base.specs.Refusal.{Answers}
-use Rattle.nim_core.specs.View.{expr_of}
+use Rattle.nim_program.specs.View.{expr_of}
 use Rattle.expr_parts.specs.declared.value.Operand.{Operand}
 use Rattle.expr_rules.specs.Answers.{open_sequence}
 use Rattle.expr_rules.specs.Operators.{binary_rule}

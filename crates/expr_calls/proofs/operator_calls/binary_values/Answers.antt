@@ -1,7 +1,7 @@
 use Rattle.std.proofs.Common.{subst, ap, ap₂, ◌∙◌, sym}
 use Rattle.nim_types.specs.Types.{same}
 use Rattle.nim_types.specs.Table.{type_at, meant}
-use Rattle.nim_core.specs.View.{expr_of}
+use Rattle.nim_program.specs.View.{expr_of}
 use Rattle.expr_rules.specs.Answers.{value}
 use Rattle.expr_rules.specs.Operators.{binary_by, binary_rule, borrowed_by, borrowed_name, meaning_of}
 use Rattle.expr_parts.specs.View.{env_of, valued_of, meaning_in}

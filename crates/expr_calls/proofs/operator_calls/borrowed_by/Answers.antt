@@ -1,7 +1,7 @@
 use Rattle.std.proofs.Common.{List, sym, subst, ap, ◌∙◌, length}
 use Rattle.std.specs.Prelude.{map}
 use Rattle.arc_base.specs.declared.place.Code.TheVariants.{NotTyped}
-use Rattle.nim_core.specs.View.{expr_of}
+use Rattle.nim_program.specs.View.{expr_of}
 use Rattle.expr_rules.specs.Answers.{not_typed, Operand}
 use Rattle.expr_rules.specs.Calls.{fitting, one_of}
 use Rattle.expr_rules.specs.Env.{callable, known_as}

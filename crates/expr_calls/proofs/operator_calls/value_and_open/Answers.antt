@@ -2,7 +2,7 @@ use Rattle.std.proofs.Common.{sym, ap, ◌∙◌}
 use Rattle.std.specs.Prelude.{option_map}
 use Rattle.arc_base.specs.declared.place.Code.TheVariants.{NotTyped}
 use Rattle.arc_base.specs.Refusal.{and_then}
-use Rattle.nim_core.specs.View.{expr_of}
+use Rattle.nim_program.specs.View.{expr_of}
 use Rattle.expr_rules.specs.Answers.{value, open_sequence, Valued}
 use Rattle.expr_rules.specs.Operators.{binary_by, binary_rule, meaning_of, other_settled}
 use Rattle.expr_parts.specs.View.{env_of, valued_of}

@@ -1,5 +1,5 @@
 use Rattle.std.proofs.Common.{ap, sym}
-use Rattle.nim_core.specs.View.{expr_of, literal_of}
+use Rattle.nim_program.specs.View.{expr_of, literal_of}
 use Rattle.expr_rules.specs.Constants.{if_comes, value_in}
 use Rattle.expr_constants.specs.ViewConstants.{evaluated_of}
 use Rattle.expr_parts.proofs.ForCallers.{answers_as}

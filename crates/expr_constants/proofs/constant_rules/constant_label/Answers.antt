@@ -1,4 +1,4 @@
-use Rattle.nim_core.specs.View.{expr_of, literal_of, label_of}
+use Rattle.nim_program.specs.View.{expr_of, literal_of, label_of}
 use Rattle.expr_rules.specs.Choices.{label_by}
 use Rattle.expr_rules.specs.Constants.{if_comes, value_in}
 use Rattle.expr_parts.proofs.ForCallers.{goes, stops}

@@ -2,9 +2,9 @@ use Rattle.std.proofs.Common.{ap, sym, ◌∙◌}
 use Rattle.arc_base.specs.declared.place.Code.TheVariants.{NotTyped}
 use Rattle.arc_base.specs.Refusal.{and_then}
 use Rattle.nim_types.specs.Table.{type_at}
-use Rattle.nim_core.specs.declared.expr.Node.{Node}
-use Rattle.nim_core.specs.Program.{node_of}
-use Rattle.nim_core.specs.View.{expr_of, label_of}
+use Rattle.nim_program.specs.declared.expr.Node.{Node}
+use Rattle.nim_program.specs.Program.{node_of}
+use Rattle.nim_program.specs.View.{expr_of, label_of}
 use Rattle.expr_rules.specs.Answers.{place_in}
 use Rattle.expr_rules.specs.Choices.{label_by, label_value}
 use Rattle.expr_rules.specs.Constants.{if_comes, value_in}
@@ -19,7 +19,7 @@ returns-then-not-is_same c = λ ts facts u.
     let ty = type_at ts c.args.ty in
     let v = valued_of ts c.args.value in
     refuses label_of (label_value facts ty v) NotTyped (place_in e) c.refusal.result
-    (refused_at c.refusal.result c.node_of.result (node_of e) c.refusal.ensures (c.node_of.ensures ts))
+    (refused_at c.refusal.result c.node.result (node_of e) c.refusal.ensures (c.node.ensures ts))
     (label_if facts ty v _ (c.is_same.ensures ts facts u ∙ c.if-not-is_same.true))
 
 pub returns : goal.returns
@@ -28,7 +28,7 @@ returns c = λ ts facts u.
     let ty = type_at ts c.args.ty in
     let v = valued_of ts c.args.value in
     let all = value_in facts e in
-    answers_as label_of (label_value facts ty v) (and_then (if_comes c.node_of.result.at all) (label_by c.node_of.result.at)) c.constant_label-label.result
+    answers_as label_of (label_value facts ty v) (and_then (if_comes c.node.result.at all) (label_by c.node.result.at)) c.constant_label-label.result
     (label_if facts ty v _ (c.is_same.ensures ts facts u ∙ c.if-not-is_same.false)
-    ∙ ap (λ (n : Node). and_then (if_comes n.at all) (label_by n.at)) (sym (c.node_of.ensures ts)))
+    ∙ ap (λ (n : Node). and_then (if_comes n.at all) (label_by n.at)) (sym (c.node.ensures ts)))
     (c.constant_label-label.ensures ts facts u)

@@ -1,6 +1,6 @@
 use Rattle.std.proofs.Common.{sym, ◌∙◌}
 use Rattle.nim_types.specs.Table.{type_at}
-use Rattle.expr_rules.specs.Literals.{default_literal}
+use Rattle.nim_program.specs.Defaults.{default_literal}
 use Rattle.expr_parts.proofs.ForCallers.{if_ok}
 use Rattle.expr_constants.proofs.ConstantFields.{given_is, given_not}
 use Rattle.expr_constants.proofs.defaults.field_literal.Goals as goal

@@ -1,10 +1,11 @@
 use Rattle.std.proofs.Common.{ap, sym, ◌∙◌, subst}
-use Rattle.std.specs.Prelude.{length, map}
+use Rattle.std.specs.Prelude.{length}
 use Rattle.nim_types.specs.Types.{Ty, fact_of, fields_in}
 use Rattle.nim_types.specs.Table.{AllBelow}
-use Rattle.nim_core.specs.Program.{PartsOf}
-use Rattle.expr_rules.specs.Constants.{limited, field_literals}
-use Rattle.expr_constants.specs.ViewConstants.{field_values, given_of}
+use Rattle.nim_program.specs.Program.{PartsOf}
+use Rattle.nim_program.specs.View.{literals_of}
+use Rattle.expr_rules.specs.Constants.{limited, field_literals, with_values}
+use Rattle.expr_constants.specs.ViewConstants.{field_values}
 use Rattle.expr_constants.proofs.ConstantFields.{known_below}
 use Rattle.expr_constants.proofs.ConstantTypes.{known_fields}
 use Rattle.expr_constants.proofs.defaults.object_with.Goals as goal
@@ -16,7 +17,7 @@ field_literals-requires c =
 
 pub returns : goal.returns
 returns c = λ ts facts u.
-    let given = map given_of c.args.given.now in
+    let given = with_values c.args.fields.now (literals_of c.args.values.now) in
     let d = c.in_ok-def.def.now in
     c.limited.ensures
     ∙ ap limited (c.parts_with.ensures

@@ -1,5 +1,5 @@
 use Rattle.std.proofs.Common.{ap, ◌∙◌}
-use Rattle.nim_core.specs.View.{literals_of}
+use Rattle.nim_program.specs.View.{literals_of}
 use Rattle.expr_rules.specs.Constants.{comes_to}
 use Rattle.plain_values.proofs.ForCallers.{literals_last}
 use Rattle.expr_constants.proofs.evaluated.and_value.Goals as goal

@@ -1,5 +1,5 @@
 use Rattle.nim_types.specs.Table.{types_at}
-use Rattle.nim_core.specs.View.{expr_of, literal_of}
+use Rattle.nim_program.specs.View.{expr_of, literal_of}
 use Rattle.expr_rules.specs.Constants.{if_comes, value_in}
 use Rattle.expr_rules.specs.Constructions.{numbered_part}
 use Rattle.expr_parts.specs.View.{valued_of}

@@ -2,7 +2,7 @@ use Rattle.std.proofs.Common.{ap, sym, subst, ◌∙◌}
 use Rattle.std.specs.Prelude.{length}
 use Rattle.arc_base.specs.declared.place.Code.TheVariants.{NotTyped}
 use Rattle.nim_types.specs.Table.{type_at, IsBelow}
-use Rattle.nim_core.specs.View.{expr_of}
+use Rattle.nim_program.specs.View.{expr_of}
 use Rattle.expr_rules.specs.Answers.{typed_as}
 use Rattle.expr_rules.specs.Builtins.{is_int}
 use Rattle.expr_rules.specs.Constructions.{index_rule, indexed}

@@ -1,8 +1,8 @@
 use Rattle.std.proofs.Common.{ap, sym, ◌∙◌, to_z, of_z, w32, rules}
 use Rattle.std.proofs.lemmas.Int.{to_z-of_z}
 use Rattle.nim_types.specs.Table.{types_at}
-use Rattle.nim_core.specs.Program.{Number}
-use Rattle.nim_core.specs.View.{expr_of, literal_of}
+use Rattle.nim_program.specs.Program.{Number}
+use Rattle.nim_program.specs.View.{expr_of, literal_of}
 use Rattle.expr_rules.specs.Constructions.{numbered_part}
 use Rattle.expr_parts.specs.View.{valued_of}
 use Rattle.expr_parts.proofs.ForCallers.{answers_as}

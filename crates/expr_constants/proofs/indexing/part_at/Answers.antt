@@ -3,7 +3,7 @@ use Rattle.std.specs.Prelude.{slice_get}
 use Rattle.arc_base.specs.declared.place.Code.TheVariants.{NotTyped}
 use Rattle.nim_types.specs.Table.{type_at, types_at, IsBelow}
 use Rattle.nim_types.proofs.ForCallers.{one_below}
-use Rattle.nim_core.specs.View.{expr_of, if_type}
+use Rattle.nim_program.specs.View.{expr_of, if_type}
 use Rattle.expr_rules.specs.Constructions.{found, nth_type, read_field, read_part}
 use Rattle.expr_parts.specs.View.{valued_of}
 use Rattle.expr_parts.proofs.ForCallers.{answers_as, if_ok, makes, refuses}

@@ -1,8 +1,8 @@
 use Rattle.std.proofs.Common.{ap, sym, ◌∙◌, to_z-of_z}
 use Rattle.arc_base.specs.declared.place.Code.TheVariants.{NotTyped}
 use Rattle.nim_types.specs.Table.{types_at}
-use Rattle.nim_core.specs.Program.{Number}
-use Rattle.nim_core.specs.View.{expr_of}
+use Rattle.nim_program.specs.Program.{Number}
+use Rattle.nim_program.specs.View.{expr_of}
 use Rattle.expr_rules.specs.Constructions.{nth_type, numbered_part, read_part}
 use Rattle.expr_parts.specs.View.{valued_of}
 use Rattle.expr_parts.proofs.ForCallers.{answers_as, refuses}

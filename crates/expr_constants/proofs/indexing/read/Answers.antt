@@ -4,7 +4,7 @@ use Rattle.std.proofs.lemmas.Option.{slice_get_within}
 use Rattle.arc_base.specs.Refusal.{and_then}
 use Rattle.nim_types.specs.declared.types.TypeDef.TheVariants as D
 use Rattle.nim_types.specs.Table.{type_at, types_at, IsBelow}
-use Rattle.nim_core.specs.View.{expr_of, if_type}
+use Rattle.nim_program.specs.View.{expr_of, if_type}
 use Rattle.expr_rules.specs.Answers.{typed_as}
 use Rattle.expr_rules.specs.Constants.{constant_at}
 use Rattle.expr_rules.specs.Constructions.{element_of, indexed, numbered_part}
@@ -40,10 +40,11 @@ returns-in-None-clause-answers c = λ ts env k u.
     let are : tuple_parts d ≡ None = parts_none _ _ _ c.tuple_parts.ensures c.in-None.is in
     let inside = slice_get_within c.args.types.now c.args.chars D.Char c.requires.chars in
     let chars = entry_under c.args.chars D.Char u inside c.requires.chars in
-    answers_as (λ e. typed_as (expr_of ts e) k) (indexed env n k k at v ty i) (element_of n k at v i (if_type ts c.element_type.result)) c.element_of.result
+    answers_as (λ e. typed_as (expr_of ts e) k) (indexed env n k k at v ty i)
+    (element_of env.facts n k at v i (if_type ts c.element_type.result)) c.element_at.result
     (indexed_at ts env n k at v d i ty None (c.entry-def.ensures.means ts env.facts u) are
-    ∙ ap (element_of n k at v i) (c.element_type.ensures.means ts chars))
-    (c.element_of.ensures.answers ts k)
+    ∙ ap (element_of env.facts n k at v i) (c.element_type.ensures.means ts chars))
+    (c.element_at.ensures.answers ts env.facts k u)
 
 pub returns-in-Some-clause-within : goal.returns-in-Some-clause-within
 returns-in-Some-clause-within c =
@@ -56,5 +57,5 @@ pub returns-in-None-clause-within : goal.returns-in-None-clause-within
 returns-in-None-clause-within c =
     let n = length c.args.types.now in
     let inside = slice_get_within c.args.types.now c.args.chars D.Char c.requires.chars in
-    if_ok c.element_of.result c.element_of.ensures.number
+    if_ok c.element_at.result c.element_at.ensures.number
     (λ e h. subst (IsBelow n) (sym h) (c.element_type.ensures.within n inside c.entry-def.ensures.inside))

@@ -1,9 +1,10 @@
 use Rattle.std.proofs.Common.{◌≡◌, ◌+◌, suc, ap, sym, ◌∙◌, drop, arith, min}
-use Rattle.nim_core.specs.View.{literal_of, literals_of}
+use Rattle.nim_program.specs.View.{literal_of, literals_of}
 use Rattle.expr_rules.specs.Literals.{part_bytes, all_bytes}
 use Rattle.expr_constants.specs.ViewConstants.{most}
 use Rattle.expr_constants.proofs.LiteralSizes.{parts_bytes, elements_bytes, one_part, no_part}
-use Rattle.expr_parts.proofs.ForCallers.{literal_count, all_count, parts_held, elements_held, next_item, none_left}
+use Rattle.nim_program.proofs.ForCallers.{parts_of, elements_of}
+use Rattle.expr_parts.proofs.ForCallers.{literal_count, all_count, next_item, none_left}
 use Rattle.expr_constants.proofs.literal_sizes.+sizes.Goals as goal
 
 pub all_bytes-loop-literal-preserved : goal.all_bytes-loop-literal-preserved
@@ -40,13 +41,13 @@ part_bytes-returns-in-Elements t c =
 pub part_bytes-all_bytes-requires : goal.part_bytes-all_bytes-requires
 part_bytes-all_bytes-requires t c =
     let e : literal_count (literal_of c.args.literal.now) ≡ suc (all_count (literals_of c.as_slice-in-Parts.result.now)) =
-    ap (λ l. literal_count (literal_of l)) c.in-Parts.is ∙ ap literal_count (parts_held c.in-Parts.all)
+    ap (λ l. literal_count (literal_of l)) c.in-Parts.is ∙ ap literal_count (parts_of c.in-Parts.all)
     ∙ ap (λ xs. suc (all_count (literals_of xs))) (sym c.as_slice-in-Parts.ensures.value) in
     (omega (arith, c.decreases, e), tt)
 
 pub part_bytes-all_bytes-requires-in-Elements : goal.part_bytes-all_bytes-requires-in-Elements
 part_bytes-all_bytes-requires-in-Elements t c =
     let e : literal_count (literal_of c.args.literal.now) ≡ suc (all_count (literals_of c.as_slice-in-Elements.result.now)) =
-    ap (λ l. literal_count (literal_of l)) c.in-Elements.is ∙ ap literal_count (elements_held c.in-Elements.all)
+    ap (λ l. literal_count (literal_of l)) c.in-Elements.is ∙ ap literal_count (elements_of c.in-Elements.all)
     ∙ ap (λ xs. suc (all_count (literals_of xs))) (sym c.as_slice-in-Elements.ensures.value) in
     (omega (arith, c.decreases, e), tt)

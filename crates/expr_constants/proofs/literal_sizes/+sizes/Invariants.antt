@@ -1,5 +1,5 @@
 use Rattle.std.proofs.Common.{◌≡◌, ◌≤◌, ◌+◌, ◌*◌, drop, min}
-use Rattle.nim_core.specs.View.{literal_of, literals_of}
+use Rattle.nim_program.specs.View.{literal_of, literals_of}
 use Rattle.expr_rules.specs.Literals.{all_bytes}
 use Rattle.expr_constants.specs.ViewConstants.{most}
 use Rattle.expr_parts.proofs.ForCallers.{literal_count, all_count}

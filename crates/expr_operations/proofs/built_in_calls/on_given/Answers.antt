@@ -1,7 +1,7 @@
 use Rattle.std.proofs.Common.{◌≡◌, sym, subst, length}
 use Rattle.std.specs.Prelude.{map}
 use Rattle.arc_base.specs.Refusal.{Answers}
-use Rattle.nim_core.specs.View.{expr_of}
+use Rattle.nim_program.specs.View.{expr_of}
 use Rattle.expr_rules.specs.Answers.{node}
 use Rattle.expr_rules.specs.Builtins.{first_row, operation_by}
 use Rattle.expr_parts.specs.View.{operand_of, no_fit_at, OperandsWithin}

@@ -1,6 +1,10 @@
-use Rattle.std.proofs.Common.{[], ap, ◌∙◌}
+use Rattle.std.proofs.Common.{[], ap, sym, subst, ◌∙◌}
+use Rattle.std.specs.Prelude.{Ok}
 use Rattle.arc_base.specs.declared.place.Code.TheVariants.{NotTyped}
-use Rattle.nim_core.specs.View.{expr_of}
+use Rattle.nim_types.specs.Table.{IsBelow}
+use Rattle.nim_program.specs.declared.operation.Operation.TheVariants as operation
+use Rattle.nim_program.specs.Nodes.{acting}
+use Rattle.nim_program.specs.View.{expr_of, operands_of}
 use Rattle.expr_rules.specs.Answers.{node}
 use Rattle.expr_rules.specs.Builtins.{first_row, operation_by}
 use Rattle.expr_operations.specs.ViewOperations.{rows_of, quit_rows}
@@ -17,3 +21,8 @@ pub returns-clause-answers : goal.returns-clause-answers
 returns-clause-answers c = λ ts.
     let n = node c.args.number c.args.at in
     ap (operation_by c.args.at []) (c.takes_nothing.ensures n ∙ ap (λ b. first_row n (quit_rows b) []) c.if-not-takes_nothing.false)
+    ∙ ap (λ xs. Ok (acting n operation.Quit (operands_of ts xs))) (sym c.new.ensures.items)
+    ∙ ap Ok (sym (c.applied.ensures.expr ts))
+
+pub returns-clause-within : goal.returns-clause-within
+returns-clause-within c = λ n. subst (IsBelow n) (sym c.applied.ensures.number) tt

@@ -2,11 +2,11 @@ use Rattle.std.proofs.Common.{[], ◌∷◌, refl, sym, ap, subst, ◌∙◌, le
 use Rattle.std.specs.Prelude.{option_map, IfSome}
 use Rattle.arc_base.specs.declared.place.Code.TheVariants.{NotTyped}
 use Rattle.nim_types.specs.Table.{IsBelow}
-use Rattle.nim_core.specs.View.{expr_of}
+use Rattle.nim_program.specs.View.{expr_of}
 use Rattle.expr_rules.specs.Answers.{node, value}
 use Rattle.expr_rules.specs.Builtins.{first_row, operation_by}
 use Rattle.expr_parts.specs.View.{valued_of}
-use Rattle.expr_operations.specs.ViewOperations.{rows_of, done_by, done_rule, made_number}
+use Rattle.expr_operations.specs.ViewOperations.{rows_of, done_by, done_rule}
 use Rattle.expr_parts.proofs.ForCallers.{answers_as, refuses}
 use Rattle.expr_parts.proofs.ForCallers.{if_ok}
 use Rattle.expr_operations.proofs.Written.{are_kinds, kinds_below}
@@ -38,5 +38,5 @@ returns-in-Some-clause-within c =
     let k = length c.args.types.now in
     if_ok c.make.result c.make.ensures.number
     (λ e h. subst (IsBelow k) (sym h)
-    (subst (λ o. IfSome o (λ m. IsBelow k (made_number m))) c.in-Some.is
+    (subst (λ o. IfSome o (λ m. IsBelow k m.ty)) c.in-Some.is
     (c.makes_of_value.ensures.within k (kinds_below {k = c.args.kinds} c.requires.kinds) c.entry.ensures.inside c.requires.value)))

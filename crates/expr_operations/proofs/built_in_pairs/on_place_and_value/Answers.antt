@@ -1,13 +1,14 @@
 use Rattle.std.proofs.Common.{[], ◌∷◌, sym, ap, ◌∙◌, None, length}
 use Rattle.std.specs.Prelude.{option_map}
-use Rattle.nim_core.specs.View.{expr_of}
+use Rattle.nim_program.specs.Nodes.{acting, path_and_value}
+use Rattle.nim_program.specs.View.{expr_of}
 use Rattle.expr_operations.specs.declared.built_in.Second.TheVariants as second
 use Rattle.expr_parts.specs.declared.value.Operand.TheVariants as operand
 use Rattle.expr_rules.specs.Answers.{node, value}
 use Rattle.expr_rules.specs.Builtins.{done, first_row, operation_by, or_later, settled_in, with_value}
 use Rattle.expr_rules.specs.Paths.{path_of}
 use Rattle.expr_parts.specs.View.{operand_of, valued_of}
-use Rattle.expr_operations.specs.ViewOperations.{join_expr, joined, second_rows, taken_with}
+use Rattle.expr_operations.specs.ViewOperations.{goes_of, joined, second_rows}
 use Rattle.expr_parts.proofs.ForCallers.{answers_as}
 use Rattle.expr_operations.proofs.Written.{are_kinds, kinds_below, misses, writes_one}
 use Rattle.expr_operations.proofs.built_in_pairs.on_place_and_value.Goals as goal
@@ -22,14 +23,15 @@ returns-in-Some-clause-answers c = λ ts facts u e.
     let v = valued_of ts c.args.left in
     let o = operand_of ts c.args.right in
     let os = value v ∷ o ∷ [] in
-    let k = c.args.kind in
-    let taken = ap (taken_with k) (c.entry.ensures.means ts facts u) ∙ c.taken_by-taken.ensures.types ts
+    let j = c.args.join in
+    let taken = ap (goes_of j.goes) (c.entry.ensures.means ts facts u) ∙ c.taken_by-taken.ensures.types ts
     (are_kinds {k = c.args.kinds} u c.requires.kinds) in
     let given = ap (λ l. settled_in l o) taken ∙ sym (sym (ap (option_map (valued_of ts)) c.in-Some.is) ∙ c.settle_in.ensures.given ts facts u) in
-    answers_as (expr_of ts) (operation_by c.args.at os (first_row n (second_rows (second.Value k)) os)) (joined n k v (expr_of ts c.in-Some.with.expr))
+    answers_as (expr_of ts) (operation_by c.args.at os (first_row n (second_rows (second.Value j)) os)) (joined n j v (expr_of ts c.in-Some.with.expr))
     c.write_with.result
-    (ap (λ s. operation_by c.args.at os (or_later (with_value s (λ w. done (v ∷ []) (join_expr n k (path_of v.expr) w.expr))) None)) given
-    ∙ writes_one v (λ p. join_expr n k p (expr_of ts c.in-Some.with.expr)))
+    (ap (λ s. operation_by c.args.at os (or_later
+    (with_value s (λ w. done (v ∷ []) (acting n j.operation (path_and_value (path_of v.expr) w.expr)))) None)) given
+    ∙ writes_one v (λ p. acting n j.operation (path_and_value p (expr_of ts c.in-Some.with.expr))))
     (c.write_with.ensures.answers ts)
 
 pub returns-in-None-clause-answers : goal.returns-in-None-clause-answers
@@ -38,9 +40,9 @@ returns-in-None-clause-answers c = λ ts facts u e.
     let v = valued_of ts c.args.left in
     let o = operand_of ts c.args.right in
     let os = value v ∷ o ∷ [] in
-    let k = c.args.kind in
-    let taken = ap (taken_with k) (c.entry.ensures.means ts facts u) ∙ c.taken_by-taken.ensures.types ts
+    let j = c.args.join in
+    let taken = ap (goes_of j.goes) (c.entry.ensures.means ts facts u) ∙ c.taken_by-taken.ensures.types ts
     (are_kinds {k = c.args.kinds} u c.requires.kinds) in
     let given = ap (λ l. settled_in l o) taken ∙ sym (sym (ap (option_map (valued_of ts)) c.in-None.is) ∙ c.settle_in.ensures.given ts facts u) in
-    misses ts c.args.at c.args.place (operand.Value c.args.left ∷ c.args.right ∷ []) (first_row n (second_rows (second.Value k)) os) c.refusal.result
-    (ap (λ s. or_later (with_value s (λ w. done (v ∷ []) (join_expr n k (path_of v.expr) w.expr))) None) given) e c.refusal.ensures
+    misses ts c.args.at c.args.place (operand.Value c.args.left ∷ c.args.right ∷ []) (first_row n (second_rows (second.Value j)) os) c.refusal.result
+    (ap (λ s. or_later (with_value s (λ w. done (v ∷ []) (acting n j.operation (path_and_value (path_of v.expr) w.expr)))) None) given) e c.refusal.ensures

@@ -1,6 +1,6 @@
 use Rattle.std.proofs.Common.{[], ◌∷◌, sym, subst, ap}
 use Rattle.arc_base.specs.Refusal.{Answers}
-use Rattle.nim_core.specs.View.{expr_of}
+use Rattle.nim_program.specs.View.{expr_of}
 use Rattle.expr_operations.specs.declared.built_in.Second.TheVariants as second
 use Rattle.expr_parts.specs.declared.value.Operand.{Operand}
 use Rattle.expr_parts.specs.declared.value.Operand.TheVariants as operand

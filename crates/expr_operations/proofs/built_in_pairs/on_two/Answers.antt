@@ -1,7 +1,7 @@
 use Rattle.std.proofs.Common.{◌≡◌, [], ◌∷◌, sym, subst, ap, ◌∙◌}
 use Rattle.arc_base.specs.Refusal.{Answers}
 use Rattle.nim_types.specs.Table.{type_at}
-use Rattle.nim_core.specs.View.{expr_of}
+use Rattle.nim_program.specs.View.{expr_of}
 use Rattle.expr_parts.specs.declared.value.Operand.{Operand}
 use Rattle.expr_rules.specs.Answers.{node}
 use Rattle.expr_rules.specs.Builtins.{first_row, operation_by}

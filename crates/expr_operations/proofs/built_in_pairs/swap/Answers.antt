@@ -2,8 +2,10 @@ use Rattle.std.proofs.Common.{[], ◌∷◌, ap, ◌∙◌, None}
 use Rattle.std.specs.Prelude.{Err, Bool}
 use Rattle.arc_base.specs.declared.place.Code.TheVariants.{NotTyped}
 use Rattle.arc_base.specs.Refusal.{and_then}
-use Rattle.nim_core.specs.Program as T
-use Rattle.nim_core.specs.View.{expr_of, path_of as path_in}
+use Rattle.nim_program.specs.declared.operation.Operation.TheVariants as operation
+use Rattle.nim_program.specs.Nodes.{acting, one_path}
+use Rattle.nim_program.specs.Program.{ByPath}
+use Rattle.nim_program.specs.View.{expr_of, path_of as path_in}
 use Rattle.expr_operations.specs.declared.built_in.Second.TheVariants as second
 use Rattle.expr_rules.specs.Answers.{node, only_if, value}
 use Rattle.expr_rules.specs.Builtins.{done, first_row, operation_by, or_later, written}
@@ -21,7 +23,8 @@ returns-then-not-are_same-clause-answers c = λ ts e.
     let w = valued_of ts c.args.right in
     let os = value v ∷ value w ∷ [] in
     refuses (expr_of ts) (operation_by c.args.at os (first_row n (second_rows second.Place) os)) NotTyped c.args.at c.refusal.result c.refusal.ensures
-    (ap (λ (b : Bool). operation_by c.args.at os (or_later (only_if b (done (v ∷ w ∷ []) (T.Swap n (path_of v.expr) (path_of w.expr)))) None))
+    (ap (λ (b : Bool). operation_by c.args.at os
+    (or_later (only_if b (done (v ∷ w ∷ []) (acting n operation.Swap (ByPath (path_of v.expr) (one_path (path_of w.expr)))))) None))
     (e ∙ c.if-not-are_same.true))
 
 pub returns-in-Ok-clause-answers : goal.returns-in-Ok-clause-answers
@@ -32,9 +35,10 @@ returns-in-Ok-clause-answers c = λ ts e.
     let os = value v ∷ value w ∷ [] in
     answers_as (expr_of ts) (operation_by c.args.at os (first_row n (second_rows second.Place) os))
     (and_then (written v) (λ p. swapped n p w)) c.swap_with.result
-    (ap (λ (b : Bool). operation_by c.args.at os (or_later (only_if b (done (v ∷ w ∷ []) (T.Swap n (path_of v.expr) (path_of w.expr)))) None))
+    (ap (λ (b : Bool). operation_by c.args.at os
+    (or_later (only_if b (done (v ∷ w ∷ []) (acting n operation.Swap (ByPath (path_of v.expr) (one_path (path_of w.expr)))))) None))
     (e ∙ c.if-not-are_same.false)
-    ∙ writes_two v w (λ p q. T.Swap n p q))
+    ∙ writes_two v w (λ p q. acting n operation.Swap (ByPath p (one_path q))))
     (goes (expr_of ts) (path_in ts) (written v) (λ p. swapped n p w) c.in-Ok.path c.swap_with.result (c.in-Ok.ensures ts) (c.swap_with.ensures.answers ts))
 
 pub returns-in-Err-clause-answers : goal.returns-in-Err-clause-answers
@@ -45,7 +49,8 @@ returns-in-Err-clause-answers c = λ ts e.
     let os = value v ∷ value w ∷ [] in
     answers_as (expr_of ts) (operation_by c.args.at os (first_row n (second_rows second.Place) os)) (and_then (written v) (λ p. swapped n p w))
     (Err c.in-Err.stop)
-    (ap (λ (b : Bool). operation_by c.args.at os (or_later (only_if b (done (v ∷ w ∷ []) (T.Swap n (path_of v.expr) (path_of w.expr)))) None))
+    (ap (λ (b : Bool). operation_by c.args.at os
+    (or_later (only_if b (done (v ∷ w ∷ []) (acting n operation.Swap (ByPath (path_of v.expr) (one_path (path_of w.expr)))))) None))
     (e ∙ c.if-not-are_same.false)
-    ∙ writes_two v w (λ p q. T.Swap n p q))
+    ∙ writes_two v w (λ p q. acting n operation.Swap (ByPath p (one_path q))))
     (stops (expr_of ts) (path_in ts) (written v) (λ p. swapped n p w) c.in-Err.stop (c.in-Err.ensures ts))

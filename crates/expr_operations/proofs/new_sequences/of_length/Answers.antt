@@ -6,8 +6,8 @@ use Rattle.arc_base.specs.Refusal.{refused}
 use Rattle.nim_types.specs.declared.types.TypeDef.TheVariants as D
 use Rattle.nim_types.specs.Types.{sequence}
 use Rattle.nim_types.specs.Table.{type_at}
-use Rattle.nim_core.specs.Program as T
-use Rattle.nim_core.specs.View.{expr_of}
+use Rattle.nim_program.specs.Nodes.{new_sequence}
+use Rattle.nim_program.specs.View.{expr_of}
 use Rattle.expr_rules.specs.Answers.{node, settled}
 use Rattle.expr_rules.specs.Names.{made_by, new_sequence_rule}
 use Rattle.expr_parts.specs.View.{operand_of, valued_of}
@@ -29,7 +29,7 @@ returns-in-Some-clause-answers c = λ ts facts u e.
     let at = c.args.at in
     let before = c.so_many.ensures.grown.under ts facts u in
     let int = entry_under c.args.ints D.Int before (slice_get_within ds c.args.ints D.Int c.requires.ints) c.requires.ints in
-    answers_as (expr_of ts) (new_sequence_rule n at t (o ∷ [])) (Ok (T.NewSequence (node n at) (sequence t) (expr_of ts c.in-Some.value.expr)))
+    answers_as (expr_of ts) (new_sequence_rule n at t (o ∷ [])) (Ok (new_sequence (node n at) (sequence t) (expr_of ts c.in-Some.value.expr)))
     c.so_many.result
     (ap (λ i. made_by n at t (o ∷ []) (settled i o)) (sym int)
     ∙ ap (made_by n at t (o ∷ [])) (sym (sym (ap (option_map (valued_of ts)) c.in-Some.is) ∙ c.settle.ensures.given ts facts before)))

@@ -3,8 +3,8 @@ use Rattle.std.specs.Prelude.{map, Ok, Err}
 use Rattle.std.specs.Vec.{vec_len}
 use Rattle.std.specs.Vec.Iter.{into_iter_items}
 use Rattle.arc_base.specs.Refusal.{Answers}
-use Rattle.nim_core.specs.declared.expr.Arg.{Arg}
-use Rattle.nim_core.specs.View.{args_of, path_of as path_in}
+use Rattle.nim_program.specs.declared.expr.Operand.{Operand}
+use Rattle.nim_program.specs.View.{operands_of, path_of as path_in}
 use Rattle.expr_rules.specs.Calls.{argument_by, arguments_by, arguments_for}
 use Rattle.expr_parts.specs.View.{ParametersWithin, OperandsWithin, operand_of, parameter_of, argument_of, paths_in}
 use Rattle.expr_parts.proofs.Arguing.{ArgumentsLeft}
@@ -64,7 +64,7 @@ returns-in-Err c = λ ts facts u given h.
     let params : at.rest.now ≡ p ∷ ps = c.in-Some-split_first.ensures.cases.0 in
     let l = subst (λ all. ArgumentsLeft ts at.rest.now all at.args.items said) steps (at.invariant.left ts facts u given h) in
     let m = subst (λ all. ArgumentsLeft ts all (x ∷ os) at.args.items said) params l in
-    no_argument (λ (args : Vec Arg Global). args_of ts args.items) ts p ps x os at.args.items said c.in-Err.stop m
+    no_argument (λ (args : Vec Operand Global). operands_of ts args.items) ts p ps x os at.args.items said c.in-Err.stop m
     (λ v e. subst (λ before. Answers (argument_of ts) (argument_by (map (path_in ts) (paths_in before)) p.mode v) (Err c.in-Err.stop)) c.as_slice.ensures.value
     (c.in-Err.ensures ts facts u v e))
 

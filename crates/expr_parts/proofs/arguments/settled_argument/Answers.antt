@@ -2,7 +2,7 @@ use Rattle.std.proofs.Common.{sym, ap, subst, ◌∙◌}
 use Rattle.std.specs.Prelude.{map, option_map}
 use Rattle.std.proofs.lemmas.Option.{same_Some}
 use Rattle.arc_base.specs.Refusal.{Answers}
-use Rattle.nim_core.specs.View.{path_of as path_in}
+use Rattle.nim_program.specs.View.{path_of as path_in}
 use Rattle.expr_rules.specs.Calls.{argument_by}
 use Rattle.expr_parts.specs.View.{paths_in, argument_of, valued_of}
 use Rattle.expr_parts.proofs.arguments.settled_argument.Goals as goal

@@ -1,7 +1,7 @@
 use Rattle.std.proofs.Common.{ap, ap₂, ◌∙◌}
 use Rattle.std.specs.Prelude.{map}
 use Rattle.arc_base.specs.declared.place.Code.TheVariants.{NotAssignable, VarOverlap}
-use Rattle.nim_core.specs.View.{path_of as path_in}
+use Rattle.nim_program.specs.View.{path_of as path_in}
 use Rattle.expr_rules.specs.Calls.{no_overlap}
 use Rattle.expr_rules.specs.Paths.{overlaps_any}
 use Rattle.expr_parts.specs.View.{paths_in}

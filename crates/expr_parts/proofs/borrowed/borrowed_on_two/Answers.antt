@@ -1,14 +1,14 @@
-use Rattle.std.proofs.Common.{[], ◌∷◌, sym, ap, ◌∙◌, subst, length}
+use Rattle.std.proofs.Common.{[], ◌∷◌, sym, ap, ◌∙◌, length, Some}
 use Rattle.std.specs.Prelude.{Ok}
 use Rattle.arc_base.specs.declared.place.Code.TheVariants.{NotTyped}
-use Rattle.nim_types.specs.Table.{type_at, IsBelow}
-use Rattle.nim_core.specs.Program as T
-use Rattle.nim_core.specs.View.{expr_of}
+use Rattle.nim_types.specs.Table.{type_at}
+use Rattle.nim_program.specs.Nodes.{compare}
+use Rattle.nim_program.specs.View.{expr_of}
 use Rattle.expr_rules.specs.Answers.{node}
 use Rattle.expr_rules.specs.Calls.{borrowed_call}
 use Rattle.expr_parts.specs.View.{valued_of}
-use Rattle.expr_parts.proofs.Fields.{if_ok}
-use Rattle.arc_base.proofs.ForCallers.{answers_as, makes, refuses}
+use Rattle.arc_base.proofs.ForCallers.{refuses}
+use Rattle.expr_parts.proofs.Making.{below_as, made_as}
 use Rattle.expr_parts.proofs.TypeNumbers.{bool_under, bool_below}
 use Rattle.expr_parts.proofs.borrowed.borrowed_on_two.Goals as goal
 
@@ -16,12 +16,12 @@ pub returns-in-Some-clause-answers : goal.returns-in-Some-clause-answers
 returns-in-Some-clause-answers c = λ ts facts u p q.
     let n = node c.args.number c.args.at in
     let vs = (p, valued_of ts c.args.left) ∷ (q, valued_of ts c.args.right) ∷ [] in
-    let made = T.Compare n (type_at ts c.args.kinds.bool) c.in-Some.comparison (expr_of ts c.args.left.expr) (expr_of ts c.args.right.expr) in
-    answers_as (expr_of ts) (borrowed_call c.args.number c.args.at c.args.comparison vs) (Ok made) c.compared.result
+    made_as ts (borrowed_call c.args.number c.args.at c.args.comparison vs)
+    (λ ts. compare n (type_at ts c.args.kinds.bool) c.in-Some.comparison (expr_of ts c.args.left.expr) (expr_of ts c.args.right.expr)) c.on_two.result
     (ap (λ o. borrowed_call c.args.number c.args.at o vs) c.in-Some.is
-    ∙ ap (λ t. Ok (T.Compare n t c.in-Some.comparison (expr_of ts c.args.left.expr) (expr_of ts c.args.right.expr)))
+    ∙ ap (λ t. Ok (compare n t c.in-Some.comparison (expr_of ts c.args.left.expr) (expr_of ts c.args.right.expr)))
     (sym (bool_under {k = c.args.kinds} u c.requires)))
-    (makes (expr_of ts) made c.compared.result (if_ok c.compared.result c.compared.ensures.expr (λ e h. h ts)) c.compared.ensures.memory)
+    c.on_two.ensures.expr c.on_two.ensures.memory
 
 pub returns-in-None-clause-answers : goal.returns-in-None-clause-answers
 returns-in-None-clause-answers c = λ ts facts u p q.
@@ -31,4 +31,4 @@ returns-in-None-clause-answers c = λ ts facts u p q.
 
 pub returns-in-Some-clause-within : goal.returns-in-Some-clause-within
 returns-in-Some-clause-within c =
-    if_ok c.compared.result c.compared.ensures.number (λ e h. subst (IsBelow (length c.args.types.now)) (sym h) (bool_below {k = c.args.kinds} c.requires))
+    below_as (length c.args.types.now) (Some c.args.kinds.bool) c.on_two.result (bool_below {k = c.args.kinds} c.requires) c.on_two.ensures.number

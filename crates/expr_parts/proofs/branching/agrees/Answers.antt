@@ -1,5 +1,5 @@
 use Rattle.std.proofs.Common.{ap, ◌∙◌}
-use Rattle.nim_core.specs.View.{if_type}
+use Rattle.nim_program.specs.View.{if_type}
 use Rattle.expr_rules.specs.Choices.{agrees}
 use Rattle.expr_parts.specs.View.{branching_of}
 use Rattle.expr_parts.proofs.branching.agrees.Goals as goal

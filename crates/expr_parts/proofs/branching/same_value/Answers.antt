@@ -1,5 +1,5 @@
 use Rattle.std.proofs.Common.{ap₂, ◌∙◌}
-use Rattle.nim_core.specs.View.{if_type}
+use Rattle.nim_program.specs.View.{if_type}
 use Rattle.expr_rules.specs.Choices.{same_value}
 use Rattle.expr_parts.proofs.branching.same_value.Goals as goal
 

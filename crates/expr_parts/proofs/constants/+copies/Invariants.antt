@@ -1,5 +1,5 @@
 use Rattle.std.proofs.Common.{◌≡◌, ◌≤◌, ◌+◌, ◌*◌, drop}
-use Rattle.nim_core.specs.View.{literal_of, literals_of}
+use Rattle.nim_program.specs.View.{literal_of, literals_of}
 use Rattle.expr_parts.proofs.Rows.{literal_count, all_count, literals_front}
 use Rattle.expr_parts.proofs.constants.+copies.Given as goal
 

@@ -2,8 +2,8 @@ use Rattle.std.proofs.Common.{◌≡◌, suc, sym, subst, ap, ◌∙◌}
 use Rattle.std.specs.Prelude.{Err}
 use Rattle.std.specs.Option.{option_copied}
 use Rattle.indent_scanner.specs.Words.{normal}
-use Rattle.nim_core.specs.declared.expr.Expr.{Expr}
-use Rattle.nim_core.specs.View.{expr_of}
+use Rattle.nim_program.specs.declared.expr.Expr.{Expr}
+use Rattle.nim_program.specs.View.{expr_of}
 use Rattle.expr_rules.specs.Answers.{typed_as}
 use Rattle.expr_rules.specs.Builtins.{is_built_in}
 use Rattle.expr_rules.specs.Env.{known_as, known_next, unknown}

@@ -3,7 +3,7 @@ use Rattle.std.specs.Prelude.{map}
 use Rattle.arc_base.specs.declared.place.Code.TheVariants.{NotTyped}
 use Rattle.arc_base.specs.Refusal.{Answers, refused}
 use Rattle.nim_types.specs.Table.{type_at}
-use Rattle.nim_core.specs.View.{expr_of}
+use Rattle.nim_program.specs.View.{expr_of}
 use Rattle.expr_rules.specs.Constructions.{conversion_rule}
 use Rattle.expr_parts.specs.View.{operand_of}
 use Rattle.arc_base.proofs.ForCallers.{refuses}

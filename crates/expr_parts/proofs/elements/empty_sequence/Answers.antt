@@ -1,7 +1,7 @@
 use Rattle.std.proofs.Common.{sym, subst}
 use Rattle.std.specs.Prelude.{Option, ℕ}
 use Rattle.arc_base.specs.Refusal.{Answers}
-use Rattle.nim_core.specs.View.{expr_of, if_type}
+use Rattle.nim_program.specs.View.{expr_of, if_type}
 use Rattle.expr_rules.specs.Constructions.{empty_rule}
 use Rattle.expr_parts.proofs.elements.empty_sequence.Goals as goal
 

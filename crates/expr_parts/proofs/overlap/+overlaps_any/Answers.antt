@@ -1,6 +1,6 @@
 use Rattle.std.proofs.Common.{ap, ap₂, ◌∙◌}
 use Rattle.std.specs.Prelude.{Bool, ◌||◌, map}
-use Rattle.nim_core.specs.View.{path_of as path_in}
+use Rattle.nim_program.specs.View.{path_of as path_in}
 use Rattle.expr_rules.specs.Paths.{overlaps_any}
 use Rattle.expr_parts.specs.View.{paths_in, paths_of}
 use Rattle.expr_parts.proofs.Fields.{if_ok}

@@ -3,7 +3,7 @@ use Rattle.std.specs.Prelude.{Ok}
 use Rattle.arc_base.specs.declared.place.Code.TheVariants.{NotAssignable}
 use Rattle.arc_base.specs.declared.place.Stop.TheVariants as stop
 use Rattle.arc_base.specs.Refusal.{and_then}
-use Rattle.nim_core.specs.View.{path_of as path_in}
+use Rattle.nim_program.specs.View.{path_of as path_in}
 use Rattle.expr_rules.specs.Answers.{place_in}
 use Rattle.expr_rules.specs.Builtins.{written, write_by}
 use Rattle.expr_rules.specs.Paths.{path_of}
@@ -16,7 +16,7 @@ pub returns-then-not-writable : goal.returns-then-not-writable
 returns-then-not-writable c = λ ts.
     let v = valued_of ts c.args.value in
     refuses (path_in ts) (written v) NotAssignable (place_in v.expr) c.refusal.result
-    (c.refusal.ensures ∙ ap (λ n. stop.Refused NotAssignable n.at) (c.node_of.ensures ts))
+    (c.refusal.ensures ∙ ap (λ n. stop.Refused NotAssignable n.at) (c.node.ensures ts))
     (ap (λ b. and_then (write_by b (place_in v.expr)) (λ _. Ok (path_of v.expr))) c.if-not-writable.true)
 
 pub returns : goal.returns

@@ -39,3 +39,6 @@ returns-clause-edges c = refl
 
 pub returns-clause-constants : goal.returns-clause-constants
 returns-clause-constants c = refl
+
+pub returns-clause-indexes : goal.returns-clause-indexes
+returns-clause-indexes c = refl

@@ -1,6 +1,6 @@
 use Rattle.std.proofs.Common.{subst, length, ◌∙◌}
 use Rattle.nim_types.specs.Table.{type_at, IsBelow}
-use Rattle.nim_core.specs.View.{expr_of, label_of}
+use Rattle.nim_program.specs.View.{expr_of, label_of}
 use Rattle.expr_rules.specs.Answers.{value_of}
 use Rattle.expr_rules.specs.Choices.{label_value}
 use Rattle.expr_parts.specs.View.{valued_of}

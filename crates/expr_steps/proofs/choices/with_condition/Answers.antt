@@ -1,7 +1,7 @@
 use Rattle.std.proofs.Common.{subst, sym, ap, ◌∙◌, length}
 use Rattle.nim_types.specs.Table.{IsBelow}
 use Rattle.std.specs.Prelude.{Ok}
-use Rattle.nim_core.specs.View.{expr_of}
+use Rattle.nim_program.specs.View.{expr_of}
 use Rattle.expr_rules.specs.Choices.{branch_value}
 use Rattle.expr_parts.specs.View.{number_of}
 use Rattle.expr_parts.proofs.ForCallers.{goes, if_ok, makes, stops}

@@ -1,6 +1,6 @@
 use Rattle.std.proofs.Common.{ap, ◌∙◌, ◌++◌, ◌∷◌, []}
 use Rattle.std.specs.Prelude.{Ok}
-use Rattle.nim_core.specs.View.{label_of}
+use Rattle.nim_program.specs.View.{label_of}
 use Rattle.expr_rules.specs.Choices.{new_label}
 use Rattle.expr_parts.proofs.ForCallers.{goes, if_ok, makes, stops}
 use Rattle.expr_steps.specs.ViewChoices.{tests_of}

@@ -1,11 +1,11 @@
 use Rattle.std.proofs.Common.{subst, sym, ap, ◌∙◌, length}
 use Rattle.nim_types.specs.Table.{IsBelow}
 use Rattle.std.specs.Prelude.{Ok}
-use Rattle.nim_core.specs.View.{expr_of, picks_of}
+use Rattle.nim_program.specs.View.{expr_of}
 use Rattle.expr_rules.specs.Choices.{branch_value}
 use Rattle.expr_parts.specs.View.{branching_of, number_of}
 use Rattle.expr_parts.proofs.ForCallers.{goes, if_ok, makes, stops}
-use Rattle.expr_steps.specs.ViewChoices.{pick_onto, picked_of, tests_of}
+use Rattle.expr_steps.specs.ViewChoices.{pick_onto, picked_of, rows_of, tests_of}
 use Rattle.expr_steps.proofs.Branched.{branching_within}
 use Rattle.expr_steps.proofs.choices.with_pick.Goals as goal
 
@@ -19,7 +19,7 @@ branch_value-requires c =
 pub returns-in-Ok-clause-answers : goal.returns-in-Ok-clause-answers
 returns-in-Ok-clause-answers c = λ ts facts u.
     let b = branching_of ts c.args.values in
-    let all = picks_of ts c.args.picks.items in
+    let all = rows_of ts c.args.picks.items in
     let tests = tests_of c.args.tests in
     let next = c.args.typed.next in
     goes (picked_of ts) (expr_of ts) (branch_value b (expr_of ts c.args.typed.expr)) (λ e. Ok (pick_onto all b tests e next)) c.in-Ok.value c.one_pick.result
@@ -31,7 +31,7 @@ pub returns-in-Err-clause-answers : goal.returns-in-Err-clause-answers
 returns-in-Err-clause-answers c = λ ts facts u.
     let b = branching_of ts c.args.values in
     stops (picked_of ts) (expr_of ts) (branch_value b (expr_of ts c.args.typed.expr))
-    (λ e. Ok (pick_onto (picks_of ts c.args.picks.items) b (tests_of c.args.tests) e c.args.typed.next)) c.in-Err.stop (c.in-Err.ensures.answers ts facts u)
+    (λ e. Ok (pick_onto (rows_of ts c.args.picks.items) b (tests_of c.args.tests) e c.args.typed.next)) c.in-Err.stop (c.in-Err.ensures.answers ts facts u)
 
 pub returns-in-Ok-clause-within : goal.returns-in-Ok-clause-within
 returns-in-Ok-clause-within c =

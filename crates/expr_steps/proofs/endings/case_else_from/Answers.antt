@@ -1,6 +1,6 @@
 use Rattle.std.proofs.Common.{sym, subst, ap, ◌∙◌, length}
 use Rattle.nim_types.specs.Table.{IsBelow}
-use Rattle.nim_core.specs.View.{expr_of}
+use Rattle.nim_program.specs.View.{expr_of}
 use Rattle.expr_rules.specs.Answers.{gives}
 use Rattle.expr_rules.specs.Choices.{branch_value, case_else_rule}
 use Rattle.expr_parts.specs.View.{number_of, typed_of, valued_of}

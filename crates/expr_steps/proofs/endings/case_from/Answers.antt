@@ -2,8 +2,9 @@ use Rattle.std.proofs.Common.{sym, ap, ◌∙◌, length}
 use Rattle.std.specs.Prelude.{Option, Ok, Err}
 use Rattle.arc_base.specs.Refusal.{and_then}
 use Rattle.nim_types.specs.Types.{Ty}
-use Rattle.nim_core.specs.Program.{Case}
-use Rattle.nim_core.specs.View.{expr_of, if_type}
+use Rattle.nim_program.specs.Nodes.{selecting}
+use Rattle.nim_program.specs.Program.{Choose, ByLabels}
+use Rattle.nim_program.specs.View.{expr_of, if_type}
 use Rattle.expr_rules.specs.Answers.{gives, node}
 use Rattle.expr_rules.specs.Choices.{case_node, cover_rule, gives_in}
 use Rattle.expr_parts.specs.View.{typed_of, valued_of}
@@ -19,7 +20,7 @@ returns-in-Ok c =
           let p = picked_of ts c.args.given in
           let v = valued_of ts c.args.selector.value in
           let at = c.args.at in
-          let made = λ (g : Option Ty). Case (node c.args.number at) g v.expr p.picks in
+          let made = λ (g : Option Ty). Choose (node c.args.number at) g (ByLabels p.rows) (selecting v.expr p.parts) in
           let said = λ (g : Option Ty). cover_rule facts at v.of g p.labels in
           let next = p.next in
           let is = c.gives-ty.ensures.ty ts in

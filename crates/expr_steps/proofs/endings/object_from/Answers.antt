@@ -1,19 +1,22 @@
-use Rattle.std.proofs.Common.{sym, subst, length}
-use Rattle.std.specs.Prelude.{map}
-use Rattle.nim_types.specs.Table.{IsBelow}
+use Rattle.std.proofs.Common.{length, Some}
+use Rattle.std.specs.Prelude.{map, Ok}
+use Rattle.nim_types.specs.Table.{type_at}
+use Rattle.nim_program.specs.View.{expr_of}
 use Rattle.expr_rules.specs.Constructions.{construct_rule}
-use Rattle.expr_parts.specs.View.{valued_of}
-use Rattle.expr_parts.proofs.ForCallers.{grown_same, if_ok}
-use Rattle.expr_builds.specs.ViewBuilt.{plan_of}
+use Rattle.expr_parts.specs.View.{found_of, valued_of}
+use Rattle.expr_parts.proofs.ForCallers.{below_as, grown_same, if_ok, makes}
 use Rattle.expr_steps.proofs.endings.object_from.Goals as goal
 
 pub returns : goal.returns
 returns c =
-    let n = length c.args.types.now in record {
+    let n = length c.args.types.now in
+    let p = c.args.plan in record {
       grown = grown_same c.args.types.now;
       answers = λ ts facts u.
-          c.typed_from.ensures.answers ts (construct_rule c.args.number c.args.at (plan_of ts c.args.plan) (map (valued_of ts) c.args.given.all.items))
-          (c.construct_rule.ensures.answers ts);
-      fits = c.typed_from.ensures.within n (if_ok c.construct_rule.result c.construct_rule.ensures.number
-          (λ e h. subst (IsBelow n) (sym h) c.requires.plan.0));
+          let made = construct_rule c.args.number c.args.at (type_at ts p.ty) (map (found_of ts) p.chosen.items)
+          (map (valued_of ts) c.args.given.all.items) in
+          c.typed_from.ensures.answers ts (Ok made)
+          (makes (expr_of ts) made c.construct_rule.result (if_ok c.construct_rule.result c.construct_rule.ensures.expr (λ e h. h ts))
+          c.construct_rule.ensures.memory);
+      fits = c.typed_from.ensures.within n (below_as n (Some p.ty) c.construct_rule.result c.requires.plan.0 c.construct_rule.ensures.number);
     }

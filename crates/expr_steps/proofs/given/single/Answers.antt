@@ -1,7 +1,7 @@
 use Rattle.std.proofs.Common.{sym, subst, ap, ◌∙◌}
 use Rattle.std.specs.Prelude.{Ok}
 use Rattle.nim_types.specs.Table.{IsBelow}
-use Rattle.nim_core.specs.View.{expr_of}
+use Rattle.nim_program.specs.View.{expr_of}
 use Rattle.expr_rules.specs.Answers.{typed_as}
 use Rattle.expr_parts.specs.View.{number_of}
 use Rattle.expr_steps.proofs.given.single.Goals as goal

@@ -2,7 +2,7 @@ use Rattle.std.proofs.Common.{sym, subst, ap, ◌∙◌}
 use Rattle.std.specs.Prelude.{Ok, IfOk}
 use Rattle.arc_base.specs.Refusal.{and_then, Answers}
 use Rattle.nim_types.specs.Table.{IsBelow}
-use Rattle.nim_core.specs.View.{expr_of}
+use Rattle.nim_program.specs.View.{expr_of}
 use Rattle.expr_rules.specs.Answers.{gives}
 use Rattle.expr_parts.specs.View.{number_of, typed_of}
 use Rattle.expr_parts.proofs.ForCallers.{stops}

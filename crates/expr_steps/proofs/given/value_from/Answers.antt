@@ -1,7 +1,7 @@
 use Rattle.std.proofs.Common.{subst, ap, length}
 use Rattle.nim_tree.specs.Terms.{term_of}
 use Rattle.nim_types.specs.Table.{IsBelow}
-use Rattle.nim_core.specs.View.{expr_of}
+use Rattle.nim_program.specs.View.{expr_of}
 use Rattle.expr_rules.specs.Paths.{can_be_written}
 use Rattle.expr_rules.specs.Typed.{accepted}
 use Rattle.expr_parts.specs.View.{env_of, valued_of}

@@ -1,6 +1,6 @@
 use Rattle.std.proofs.Common.{suc, length}
-use Rattle.nim_core.specs.declared.expr.Expr.{Expr}
-use Rattle.nim_core.specs.View.{expr_of}
+use Rattle.nim_program.specs.declared.expr.Expr.{Expr}
+use Rattle.nim_program.specs.View.{expr_of}
 use Rattle.expr_rules.specs.Answers.{gives, typed_as}
 use Rattle.expr_rules.specs.Names.{named_value}
 use Rattle.expr_parts.specs.View.{env_of, typed_of}

@@ -1,5 +1,5 @@
 use Rattle.std.proofs.Common.{ap, ◌∙◌}
-use Rattle.nim_core.specs.View.{expr_of}
+use Rattle.nim_program.specs.View.{expr_of}
 use Rattle.expr_rules.specs.Paths.{is_some, path_of, root_of}
 use Rattle.expr_steps.proofs.writable.has_root.Goals as goal
 

@@ -1,7 +1,8 @@
 use Rattle.std.proofs.Common.{subst, sym}
 use Rattle.flat_code.proofs.ForCallers.{AreSorted, sorted_table}
 use Rattle.flattening.proofs.FitPrograms.{program_fits}
-use Rattle.flattening.proofs.GivenCode.{code_given}
+use Rattle.flattening.proofs.CodeHandedOn.{code_given}
+use Rattle.flattening.proofs.NoHooks.{none_hooks}
 use Rattle.flattening.proofs.laws.fits.Goals as goal
 
 pub returns-clause-given : goal.returns-clause-given
@@ -10,3 +11,7 @@ returns-clause-given c = λ program typed plan. code_given program plan typed
 pub returns-clause-fits : goal.returns-clause-fits
 returns-clause-fits c = λ table program said typed numbered plain plan.
     program_fits program plan typed numbered plain (subst AreSorted (sym said) (sorted_table table))
+
+pub returns-clause-hooks : goal.returns-clause-hooks
+returns-clause-hooks c = λ table program said typed plain plan.
+    none_hooks program plan typed (subst AreSorted (sym said) (sorted_table table)) plain

@@ -1,7 +1,8 @@
 use Rattle.std.proofs.Common.{◌≡◌, ◌++◌, drop, map}
-use Rattle.mid_code.specs.Plain.{block_proc_from}
+use Rattle.flat_code.specs.declared.block.BlockLine.TheVariants.{Plain}
+use Rattle.flat_code.specs.Codes.{each_line}
 use Rattle.goto_exceptions.proofs.blocks.block_procs.Given as goal
 
 -- with the procedures that are left, they are all
 abbrev pub invariant-loop-proc : goal.invariant-loop-proc
-invariant-loop-proc l = l.block ++ map block_proc_from (drop l.proc-index l.procs) ≡ map block_proc_from l.procs
+invariant-loop-proc l = l.block ++ map (each_line Plain) (drop l.proc-index l.procs) ≡ map (each_line Plain) l.procs

@@ -3,8 +3,8 @@ use Rattle.std.specs.Prelude.{option_map, length}
 use Rattle.nim_types.specs.declared.types.TypeDef.TheVariants as D
 use Rattle.nim_types.specs.Entries.{says}
 use Rattle.nim_types.proofs.ForCallers.{index_get, one_below}
-use Rattle.nim_core.specs.Program.{Characters, PartsOf}
-use Rattle.plain_values.specs.Starts.{so_many}
+use Rattle.nim_program.specs.Program.{Characters, PartsOf}
+use Rattle.nim_program.specs.Defaults.{times}
 use Rattle.plain_values.specs.Entries.{starts_at, starts_all}
 use Rattle.plain_values.proofs.StartRows.{one_of_many, one_start, start_entry, start_object, start_unknown, start_zero, start_zero_distinct}
 use Rattle.plain_values.proofs.StartRows.{start_distinct, if_is}
@@ -138,7 +138,7 @@ start_row-loop-preserved t c =
 pub start_row-returns : goal.start_row-returns
 start_row-returns t c =
     let e : c.loop.counter ≡ c.args.count = omega (arith, c.loop-test.false, c.loop.auto.counter-end) in
-    c.loop.invariant ∙ ap (λ n. so_many n (starts_at c.args.within c.args.types.now c.args.ty)) e
+    c.loop.invariant ∙ ap (λ n. times n (starts_at c.args.within c.args.types.now c.args.ty)) e
 
 pub start_all-start-requires : goal.start_all-start-requires
 start_all-start-requires t c =

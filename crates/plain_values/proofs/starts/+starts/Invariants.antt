@@ -1,6 +1,6 @@
 use Rattle.std.proofs.Common.{◌≡◌, ◌+◌, ◌*◌, take}
-use Rattle.nim_core.specs.View.{literals_of}
-use Rattle.plain_values.specs.Starts.{so_many}
+use Rattle.nim_program.specs.View.{literals_of}
+use Rattle.nim_program.specs.Defaults.{times}
 use Rattle.plain_values.specs.Entries.{starts_at, starts_all}
 use Rattle.plain_values.proofs.starts.+starts.Given as goal
 
@@ -14,7 +14,7 @@ abbrev pub decreases-start_all : goal.decreases-start_all
 decreases-start_all l = (l.within * 4294967296 + l.bound) * 2
 
 abbrev pub invariant-start_row-loop : goal.invariant-start_row-loop
-invariant-start_row-loop l = literals_of l.all.items ≡ so_many l.counter (starts_at l.within l.types l.ty)
+invariant-start_row-loop l = literals_of l.all.items ≡ times l.counter (starts_at l.within l.types l.ty)
 
 abbrev pub invariant-start_all-loop-id : goal.invariant-start_all-loop-id
 invariant-start_all-loop-id l = literals_of l.all.items ≡ starts_all l.within l.types (take l.id-index l.ids)

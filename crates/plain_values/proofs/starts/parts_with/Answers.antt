@@ -1,5 +1,5 @@
-use Rattle.plain_values.proofs.LiteralRows.{parts_held}
+use Rattle.nim_program.proofs.ForCallers.{parts_of}
 use Rattle.plain_values.proofs.starts.parts_with.Goals as goal
 
 pub returns : goal.returns
-returns c = parts_held c.args.all
+returns c = parts_of c.args.all

@@ -1,6 +1,6 @@
 use Rattle.std.proofs.Common.{◌∙◌, ap, rules, w32}
 use Rattle.std.proofs.lemmas.Int.{to_z-of_z}
-use Rattle.nim_core.specs.Texts.{plain_text}
+use Rattle.nim_program.specs.Texts.{plain_text}
 use Rattle.nim_types.specs.Table.{facts_in}
 use Rattle.plain_values.specs.Entries.{text_for}
 use Rattle.plain_values.proofs.TextRows.{text_is, on_ok}

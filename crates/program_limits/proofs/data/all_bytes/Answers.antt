@@ -1,6 +1,6 @@
 use Rattle.std.proofs.Common.{ap}
 use Rattle.std.proofs.lemmas.List.{at_drop_all}
-use Rattle.program_limits.specs.Data.{all_bytes}
+use Rattle.nim_program.specs.TextSizes.{all_bytes}
 use Rattle.program_limits.proofs.Capping.{sums_next, sums_ended, drop_next}
 use Rattle.program_limits.proofs.data.all_bytes.Goals as goal
 

@@ -1,5 +1,5 @@
 use Rattle.std.proofs.Common.{◌≡◌, ◌+◌, ◌≤◌, suc, drop}
-use Rattle.program_limits.specs.Data.{all_bytes}
+use Rattle.nim_program.specs.TextSizes.{all_bytes}
 use Rattle.nim_program.specs.declared.text_sizes.TheConstants.{MOST_DATA}
 use Rattle.nim_program.specs.Folds.{capped}
 use Rattle.program_limits.proofs.data.all_bytes.Given as goal

@@ -1,7 +1,8 @@
 use Rattle.std.proofs.Common.{◌≡◌, refl, ap, ◌∙◌, map}
 use Rattle.nim_types.specs.Table.{types_in, facts_in}
 use Rattle.nim_program.specs.View.{declared_of, program_under}
-use Rattle.program_limits.specs.Data.{globals_size, data_counted}
+use Rattle.nim_program.specs.Sizes.{globals_size}
+use Rattle.program_limits.specs.Data.{data_counted}
 use Rattle.nim_program.specs.declared.text_sizes.TheConstants.{MOST_DATA}
 use Rattle.nim_program.specs.Folds.{capped}
 use Rattle.program_limits.proofs.Capping.{sum_two, fits_capped}

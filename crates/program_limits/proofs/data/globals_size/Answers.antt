@@ -2,7 +2,7 @@ use Rattle.std.proofs.Common.{map}
 use Rattle.std.proofs.lemmas.List.{at_drop_all}
 use Rattle.nim_types.specs.Table.{types_in, facts_in}
 use Rattle.nim_program.specs.View.{declared_of}
-use Rattle.program_limits.specs.Data.{globals_size}
+use Rattle.nim_program.specs.Sizes.{globals_size}
 use Rattle.program_limits.proofs.Capping.{sums_next, sums_ended}
 use Rattle.program_limits.proofs.Globals.{globals_next}
 use Rattle.program_limits.proofs.data.globals_size.Goals as goal

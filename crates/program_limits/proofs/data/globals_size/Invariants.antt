@@ -1,7 +1,7 @@
 use Rattle.std.proofs.Common.{◌≡◌, ◌+◌, ◌≤◌, suc, drop, map}
 use Rattle.nim_types.specs.Table.{types_in, facts_in}
 use Rattle.nim_program.specs.View.{declared_of}
-use Rattle.program_limits.specs.Data.{globals_size}
+use Rattle.nim_program.specs.Sizes.{globals_size}
 use Rattle.nim_program.specs.declared.text_sizes.TheConstants.{MOST_DATA}
 use Rattle.nim_program.specs.Folds.{capped}
 use Rattle.program_limits.proofs.data.globals_size.Given as goal

@@ -1,6 +1,6 @@
 use Rattle.std.proofs.Common.{◌≡◌, ◌<◌, ℕ, true, Some}
 use Rattle.std.specs.Prelude.{slice_get}
-use Rattle.mid_code.specs.declared.word.WordInstr.{WordInstr}
+use Rattle.word_code.specs.declared.word.WordInstr.{WordInstr}
 use Rattle.reg_scan.specs.Fine.{is_right}
 use Rattle.reg_scan.proofs.fine.all_right.Given as goal
 

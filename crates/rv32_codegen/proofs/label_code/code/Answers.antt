@@ -2,7 +2,7 @@ use Rattle.std.proofs.Common.{◌≤◌, length, sym, ap, subst, ◌∙◌}
 use Rattle.std.proofs.lemmas.Bool.{and_parts}
 use Rattle.std.proofs.lemmas.Result.{IfOk-weaker}
 use Rattle.rv32_isa.specs.Labels.{AreLines, hooks_lead}
-use Rattle.mid_code.specs.Words.{are_procs}
+use Rattle.word_code.specs.Words.{are_procs}
 use Rattle.rv32_codegen.specs.Layout.{all_far, enters_no_hook, size}
 use Rattle.rv32_codegen.specs.Lowering.{AlwaysDoes, MakeFrames, most_lines, most_bytes}
 use Rattle.rv32_codegen.proofs.Whole.{same_long, always_does, code_leads, code_unhooked, code_long}

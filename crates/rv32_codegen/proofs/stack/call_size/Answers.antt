@@ -1,5 +1,5 @@
 use Rattle.std.proofs.Common.{ap, ◌∙◌, arith}
-use Rattle.mid_code.specs.Words.{most_chain}
+use Rattle.word_code.specs.Words.{most_chain}
 use Rattle.rv32_codegen.specs.Chains.{number_for}
 use Rattle.rv32_codegen.proofs.Taken.{call_is}
 use Rattle.rv32_codegen.proofs.stack.call_size.Goals as goal

@@ -1,6 +1,6 @@
 use Rattle.std.proofs.Common.{◌≡◌, drop}
 use Rattle.std.specs.Prelude.{max}
-use Rattle.mid_code.specs.Words.{most_chain}
+use Rattle.word_code.specs.Words.{most_chain}
 use Rattle.rv32_codegen.specs.Chains.{number_for}
 use Rattle.rv32_codegen.proofs.stack.most_chain.Given as goal
 

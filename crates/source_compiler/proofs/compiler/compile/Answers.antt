@@ -1,13 +1,18 @@
 use Rattle.std.proofs.Common.{◌≡◌, refl, sym, subst, arith, Ok}
 use Rattle.std.proofs.lemmas.Result.{err_from_is_err_and}
 use Rattle.rv32_isa.specs.declared.image.Image.{Image as RustImage}
+use Rattle.elf32.specs.declared.file.ElfFile.{ElfFile}
 use Rattle.elf32.specs.Elf.{file_of}
 use Rattle.check_decls.specs.Modules.{program_in}
+use Rattle.nim_plan.specs.declared.plan.Plan.{Plan}
+use Rattle.core_compiler.specs.Compile.{HasCodeWhereWithin}
 use Rattle.core_compiler.specs.Limits.{build_limits}
-use Rattle.source_compiler.specs.Source.{alone}
-use Rattle.source_compiler.proofs.PlainFiles.{plain_file, plan_is, image_is}
-use Rattle.source_compiler.proofs.Taking.{never_refused, down_by_limits, no_long, for_limits}
+use Rattle.source_compiler.specs.Compile.{empty_plan}
+use Rattle.source_compiler.specs.Source.{alone, read_program}
+use Rattle.source_compiler.proofs.PlainFiles.{plain_file, plan_is, plan_ordered, image_is}
+use Rattle.source_compiler.proofs.Taking.{never_refused, down_by_limits, no_long, for_limits, code_read, unread_code, stopped_code}
 use Rattle.source_compiler.proofs.Stages.{limits_down}
+use Rattle.source_compiler.proofs.Unlisted.{within_same, does_same}
 use Rattle.source_compiler.proofs.compiler.compile.Goals as goal
 
 -- ---- no typed program
@@ -16,16 +21,22 @@ pub returns-in_err-program-clause-decided : goal.returns-in_err-program-clause-d
 returns-in_err-program-clause-decided c =
     let source = c.args.source.now in
     let p = err_from_is_err_and c.from_residual.result c.from_residual.ensures.1 in
-    let said = for_limits (build_limits 0) source _ c.in_err-program.ensures.refused in (
+    let said = for_limits (build_limits 0) source _ c.in_err-program.ensures.refused in
+    let code = unread_code ElfFile c.one_answer.ensures.not_both source _ c.in_err-program.ensures.refused 0 in (
       0,
       record {
         refused = rw (p.1, p.2) said;
         complete = λ name is. never_refused c.from_residual.result (build_limits 0) name source c.one_answer.ensures.not_both
             (rw (p.1, p.2) c.in_err-program.ensures.too_long) (rw (p.1, p.2) said) is;
+        code = rw (p.1, p.2) code;
       },
+      rw p.1 tt,
     )
 
 -- ---- none that can be compiled
+
+pub compile_core-requires-clause-ordered : goal.compile_core-requires-clause-ordered
+compile_core-requires-clause-ordered c = plan_ordered c.new-plan.result c.new-plan.ensures.sites c.new-plan.ensures.sinks c.new-plan.ensures.skips
 
 pub returns-in_err-image-clause-too_long : goal.returns-in_err-image-clause-too_long
 returns-in_err-image-clause-too_long c =
@@ -38,37 +49,57 @@ returns-in_err-image-clause-decided c =
     let p = err_from_is_err_and c.from_residual-in_err-image.result c.from_residual-in_err-image.ensures.1 in
     let answer = c.in_err-image.ensures.answers in
     let limits = build_limits answer.0 in
-    let down = limits_down RustImage limits (program_in c.in_ok-program.program) source c.in_ok-program.ensures.reads _ _ answer.1 in
-    let said = down_by_limits limits source p.0 _ c.in_ok-program.ensures.within p.2 down in (
+    let program = c.in_ok-program.program in
+    let plan = plan_is c.new-plan.result c.new-plan.ensures.sites c.new-plan.ensures.sinks c.new-plan.ensures.skips in
+    let down = limits_down RustImage limits (read_program program) source c.in_ok-program.ensures.reads _ _ answer.1 in
+    let said = down_by_limits limits source p.0 _ c.in_ok-program.ensures.within p.2 down in
+    let code = stopped_code ElfFile RustImage c.one_answer.ensures.program source (program_in program) c.new-plan.result answer.0 plan
+    c.in_ok-program.ensures.reads p.0 _ p.2 answer.2 in (
       answer.0,
       record {
         refused = rw p.1 said;
         complete = λ name is. never_refused c.from_residual-in_err-image.result limits name source c.one_answer.ensures.not_both
             (rw p.1 (no_long source p.0 _ p.2)) (rw p.1 said) is;
+        code = rw p.1 code;
       },
+      rw p.1 tt,
     )
 
 -- ---- the file
 
 pub returns-clause-decided : goal.returns-clause-decided
-returns-clause-decided c = (0, record { refused = tt; complete = λ name is. tt })
+returns-clause-decided c =
+    let source = c.args.source.now in
+    let answer = c.in_ok-image.ensures.answers in
+    let program = c.in_ok-program.program in
+    let plan = plan_is c.new-plan.result c.new-plan.ensures.sites c.new-plan.ensures.sinks c.new-plan.ensures.skips in
+    let has = subst (λ (plan : Plan). HasCodeWhereWithin (program_in program) plan answer.0) plan answer.2 in (
+      answer.0,
+      record {
+        refused = tt;
+        complete = λ name is. tt;
+        code = λ name. code_read c.one_answer.ensures.program name source (read_program program) answer.0
+            (c.in_ok-program.ensures.reads name) (within_same (program_in program) empty_plan has);
+      },
+      answer.3,
+    )
 
 pub returns-clause-compiled : goal.returns-clause-compiled
 returns-clause-compiled c =
     let source = c.args.source.now in
-    let made = c.new.ensures in
+    let made = c.new-plan.ensures in
     let image = c.in_ok-image.image in
-    let does = c.in_ok-image.ensures.does in
+    let does = does_same (program_in c.in_ok-program.program) c.new-plan.result c.in_ok-image.ensures.does in
     let answer = c.in_ok-image.ensures.answers in
-    let program = program_in c.in_ok-program.program in
+    let program = read_program c.in_ok-program.program in
     let reads = c.in_ok-program.ensures.reads in
-    let file = file_of (record { image = image; version = 1; plan = c.new.result }) in
-    let plan = plan_is c.new.result made.sites made.sinks made.skips in
+    let file = file_of (record { image = image; version = 1; plan = c.new-plan.result }) in
+    let plan = plan_is c.new-plan.result made.sites made.sinks made.skips in
     λ name. record {
       program = program;
       reads = reads name;
       reads_only = λ other r. c.one_answer.ensures.program (alone name source) other program r (reads name);
-      built = subst (λ n. build_limits n program ≡ Ok tt) (sym answer.2.0) answer.1;
+      built = subst (λ n. build_limits n program ≡ Ok tt) (sym answer.3) answer.1;
       allowed = plain_file file (record {
         version = refl;
         image = image_is image;
@@ -76,10 +107,11 @@ returns-clause-compiled c =
         hooks = does.hooks;
         plan = plan;
       });
-      agrees = λ input. does.agrees c.new.result input;
-      paced = λ input. does.paced c.new.result input;
-      in_time = λ input. does.in_time c.new.result input;
-      stack = does.stack;
+      agrees = λ input. does.agrees input;
+      paced = λ input. does.paced input;
+      in_time = λ input. does.in_time input;
+      code = does.code;
+      made = does.made;
       plan = plan;
       heap_is = does.heap_is;
       hooks = does.hooks;

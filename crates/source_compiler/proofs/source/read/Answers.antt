@@ -1,9 +1,13 @@
-use Rattle.std.proofs.Common.{sym, subst}
+use Rattle.std.proofs.Common.{◌≤◌, ◌+◌, List, length, sym, subst}
+use Rattle.std.specs.Prelude.{All}
 use Rattle.std.proofs.lemmas.Result.{err_from_is_err_and}
+use Rattle.indent_scanner.specs.declared.token.Token.{Token}
+use Rattle.indent_scanner.specs.Meaning.{IsSpelledIn}
 use Rattle.indent_scanner.specs.Tokens.{Tokens}
 use Rattle.nim_tree.specs.Statements.{tree_of}
 use Rattle.source_compiler.specs.Source.{IsTree}
-use Rattle.source_compiler.proofs.Stages.{refused_bytes, refused_tokens, typing_reads, typing_refuses}
+use Rattle.source_compiler.proofs.Stages.{refused_bytes, refused_tokens, typing_reads, typing_typed, typing_refuses}
+use Rattle.source_compiler.proofs.ReadTrees.{trees_read}
 use Rattle.source_compiler.proofs.source.read.Goals as goal
 
 pub returns-in_err-tokens-clause-refused : goal.returns-in_err-tokens-clause-refused
@@ -24,7 +28,27 @@ returns-clause-reads c =
     let tree = tree_of c.in_ok-tree.tree in
     let scanned = subst (Tokens source) (sym c.as_slice.ensures) c.in_ok-tokens.ensures.tokens in
     let is : IsTree source c.as_slice.result.now tree = record { scanned = scanned; parsed = c.in_ok-tree.ensures.reads; few = c.in_ok-tree.ensures.few } in
-    typing_reads source c.as_slice.result.now tree is c.programs_computed.ensures.programs c.elaborate.result c.elaborate.ensures
+    typing_reads source c.as_slice.result.now tree is c.programs_computed.ensures.programs c.elaborate.result c.elaborate.ensures.program
+
+pub returns-clause-typed : goal.returns-clause-typed
+returns-clause-typed c =
+    let source = c.args.source.now in
+    let tree = tree_of c.in_ok-tree.tree in
+    let spelled = subst (λ (ts : List Token). All (IsSpelledIn source) ts) (sym c.as_slice.ensures) c.in_ok-tokens.ensures.spelled in
+    let count = subst (λ (ts : List Token). length ts ≤ length source + 1) (sym c.as_slice.ensures) c.in_ok-tokens.ensures.count in
+    let read = trees_read source c.as_slice.result.now tree spelled count c.requires c.in_ok-tree.ensures.reads in
+    (typing_typed c.typed_programs.ensures c.programs_computed.ensures.programs tree read c.elaborate.result c.elaborate.ensures.program
+    c.elaborate.ensures.whole).0
+
+pub returns-clause-numbered : goal.returns-clause-numbered
+returns-clause-numbered c =
+    let source = c.args.source.now in
+    let tree = tree_of c.in_ok-tree.tree in
+    let spelled = subst (λ (ts : List Token). All (IsSpelledIn source) ts) (sym c.as_slice.ensures) c.in_ok-tokens.ensures.spelled in
+    let count = subst (λ (ts : List Token). length ts ≤ length source + 1) (sym c.as_slice.ensures) c.in_ok-tokens.ensures.count in
+    let read = trees_read source c.as_slice.result.now tree spelled count c.requires c.in_ok-tree.ensures.reads in
+    (typing_typed c.typed_programs.ensures c.programs_computed.ensures.programs tree read c.elaborate.result c.elaborate.ensures.program
+    c.elaborate.ensures.whole).1
 
 pub returns-clause-refused : goal.returns-clause-refused
 returns-clause-refused c =
@@ -32,4 +56,4 @@ returns-clause-refused c =
     let tree = tree_of c.in_ok-tree.tree in
     let scanned = subst (Tokens source) (sym c.as_slice.ensures) c.in_ok-tokens.ensures.tokens in
     let is : IsTree source c.as_slice.result.now tree = record { scanned = scanned; parsed = c.in_ok-tree.ensures.reads; few = c.in_ok-tree.ensures.few } in
-    typing_refuses source c.as_slice.result.now tree is c.programs_computed.ensures.refusals c.elaborate.result c.elaborate.ensures
+    typing_refuses source c.as_slice.result.now tree is c.programs_computed.ensures.refusals c.elaborate.result c.elaborate.ensures.program

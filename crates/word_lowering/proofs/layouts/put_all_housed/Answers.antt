@@ -1,4 +1,5 @@
-use Rattle.std.proofs.Common.{arith}
+use Rattle.std.proofs.Common.{arith, map}
+use Rattle.flat_code.specs.Codes.{block_plain}
 use Rattle.word_lowering.proofs.NextHome.{last_home, last_behind}
 use Rattle.word_lowering.proofs.layouts.put_all_housed.Goals as goal
 
@@ -6,10 +7,12 @@ pub returns-clause-all : goal.returns-clause-all
 returns-clause-all c =
     let a = c.args in
     let at = c.loop-place in
-    last_home a.types.now a.start a.roots.now a.places.now at.place-index at.all _ at.free (omega (arith, c.loop-place-test.false)) at.invariant.all
+    let lines = map block_plain a.survey.now.lines.now in
+    last_home a.types.now a.start lines a.places.now at.place-index at.all _ at.free (omega (arith, c.loop-place-test.false)) at.invariant.all
 
 pub returns-clause-free : goal.returns-clause-free
 returns-clause-free c =
     let a = c.args in
     let at = c.loop-place in
-    last_behind a.types.now a.start a.roots.now a.places.now at.place-index _ at.free (omega (arith, c.loop-place-test.false)) at.invariant.free
+    let lines = map block_plain a.survey.now.lines.now in
+    last_behind a.types.now a.start lines a.places.now at.place-index _ at.free (omega (arith, c.loop-place-test.false)) at.invariant.free

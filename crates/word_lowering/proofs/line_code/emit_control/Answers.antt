@@ -1,7 +1,6 @@
-use Rattle.std.proofs.Common.{rules, ℕ, ℤ, map, ap₂, ◌∙◌, w32}
+use Rattle.std.proofs.Common.{rules, ℕ, ℤ, ap₂, ◌∙◌, w32}
 use Rattle.std.proofs.lemmas.Int.{to_z-of_z}
-use Rattle.mid_code.specs.Codes.{block_plain}
-use Rattle.mid_code.specs.declared.line.Line.TheVariants.{Fits}
+use Rattle.flat_code.specs.declared.line.Line.TheVariants.{Fits}
 use Rattle.word_lowering.specs.LineCode.{line_code}
 use Rattle.word_lowering.specs.Operations.{fits_code}
 use Rattle.word_lowering.specs.Scope.{around_of}
@@ -17,7 +16,7 @@ returns-in_ok-own_label-in-Fits c =
     let high = to_z-of_z w32 f.high (search rules) in
     rw f.is
     (ok_as c.emit_fits.result
-    (λ p. put_as _ _ _ (line_code (around_of c.args.x.now) (Fits f.from f.low f.high f.to) (map block_plain c.args.rest.now)) p
+    (λ p. put_as _ _ _ (line_code (around_of c.args.x.now) (Fits f.from f.low f.high f.to) c.args.label) p
     (λ k. ap₂ (λ (l h : ℤ). fits_code from label l h k) low high
     ∙ ap₂ (λ (a b : ℕ). fits_code a b f.low f.high k) c.held-in-Fits.ensures c.in_ok-own_label-in-Fits.ensures))
     c.emit_fits.ensures)

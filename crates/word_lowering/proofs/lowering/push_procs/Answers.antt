@@ -2,7 +2,7 @@ use Rattle.std.proofs.Common.{length, map, sym, ap, subst, ◌∙◌}
 use Rattle.word_lowering.specs.LineCode.{Around}
 use Rattle.word_lowering.specs.Scope.{around_of}
 use Rattle.word_lowering.specs.Texts.{texts_of}
-use Rattle.mid_code.specs.Codes.{block_plain}
+use Rattle.flat_code.specs.Codes.{block_plain}
 use Rattle.word_lowering.specs.Stored.{HaveForms}
 use Rattle.word_lowering.proofs.WholeCode.{next_proc}
 use Rattle.word_lowering.proofs.lowering.push_procs.Goals as goal

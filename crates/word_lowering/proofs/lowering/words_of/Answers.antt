@@ -2,7 +2,8 @@ use Rattle.std.proofs.Common.{sym, ap, subst}
 use Rattle.word_lowering.specs.LineCode.{Around}
 use Rattle.word_lowering.specs.Scope.{around_of}
 use Rattle.word_lowering.specs.Stored.{HaveForms}
-use Rattle.word_lowering.proofs.WholeCode.{whole_by}
+use Rattle.word_lowering.proofs.BlocksFollowed.{lowers_given}
+use Rattle.word_lowering.proofs.WholeCode.{both, whole_by}
 use Rattle.word_lowering.proofs.lowering.words_of.Goals as goal
 
 pub all_procs-requires : goal.all_procs-requires
@@ -10,14 +11,17 @@ all_procs-requires c = subst HaveForms (sym (ap (λ (a : Around). a.table) c.in_
 
 pub returns : goal.returns
 returns c =
-    whole_by c.args.types.now c.args.blocks.now c.as_slice-procs.result.now c.args.layouts.now
-    c.in-Some.own.now c.in-Some-last.start.now (around_of c.in_ok-x.x) c.in_ok-procs.procs c.in_ok-statics.statics c.as_slice.result.now
-    c.as_slice-procs.ensures c.requires.layouts (sym c.in-Some.ensures.value) (sym c.in-Some-last.ensures.value)
-    c.in_ok-x.ensures c.in_ok-procs.ensures c.in_ok-statics.ensures
-    c.as_slice.ensures (c.may_lower.ensures c.if-not-may_lower.false) c.count-types.ensures.table c.requires.forms (record {
+    lowers_given c.args.types.now c.args.blocks.now (both c.args.types.now c.args.blocks.now c.in_ok-procs.procs c.in_ok-statics.statics)
+    c.count-types.ensures.table c.requires.forms
+    (record {
       sizes = c.memories.ensures.sizes;
       regions = c.memories.ensures.regions;
       stores = c.memories.ensures.stores;
       here = c.memories.ensures.here;
       elsewhere = c.memories.ensures.elsewhere;
     })
+    (whole_by c.args.types.now c.args.blocks.now c.as_slice-procs.result.now c.args.layouts.now
+    c.in-Some.own.now c.in-Some-last.start.now (around_of c.in_ok-x.x) c.in_ok-procs.procs c.in_ok-statics.statics c.as_slice.result.now
+    c.as_slice-procs.ensures c.requires.layouts (sym c.in-Some.ensures.value) (sym c.in-Some-last.ensures.value)
+    c.in_ok-x.ensures c.in_ok-procs.ensures c.in_ok-statics.ensures
+    c.as_slice.ensures (c.may_lower.ensures c.if-not-may_lower.false))

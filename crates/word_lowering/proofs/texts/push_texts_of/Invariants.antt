@@ -1,5 +1,5 @@
 use Rattle.std.proofs.Common.{◌≡◌, ◌≤◌, ◌++◌, drop, length, map}
-use Rattle.mid_code.specs.Codes.{block_plain}
+use Rattle.flat_code.specs.Codes.{block_plain}
 use Rattle.word_lowering.specs.Texts.{texts_of}
 use Rattle.word_lowering.proofs.texts.push_texts_of.Given as goal
 

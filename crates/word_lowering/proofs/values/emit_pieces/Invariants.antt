@@ -1,5 +1,5 @@
 use Rattle.std.proofs.Common.{◌≡◌, ◌++◌, drop, List}
-use Rattle.mid_code.specs.declared.word.WordInstr.{WordInstr}
+use Rattle.word_code.specs.declared.word.WordInstr.{WordInstr}
 use Rattle.word_lowering.specs.LineCode.{pieces_code}
 use Rattle.word_lowering.proofs.values.emit_pieces.Given as goal
 

@@ -1,5 +1,5 @@
 use Rattle.std.proofs.Common.{◌++◌, ◌∷◌, [], ap, ◌∙◌, to_z, of_z, w32, to_z-of_z}
-use Rattle.nim_core.specs.declared.expr.Label.TheVariants as label
+use Rattle.nim_program.specs.declared.expr.Label.TheVariants as label
 use Rattle.expr_builds.proofs.Labelling.{with_range}
 use Rattle.expr_builds.proofs.label_list.Labels.take_range.Goals as goal
 

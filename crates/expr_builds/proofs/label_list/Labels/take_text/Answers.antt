@@ -2,7 +2,7 @@ use Rattle.std.proofs.Common.{List, ◌++◌, ◌∷◌, [], ℕ, ap, ◌∙◌}
 use Rattle.std.specs.Prelude.{true, if◌then◌else◌, nat_eq}
 use Rattle.std.specs.Cmp.Lexicographic.{pointwise}
 use Rattle.std.specs.HashSet.{contains}
-use Rattle.nim_core.specs.declared.expr.Label.TheVariants as label
+use Rattle.nim_program.specs.declared.expr.Label.TheVariants as label
 use Rattle.expr_builds.proofs.Labelling.{with_text}
 use Rattle.expr_builds.proofs.label_list.Labels.take_text.Goals as goal
 

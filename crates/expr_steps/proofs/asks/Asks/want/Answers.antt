@@ -1,5 +1,5 @@
 use Rattle.std.proofs.Common.{sym, subst, ap, ◌∙◌}
-use Rattle.nim_core.specs.View.{if_type}
+use Rattle.nim_program.specs.View.{if_type}
 use Rattle.expr_rules.specs.Demands.{want_in}
 use Rattle.expr_parts.specs.View.{want_of}
 use Rattle.expr_steps.specs.ViewTyping.{asks_of, AsksWithin}

@@ -1,0 +1,69 @@
+-- Flat code that is that of a program does what the program means.
+use Rattle.std.proofs.Common.{◌≡◌, ◌≤◌, ℕ, ◌+◌, ◌*◌, List, [], refl, sym, ap, subst, ◌∙◌, arith, true, Ok}
+use Rattle.arc_base.specs.Behaviour.{Agrees, Sound}
+use Rattle.arc_base.specs.Pace.{Paced}
+use Rattle.nim_types.specs.declared.types.TypeDef.{TypeDef}
+use Rattle.nim_types.specs.Table.{types_in, facts_in}
+use Rattle.nim_plan.specs.declared.plan.Plan.{Plan}
+use Rattle.nim_program.specs.declared.program.Program.{Program as RustProgram}
+use Rattle.nim_program.specs.Sizes.{HaveForms}
+use Rattle.nim_program.specs.Program.{Program}
+use Rattle.nim_meaning.specs.Meaning.{meaning}
+use Rattle.flat_code.specs.declared.code.Code.{Code}
+use Rattle.flat_code.specs.declared.line.Line.{Line}
+use Rattle.flat_code.specs.Codes.{flat_plain, procs_of, hooks_of, AreNone}
+use Rattle.flat_code.specs.Fits.{code_fits}
+use Rattle.flat_code.specs.Lines.{does}
+use Rattle.flat_code.specs.Running.{Proc, at_first, runs, run_by}
+use Rattle.flat_code.specs.Scene.{Known, known_in}
+use Rattle.flat_code.specs.Sizes.{code_weight, data_bytes}
+use Rattle.flat_code.specs.Whole.{label_in}
+use Rattle.program_limits.specs.Data.{data_counted}
+use Rattle.program_limits.specs.Limits.{program_in}
+use Rattle.flattening.specs.Counted.{program_parts, program_data}
+use Rattle.flattening.specs.Flattened.{known_of, code_of, flat_meaning, IsExact}
+use Rattle.flattening.specs.Given.{flat_procs, flat_of}
+use Rattle.core_compiler.specs.Stages.{ShowsSame, IsFlatOf}
+use Rattle.core_compiler.proofs.TableNames.{names_count}
+
+module _ (p : RustProgram) (plan : Plan) (flat : Code Line) (procs : flat.procs ≡ flat_procs (program_in p) plan)
+    (code : procs_of (known_in p.types) flat ≡ code_of (program_in p) plan)
+    (agrees : (heap : ℕ) (input : List ℕ) → Agrees (flat_meaning (program_in p) plan heap input) (meaning (program_in p) plan heap input))
+    (paced : (heap : ℕ) (input : List ℕ) → Paced 12 (flat_meaning (program_in p) plan heap input) (meaning (program_in p) plan heap input))
+    (exact : (heap : ℕ) (input : List ℕ) (units : ℕ) → IsExact (program_in p) plan heap input units)
+    (fits : code_fits flat_plain (known_of (program_in p)) (flat_procs (program_in p) plan) ≡ true)
+    (hooks : AreNone (hooks_of (flat_of (program_in p) plan)))
+    (weight : code_weight flat_plain (flat_procs (program_in p) plan) ≤ 38 * program_parts (program_in p))
+    (sized : data_bytes flat_plain p.types (flat_procs (program_in p) plan) ≤ program_data p.types (program_in p)) (forms : HaveForms p.types)
+  where
+    abbrev program : Program
+    program = program_in p
+
+    abbrev known : Known
+    known = known_in p.types
+
+    shown : (heap : ℕ) (input : List ℕ) (units : ℕ) → (lines : ℕ) × ((more : ℕ) → ShowsSame
+        (run_by label_in (does known plan) (procs_of known flat) (lines + more)
+        (at_first label_in (does known plan) (procs_of known flat) heap input) units [] 0) (meaning program plan heap input units))
+    shown heap input units =
+        let e = exact heap input units in
+        subst (λ (ps : List (Proc Line)). (lines : ℕ) × ((more : ℕ) → ShowsSame
+        (run_by label_in (does known plan) ps (lines + more) (at_first label_in (does known plan) ps heap input) units [] 0)
+        (meaning program plan heap input units))) (sym code)
+        (e.0, λ more. record { events = (e.1 more).0; phase = (e.1 more).1 })
+
+    pub is_flat_of : IsFlatOf p.types program plan flat
+    is_flat_of = record {
+      agrees = λ heap input. subst (λ (ps : List (Proc Line)). Agrees (runs label_in (does known plan) ps heap input) (meaning program plan heap input))
+          (sym code) (agrees heap input);
+      paced = λ heap input. subst (λ (ps : List (Proc Line)). Paced 12 (runs label_in (does known plan) ps heap input) (meaning program plan heap input))
+          (sym code) (paced heap input);
+      exact = shown;
+      fits = ap (code_fits flat_plain known) procs ∙ fits;
+      weight = subst (λ ps. code_weight flat_plain ps ≤ 38 * program_parts program) (sym procs) weight;
+      data_size =
+          let names = names_count p.types in
+          subst (λ ps. data_bytes flat_plain p.types ps ≤ data_counted program) (sym procs) (omega (arith, sized, names));
+      hooks = subst (λ ps. AreNone (hooks_of (record { procs = ps }))) (sym procs) hooks;
+      forms = forms;
+    }

@@ -1,0 +1,25 @@
+use Rattle.std.proofs.Common.{ℕ, List, refl}
+use Rattle.program_limits.specs.Limits.{program_in}
+use Rattle.core_compiler.proofs.Flattened.{is_flat_of}
+use Rattle.core_compiler.proofs.Refusals.{plain_within}
+use Rattle.core_compiler.proofs.program.flat_of.Goals as goal
+
+pub returns : goal.returns
+returns c =
+    let program = program_in c.args.program.now in
+    let plan = c.args.plan.now in
+    let typed = c.requires.typed in
+    let numbered = c.requires.numbered in
+    let plain = plain_within program c.requires.within in
+    let formed = c.formed.ensures program typed numbered plain in
+    let sound = λ (heap : ℕ) (input : List ℕ). c.meanings.ensures.sound program plan heap input in
+    let table = c.args.program.now.types in
+    is_flat_of c.args.program.now plan c.in_ok-flat.flat c.in_ok-flat.ensures.procs c.in_ok-flat.ensures.code
+    (λ heap input. c.flat_code.ensures.agrees program formed plan heap input (sound heap input))
+    (λ heap input. c.flat_code.ensures.paced program formed plan heap input (sound heap input))
+    (λ heap input units. c.flat_code.ensures.exact program formed plan heap input (sound heap input) units)
+    (c.fits.ensures.fits table program refl typed numbered plain plan)
+    (c.fits.ensures.hooks table program refl typed plain plan)
+    (c.sizes.ensures.weight program plan)
+    (c.sizes.ensures.data table program plan refl typed numbered)
+    (c.table_forms.ensures table program refl refl typed)

@@ -1,5 +1,0 @@
-use Rattle.std.proofs.Common.{length}
-use Rattle.core_runner.proofs.label.+fits_one.Given as goal
-
-abbrev pub decreases-fits_one : goal.decreases-fits_one
-decreases-fits_one l = length l.labels.now

@@ -1,0 +1,14 @@
+use Rattle.std.proofs.Common.{ap, ◌∙◌, [], ◌∷◌, List}
+use Rattle.nim_types.specs.Types.{Ty}
+use Rattle.nim_program.specs.Nodes as nodes
+use Rattle.nim_program.specs.Program as P
+use Rattle.nim_program.specs.View.{operand_before}
+use Rattle.decl_rules.specs.State.{does}
+use Rattle.decl_parts.proofs.Branching.{one_step}
+use Rattle.decl_parts.proofs.nodes.does_one.Goals as goal
+
+pub returns-clause-list : goal.returns-clause-list
+returns-clause-list c =
+    let whole = λ (ts : List Ty). does (P.Do (nodes.acting c.args.node c.args.operation (operand_before ts c.args.operand P.NoArg))) ∷ [] in
+    one_step whole c.doing.result c.list_of.result
+    (λ ts. c.doing.ensures ts ∙ ap (λ (e : P.Expr). does (P.Do e) ∷ []) (c.in_ok-value.ensures.expr ts)) c.list_of.ensures.list

@@ -1,0 +1,15 @@
+use Rattle.std.proofs.Common.{ap, ◌∙◌, [], ◌∷◌, List}
+use Rattle.nim_types.specs.Types.{Ty}
+use Rattle.nim_program.specs.Nodes as nodes
+use Rattle.nim_program.specs.Program as P
+use Rattle.nim_program.specs.View.{expr_of}
+use Rattle.decl_rules.specs.State.{does}
+use Rattle.decl_parts.proofs.Branching.{one_step}
+use Rattle.decl_parts.proofs.nodes.leaves_with.Goals as goal
+
+pub returns-clause-list : goal.returns-clause-list
+returns-clause-list c =
+    let whole = λ (ts : List Ty). does (P.Leave c.args.node c.args.leaving (nodes.one_value (expr_of ts c.args.value))) ∷ [] in
+    one_step whole c.leaves.result c.list_of.result
+    (λ ts. c.leaves.ensures ts ∙ ap (λ (os : P.Args). does (P.Leave c.args.node c.args.leaving os) ∷ []) (c.in_ok-parts.ensures.operands ts))
+    c.list_of.ensures.list

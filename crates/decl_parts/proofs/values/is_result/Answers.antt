@@ -1,8 +1,0 @@
-use Rattle.std.proofs.Common.{ap, ◌∙◌}
-use Rattle.nim_types.specs.Table.{type_at}
-use Rattle.nim_core.specs.View.{if_type}
-use Rattle.decl_rules.specs.Values.{is_result}
-use Rattle.decl_parts.proofs.values.is_result.Goals as goal
-
-pub returns-in-Some : goal.returns-in-Some
-returns-in-Some c = λ ts facts u. ap (λ o. is_result (if_type ts o) (type_at ts c.args.ty)) c.in-Some.is ∙ c.is_same.ensures ts facts u

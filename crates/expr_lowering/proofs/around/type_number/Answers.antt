@@ -1,9 +1,0 @@
-use Rattle.std.proofs.Common.{◌<◌, length, sym, arith}
-use Rattle.expr_lowering.proofs.TypeNumbers.{number_is}
-use Rattle.expr_lowering.proofs.around.type_number.Goals as goal
-
-pub returns : goal.returns
-returns c =
-    let ds = c.args.types.now in
-    let lt : c.args.ty < length ds = omega (arith, c.if-ty-count.false, c.count.ensures.count) in
-    sym (number_is ds c.count.ensures.table c.args.ty lt)

@@ -1,9 +1,0 @@
-use Rattle.std.proofs.Common.{◌≡◌, length}
-use Rattle.expr_lowering.proofs.extent.are_same.Given as goal
-
--- where what is left is the same, all is
-abbrev pub invariant-loop-one : goal.invariant-loop-one
-invariant-loop-one l = l.left ≡ l.other → l.a ≡ l.b
-
-abbrev pub decreases-loop-one : goal.decreases-loop-one
-decreases-loop-one l = length l.left

@@ -1,0 +1,7 @@
+use Rattle.std.proofs.Common.{[], ◌∷◌, ◌++◌, ap, ◌∙◌}
+use Rattle.nim_program.specs.View.{operands_of}
+use Rattle.expr_parts.proofs.nodes.one_operand.Goals as goal
+
+pub returns-clause-operands : goal.returns-clause-operands
+returns-clause-operands c = λ ts.
+    ap (operands_of ts) (c.in_ok-push.ensures.items ∙ ap (λ all. all ++ c.args.operand ∷ []) c.new-all.ensures.items)

@@ -1,8 +1,0 @@
--- What is there, and what isn't.
-use Rattle.std.proofs.Common.{◌≡◌, Some, None}
-
-pub none_some : {A : Type 0} (x : A) → None ≡ Some x → ⊥
-none_some x e = cc
-
-pub some_same : {A : Type 0} (x y : A) → Some x ≡ Some y → x ≡ y
-some_same x y e = cc

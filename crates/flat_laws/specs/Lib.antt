@@ -1,4 +1,0 @@
-pub mod Flattens
-pub mod Counted
-pub mod ProgramTexts
-pub mod DataCounted

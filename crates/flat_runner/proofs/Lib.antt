@@ -1,0 +1,15 @@
+mod ValueRows
+mod StartRows
+mod Deeds
+mod Falling
+mod Running
+mod Placing
+mod TempRows
+mod Operands
+mod TextRows
+mod PieceRows
+mod TableRows
+mod Dids
+mod Machines
+mod Rows
+mod StepRows

@@ -1,0 +1,311 @@
+-- The lines of declarations and of loops fit.
+use Rattle.std.proofs.Common.{◌≡◌, ℕ, suc, ◌+◌, Bool, true, false, List, [], ◌∷◌, ◌++◌, Option, Some, None, refl, ap, ap₂, ◌∙◌, arith}
+use Rattle.std.specs.Prelude.{◌&&◌, ◌||◌, not}
+use Rattle.std.proofs.lemmas.Bool.{and_parts, and_from}
+use Rattle.nim_types.specs.Types.{Ty, Facts}
+use Rattle.nim_types.specs.Types as type
+use Rattle.nim_program.specs.declared.expr.Node.{Node}
+use Rattle.nim_program.specs.declared.operation.Use.TheVariants.{Owned, Given}
+use Rattle.nim_program.specs.declared.program.Mode.{Mode}
+use Rattle.nim_program.specs.Program.{Expr, Path, Args, NoArg, ByValue, ByPath, Proc, Declared, type_of, type_at, types_in}
+use Rattle.nim_program.specs.Program.{Kind, Count, Each as OfEach, Stmt, Loop}
+use Rattle.nim_program.specs.Program.{Stmts, Declare, Blocks, Otherwise, Block}
+use Rattle.nim_program.specs.Folds.{lists, totals, total_of, each_block, own_places, loop_places as loop_declared}
+use Rattle.nim_program.specs.Kinds.{kind_of, kind_if, is_int, has_length, element_of, is_of}
+use Rattle.nim_program.specs.Scopes.{Placed, placed, Here}
+use Rattle.nim_program.specs.Typed.{own_types, are_typed, Around, looping}
+use Rattle.nim_program.specs.Typed.{head_fits, starts, is_empty, is_typed_block, are_typed_blocks}
+use Rattle.nim_meaning.specs.LeftOut.{out_if, ◌or_then◌, first_hooked, any_place_hooked, left_out_in_args, left_out_in_stmt}
+use Rattle.nim_meaning.specs.LeftOut.{left_out_in_block}
+use Rattle.nim_meaning.specs.LeftOut.{left_out_in_blocks}
+use Rattle.nim_meaning.specs.Here.{is_hooked}
+use Rattle.flat_code.specs.declared.line.Line.TheVariants as L
+use Rattle.flat_code.specs.declared.place.FlatPlace.{FlatPlace}
+use Rattle.flat_code.specs.Fits.{Signature}
+use Rattle.flattening.specs.declared.numbers.Purpose.TheVariants.{End, Next, Arm, Turn}
+use Rattle.flattening.specs.Formed.{IsListed}
+use Rattle.flattening.specs.Numbering.{type_number, width, widths, width_in, width_of, label}
+use Rattle.flattening.specs.Places.{operand_places, head_from}
+use Rattle.flattening.specs.Places.{stmt_places, block_places}
+use Rattle.flattening.specs.StmtLines.{Exits, in_loop}
+use Rattle.flattening.specs.StmtLines.{lines_in, lines_of}
+use Rattle.flattening.proofs.Direct.{all_direct}
+use Rattle.flattening.proofs.Fit.{Among, Fit, fit_line, ◌>>◌}
+use Rattle.flattening.proofs.FitBlocks.{the_int, together_each}
+use Rattle.flattening.proofs.FitBlocks as blocks
+use Rattle.flattening.proofs.FitExprs as exprs
+use Rattle.flattening.proofs.FitParts.{turned, never, of_same, itself, both_are, both_some}
+use Rattle.flattening.proofs.FitParts as parts
+use Rattle.flattening.proofs.FitPaths as paths
+use Rattle.flattening.proofs.Numbered.{Owns, owns_first, owns_second, owns_inner}
+use Rattle.flattening.proofs.Owned as owned
+use Rattle.flattening.proofs.Parts.{Each, EachIn, apart}
+use Rattle.flattening.proofs.Plain.{neither}
+use Rattle.flattening.proofs.PlaceNumbers.{operand_numbers, loop_numbers, head_after, head_width, value_numbers}
+use Rattle.flattening.proofs.PlaceNumbers.{block_numbers}
+use Rattle.flattening.proofs.FitTests as standing
+
+module _ (types : List Ty) (facts : Facts) (procs : List Proc) (globals : List Placed) (sigs : List Signature) (start whole : List FlatPlace)
+    (modes : (proc position : ℕ) → Mode) (result : Option Declared)
+    (grounds : parts.Grounds types facts procs globals sigs start whole) where
+  abbrev around : Among
+  around = parts.around types facts procs globals sigs start whole
+
+  abbrev value : ℕ → Option Ty
+  value = parts.value types facts procs globals sigs start whole
+
+  abbrev own_place : ℕ → Option Ty
+  own_place = blocks.own_place types facts procs globals sigs start whole
+
+  abbrev Held : Declared → Type 0
+  Held = blocks.Held types facts procs globals sigs start whole
+
+  abbrev Sees : ℕ → List Placed → Type 0
+  Sees = parts.Sees types facts procs globals sigs start whole
+
+  abbrev Listed : List Ty → Type 0
+  Listed = Each (IsListed types)
+
+  abbrev here : ℕ → List Placed → Option ℕ → Here
+  here = parts.seen types facts procs globals sigs start whole
+
+  abbrev StmtStood : (filled : ℕ) (places : List Placed) (dest : Option ℕ) (by : Around) (s : Stmt) (t : ℕ) → Type 0
+  StmtStood = standing.StmtStood types facts procs globals sigs start whole modes result grounds
+
+  abbrev BlockStood : (filled : ℕ) (places : List Placed) (dest : Option ℕ) (by : Around) (b : Stmts) (t : ℕ) → Type 0
+  BlockStood = standing.BlockStood types facts procs globals sigs start whole modes result grounds
+
+  -- ---- declarations
+
+  -- what is known of one, and of what follows it
+  pub record Declares (filled : ℕ) (places : List Placed) (dest : Option ℕ) (node : Node) (place : Declared) (cursor : Bool) (value : Args) (rest : Stmts)
+      (t : ℕ) : Type 0 where
+    pub starts_right : starts facts place.of value ≡ true
+    pub typed : are_typed (here filled places dest) value ≡ true
+    pub plain : left_out_in_args facts false value ≡ None
+    pub listed : Listed (totals lists own_types value)
+    pub place_listed : IsListed types place.of
+    pub place_held : Held place
+    pub rest_plain : left_out_in_block facts rest ≡ None
+    pub rest_listed : Listed (total_of lists own_types rest)
+    pub rest_held : Each Held (total_of lists own_places rest)
+    pub owns : Owns whole (block_places types (Declare node place cursor value rest) t) t t (t + width_of (Declare node place cursor value rest))
+
+  pub declared_known : (filled : ℕ) (places : List Placed) (dest : Option ℕ) (node : Node) (place : Declared) (cursor : Bool) (value : Args) (rest : Stmts)
+      (t : ℕ) →
+      Sees filled places → starts facts place.of value && are_typed (here filled places dest) value ≡ true →
+      left_out_in_block facts (Declare node place cursor value rest) ≡ None → Listed (total_of lists own_types (Declare node place cursor value rest)) →
+      Each Held (total_of lists own_places (Declare node place cursor value rest)) →
+      Owns whole (block_places types (Declare node place cursor value rest) t) t t (t + width_of (Declare node place cursor value rest)) →
+      Declares filled places dest node place cursor value rest t
+  declared_known filled places dest node place cursor value rest t sees h p l d owns =
+      let q = and_parts (starts facts place.of value) (are_typed (here filled places dest) value) h in
+      let r = neither (left_out_in_args facts false value) (left_out_in_block facts rest)
+      (neither (out_if (is_hooked facts place.of) node) (left_out_in_args facts false value or_then left_out_in_block facts rest) p).1 in
+      let m = apart (IsListed types) (totals lists own_types value) (total_of lists own_types rest) l.1 in
+      let e = apart Held (totals lists own_places value) (total_of lists own_places rest) d.1 in
+      record {
+        starts_right = q.0;
+        typed = q.1;
+        plain = r.0;
+        listed = m.0;
+        place_listed = l.0;
+        place_held = d.0;
+        rest_plain = r.1;
+        rest_listed = m.1;
+        rest_held = e.1;
+        owns = owns;
+      }
+
+  module _ (filled : ℕ) (places : List Placed) (dest : Option ℕ) (sees : Sees filled places) (node : Node) (place : Declared) (cursor : Bool) where
+    abbrev RestFits : Stmts → Exits → Type 0
+    RestFits rest exits = (u : ℕ) → Owns whole (block_places types rest u) u u (u + width_of rest) → Fit around (lines_of types modes result rest exits u)
+
+    pub declared_fits : (value : Args) (rest : Stmts) (exits : Exits) (t : ℕ) → Declares filled places dest node place cursor value rest t →
+        RestFits rest exits → Fit around (lines_of types modes result (Declare node place cursor value rest) exits t)
+    declared_fits NoArg rest exits t k rest_fits =
+        fit_line (L.Blank place.number (type_number types place.of)) (both_some _ _ (Some place.of) refl k.place_held.own (ap Some k.place_listed))
+        >> rest_fits (suc t) (owns_inner (suc t) (suc t + width_of rest) (omega arith) (omega arith) (omega arith) k.owns)
+    declared_fits (ByValue e NoArg) rest exits t k rest_fits =
+        let value' = ByValue e NoArg in
+        let o = owns_inner (suc t) (suc t + widths value' + width_of rest) (omega arith) (omega arith) (omega arith) k.owns in
+        let s = standing.one_value types facts procs globals sigs start whole modes result grounds filled places dest sees e (suc t) k.typed k.plain k.listed
+        (standing.owns_nothing types facts procs globals sigs start whole modes result grounds e (suc t)
+        (owns_first (suc t + widths value') (suc t + widths value' + width_of rest) (omega arith)
+        (block_numbers types rest (suc t + widths value')) o)) in
+        exprs.expr_fits types facts procs globals sigs start whole modes grounds filled places dest sees e Given (suc t) s
+        >> (fit_line (L.Fill place.number (suc t))
+        (ap₂ is_of k.place_held.own (parts.value_is types facts procs globals sigs start whole filled places dest e (suc t) s)
+        ∙ turned (type_of e) (Some place.of) k.starts_right)
+        >> rest_fits (suc t + widths value')
+        (owns_second (suc t) (suc t + widths value') (suc t + widths value' + width_of rest) (omega arith) (omega arith) (omega arith)
+        (value_numbers types value' (suc t)) o))
+    declared_fits (ByValue e (ByValue f more)) rest exits t k rest_fits = never k.starts_right
+    declared_fits (ByValue e (ByPath path more)) rest exits t k rest_fits = never k.starts_right
+    declared_fits (ByPath path more) rest exits t k rest_fits = never k.starts_right
+
+  -- several blocks, wherever their temporaries are
+  pub record BlocksKnown (filled : ℕ) (places : List Placed) (dest : Option ℕ) (by : Around) (bs : Blocks) : Type 0 where
+    pub typed : are_typed_blocks (here filled places dest) by bs ≡ true
+    pub plain : left_out_in_blocks facts bs ≡ None
+    pub listed : EachIn (IsListed types) (each_block lists own_types bs)
+    pub held : EachIn Held (each_block lists own_places bs)
+
+  pub rest_known : (filled : ℕ) (places : List Placed) (dest : Option ℕ) (by : Around) (first : Stmts) (rest : Blocks) →
+      BlocksKnown filled places dest by (Block first rest) → BlocksKnown filled places dest by rest
+  rest_known filled places dest by first rest bs = record {
+    typed = (and_parts _ (are_typed_blocks (here filled places dest) by rest) bs.typed).1;
+    plain = (neither (left_out_in_block facts first) (left_out_in_blocks facts rest) bs.plain).1;
+    listed = bs.listed.1;
+    held = bs.held.1;
+  }
+
+  pub first_block : (filled : ℕ) (places : List Placed) (dest : Option ℕ) (by : Around) (first : Stmts) (rest : Blocks) (t : ℕ) →
+      BlocksKnown filled places dest by (Block first rest) → Owns whole (block_places types first t) t t (t + width_of first) →
+      BlockStood filled places dest by first t
+  first_block filled places dest by first rest t bs owns = record {
+    typed = (and_parts _ (is_typed_block (here filled places dest) by first) (and_parts _ (are_typed_blocks (here filled places dest) by rest) bs.typed).0).1;
+    plain = (neither (left_out_in_block facts first) (left_out_in_blocks facts rest) bs.plain).0;
+    listed = bs.listed.0;
+    held = bs.held.0;
+    owns = owns;
+  }
+
+  pub last_block : (filled : ℕ) (places : List Placed) (dest : Option ℕ) (by : Around) (block : Stmts) (t : ℕ) →
+      BlocksKnown filled places dest by (Otherwise block) → Owns whole (block_places types block t) t t (t + width_of block) →
+      BlockStood filled places dest by block t
+  last_block filled places dest by block t bs owns =
+      record { typed = bs.typed; plain = bs.plain; listed = bs.listed.0; held = bs.held.0; owns = owns }
+
+  -- what is known of the parts of a loop
+  pub loop_parts : (node : Node) (kind : Kind) (head : Args) (body : Stmts) (t : ℕ) → Owns whole (stmt_places types (Loop node kind head body) t) t t
+      (t + width_in (Loop node kind head body)) →
+      Owns whole (operand_places types head (head_from kind t)) (head_from kind t) (head_from kind t) (head_from kind t + widths head)
+      × Owns whole (block_places types body (head_from kind t + widths head)) (head_from kind t + widths head) (head_from kind t + widths head)
+      (head_from kind t + widths head + width_of body)
+  loop_parts node kind head body t owns =
+      let h = head_after types kind t in
+      let e = head_width types node kind head body t in
+      let from = head_from kind t in
+      let parts = owns_second t from (from + widths head + width_of body) (omega (arith, h)) (omega (arith, h)) (omega (arith, e))
+      (loop_numbers types node kind t (omega arith) (omega arith)) owns in (
+        owns_first (from + widths head) (from + widths head + width_of body) (omega arith) (block_numbers types body (from + widths head)) parts,
+        owns_second from (from + widths head) (from + widths head + width_of body) (omega arith) (omega arith) (omega arith)
+            (operand_numbers types head from) parts,
+      )
+
+  pub loop_plain : (node : Node) (kind : Kind) (head : Args) (body : Stmts) → left_out_in_stmt facts (Loop node kind head body) ≡ None →
+      (left_out_in_args facts false head ≡ None) × (left_out_in_block facts body ≡ None)
+  loop_plain node kind head body p =
+      neither (left_out_in_args facts false head) (left_out_in_block facts body)
+      (neither (out_if (any_place_hooked facts (loop_declared kind) || first_hooked facts (types_in head)) node)
+      (left_out_in_args facts false head or_then left_out_in_block facts body) p).1
+
+  pub int_at : (t : ℕ) (ty : Option Ty) → value t ≡ ty → is_int (kind_if facts ty) ≡ true → is_int (kind_if facts (value t)) ≡ true
+  int_at t ty e h = ap (λ o. is_int (kind_if facts o)) e ∙ h
+
+  -- two types that are ints are one
+  pub both_int : (a : Option Ty) (ty : Ty) → is_int (kind_if facts a) ≡ true → is_int (kind_of facts ty) ≡ true → is_of a (Some ty) ≡ true
+  both_int None ty h k = never h
+  both_int (Some s) ty h k = ap₂ (λ s t. is_of (Some s) (Some t)) (the_int facts s h) (the_int facts ty k)
+
+  module _ (filled : ℕ) (places : List Placed) (dest : Option ℕ) (by : Around) (node : Node) (variable : Declared) (body : Stmts) (exits : Exits) (t : ℕ)
+      (sees : Sees filled places) where
+    abbrev BodyFits : ℕ → Type 0
+    BodyFits u = (more : List Placed) → Sees filled more → BlockStood filled more dest (looping by) body u → Fit around
+        (lines_of types modes result body (in_loop exits t) u)
+
+    -- a range
+    count_two : (inclusive : Bool) (first last : Expr) →
+        StmtStood filled places dest by (Loop node (Count variable inclusive) (ByValue first (ByValue last NoArg)) body) t →
+        BodyFits (suc t + widths (ByValue first (ByValue last NoArg))) →
+        Fit around (lines_in types modes result (Loop node (Count variable inclusive) (ByValue first (ByValue last NoArg)) body) exits t)
+    count_two inclusive first last s body_fits =
+        let head = ByValue first (ByValue last NoArg) in
+        let h = and_parts (head_fits facts (Count variable inclusive) head && are_typed (here filled places dest) head) _ s.typed in
+        let q = and_parts (head_fits facts (Count variable inclusive) head) (are_typed (here filled places dest) head) h.0 in
+        let i = and_parts (is_int (kind_of facts variable.of) && is_int (kind_if facts (type_of first))) (is_int (kind_if facts (type_of last))) q.0 in
+        let j = and_parts (is_int (kind_of facts variable.of)) (is_int (kind_if facts (type_of first))) i.0 in
+        let o = loop_parts node (Count variable inclusive) head body t s.owns in
+        let p = loop_plain node (Count variable inclusive) head body s.plain in
+        let l = apart (IsListed types) (totals lists own_types head) (total_of lists own_types body) s.listed.1 in
+        let d = apart Held (totals lists own_places head) (total_of lists own_places body) s.held.1 in
+        let all : parts.AllStood types facts procs globals sigs start whole filled places dest head (suc t) =
+        record { typed = q.1; direct = all_direct facts false head p.0; listed = l.0; owns = o.0 } in
+        let a = standing.first_stood types facts procs globals sigs start whole modes result grounds filled places dest sees first (ByValue last NoArg)
+        (suc t) all in
+        let b = standing.first_stood types facts procs globals sigs start whole modes result grounds filled places dest sees last NoArg (suc t + width first)
+        (parts.rest_stood types facts procs globals sigs start whole filled places dest first (ByValue last NoArg) (suc t) all) in
+        let a_is = parts.value_is types facts procs globals sigs start whole filled places dest first (suc t) a in
+        let b_is = parts.value_is types facts procs globals sigs start whole filled places dest last (suc t + width first) b in
+        let both = and_from _ _ (int_at (suc t) (type_of first) a_is j.1) (int_at (suc t + width first) (type_of last) b_is i.1) in
+        exprs.ready_fits types facts procs globals sigs start whole modes grounds filled places dest sees head (λ i. Owned) 0 (suc t) all
+        >> (fit_line (L.Beyond (suc t) (suc t + width first) inclusive (label End t)) both
+        >> (fit_line L.Enter refl
+        >> (fit_line (L.Label (label Turn t)) refl
+        >> (fit_line (L.Fill variable.number (suc t)) (ap₂ is_of s.held.0.own a_is
+        ∙ turned (type_of first) (Some variable.of) (both_int (type_of first) variable.of j.1 j.0))
+        >> (body_fits (places ++ placed variable ∷ []) (blocks.sees_place types facts procs globals sigs start whole filled places variable sees s.held.0)
+        (record { typed = (and_parts (not (is_empty body)) _ h.1).1; plain = p.1; listed = l.1; held = d.1; owns = o.1 })
+        >> (fit_line (L.Label (label Next t)) refl
+        >> (fit_line (L.CountTurn (suc t) (suc t + width first) inclusive (label Turn t)) both >> fit_line (L.Label (label End t)) refl)))))))
+
+    pub count_fits : (inclusive : Bool) (head : Args) → StmtStood filled places dest by (Loop node (Count variable inclusive) head body) t →
+        BodyFits (suc t + widths head) → Fit around (lines_in types modes result (Loop node (Count variable inclusive) head body) exits t)
+    count_fits inclusive (ByValue first (ByValue last NoArg)) s body_fits = count_two inclusive first last s body_fits
+    count_fits inclusive NoArg s body_fits = never s.typed
+    count_fits inclusive (ByPath path rest) s body_fits = never s.typed
+    count_fits inclusive (ByValue first NoArg) s body_fits = never (and_parts _ false (and_parts _ _ (and_parts _ _ s.typed).0).0).1
+    count_fits inclusive (ByValue first (ByPath path rest)) s body_fits = never (and_parts _ false (and_parts _ _ (and_parts _ _ s.typed).0).0).1
+    count_fits inclusive (ByValue first (ByValue last (ByValue e rest))) s body_fits = never (and_parts _ false (and_parts _ _ (and_parts _ _ s.typed).0).0).1
+    count_fits inclusive (ByValue first (ByValue last (ByPath path rest))) s body_fits = never (and_parts _ false (and_parts _ _ (and_parts _ _ s.typed).0).0).1
+
+    -- elements
+    each_one : (path : Path) → StmtStood filled places dest by (Loop node (OfEach variable) (ByPath path NoArg) body) t →
+        BodyFits (suc t + 2 + widths (ByPath path NoArg)) →
+        Fit around (lines_in types modes result (Loop node (OfEach variable) (ByPath path NoArg) body) exits t)
+    each_one path s body_fits =
+        let head = ByPath path NoArg in
+        let h = and_parts (head_fits facts (OfEach variable) head && are_typed (here filled places dest) head) _ s.typed in
+        let q = and_parts (head_fits facts (OfEach variable) head) (are_typed (here filled places dest) head) h.0 in
+        let i = and_parts (has_length (kind_if facts (type_at path))) (is_of (element_of (kind_if facts (type_at path))) (Some variable.of)) q.0 in
+        let o = loop_parts node (OfEach variable) head body t s.owns in
+        let p = loop_plain node (OfEach variable) head body s.plain in
+        let l = apart (IsListed types) (totals lists own_types head) (total_of lists own_types body) s.listed.1 in
+        let d = apart Held (totals lists own_places head) (total_of lists own_places body) s.held.1 in
+        let u = suc t + 2 in
+        let all : parts.AllStood types facts procs globals sigs start whole filled places dest head u =
+        record { typed = q.1; direct = all_direct facts false head p.0; listed = l.0; owns = o.0 } in
+        let a = parts.first_path types facts procs globals sigs start whole filled places dest path NoArg u all in
+        let led = parts.leads types facts procs globals sigs start whole filled places dest false path u a in
+        let found = paths.find_fits types facts procs globals sigs start whole filled places dest sees false path u a in
+        let n = owned.loop_found (parts.known types facts procs globals sigs start whole) whole node variable t _ _ (omega arith) s.listed.0 s.owns in
+        let number = int_at (suc t) (Some type.int) n.1 refl in
+        let many = int_at (suc (suc t)) (Some type.int) n.2 refl in
+        let long = ap (λ o. has_length (kind_if facts o)) led.type ∙ i.0 in
+        exprs.ready_fits types facts procs globals sigs start whole modes grounds filled places dest sees head (λ i. Owned) 0 u all
+        >> (found
+        >> (fit_line (L.Length (suc (suc t)) u) (and_from _ _ many long)
+        >> (fit_line (L.Zero (suc t)) number
+        >> (fit_line (L.Jump (label Arm t)) refl
+        >> (fit_line (L.Label (label Turn t)) refl
+        >> (body_fits (places ++ placed variable ∷ []) (blocks.sees_place types facts procs globals sigs start whole filled places variable sees s.held.0)
+        (record { typed = (and_parts (not (is_empty body)) _ h.1).1; plain = p.1; listed = l.1; held = d.1; owns = o.1 })
+        >> (fit_line (L.Label (label Next t)) refl
+        >> (fit_line (L.Next (suc t) (suc (suc t))) (and_from _ _ number many)
+        >> (fit_line (L.Label (label Arm t)) refl
+        >> (fit_line (L.Beyond (suc t) (suc (suc t)) false (label End t)) (and_from _ _ number many)
+        >> (found
+        >> (fit_line (L.Still u (suc (suc t))) (and_from _ _ long many)
+        >> (fit_line (L.Element t u (suc t)) (and_from _ _ (ap₂ (λ v o. is_of v (element_of (kind_if facts o))) n.0 led.type
+        ∙ turned (element_of (kind_if facts (type_at path))) (Some variable.of) i.1) number)
+        >> (fit_line (L.Fill variable.number t) (both_some _ _ (Some variable.of) refl s.held.0.own n.0)
+        >> (fit_line (L.Turn (label Turn t)) refl >> fit_line (L.Label (label End t)) refl)))))))))))))))
+
+    pub each_fits : (head : Args) → StmtStood filled places dest by (Loop node (OfEach variable) head body) t →
+        BodyFits (suc t + 2 + widths head) → Fit around (lines_in types modes result (Loop node (OfEach variable) head body) exits t)
+    each_fits (ByPath path NoArg) s body_fits = each_one path s body_fits
+    each_fits NoArg s body_fits = never s.typed
+    each_fits (ByValue e rest) s body_fits = never s.typed
+    each_fits (ByPath path (ByValue e rest)) s body_fits = never s.typed
+    each_fits (ByPath path (ByPath other rest)) s body_fits = never s.typed

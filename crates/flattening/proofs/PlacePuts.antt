@@ -1,0 +1,227 @@
+-- What is listed of the places of a body: parts, one after another.
+use Rattle.std.proofs.Common.{◌≡◌, ℕ, suc, ◌+◌, List, [], ◌++◌, Option, Some, None, Result, Ok, Err, IfOk, Bool, true, false, refl, sym, ap, ap₂, subst, ◌∙◌, append_assoc, arith}
+use Rattle.std.proofs.lemmas.List.{append-nil}
+use Rattle.arc_base.specs.declared.bytes.Memory.{Memory}
+use Rattle.nim_types.specs.Types.{Ty}
+use Rattle.nim_program.specs.declared.expr.Node.{Node}
+use Rattle.nim_program.specs.declared.expr.Operand.{Operand as RustOperand}
+use Rattle.nim_program.specs.declared.expr.Operand.TheVariants as A
+use Rattle.nim_program.specs.declared.stmt.Stmt.{Stmt as RustStmt}
+use Rattle.nim_program.specs.declared.stmt.Stmt.TheVariants as S
+use Rattle.nim_program.specs.declared.stmt.Leaving.TheVariants.{Break}
+use Rattle.nim_program.specs.Program as T
+use Rattle.nim_program.specs.Program.{Chooser, ByConditions, ByLabels, Label, Expr, Apply, Early, Choose, Path, Variable, Fresh, Field, Element, Deref}
+use Rattle.nim_program.specs.Program.{Act, Args, NoArg, ByValue, type_at, node_at, Stmt, Select, Loop, Kind, While, Count, Each, Stmts, Empty, Then, Blocks, Block}
+use Rattle.nim_program.specs.declared.operation.Short.{Short}
+use Rattle.nim_program.specs.View.{expr_of, if_type, if_value, operand_before, operands_of, stmt_before}
+use Rattle.flat_code.specs.declared.place.PlaceKind.TheVariants as K
+use Rattle.flat_code.specs.declared.place.FlatPlace.{FlatPlace}
+use Rattle.flattening.specs.Numbering.{width, width_at, widths, width_in, width_of, arm_count}
+use Rattle.flattening.specs.Places.{temporary, selector_place, location, expr_places, path_places, operand_places, block_places, branch_places, arm_places, stmt_places}
+use Rattle.flattening.specs.Views.{behind, is_defer}
+use Rattle.flattening.specs.PlaceViews.{in_front, first_places, read_in_place, places_of_first, declared_in, declared_first}
+use Rattle.flattening.specs.Written.{IsPut}
+use Rattle.flattening.proofs.Writing.{puts_two, puts_as, finished}
+use Rattle.flattening.proofs.StmtPuts.{first_of}
+
+module _ {X : Type 0} where
+  pub joined : {a b c : Option (List X)} (xs ys : List X) → IsPut a b (in_front xs) → IsPut b c (in_front ys) → IsPut a c (in_front (xs ++ ys))
+  joined xs ys p q = puts_as _ _ (puts_two p q) (λ k. sym (append_assoc xs ys k))
+
+  pub three : {a b c d : Option (List X)} (xs ys zs : List X) → IsPut a b (in_front xs) → IsPut b c (in_front ys) → IsPut c d (in_front zs) →
+      IsPut a d (in_front (xs ++ (ys ++ zs)))
+  three xs ys zs p q r = joined xs (ys ++ zs) p (joined ys zs q r)
+
+  -- the same list in other words
+  pub listed_as : {a b : Option (List X)} (xs ys : List X) → ys ≡ xs → IsPut a b (in_front xs) → IsPut a b (in_front ys)
+  listed_as {a} {b} xs ys e put = subst (λ zs. IsPut a b (in_front zs)) (sym e) put
+
+  -- a turn of a loop over what is left of a list of parts
+  pub listed_more : (old at new : Option (List X)) (whole before step left : List X) →
+      ((end : Option (List X)) → IsPut at end (in_front before) → IsPut old end (in_front whole)) → IsPut at new (in_front step) →
+      before ≡ step ++ left → (end : Option (List X)) → IsPut new end (in_front left) → IsPut old end (in_front whole)
+  listed_more old at new whole before step left h p e end q = h end (listed_as (step ++ left) before e (joined step left p q))
+
+  -- behind the last turn
+  pub listed_end : (old at new : Option (List X)) (whole before left : List X) →
+      ((end : Option (List X)) → IsPut at end (in_front before) → IsPut old end (in_front whole)) → before ≡ left → IsPut at new (in_front left) →
+      IsPut old new (in_front whole)
+  listed_end old at new whole before left h e put = h new (listed_as left before e put)
+
+-- what begins with none, and isn't lost
+pub listed_done : {X : Type 0} (old new : Option (List X)) (xs : List X) (out : Result (List X) Memory) → old ≡ Some [] → IsPut old new (in_front xs) →
+    IfOk out (λ b. new ≡ Some b) → IfOk out (λ b. b ≡ xs)
+listed_done old new xs (Ok b) e put h =
+    finished {E = Memory} new (in_front xs) (Ok b) (subst (λ o. IsPut o new (in_front xs)) e put) h ∙ append-nil xs
+listed_done old new xs (Err m) e put h = h
+
+module _ (types : List Ty) where
+  pub exprs_as : {a b : Option (List FlatPlace)} (e e' : Expr) (t : ℕ) → e ≡ e' → IsPut a b (in_front (expr_places types e' t)) →
+      IsPut a b (in_front (expr_places types e t))
+  exprs_as e e' t same put = listed_as _ _ (ap (λ x. expr_places types x t) same) put
+
+  pub paths_as : {a b : Option (List FlatPlace)} (p p' : Path) (t : ℕ) → p ≡ p' → IsPut a b (in_front (path_places types p' t)) →
+      IsPut a b (in_front (path_places types p t))
+  paths_as p p' t same put = listed_as _ _ (ap (λ x. path_places types x t) same) put
+
+  -- ---- the forms of expressions
+
+  pub applied_list : (node : Node) (ty : Option Ty) (act : Act) (operands : Args) (t u : ℕ) → u ≡ suc t →
+      expr_places types (Apply node ty act operands) t ≡ temporary types node ty K.Temp t ++ operand_places types operands u
+  applied_list node ty act operands t u e = ap (λ x. temporary types node ty K.Temp t ++ operand_places types operands x) (sym e)
+
+  pub early_list : (node : Node) (ty : Ty) (short : Short) (left right : Expr) (t u v : ℕ) → u ≡ suc t → v ≡ u + width left →
+      expr_places types (Early node ty short left right) t
+      ≡ temporary types node (Some ty) K.Temp t ++ (expr_places types left u ++ expr_places types right v)
+  early_list node ty short left right t u v e f =
+      sym (ap₂ (λ x y. temporary types node (Some ty) K.Temp t ++ (expr_places types left x ++ expr_places types right y)) e (f ∙ ap (λ x. x + width left) e))
+
+  pub chosen_list : (node : Node) (ty : Option Ty) (parts : Args) (t u : ℕ) → u ≡ suc t →
+      expr_places types (Choose node ty ByConditions parts) t ≡ temporary types node ty K.Temp t ++ operand_places types parts u
+  chosen_list node ty parts t u e = ap (λ x. temporary types node ty K.Temp t ++ operand_places types parts x) (sym e)
+
+  -- an operand before others
+  pub operands_list : (ts : List Ty) (x : RustOperand) (rest : Args) (t u : ℕ) → u ≡ behind (operand_before ts x NoArg) t →
+      operand_places types (operand_before ts x rest) t ≡ first_places types (operand_before ts x NoArg) t ++ operand_places types rest u
+  operands_list ts (A.Value value) rest t u e = ap (λ y. expr_places types (expr_of ts value) t ++ operand_places types rest y) (sym e)
+  operands_list ts (A.At path) rest t u e = ap (λ y. first_places types (operand_before ts (A.At path) NoArg) t ++ operand_places types rest y) (sym e)
+
+  selectors : (ts : List Ty) (labels : List (List Label)) (x : RustOperand) (rest : Args) (t : ℕ) →
+      selector_place types (ByLabels labels) (operand_before ts x rest) t ≡ read_in_place types (operand_before ts x NoArg) t
+  selectors ts labels (A.Value value) rest t = refl
+  selectors ts labels (A.At path) rest t = refl
+
+  pub selected_list : (ts : List Ty) (node : Node) (ty : Option Ty) (labels : List (List Label)) (x : RustOperand) (rest : Args) (t u v : ℕ) → u ≡ suc t →
+      v ≡ behind (operand_before ts x NoArg) u →
+      expr_places types (Choose node ty (ByLabels labels) (operand_before ts x rest)) t
+      ≡ temporary types node ty K.Temp t
+      ++ (read_in_place types (operand_before ts x NoArg) u ++ (first_places types (operand_before ts x NoArg) u ++ operand_places types rest v))
+  selected_list ts node ty labels x rest t u v e f =
+      let own = temporary types node ty K.Temp t in
+      ap (λ y. own ++ (selector_place types (ByLabels labels) (operand_before ts x rest) y ++ operand_places types (operand_before ts x rest) y)) (sym e)
+      ∙ ap₂ (λ p q. own ++ (p ++ q)) (selectors ts labels x rest u) (operands_list ts x rest u v f)
+
+  -- the last value
+  pub last_list : (value : Expr) (t : ℕ) → operand_places types (ByValue value NoArg) t ≡ expr_places types value t
+  last_list value t = append-nil (expr_places types value t)
+
+  pub choices_list : (condition value : Expr) (rest : Args) (t u v : ℕ) → u ≡ t + width condition → v ≡ u + width value →
+      operand_places types (ByValue condition (ByValue value rest)) t
+      ≡ (expr_places types condition t ++ expr_places types value u) ++ operand_places types rest v
+  choices_list condition value rest t u v e f =
+      sym (append_assoc (expr_places types condition t) (expr_places types value u) (operand_places types rest v)
+      ∙ ap₂ (λ x y. expr_places types condition t ++ (expr_places types value x ++ operand_places types rest y)) e (f ∙ ap (λ x. x + width value) e))
+
+  pub picks_list : (value : Expr) (rest : Args) (t u : ℕ) → u ≡ t + width value →
+      operand_places types (ByValue value rest) t ≡ expr_places types value t ++ operand_places types rest u
+  picks_list value rest t u e = ap (λ x. expr_places types value t ++ operand_places types rest x) (sym e)
+
+  -- ---- paths
+
+  pub field_list : (node : Node) (ty : Ty) (base : Path) (field t u : ℕ) → u ≡ suc t →
+      path_places types (Field node ty base field) t ≡ location types (Field node ty base field) t ++ path_places types base u
+  field_list node ty base field t u e = ap (λ x. location types (Field node ty base field) t ++ path_places types base x) (sym e)
+
+  pub element_list : (node : Node) (ty : Ty) (base : Path) (index : Expr) (constant : _) (t u v : ℕ) → u ≡ suc t → v ≡ u + width_at base →
+      path_places types (Element node ty base index constant) t
+      ≡ location types (Element node ty base index constant) t ++ (path_places types base u ++ expr_places types index v)
+  element_list node ty base index constant t u v e f =
+      sym (ap₂ (λ x y. location types (Element node ty base index constant) t ++ (path_places types base x ++ expr_places types index y)) e
+      (f ∙ ap (λ x. x + width_at base) e))
+
+  -- ---- statements
+
+  then_list : (first : Stmt) (rest : Stmts) (t v : ℕ) → v ≡ t + (width_in first + 0) →
+      block_places types (Then first rest) t ≡ stmt_places types first t ++ block_places types rest v
+  then_list first rest t v e =
+      let f : v ≡ t + width_in first = omega (arith, e) in
+      ap (λ x. stmt_places types first t ++ block_places types rest x) (sym f)
+
+  -- one more statement of a block
+  pub stmts_list : (ts : List Ty) (s : RustStmt) (rest : Stmts) (t v : ℕ) → is_defer s ≡ false → v ≡ t + width_of (stmt_before ts s Empty) →
+      block_places types (stmt_before ts s rest) t ≡ places_of_first types (stmt_before ts s Empty) t ++ block_places types rest v
+  stmts_list ts (S.Do value) rest t v g e = then_list (T.Do (expr_of ts value)) rest t v e
+  stmts_list ts (S.Idle node parts) rest t v g e = then_list (T.Idle node (operands_of ts parts.items)) rest t v e
+  stmts_list ts (S.Give node back value) rest t v g e = then_list (T.Give node back (expr_of ts value)) rest t v e
+  stmts_list ts (S.Leave node leaving parts) rest t v g e = then_list (T.Leave node leaving (operands_of ts parts.items)) rest t v e
+  stmts_list ts (S.Declare node place cursor None) rest t v g e =
+      let f : v ≡ suc t = omega (arith, e) in
+      ap (λ x. block_places types rest x) (sym f)
+  stmts_list ts (S.Declare node place cursor (Some value)) rest t v g e =
+      let f : v ≡ suc t + (width (expr_of ts value) + 0) = omega (arith, e) in
+      ap (λ x. expr_places types (expr_of ts value) (suc t) ++ block_places types rest x) (sym f)
+  stmts_list ts (S.If' node p branches q otherwise) rest t v g e =
+      then_list (first_of (T.Leave node Break NoArg) (stmt_before ts (S.If' node p branches q otherwise) Empty)) rest t v e
+  stmts_list ts (S.Case' node selector p branches q otherwise) rest t v g e =
+      then_list (first_of (T.Leave node Break NoArg) (stmt_before ts (S.Case' node selector p branches q otherwise) Empty)) rest t v e
+  stmts_list ts (S.Loop' node kind head p body) rest t v g e =
+      then_list (first_of (T.Leave node Break NoArg) (stmt_before ts (S.Loop' node kind head p body) Empty)) rest t v e
+  stmts_list ts (S.Raise node exception message) rest t v g e = then_list (T.Raise node (if_type ts exception) (if_value ts message)) rest t v e
+  stmts_list ts (S.Try' node p body q handlers r last) rest t v g e =
+      then_list (first_of (T.Leave node Break NoArg) (stmt_before ts (S.Try' node p body q handlers r last) Empty)) rest t v e
+  stmts_list ts (S.Defer' node p last) rest t v g e = absurd cc
+
+  pub stmts_end : (ts : List Ty) (s : RustStmt) (rest : Stmts) (t : ℕ) → is_defer s ≡ true →
+      block_places types (stmt_before ts s rest) t ≡ places_of_first types (stmt_before ts s Empty) t
+  stmts_end ts (S.Do value) rest t g = absurd cc
+  stmts_end ts (S.Idle node parts) rest t g = absurd cc
+  stmts_end ts (S.Give node back value) rest t g = absurd cc
+  stmts_end ts (S.Leave node leaving parts) rest t g = absurd cc
+  stmts_end ts (S.Declare node place cursor value) rest t g = absurd cc
+  stmts_end ts (S.If' node p branches q otherwise) rest t g = absurd cc
+  stmts_end ts (S.Case' node selector p branches q otherwise) rest t g = absurd cc
+  stmts_end ts (S.Loop' node kind head p body) rest t g = absurd cc
+  stmts_end ts (S.Raise node exception message) rest t g = absurd cc
+  stmts_end ts (S.Try' node p body q handlers r last) rest t g = absurd cc
+  stmts_end ts (S.Defer' node p last) rest t g = refl
+
+  pub block_as : {a b : Option (List FlatPlace)} (s s' : Stmts) (t : ℕ) → s ≡ s' → IsPut a b (in_front (places_of_first types s' t)) →
+      IsPut a b (in_front (places_of_first types s t))
+  block_as s s' t same put = listed_as _ _ (ap (λ x. places_of_first types x t) same) put
+
+  pub decided_list : (node : Node) (tests : Args) (blocks : Blocks) (t u : ℕ) → u ≡ suc t →
+      places_of_first types (Then (Select node ByConditions tests blocks) Empty) t ≡ branch_places types tests blocks u
+  decided_list node tests blocks t u e = ap (λ x. branch_places types tests blocks x) (sym e)
+
+  alone_list : (ts : List Ty) (x : RustOperand) (t : ℕ) → operand_places types (operand_before ts x NoArg) t ≡ first_places types (operand_before ts x NoArg) t
+  alone_list ts (A.Value value) t = append-nil _
+  alone_list ts (A.At path) t = append-nil _
+
+  pub cases_list : (ts : List Ty) (node : Node) (labels : List (List Label)) (x : RustOperand) (blocks : Blocks) (n t u s v : ℕ) → u ≡ suc t → s ≡ u + n →
+      n ≡ arm_count (ByLabels labels) → v ≡ s + widths (operand_before ts x NoArg) →
+      places_of_first types (Then (Select node (ByLabels labels) (operand_before ts x NoArg) blocks) Empty) t
+      ≡ read_in_place types (operand_before ts x NoArg) s ++ (first_places types (operand_before ts x NoArg) s ++ arm_places types blocks v)
+  cases_list ts node labels x blocks n t u s v e f g h =
+      let tests = operand_before ts x NoArg in
+      let all = λ (y z : ℕ). selector_place types (ByLabels labels) tests y ++ (operand_places types tests y ++ arm_places types blocks z) in
+      let k : s ≡ suc t + arm_count (ByLabels labels) = f ∙ ap₂ (λ a b. a + b) e g in
+      sym (ap (λ y. all y (y + widths tests)) k) ∙ ap (λ z. all s z) (sym h)
+      ∙ ap₂ (λ p q. p ++ (q ++ arm_places types blocks v)) (selectors ts labels x NoArg s) (alone_list ts x s)
+
+  pub branches_list : (condition : Expr) (body : Stmts) (tests : Args) (rest : Blocks) (t u v : ℕ) → u ≡ t + width condition → v ≡ u + width_of body →
+      branch_places types (ByValue condition tests) (Block body rest) t
+      ≡ (expr_places types condition t ++ block_places types body u) ++ branch_places types tests rest v
+  branches_list condition body tests rest t u v e f =
+      sym (append_assoc (expr_places types condition t) (block_places types body u) (branch_places types tests rest v)
+      ∙ ap₂ (λ x y. expr_places types condition t ++ (block_places types body x ++ branch_places types tests rest y)) e (f ∙ ap (λ x. x + width_of body) e))
+
+  pub arms_list : (body : Stmts) (rest : Blocks) (t u : ℕ) → u ≡ t + width_of body →
+      arm_places types (Block body rest) t ≡ block_places types body t ++ arm_places types rest u
+  arms_list body rest t u e = ap (λ x. block_places types body t ++ arm_places types rest x) (sym e)
+
+-- ---- declared places
+
+pub declared_more : (types : List Ty) (globals : ℕ → Bool) (ts : List Ty) (s : RustStmt) (rest : Stmts) →
+    declared_in types globals (stmt_before ts s rest) ≡ declared_first types globals (stmt_before ts s Empty) ++ declared_in types globals rest
+declared_more types globals ts (S.Do value) rest = refl
+declared_more types globals ts (S.Idle node parts) rest = refl
+declared_more types globals ts (S.Give node back value) rest = refl
+declared_more types globals ts (S.Leave node leaving parts) rest = refl
+declared_more types globals ts (S.Declare node place cursor None) rest = refl
+declared_more types globals ts (S.Declare node place cursor (Some value)) rest = refl
+declared_more types globals ts (S.If' node p branches q otherwise) rest = refl
+declared_more types globals ts (S.Case' node selector p branches q otherwise) rest = refl
+declared_more types globals ts (S.Loop' node kind head p body) rest = refl
+declared_more types globals ts (S.Raise node exception message) rest = refl
+declared_more types globals ts (S.Try' node p body q handlers r last) rest = refl
+declared_more types globals ts (S.Defer' node p last) rest = refl

@@ -1,0 +1,162 @@
+use Rattle.std.proofs.Common.{◌+◌, ◌++◌, Some, drop, sym, ap, ap₂, ◌∙◌}
+use Rattle.std.specs.Prelude.{map, option_map}
+use Rattle.nim_types.specs.Table.{type_at}
+use Rattle.nim_program.specs.Program as T
+use Rattle.nim_program.specs.Program.{Args, NoArg, ByValue, Doing, Building, Calling, ByConditions, ByLabels}
+use Rattle.nim_program.specs.View.{expr_of, path_of, operand_before, operands_of, choices_of, picks_of, pick_labels, if_value, if_type}
+use Rattle.nim_program.proofs.ForCallers.{applied, called, constructed, chosen, selected}
+use Rattle.flat_code.specs.declared.place.PlaceKind.TheVariants as K
+use Rattle.flattening.specs.Places.{temporary, location, expr_places, path_places, operand_places}
+use Rattle.flattening.specs.Views.{types_of}
+use Rattle.flattening.specs.PlaceViews.{first_places}
+use Rattle.flattening.proofs.ExprPuts.{drop_turn}
+use Rattle.flattening.proofs.PlacePuts.{joined, three, listed_as, listed_more, exprs_as, applied_list, early_list, chosen_list}
+use Rattle.flattening.proofs.PlacePuts.{operands_list, selected_list, last_list, choices_list, field_list, element_list}
+use Rattle.flattening.proofs.expr_places.+temporaries.Goals as goal
+
+pub list_expr-returns-in-Apply : goal.list_expr-returns-in-Apply
+list_expr-returns-in-Apply t c =
+    let ts = types_of c.args.around.now in
+    let given = c.in-Apply in
+    let whole = ap (expr_of ts) given.is ∙ applied ts given.node given.ty given.operation given.operands in
+    exprs_as ts _ _ c.args.t whole
+    (listed_as _ _ (applied_list ts given.node (if_type ts given.ty) (Doing given.operation) (operands_of ts given.operands.items) c.args.t c.in-Some.u
+    c.in-Some.ensures) (joined _ _ c.put_temporary.ensures c.list_operands.ensures))
+
+pub list_expr-returns-in-Call : goal.list_expr-returns-in-Call
+list_expr-returns-in-Call t c =
+    let ts = types_of c.args.around.now in
+    let given = c.in-Call in
+    let whole = ap (expr_of ts) given.is ∙ called ts given.node given.ty given.proc given.types given.operands in
+    exprs_as ts _ _ c.args.t whole
+    (listed_as _ _ (applied_list ts given.node (if_type ts given.ty) (Calling given.proc (map (type_at ts) given.types))
+    (operands_of ts given.operands.items) c.args.t c.in-Some.u c.in-Some.ensures)
+    (joined _ _ c.put_temporary-in-Call.ensures c.list_operands-in-Call.ensures))
+
+pub list_expr-returns-in-Construct : goal.list_expr-returns-in-Construct
+list_expr-returns-in-Construct t c =
+    let ts = types_of c.args.around.now in
+    let given = c.in-Construct in
+    let whole = ap (expr_of ts) given.is ∙ constructed ts given.node given.ty given.fields given.operands in
+    exprs_as ts _ _ c.args.t whole
+    (listed_as _ _ (applied_list ts given.node (Some (type_at ts given.ty)) (Building given.fields) (operands_of ts given.operands.items) c.args.t
+    c.in-Some.u c.in-Some.ensures) (joined (temporary ts given.node (Some (type_at ts given.ty)) K.Temp c.args.t) _ c.put_temporary-in-Construct.ensures c.list_operands-in-Construct.ensures))
+
+pub list_expr-returns-in-Constant : goal.list_expr-returns-in-Constant
+list_expr-returns-in-Constant t c =
+    let ts = types_of c.args.around.now in
+    exprs_as ts _ _ c.args.t (ap (expr_of ts) c.in-Constant.is) c.put_temporary-in-Constant.ensures
+
+pub list_expr-returns-in-Read : goal.list_expr-returns-in-Read
+list_expr-returns-in-Read t c =
+    let ts = types_of c.args.around.now in
+    exprs_as ts _ (T.Read (path_of ts c.in-Read.path)) c.args.t (ap (expr_of ts) c.in-Read.is) (joined _ _ c.put_read.ensures c.list_path.ensures)
+
+pub list_path-returns-in-Fresh : goal.list_path-returns-in-Fresh
+list_path-returns-in-Fresh t c =
+    let ts = types_of c.args.around.now in
+    let given = c.in-Fresh in
+    let whole = ap (path_of ts) given.is ∙ ap (λ x. T.Fresh (expr_of ts x)) (sym c.deref-value.ensures) in
+    listed_as _ _ (ap (λ p. path_places ts p c.args.t) whole)
+    (joined _ _ (listed_as _ _ (sym (ap (λ p. location ts p c.args.t) whole)) c.put_location-in-Fresh.ensures) c.list_expr.ensures)
+
+pub list_early-returns : goal.list_early-returns
+list_early-returns t c begins =
+    let ts = types_of c.args.around.now in
+    let given = c.in-Early in
+    let whole = ap (expr_of ts) given.is
+    ∙ ap₂ (λ x y. T.Early given.node (type_at ts given.ty) given.short (expr_of ts x) (expr_of ts y)) (sym c.deref-left.ensures) (sym c.deref-right.ensures) in
+    exprs_as ts _ _ c.args.t whole
+    (listed_as _ _ (early_list ts given.node (type_at ts given.ty) given.short (expr_of ts c.deref-left.result.now) (expr_of ts c.deref-right.result.now)
+    c.args.t c.args.u c.in-Some.v begins c.in-Some.ensures)
+    (three (temporary ts given.node (Some (type_at ts given.ty)) K.Temp c.args.t) _ _ c.put_temporary.ensures c.list_expr.ensures c.list_expr-in-Early.ensures))
+
+pub list_expr-returns-in-Some-list_choices : goal.list_expr-returns-in-Some-list_choices
+list_expr-returns-in-Some-list_choices t c =
+    let ts = types_of c.args.around.now in
+    let given = c.in-If in
+    let last = ByValue (expr_of ts c.deref-otherwise.result.now) NoArg in
+    let whole = ap (expr_of ts) given.is ∙ chosen ts given.node given.ty given.branches given.otherwise
+    ∙ ap (λ e. T.Choose given.node (if_type ts given.ty) ByConditions (choices_of ts given.branches.items (ByValue (expr_of ts e) NoArg)))
+    (sym c.deref-otherwise.ensures) in
+    exprs_as ts _ _ c.args.t whole
+    (listed_as _ _ (chosen_list ts given.node (if_type ts given.ty) (choices_of ts given.branches.items last) c.args.t c.in-Some.u c.in-Some.ensures)
+    (joined _ _ c.put_temporary-in-If.ensures
+    (c.in-Some-list_choices.ensures last _ (listed_as _ _ (last_list ts (expr_of ts c.deref-otherwise.result.now) c.in-Some-list_choices.v)
+    c.list_expr.ensures))))
+
+pub list_case-returns : goal.list_case-returns
+list_case-returns t c begins =
+    let ts = types_of c.args.around.now in
+    let given = c.in-Case in
+    let last = if_value ts (option_map (λ v. v.value) given.otherwise) in
+    let whole = ap (expr_of ts) given.is ∙ selected ts given.node given.ty given.selector given.branches given.otherwise
+    ∙ ap (λ x. T.Choose given.node (if_type ts given.ty) (ByLabels (pick_labels given.branches.items))
+    (operand_before ts x (picks_of ts given.branches.items (if_value ts (option_map (λ v. v.value) given.otherwise)))))
+    (sym c.deref-selector.ensures) in
+    exprs_as ts _ _ c.args.t whole
+    (listed_as _ _ (selected_list ts ts given.node (if_type ts given.ty) (pick_labels given.branches.items) c.deref-selector.result.now
+    (picks_of ts given.branches.items last) c.args.t c.args.u c.in-Some.v begins c.in-Some.ensures)
+    (joined _ _ c.put_temporary.ensures
+    (three _ _ _ c.put_selector.ensures c.list_operand.ensures (c.in-Some-list_picks.ensures last _ c.list_else.ensures))))
+
+pub list_path-returns-in-Some : goal.list_path-returns-in-Some
+list_path-returns-in-Some t c =
+    let ts = types_of c.args.around.now in
+    let given = c.in-Field in
+    let whole = ap (path_of ts) given.is
+    ∙ ap (λ x. T.Field given.node (type_at ts given.ty) (path_of ts x) given.field) (sym c.deref-base.ensures) in
+    listed_as _ _ (ap (λ p. path_places ts p c.args.t) whole
+    ∙ field_list ts given.node (type_at ts given.ty) (path_of ts c.deref-base.result.now) given.field c.args.t c.in-Some.u c.in-Some.ensures)
+    (joined (location ts (T.Field given.node (type_at ts given.ty) (path_of ts c.deref-base.result.now) given.field) c.args.t) _
+    (listed_as _ _ (sym (ap (λ p. location ts p c.args.t) whole)) c.put_location-in-Field.ensures) c.list_path.ensures)
+
+pub list_path-returns-in-Some-behind_path : goal.list_path-returns-in-Some-behind_path
+list_path-returns-in-Some-behind_path t c =
+    let ts = types_of c.args.around.now in
+    let given = c.in-Element in
+    let whole = ap (path_of ts) given.is
+    ∙ ap₂ (λ x y. T.Element given.node (type_at ts given.ty) (path_of ts x) (expr_of ts y) given.constant) (sym c.deref-base-in-Element.ensures)
+    (sym c.deref-index.ensures) in
+    listed_as _ _ (ap (λ p. path_places ts p c.args.t) whole
+    ∙ element_list ts given.node (type_at ts given.ty) (path_of ts c.deref-base-in-Element.result.now) (expr_of ts c.deref-index.result.now) given.constant
+    c.args.t c.in-Some-next.u c.in-Some-behind_path.v c.in-Some-next.ensures c.in-Some-behind_path.ensures)
+    (three
+    (location ts (T.Element given.node (type_at ts given.ty) (path_of ts c.deref-base-in-Element.result.now) (expr_of ts c.deref-index.result.now) given.constant)
+    c.args.t) _ _ (listed_as _ _ (sym (ap (λ p. location ts p c.args.t) whole)) c.put_location-in-Element.ensures) c.list_path-in-Element.ensures
+    c.list_expr-in-Element.ensures)
+
+pub list_operands-loop-operand-preserved : goal.list_operands-loop-operand-preserved
+list_operands-loop-operand-preserved t c =
+    let ts = types_of c.args.around.now in
+    let loop = c.loop-operand in
+    let x = c.operand-item.result in
+    let left = operands_of ts (drop (loop.operand-index + 1) c.args.operands.now.items) in
+    let next = drop_turn c.args.operands.now.items c.deref-operand-items.result.now loop.operand-index x c.deref-operand-items.ensures.value c.loop-operand-test.true
+    c.operand-item.is in
+    listed_more _ loop.places _ _ (operand_places ts (operands_of ts (drop loop.operand-index c.args.operands.now.items)) loop.u)
+    (first_places ts (operand_before ts x NoArg) loop.u) (operand_places ts left c.in-Some.following) loop.invariant c.list_operand.ensures
+    (ap (λ ys. operand_places ts (operands_of ts ys) loop.u) next ∙ operands_list ts ts x left loop.u c.in-Some.following c.in-Some.ensures)
+
+pub list_choices-loop-branch-preserved : goal.list_choices-loop-branch-preserved
+list_choices-loop-branch-preserved t c last =
+    let ts = types_of c.args.around.now in
+    let loop = c.loop-branch in
+    let x = c.branch-item.result in
+    let left = choices_of ts (drop (loop.branch-index + 1) c.args.branches.now.items) last in
+    let next = drop_turn c.args.branches.now.items c.deref-branch-items.result.now loop.branch-index x c.deref-branch-items.ensures.value c.loop-branch-test.true
+    c.branch-item.is in
+    listed_more _ loop.places _ _ (operand_places ts (choices_of ts (drop loop.branch-index c.args.branches.now.items) last) loop.u)
+    (expr_places ts (expr_of ts x.condition) loop.u ++ expr_places ts (expr_of ts x.value) c.in-Some.v)
+    (operand_places ts left c.in-Some-behind_value.following) (loop.invariant last)
+    (joined _ _ c.list_expr.ensures c.list_expr-in-loop-branch.ensures)
+    (ap (λ ys. operand_places ts (choices_of ts ys last) loop.u) next
+    ∙ choices_list ts (expr_of ts x.condition) (expr_of ts x.value) left loop.u c.in-Some.v c.in-Some-behind_value.following c.in-Some.ensures
+    c.in-Some-behind_value.ensures)
+
+pub list_else-returns-in-Some : goal.list_else-returns-in-Some
+list_else-returns-in-Some t c =
+    let ts = types_of c.args.around.now in
+    listed_as _ _ (ap (λ o. operand_places ts (if_value ts (option_map (λ e. e.value) o)) c.args.t) c.in-Some.is
+    ∙ ap (λ x. operand_places ts (ByValue (expr_of ts x) NoArg) c.args.t) (sym c.deref.ensures)
+    ∙ last_list ts (expr_of ts c.deref.result.now) c.args.t) c.list_expr.ensures

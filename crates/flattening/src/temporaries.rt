@@ -1,0 +1,128 @@
+// The temporaries of expressions and paths.
+ghost use Rattle.std.specs.Prelude.{◌≡◌, List};
+ghost use Rattle.nim_types.specs.Types.{Ty};
+ghost use Rattle.nim_types.specs.Table.{type_at};
+ghost use Rattle.nim_program.specs.Scopes.{is_written};
+ghost use Rattle.nim_program.specs.Program.{NoArg};
+ghost use Rattle.nim_program.specs.View.{path_of, operand_before, if_type};
+ghost use Rattle.nim_meaning.specs.Shapes.{has_node};
+ghost use Rattle.flattening.specs.Places.{kind_of_path, place, temporary, read_place, location};
+ghost use Rattle.flattening.specs.Views.{types_of};
+ghost use Rattle.flattening.specs.PlaceViews.{read_in_place};
+ghost use Rattle.flattening.specs.Written.{IsPut, one};
+ghost use Rattle.flattening.specs.PlaceViews.{in_front};
+
+use crate::around::{Around, type_number};
+use crate::written::Written;
+use arc_base::Place;
+use flat_code::{FlatPlace, PlaceKind};
+use nim_program::{Node, Operand, Path};
+use nim_types::TypeId;
+
+/// A place.
+pub fn put_place(
+    places: &mut Written<FlatPlace>,
+    around: &Around,
+    number: u32,
+    at: Place,
+    kind: PlaceKind,
+    ty: TypeId,
+)
+    ensures { IsPut places.old places.new (one (place (types_of around.now) number at kind
+        (type_at (types_of around.now) ty))) }
+{
+    match type_number(around, ty) {
+        Err(_) => places.lose(),
+        Ok(ty) => places.put(FlatPlace {
+            number,
+            at,
+            kind,
+            ty,
+            hooked: false,
+            resource: false,
+            copies: true,
+        }),
+    }
+}
+
+/// The value of a node, or where a path leads, where that has a type.
+pub fn put_temporary(
+    places: &mut Written<FlatPlace>,
+    around: &Around,
+    node: Node,
+    ty: Option<TypeId>,
+    kind: PlaceKind,
+    t: u32,
+)
+    ensures { IsPut places.old places.new (in_front (temporary (types_of around.now) node
+        (if_type (types_of around.now) ty) kind t)) }
+{
+    match ty {
+        None => {}
+        Some(ty) => put_place(places, around, t, node.at, kind, ty),
+    }
+}
+
+// Whether a path begins at a place or passes through a ref.
+#[cycle(written)]
+fn is_written(path: &Path) -> bool
+    ensures { (ts : List Ty) → result ≡ is_written (path_of ts path.now) }
+{
+    match path {
+        Path::Variable { .. } | Path::Deref { .. } => true,
+        Path::Fresh { .. } => false,
+        Path::Field { base, .. } | Path::Element { base, .. } => is_written(&**base),
+    }
+}
+
+fn kind_of_path(path: &Path) -> PlaceKind
+    ensures { (ts : List Ty) → result ≡ kind_of_path (path_of ts path.now) }
+{
+    if is_written(path) {
+        PlaceKind::Location
+    } else {
+        PlaceKind::Within
+    }
+}
+
+fn has_node(path: &Path) -> bool
+    ensures { (ts : List Ty) → result ≡ has_node (path_of ts path.now) }
+{
+    !matches!(path, Path::Fresh { .. } | Path::Deref { .. })
+}
+
+/// The value at a path that is read.
+pub fn put_read(places: &mut Written<FlatPlace>, around: &Around, path: &Path, t: u32)
+    ensures { IsPut places.old places.new (in_front (read_place (types_of around.now)
+        (path_of (types_of around.now) path.now) t)) }
+{
+    if has_node(path) {
+        put_temporary(places, around, path.node(), path.ty(), PlaceKind::Temp, t)
+    }
+}
+
+/// Where a path leads.
+pub fn put_location(places: &mut Written<FlatPlace>, around: &Around, path: &Path, t: u32)
+    ensures { IsPut places.old places.new (in_front (location (types_of around.now)
+        (path_of (types_of around.now) path.now) t)) }
+{
+    put_temporary(
+        places,
+        around,
+        path.node(),
+        path.ty(),
+        kind_of_path(path),
+        t,
+    )
+}
+
+/// The value of a selector that is read in place.
+pub fn put_selector(places: &mut Written<FlatPlace>, around: &Around, selector: &Operand, t: u32)
+    ensures { IsPut places.old places.new (in_front (read_in_place (types_of around.now)
+        (operand_before (types_of around.now) selector.now NoArg) t)) }
+{
+    match selector {
+        Operand::Value(_) => {}
+        Operand::At(path) => put_read(places, around, path, t),
+    }
+}

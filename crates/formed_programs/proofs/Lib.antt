@@ -1,0 +1,8 @@
+mod Parts
+mod Plain
+mod Listed
+mod Seen
+mod Exprs
+mod Stmts
+mod Programs
+mod Tables

@@ -1,5 +1,0 @@
-use Rattle.std.proofs.Common.{length-append}
-use Rattle.mid_code.proofs.laws.joining.Goals as goal
-
-pub returns : goal.returns
-returns c = record { statics = λ code other. length-append code.statics other.statics }

@@ -1,3 +1,0 @@
-mod TableRows
-mod OutRows
-mod StmtOut

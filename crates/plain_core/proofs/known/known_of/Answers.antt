@@ -1,6 +1,0 @@
-use Rattle.plain_core.proofs.known.known_of.Goals as goal
-
-pub invariant_of-result : goal.invariant_of-result
-invariant_of-result c = record {
-  counted = c.declared_types.ensures.count;
-}

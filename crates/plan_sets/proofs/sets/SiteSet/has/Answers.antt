@@ -1,5 +1,0 @@
-use Rattle.plan_sets.proofs.Kept.{has_site}
-use Rattle.plan_sets.proofs.sets.SiteSet.has.Goals as goal
-
-pub returns-clause-has : goal.returns-clause-has
-returns-clause-has c = has_site c.self.inside.sites c.args.self.now c.args.site c.contains.result c.self.view_is c.contains.ensures

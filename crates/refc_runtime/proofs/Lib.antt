@@ -1,0 +1,15 @@
+mod Ranges
+mod Calls
+mod Zeros
+mod Traded
+mod CopyRuns
+mod ClearRuns
+mod SwapRuns
+mod Moved
+mod TrapRuns
+mod SignedWords
+mod NumberLines
+mod NumberTexts
+mod NumberRuns
+mod NumberKept
+mod Whole

@@ -1,0 +1,63 @@
+-- A program means the same without its list of types by number, and code of it is code of the other.
+use Rattle.std.proofs.Common.{◌≡◌, ℕ, zero, suc, List, [], ap, subst, refl}
+use Rattle.std.specs.Prelude.{slice_get}
+use Rattle.arc_base.specs.Behaviour.{Agrees}
+use Rattle.arc_base.specs.BigStep.{whole}
+use Rattle.arc_base.specs.Pace.{PacedFrom}
+use Rattle.nim_plan.specs.declared.plan.Plan.{Plan}
+use Rattle.nim_program.specs.declared.program.TheConstants.{ACTIVE_CALLS}
+use Rattle.nim_program.specs.Program.{Program}
+use Rattle.nim_program.specs.Sizes.{body_sum}
+use Rattle.nim_meaning.specs.State.{live}
+use Rattle.nim_meaning.specs.Acts.{costs, spending, elsewhere, at_exit}
+use Rattle.nim_meaning.specs.Here.{Calls}
+use Rattle.nim_meaning.specs.Meaning.{called, from_level, calls, exec_all, at_first, reported, meaning}
+use Rattle.rv32_isa.specs.Image.{Image}
+use Rattle.rv32_isa.specs.Machine.{machine}
+use Rattle.word_code.specs.Words.{word_meaning}
+use Rattle.core_compiler.specs.declared.program.TheConstants.{IMAGE_PACE, IMAGE_LATE}
+use Rattle.core_compiler.specs.Compile.{live_objects, EndsInTime, HasCode, HasCodeWhereWithin, DoesProgram, HasImageWhereBuilt}
+use Rattle.source_compiler.specs.Source.{unlisted}
+
+module _ (p : Program) (plan : Plan) where
+  deeper : (left level : ℕ) → calls p plan left level ≡ calls (unlisted p) plan left level
+  deeper zero level = refl
+  deeper (suc left) level =
+      ap (λ (more : Calls). λ proc slots. spending (elsewhere (called p.globals (slice_get p.procs proc) slots (from_level p plan level more))))
+      (deeper left (suc level))
+
+  pub meaning_same : (heap : ℕ) (input : List ℕ) → meaning p plan heap input ≡ meaning (unlisted p) plan heap input
+  meaning_same heap input =
+      ap (λ (more : Calls). whole (λ s. s.meter) (λ _. 0) (λ s. live s.world) (λ n.
+      costs (body_sum p.facts p.globals [] p.start) (at_exit (exec_all p.start.stmts (from_level p plan 0 more p.start)) reported)
+      (at_first p heap input n))) (deeper ACTIVE_CALLS 1)
+
+  abbrev code_same : {bytes : ℕ} → HasCode p plan bytes → HasCode (unlisted p) plan bytes
+  code_same has = record {
+    words = has.words;
+    homes = has.homes;
+    lines = has.lines;
+    code = has.code;
+    agrees = λ heap stack input can. subst (Agrees (word_meaning live_objects has.words heap stack input)) (meaning_same heap input)
+        (has.agrees heap stack input can);
+    size = has.size;
+    bound = has.bound;
+    data_most = has.data_most;
+  }
+
+  pub within_same : {bytes : ℕ} → HasCodeWhereWithin p plan bytes → HasCodeWhereWithin (unlisted p) plan bytes
+  within_same has = λ small. code_same (has small)
+
+  pub does_same : {heap : ℕ} {image : Image} → DoesProgram p plan heap image → DoesProgram (unlisted p) plan heap image
+  does_same {heap} {image} does = record {
+    agrees = λ input. subst (Agrees (machine live_objects image input)) (meaning_same heap input) (does.agrees input);
+    paced = λ input. subst (PacedFrom IMAGE_PACE IMAGE_LATE (machine live_objects image input)) (meaning_same heap input) (does.paced input);
+    in_time = λ input. subst (EndsInTime (machine live_objects image input)) (meaning_same heap input) (does.in_time input);
+    code = code_same does.code;
+    made = does.made;
+    heap_is = does.heap_is;
+    hooks = does.hooks;
+  }
+
+  pub image_same : {bytes : ℕ} → HasImageWhereBuilt p plan bytes → HasImageWhereBuilt (unlisted p) plan bytes
+  image_same has = λ none. let is = has none in record { heap = is.heap; image = is.image; does = does_same is.does; bytes = is.bytes }

@@ -1,9 +1,0 @@
-mod Kinding
-mod Finiting
-mod Placing
-mod Labelling
-mod Owning
-mod Walking
-mod Stating
-mod Numbering
-mod Wholes

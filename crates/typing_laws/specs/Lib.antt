@@ -1,0 +1,4 @@
+pub mod Sound
+pub mod Knows
+pub mod Trees
+pub mod Programs

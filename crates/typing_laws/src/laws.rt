@@ -1,0 +1,69 @@
+// The laws of typed programs.
+ghost use Rattle.std.specs.Prelude.{◌≡◌, ◌≤◌, ℕ, true, List};
+ghost use Rattle.nim_tree.specs.Statements.{Head, Statements};
+ghost use Rattle.nim_program.specs.declared.nodes.TheConstants.{MOST_NODES};
+ghost use Rattle.nim_program.specs.Numbering.{is_numbered};
+ghost use Rattle.decl_rules.specs.State.{State, Stated, in_body};
+ghost use Rattle.decl_rules.specs.Heads.{Headed};
+ghost use Rattle.decl_rules.specs.Bodies.{params_from, result_of, before_body, body_of};
+ghost use Rattle.decl_rules.specs.Rules.{AreStated};
+ghost use Rattle.nim_tree.specs.Terms.{Term};
+ghost use Rattle.nim_types.specs.Table.{types_in};
+ghost use Rattle.nim_program.specs.declared.program.Program.{Program as RustProgram};
+ghost use Rattle.nim_program.specs.Numbering.{is_numbered_program};
+ghost use Rattle.nim_program.specs.Typed.{IsTyped as IsTypedProgram};
+ghost use Rattle.decl_rules.specs.Elaborated.{Module};
+ghost use Rattle.decl_rules.specs.ProgramRules.{IsProgram};
+ghost use Rattle.typing_laws.specs.Programs.{IsWholeTable, NodesWithin, over_table};
+ghost use Rattle.nim_program.specs.Program.{Expr};
+ghost use Rattle.nim_program.specs.Scopes.{Here};
+ghost use Rattle.nim_program.specs.Typed.{is_typed};
+ghost use Rattle.expr_rules.specs.Env.{Env};
+ghost use Rattle.expr_rules.specs.Answers.{Want, wanted};
+ghost use Rattle.expr_rules.specs.Rules.{IsTyped};
+ghost use Rattle.typing_laws.specs.Trees.{IsRead, ModulesRead};
+ghost use Rattle.typing_laws.specs.Knows.{KnowsWell, IfSound};
+
+use decl_rules::{places_numbered, statements_computed, statements_numbered, types_found};
+use expr_rules::{calls_computed, typing_computed};
+use nim_program::ints;
+
+/// What stands for a term is typed, where the declarations around are true of the program.
+pub fn exprs_typed()
+    ensures { (here : Here) (env : Env) → KnowsWell here env →
+        (want : Want) → IfSound here.facts (wanted want) →
+        (n m : ℕ) (t : Term) (e : Expr) → IsRead t → IsTyped env want n t e m →
+        is_typed here e ≡ true }
+{
+    calls_computed();
+    ints();
+}
+
+/// The body of a procedure has its nodes and places numbered in order of text, where its nodes have
+/// numbers that there are.
+pub fn bodies_numbered()
+    ensures { (st : State) (h : Head) (k : Headed) (body : Statements) (s : Stated) →
+        AreStated (in_body (result_of st h k)) (result_of st h k) (before_body st h k) body s →
+        s.state.node ≤ MOST_NODES →
+        is_numbered (params_from st.place k.signature.params) (body_of st h k s) ≡ true }
+{
+    statements_numbered();
+    places_numbered();
+}
+
+/// A program that the rules accept is typed, and numbered in order of text: where its modules are
+/// read, the types of its table have forms, and its nodes have numbers that there are.
+pub fn typed_programs()
+    ensures { (p : RustProgram) (all : List Module) →
+        IsProgram (types_in p.types) all (over_table p) → ModulesRead all →
+        IsWholeTable p.types → NodesWithin all →
+        IsTypedProgram (over_table p) × (is_numbered_program (over_table p) ≡ true) }
+{
+    calls_computed();
+    typing_computed();
+    ints();
+    types_found();
+    statements_computed();
+    places_numbered();
+    statements_numbered();
+}

@@ -1,0 +1,8 @@
+mod NeverWrong
+mod Chains
+mod Cells
+mod Areas
+mod CopiedWords
+mod WordRuns
+mod JoinedProcs
+pub mod ForCallers

@@ -1,0 +1,191 @@
+-- How lines of word code run, one at a time and one after another.
+use Rattle.std.proofs.Common.{◌≡◌, ℕ, suc, ◌+◌, ◌%◌, ◌^◌, ◌<◌, List, [], ◌∷◌, ◌++◌, Some, Ok, Bool, true, false, refl, sym}
+use Rattle.std.proofs.Common.{ap, ap₂, ◌∙◌, arith, append_assoc, add_assoc}
+use Rattle.std.specs.Prelude.{if◌then◌else◌}
+use Rattle.arc_base.specs.declared.outside.Stream.{Stream}
+use Rattle.arc_base.specs.Event.{writes}
+use Rattle.arc_base.specs.Behaviour.{Live, Ended}
+use Rattle.arc_base.specs.Stepping.{Next, Goes, Ends, seen, after, run}
+use Rattle.arc_base.specs.Simulation.{Steps, Stops}
+use Rattle.rv32_isa.specs.declared.micro_op.Size.{Size}
+use Rattle.rv32_isa.specs.Machine.{Lives}
+use Rattle.word_code.specs.declared.word.WordOperation.{WordOperation}
+use Rattle.word_code.specs.declared.word.Test.{Test}
+use Rattle.word_code.specs.declared.word.WordInstr.{WordInstr}
+use Rattle.word_code.specs.declared.word.WordInstr.TheVariants.{Label, Constant, Copy, Compute, Sum, Place, Datum, Load, Store, Jump, Branch}
+use Rattle.word_code.specs.declared.word.WordInstr.TheVariants.{Argument, Write}
+use Rattle.word_code.specs.declared.word.WordProc.{WordProc}
+use Rattle.word_code.specs.Memory.{Memory, number_at, may_put, with_number, bytes_at, own_data_at}
+use Rattle.word_code.specs.Words.{computed, holds, Vars, put, WordScene, WordDid, Passes, Leaps, Fails, using, sets, loads, does, WordFrame, WordState}
+use Rattle.word_code.specs.Words.{scene_of, onward, jumped, from_label, shows, settled, step}
+
+-- ---- runs
+
+module _ {E S : Type 0} (machine : S → Next E S) where
+  pub one : {s t : S} {es : List E} {w : ℕ} → machine s ≡ Goes es w t → Steps machine 1 s es w t
+  one {s} {t} {es} {w} h = record {
+    work = w;
+    within = omega arith;
+    by = λ k. (suc k, omega arith, λ out done. ap (λ x. after x (run machine k) out done) h);
+  }
+
+  pub none : (s : S) → Steps machine 0 s [] 0 s
+  none s = record {
+    work = 0;
+    within = omega arith;
+    by = λ k. (k, omega arith, λ out done. ap₂ (run machine k s) (sym (nil out)) (omega arith));
+  }
+    where
+      nil : (xs : List E) → xs ++ [] ≡ xs
+      nil [] = refl
+      nil (x ∷ xs) = ap (λ l. x ∷ l) (nil xs)
+
+  pub on : {s t u : S} {es fs : List E} {l m p q : ℕ} → Steps machine l s es p t → Steps machine m t fs q u → Steps machine (l + m) s (es ++ fs)
+      (p + q) u
+  on {s} {t} {u} {es} {fs} {l} {m} {p} {q} x y = record {
+    work = x.work + y.work;
+    within = omega (arith, x.within, y.within);
+    by = λ k. let b = y.by k in let a = x.by b.0 in (
+      a.0,
+      omega (arith, a.1, b.1),
+      λ out done. a.2 out done ∙ b.2 (out ++ es) (done + x.work)
+          ∙ ap₂ (run machine k u) (append_assoc out es fs) (add_assoc done x.work y.work),
+    );
+  }
+
+  -- one step that ends
+  pub ends_one : (s : S) (es : List E) (w status : ℕ) (left : Live) → machine s ≡ Ends es w status left → Stops machine s es w status left
+  ends_one s es w status left h =
+      record { work = w; within = omega arith; by = (1, λ out done. ap (λ z. after z (run machine 0) out done) h) }
+
+  pub stops_on : (l p q status : ℕ) (s t : S) (es fs : List E) (left : Live) → Steps machine l s es p t → Stops machine t fs q status left
+      → Stops machine s (es ++ fs) (p + q) status left
+  stops_on l p q status s t es fs left x y = record {
+    work = x.work + y.work;
+    within = omega (arith, x.within, y.within);
+    by = let a = x.by y.by.0 in (
+      a.0,
+      λ out done. a.2 out done ∙ y.by.1 (out ++ es) (done + x.work)
+          ∙ ap (λ o. seen o (Ended status left) (done + x.work + y.work)) (append_assoc out es fs)
+          ∙ ap (seen (out ++ (es ++ fs)) (Ended status left)) (add_assoc done x.work y.work),
+    );
+  }
+
+-- ---- words
+
+-- a word that a variable got
+pub got : (n : ℕ) → n < 2 ^ 32 → Some (n % 2 ^ 32) ≡ Some n
+got n h = let e : n % 2 ^ 32 ≡ n = omega arith in ap Some e
+
+pub got_sum : (a b : ℕ) → a + b < 2 ^ 32 → Some ((a + b) % 2 ^ 32 % 2 ^ 32) ≡ Some (a + b)
+got_sum a b h = let e : (a + b) % 2 ^ 32 % 2 ^ 32 ≡ a + b = omega arith in ap Some e
+
+-- silent runs of so many lines
+module _ (live : Lives) (procs : List WordProc) where
+  abbrev pub Runs : ℕ → WordState → WordState → Type 0
+  Runs n s t = Steps (step live procs) n s [] n t
+
+  pub then_runs : {s t u : WordState} {l m : ℕ} → Runs l s t → Runs m t u → Runs (l + m) s u
+  then_runs x y = on (step live procs) x y
+
+-- ---- lines of one call
+
+-- what a call has that its lines don't change
+pub record Within : Type 0 where
+  pub input : List ℕ
+  pub proc : WordProc
+  pub base : ℕ
+  pub awaits : ℕ
+  pub callers : List WordFrame
+
+abbrev pub at : Within → Memory → List WordInstr → Vars → Vars → WordState
+at c m lines vars given = record {
+  memory = m;
+  input = c.input;
+  frame = record { proc = c.proc; left = lines; vars = vars; given = given; base = c.base; awaits = c.awaits };
+  callers = c.callers;
+}
+
+module _ (live : Lives) (procs : List WordProc) (c : Within) (m : Memory) (k : List WordInstr) (v g : Vars) where
+  pub run_label : (name : ℕ) → Runs live procs 1 (at c m (Label name ∷ k) v g) (at c m k v g)
+  run_label name = one (step live procs) refl
+
+  pub run_constant : (to n : ℕ) → Runs live procs 1 (at c m (Constant to n ∷ k) v g) (at c m k (put v to n) g)
+  run_constant to n = one (step live procs) refl
+
+  pub run_place : (to n : ℕ) → Runs live procs 1 (at c m (Place to n ∷ k) v g) (at c m k (put v to (c.base + n)) g)
+  run_place to n = one (step live procs) refl
+
+  pub run_datum : (to n : ℕ) → Runs live procs 1 (at c m (Datum to n ∷ k) v g) (at c m k (put v to (own_data_at + c.proc.data_from + n)) g)
+  run_datum to n = one (step live procs) refl
+
+  -- a line that passes
+  passes : (line : WordInstr) (x : WordScene) → does (scene_of (at c m (line ∷ k) v g)) line ≡ Passes [] x
+      → Runs live procs 1 (at c m (line ∷ k) v g) (onward (at c m (line ∷ k) v g) k x)
+  passes line x e = one (step live procs) (ap (settled live procs (at c m (line ∷ k) v g) k) e)
+
+  pub run_copy : {a : ℕ} (to from : ℕ) → v from ≡ Some a → Runs live procs 1 (at c m (Copy to from ∷ k) v g) (at c m k (put v to a) g)
+  run_copy {a} to from e = passes (Copy to from) _ (ap (λ o. using o (λ a. sets (scene_of (at c m (Copy to from ∷ k) v g)) to a)) e)
+
+  pub run_sum : {a : ℕ} (to from n : ℕ) → v from ≡ Some a → Runs live procs 1 (at c m (Sum to from n ∷ k) v g) (at c m k (put v to (a + n)) g)
+  run_sum {a} to from n e = passes (Sum to from n) _ (ap (λ o. using o (λ a. sets (scene_of (at c m (Sum to from n ∷ k) v g)) to (a + n))) e)
+
+  pub run_compute : {a b : ℕ} (to : ℕ) (operation : WordOperation) (left right : ℕ) → v left ≡ Some a → v right ≡ Some b
+      → Runs live procs 1 (at c m (Compute to operation left right ∷ k) v g) (at c m k (put v to (computed operation a b)) g)
+  run_compute {a} {b} to operation left right e f = passes (Compute to operation left right) _
+      (ap₂ (λ o p. using o (λ a. using p (λ b. sets (scene_of (at c m (Compute to operation left right ∷ k) v g)) to (computed operation a b)))) e f)
+
+  pub run_load : {a n : ℕ} (to address : ℕ) (size : Size) → v address ≡ Some a → number_at m a size ≡ Ok n
+      → Runs live procs 1 (at c m (Load to address size ∷ k) v g) (at c m k (put v to n) g)
+  run_load {a} {n} to address size e f = passes (Load to address size) _
+      (ap (λ o. using o (λ a. loads (scene_of (at c m (Load to address size ∷ k) v g)) to (number_at m a size))) e
+      ∙ ap (loads (scene_of (at c m (Load to address size ∷ k) v g)) to) f)
+
+  pub run_store : {a b : ℕ} (address from : ℕ) (size : Size) → v address ≡ Some a → v from ≡ Some b → may_put m a size ≡ true
+      → Runs live procs 1 (at c m (Store address from size ∷ k) v g) (at c (with_number m a size b) k v g)
+  run_store {a} {b} address from size e f may = passes (Store address from size) _
+      (ap₂ (λ o p. using o (λ a. using p (λ b. stored a b (may_put m a size)))) e f ∙ ap (stored a b) may)
+    where
+      stored : ℕ → ℕ → Bool → WordDid
+      stored a b fits = if fits then Passes [] (record (scene_of (at c m (Store address from size ∷ k) v g)) { memory = with_number m a size b }) else Fails
+
+  pub run_argument : {a : ℕ} (index from : ℕ) → v from ≡ Some a
+      → Runs live procs 1 (at c m (Argument index from ∷ k) v g) (at c m k v (put g index a))
+  run_argument {a} index from e = passes (Argument index from) _
+      (ap (λ o. using o (λ a. Passes [] (record (scene_of (at c m (Argument index from ∷ k) v g)) { given = put g index a }))) e)
+
+  -- a branch that isn't taken, and one that is
+  branched : {a b : ℕ} (test : Test) (left right to : ℕ) → v left ≡ Some a → v right ≡ Some b → (x : Bool) → holds test a b ≡ x
+      → does (scene_of (at c m (Branch test left right to ∷ k) v g)) (Branch test left right to)
+      ≡ (if x then Leaps to (scene_of (at c m (Branch test left right to ∷ k) v g)) else Passes []
+      (scene_of (at c m (Branch test left right to ∷ k) v g)))
+  branched {a} {b} test left right to e f x h =
+      let s : WordScene = scene_of (at c m (Branch test left right to ∷ k) v g) in
+      ap₂ (λ o p. using o (λ a. using p (λ b. if holds test a b then Leaps to s else Passes [] s))) e f
+      ∙ ap (λ y. if y then Leaps to s else Passes [] s) h
+
+  pub run_past : {a b : ℕ} (test : Test) (left right to : ℕ) → v left ≡ Some a → v right ≡ Some b → holds test a b ≡ false
+      → Runs live procs 1 (at c m (Branch test left right to ∷ k) v g) (at c m k v g)
+  run_past test left right to e f h = passes (Branch test left right to) _ (branched test left right to e f false h)
+
+  pub run_off : {a b : ℕ} (test : Test) (left right to : ℕ) (there : List WordInstr) → v left ≡ Some a → v right ≡ Some b → holds test a b
+      ≡ true
+      → from_label to c.proc.lines ≡ Some there → Runs live procs 1 (at c m (Branch test left right to ∷ k) v g) (at c m there v g)
+  run_off test left right to there e f h stands =
+      let s : WordState = at c m (Branch test left right to ∷ k) v g in
+      one (step live procs) (ap (settled live procs s k) (branched test left right to e f true h) ∙ ap (jumped s (scene_of s)) stands)
+
+  pub run_jump : (to : ℕ) (there : List WordInstr) → from_label to c.proc.lines ≡ Some there
+      → Runs live procs 1 (at c m (Jump to ∷ k) v g) (at c m there v g)
+  run_jump to there stands =
+      let s : WordState = at c m (Jump to ∷ k) v g in
+      one (step live procs) (ap (jumped s (scene_of s)) stands)
+
+  pub run_write : {a n : ℕ} (stream : Stream) (address len : ℕ) (bytes : List ℕ) → v address ≡ Some a → v len ≡ Some n
+      → bytes_at m a n ≡ Some bytes
+      → Steps (step live procs) 1 (at c m (Write stream address len ∷ k) v g) (writes stream bytes) 1 (at c m k v g)
+  run_write {a} {n} stream address len bytes e f here =
+      let s : WordState = at c m (Write stream address len ∷ k) v g in
+      one (step live procs) (ap₂ (λ o p. settled live procs s k
+      (using o (λ b. using p (λ l. shows (scene_of s) stream (bytes_at m b l))))) e f
+      ∙ ap (λ o. settled live procs s k (shows (scene_of s) stream o)) here)

@@ -1,0 +1,191 @@
+-- Lines that give constants: numbers, and texts that temporaries are other names for.
+use Rattle.std.proofs.Common.{append-nil, ◌≡◌, ℕ, ◌+◌, List, [], ◌∷◌, ◌++◌, Option, Some, true, false, ℤ, refl, sym, ap, subst, ◌∙◌, arith, Bool}
+use Rattle.std.proofs.Common.{append_assoc, inl}
+use Rattle.std.proofs.Common.{inr, length, map, ◌≢◌, ◌⊎◌}
+use Rattle.std.specs.Prelude.{nat_eq}
+use Rattle.std.proofs.lemmas.Bool.{and_parts, eqb-true}
+use Rattle.nim_types.specs.Table.{type_at, facts_in}
+use Rattle.nim_types.specs.Types.{Ty}
+use Rattle.nim_meaning.specs.Values.{Value, Number, Fixed}
+use Rattle.flat_code.specs.declared.block.BlockLine.{BlockLine}
+use Rattle.flat_code.specs.declared.line.Line.TheVariants as L
+use Rattle.flat_code.specs.declared.line.Piece.TheVariants as P
+use Rattle.flat_code.specs.Shapes.{Shape, number, reference, block, elements, row, parts, resource, has_shape, shape_of}
+use Rattle.word_code.specs.declared.word.WordInstr.TheVariants.{Constant}
+use Rattle.word_lowering.specs.declared.homes.Alias.{Alias}
+use Rattle.word_lowering.specs.declared.homes.Alias.TheVariants as alias
+use Rattle.word_lowering.specs.Aliases.{texts_of, text_of}
+use Rattle.word_lowering.proofs.Keeping.{nowhere, own_text, Kept, New, call, value_no_location, value_no_place, worlds_same}
+use Rattle.word_lowering.specs.MayLower.{same_alias}
+use Rattle.word_lowering.specs.Operations.{word}
+use Rattle.word_lowering.specs.LineCode.{constant_at}
+use Rattle.flat_code.specs.Lines.{gives}
+use Rattle.flat_code.specs.Running.{scene_of}
+use Rattle.nim_meaning.specs.Deeds.{costs, give, ◌>>=◌, Answers}
+use Rattle.nim_meaning.specs.Places.{made_by}
+use Rattle.nim_program.specs.Kinds.{is_of}
+use Rattle.nim_program.specs.declared.operation.Use.{Use}
+use Rattle.word_lowering.proofs.ControlLines.{FollowedHere, plain, value_type}
+use Rattle.word_lowering.proofs.LineFits.{are_of}
+use Rattle.word_lowering.proofs.Lines.{Basis, Settles, all_procs, fits_here, known, starts, IsGood, all_sites, changed, good_changed, stands_next}
+use Rattle.word_lowering.proofs.Lines.{stays_on, waits_below}
+use Rattle.word_lowering.proofs.NumberLines.{constant_given, getting, variable}
+use Rattle.word_lowering.proofs.OperationRuns.{Given}
+use Rattle.word_lowering.proofs.Related.{Both, body_of, high, within}
+use Rattle.word_lowering.proofs.Scenes.{house, of_value, IsLiteral, number_in}
+use Rattle.word_lowering.proofs.Settling.{LabelsLead, code_here, code_next, gives_settles}
+use Rattle.word_lowering.proofs.ShapeFacts.{never}
+use Rattle.word_lowering.proofs.Targets.{target, value_alias}
+use Rattle.word_lowering.proofs.ValueFacts.{put_here, in_word, put_away, put_still}
+use Rattle.flat_code.specs.Codes.{block_plain}
+use Rattle.flat_code.specs.Scene.{Passes, Temps, with_value}
+use Rattle.nim_meaning.specs.Here.{gives_hooked}
+
+-- ---- texts of lines
+
+-- the text of a line stands behind those of the lines behind it
+text_whole : (before : List BlockLine) (line : BlockLine) (rest : List BlockLine)
+    → (after : List ℕ) × (texts_of (map block_plain (before ++ line ∷ rest)) ≡ texts_of (map block_plain rest) ++ (text_of (block_plain line) ++ after))
+text_whole [] line rest = ([], ap (λ l. texts_of (map block_plain rest) ++ l) (sym (append-nil (text_of (block_plain line)))))
+text_whole (p ∷ before) line rest =
+    let h = text_whole before line rest in
+    let texts : List ℕ = texts_of (map block_plain rest) in
+    let own : List ℕ = text_of (block_plain line) in
+    let last : List ℕ = text_of (block_plain p) in (
+      h.0 ++ last,
+      ap (λ l. l ++ last) h.1 ∙ (append_assoc texts (own ++ h.0) last ∙ ap (λ l. texts ++ l) (append_assoc own h.0 last)),
+    )
+
+abbrev text_place : Alias → ℕ
+text_place (alias.Text n size) = n
+text_place other = 0
+
+abbrev text_size : Alias → ℕ
+text_size (alias.Text n size) = size
+text_size other = 0
+
+text_alias_is : (a : Alias) (n size : ℕ) → same_alias a (alias.Text n size) ≡ true → a ≡ alias.Text n size
+text_alias_is alias.Own n size h = never h
+text_alias_is (alias.Value t) n size h = never h
+text_alias_is (alias.Place p true) n size h = never h
+text_alias_is (alias.Place p false) n size h = never h
+text_alias_is (alias.Text m other) n size h =
+    let s = and_parts (nat_eq m n) (nat_eq other size) h in
+    ap (λ k. alias.Text k other) (eqb-true m n s.0) ∙ ap (λ k. alias.Text n k) (eqb-true other size s.1)
+
+number_of_shape : (z : ℤ) (s : Shape) → has_shape (Number z) s ≡ true → (values : Option ℕ) × (s ≡ number values)
+number_of_shape z (number values) h = (values, refl)
+number_of_shape z reference h = never h
+number_of_shape z block h = never h
+number_of_shape z (elements s) h = never h
+number_of_shape z (row n s) h = never h
+number_of_shape z (parts ss) h = never h
+number_of_shape z (resource ss) h = never h
+
+module _ (x : Basis) (labels : LabelsLead x) (g : Both) (rest : List BlockLine) (to : ℕ) (how : Use) (ty : ℕ) where
+  abbrev to_type : Ty
+  to_type = type_at (known x).types ty
+
+  -- ---- a number
+
+  pub number_constant : (z : ℤ) → FollowedHere x labels g rest (L.Constant to how ty (P.Ordinal z ∷ []))
+  number_constant z y =
+      let line = plain (L.Constant to how ty (P.Ordinal z ∷ [])) in
+      let f = and_parts (has_shape (Number z) (shape_of (facts_in x.table) to_type)) (is_of (value_type x g line rest y to) (Some to_type))
+      (fits_here x.table x.blocks (body_of g) line rest y.stands) in
+      let v = are_of (value_type x g line rest y to) (Some to_type) f.1 in
+      let t = target x g line rest y to to_type refl refl (v.is ∙ sym v.is_other) in
+      let s = number_of_shape z (shape_of (facts_in x.table) to_type) f.0 in
+      let n = getting x g line rest y to to_type s.0 z t s.1 (subst (λ k. has_shape (Number z) k ≡ true) s.1 f.0) in
+      let w = in_word x g.call.site to y.linked.0 n.there n.one in
+      let code : code_here x g line rest y ≡ Constant (variable x g line rest y to) (word z) ∷ code_next x g line rest y
+      = ap (λ p. constant_at (house g.call.site (of_value to)) p (P.Ordinal z ∷ []) (code_next x g line rest y)) w.spot
+      ∙ ap (λ u. Constant u (word z) ∷ code_next x g line rest y) (sym w.is) in
+      subst (λ b. Settles x (starts g line rest) rest (gives (scene_of (high x.table x.blocks (starts g line rest))) to
+      (costs 1 (costs 0 (give (Number z))) >>= made_by b how))) (sym t.unhooked)
+      (gives_settles x g line rest y to z (1 + (0 + 0)) (omega arith) n
+      (subst (λ l. Given x.live (all_procs x) (within x.table x.blocks g) g.memory g.words l g.call.vars (variable x g line rest y to) (word z)
+      (code_next x g line rest y)) (sym code) (constant_given x g line rest y to z n)))
+
+  -- ---- a text
+
+  module _ (text : List ℕ) where
+    abbrev naming : BlockLine
+    naming = plain (L.Constant to how ty (P.Text text ∷ []))
+
+    abbrev text_temps : Temps
+    text_temps = with_value to g.call.temps (Fixed text)
+
+    module _ (y : IsGood x (starts g naming rest)) where
+      abbrev behind_here : ℕ
+      behind_here = length (texts_of (map block_plain rest))
+
+      named_text : (house g.call.site (of_value to)).alias ≡ alias.Text behind_here (length text)
+      named_text = text_alias_is (house g.call.site (of_value to)).alias behind_here (length text)
+          (value_alias x g naming rest y to (alias.Text behind_here (length text)) refl refl)
+
+      literal : IsLiteral (body_of g) behind_here (length text) (Fixed text)
+      literal =
+          let w = text_whole y.stands.before naming rest in
+          record {
+            text = text;
+            is = refl;
+            size = refl;
+            before = texts_of (map block_plain rest);
+            after = w.0;
+            whole = ap (λ l. texts_of (map block_plain l)) y.stands.whole ∙ w.1;
+            at = refl;
+          }
+
+      different : (u : ℕ) → (g.call.site.level ≢ g.call.site.level) ⊎ (of_value u ≢ of_value to) → u ≢ to
+      different u (inl ne) e = ne refl
+      different u (inr ne) e = ne (ap of_value e)
+
+      kept_text : Kept x.table x.blocks x.small (all_sites x g naming rest y) y.linked g.call.site (of_value to) g.call.site g.call.temps text_temps
+          g.call.vars g.call.vars
+      kept_text = record {
+        values = λ u i away. put_away x g naming rest y to (Fixed text) u (different u away);
+        places = λ u away. refl;
+        texts = λ u n k i e away. put_away x g naming rest y to (Fixed text) u (different u away);
+        still = λ u w h. put_still x g naming rest y to (Fixed text) u w h;
+        variables = λ f u i away home. refl;
+        left = refl;
+      }
+
+      new_text : New x.table x.blocks x.small (all_sites x g naming rest y) y.linked g.call.site (of_value to) g.memory g.world
+          (all_sites x g naming rest y) (call g.call.site text_temps g.call.vars)
+      new_text = record {
+        item = λ u i h. own_text g.call.site (of_value to) behind_here (length text) i named_text;
+        text = λ u n k w e a h. as_literal u n k w (ap number_in e) a h;
+        led = λ u other e n h. absurd (value_no_location to u (sym e));
+        filled = λ n e h. absurd (value_no_place to n (sym e));
+      }
+        where
+          as_literal : (u n k : ℕ) (w : Value) → u ≡ to → (house g.call.site (of_value u)).alias ≡ alias.Text n k → text_temps.values u ≡ Some w
+              → IsLiteral (body_of g) n k w
+          as_literal u n k w e a h =
+              let same : alias.Text n k ≡ alias.Text behind_here (length text)
+              = sym a ∙ (ap (λ v. (house g.call.site (of_value v)).alias) e ∙ named_text) in
+              let value_is = put_here x g naming rest y to (Fixed text) w (subst (λ v. text_temps.values v ≡ Some w) e h) in
+              subst (λ v. IsLiteral (body_of g) n k v) value_is
+              (subst (λ m. IsLiteral (body_of g) m k (Fixed text)) (sym (ap text_place same))
+              (subst (λ m. IsLiteral (body_of g) behind_here m (Fixed text)) (sym (ap text_size same)) literal))
+
+      good_text : IsGood x (changed g rest text_temps g.call.vars g.memory g.words g.awaits g.world)
+      good_text =
+          good_changed x g naming rest y rest g.call.site (of_value to) text_temps g.call.vars g.memory g.words g.awaits g.world
+          y.memory (nowhere refl)
+          (worlds_same x.table x.blocks x.small (all_sites x g naming rest y) y.linked g.call.site (of_value to) g.world)
+          kept_text (λ e. new_text) (λ c from i e. absurd (waits_below x g naming rest y c i e)) y.frames y.levels
+          (stands_next x.table x.blocks (body_of g) naming rest y.stands)
+
+    pub text_constant : FollowedHere x labels g rest (L.Constant to how ty (P.Text text ∷ []))
+    text_constant y =
+        subst (λ d. Settles x (starts g naming rest) rest d) (made_text (gives_hooked (facts_in x.table) (Some to_type)))
+        (stays_on x (starts g naming rest) (changed g rest text_temps g.call.vars g.memory g.words g.awaits g.world) rest (good_text y)
+        1 text_temps g.world refl refl (omega arith))
+      where
+        made_text : (b : Bool) → Passes (Answers [] 1 text_temps g.world)
+            ≡ gives (scene_of (high x.table x.blocks (starts g naming rest))) to (costs 1 (costs 0 (give (Fixed text))) >>= made_by b how)
+        made_text true = refl
+        made_text false = refl

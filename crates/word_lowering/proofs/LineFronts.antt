@@ -1,0 +1,400 @@
+-- The code of each line stands before that of the lines behind it.
+use Rattle.std.proofs.Common.{◌≡◌, inl, ℕ, zero, suc, ◌+◌, ◌*◌, ◌<◌, ◌≤◌, List, [], ◌∷◌, ◌++◌, length, Bool, true, false}
+use Rattle.std.proofs.Common.{Option, Some, None, refl, arith}
+use Rattle.std.proofs.lemmas.List.{length-map}
+use Rattle.nim_types.specs.declared.types.TypeDef.{TypeDef}
+use Rattle.nim_types.specs.declared.types.TypeDef.TheVariants as D
+use Rattle.nim_program.specs.declared.operation.Operation.{Operation}
+use Rattle.nim_program.specs.declared.operation.Operation.TheVariants as O
+use Rattle.nim_program.specs.declared.operation.Operator.{Operator}
+use Rattle.flat_code.specs.declared.line.From.{From}
+use Rattle.flat_code.specs.declared.line.Line.{Line}
+use Rattle.flat_code.specs.declared.line.Line.TheVariants as L
+use Rattle.flat_code.specs.declared.line.Piece.{Piece}
+use Rattle.flat_code.specs.declared.line.Piece.TheVariants as P
+use Rattle.flat_code.specs.Whole.{label_in}
+use Rattle.word_code.specs.declared.word.WordInstr.{WordInstr}
+use Rattle.word_code.specs.declared.word.WordInstr.TheVariants.{Constant, Argument, Call, Return, Place, Load, Store}
+use Rattle.rv32_isa.specs.declared.micro_op.Size.TheVariants.{Word as whole}
+use Rattle.word_code.specs.declared.routine.TheConstants.{SWAP}
+use Rattle.word_lowering.specs.declared.homes.TheConstants.{LEFT, FIRST, SECOND, THIRD, FOURTH, FIFTH}
+use Rattle.word_lowering.specs.declared.homes.Alias.{Alias}
+use Rattle.word_lowering.specs.declared.homes.Alias.TheVariants as alias
+use Rattle.word_lowering.specs.declared.homes.Home.{Home}
+use Rattle.word_lowering.specs.declared.homes.Home.TheVariants.{Variable, Placed, Static}
+use Rattle.word_lowering.specs.declared.homes.Housed.{Housed}
+use Rattle.word_lowering.specs.declared.spots.Spot.{Spot}
+use Rattle.word_lowering.specs.declared.spots.Spot.TheVariants.{Held, Lies}
+use Rattle.word_lowering.specs.declared.texts.TheConstants.{LINE_END_AT}
+use Rattle.word_lowering.specs.Aliases.{text_in}
+use Rattle.word_lowering.specs.Layouts.{params_in, result_in}
+use Rattle.word_lowering.specs.Operations.{word, binary_code}
+use Rattle.word_lowering.specs.Spots.{spot_of, shifted, address, moved, moves, passes, cleared, clears, starts, handed}
+use Rattle.word_lowering.specs.Stored.{part_at, entry_at, base_at, limit_at}
+use Rattle.word_lowering.specs.LineCode as code
+use Rattle.word_lowering.specs.LineCode.{Around, arguments_of}
+use Rattle.word_lowering.proofs.Fronts.{Coding, IsFront, front_on, front_none, front_more, front_address, moved_front, cleared_front, handed_front}
+use Rattle.word_lowering.proofs.Fronts.{binary_front, turn_front, unary_front, compare_front, narrow_front, unless_front, when_front, beyond_front}
+use Rattle.word_lowering.proofs.Fronts.{fits_front}
+
+module _ (own many : ℕ) where
+  moves_front : (to from : Housed) → IsFront own many (moves to from)
+  moves_front to from = moved_front own many from.is_word from.bytes (spot_of to) (spot_of from)
+
+  clears_front : (to : Housed) → IsFront own many (clears to)
+  clears_front to = cleared_front own many to.is_word to.bytes (spot_of to)
+
+  passes_front : (bytes : ℕ) (to from : Housed) → IsFront own many (passes bytes to from)
+  passes_front zero to from = front_none own many
+  passes_front (suc n) to from = moves_front to from
+
+  starts_front : (bytes : ℕ) (to : Housed) → IsFront own many (starts bytes to)
+  starts_front zero to = front_none own many
+  starts_front (suc n) to = clears_front to
+
+  -- ---- constants
+
+  word_front : (to : Home) (n : ℕ) → IsFront own many (code.unless_zero to n)
+  word_front to zero = front_none own many
+  word_front to (suc n) =
+      front_address own many FIRST to (λ k. Constant SECOND (suc n) ∷ Store FIRST SECOND whole ∷ k) (record { is = λ k. refl; fine = tt })
+
+  pieces_front : (to : Home) (pieces : List Piece) → IsFront own many (code.pieces_code to pieces)
+  pieces_front to [] = front_none own many
+  pieces_front to (P.Ordinal z ∷ pieces) =
+      front_on own many (code.unless_zero to (word z)) (code.pieces_code (shifted 4 to) pieces) (word_front to (word z)) (pieces_front (shifted 4 to) pieces)
+  pieces_front to (P.Parts zero ∷ pieces) = pieces_front (shifted 4 to) pieces
+  pieces_front to (P.Parts (suc n) ∷ pieces) = pieces_front to pieces
+  pieces_front to (P.Text text ∷ pieces) = pieces_front to pieces
+  pieces_front to (P.Nil ∷ pieces) = pieces_front to pieces
+  pieces_front to (P.Elements zero ∷ pieces) = pieces_front (shifted 4 to) pieces
+  pieces_front to (P.Elements (suc n) ∷ pieces) = pieces_front to pieces
+
+  constant_at_front : (to : Housed) (spot : Spot) (pieces : List Piece) → IsFront own many (code.constant_at to spot pieces)
+  constant_at_front to (Held v) pieces = record { is = λ k. refl; fine = tt }
+  constant_at_front to (Lies home) pieces =
+      front_on own many (cleared to.is_word to.bytes (Lies home)) (code.pieces_code home pieces)
+      (cleared_front own many to.is_word to.bytes (Lies home)) (pieces_front home pieces)
+
+  constant_front : (text : Option (List ℕ)) (to : Housed) (pieces : List Piece) → IsFront own many (code.constant_by text to pieces)
+  constant_front None to pieces = constant_at_front to (spot_of to) pieces
+  constant_front (Some text) to pieces = front_none own many
+
+  -- ---- addresses
+
+  part_front : (to : ℕ) (home : Home) (at : ℕ) → IsFront own many (code.part_code to home at)
+  part_front to (Variable v) at = record { is = λ k. refl; fine = tt }
+  part_front to (Placed from) at = record { is = λ k. refl; fine = tt }
+  part_front to (Static from) at = record { is = λ k. refl; fine = tt }
+
+  element_front : (to : ℕ) (home : Home) (index bytes : ℕ) → IsFront own many (code.element_code to home index bytes)
+  element_front to (Variable v) index bytes = record { is = λ k. refl; fine = tt }
+  element_front to (Placed at) index bytes = record { is = λ k. refl; fine = tt }
+  element_front to (Static at) index bytes = record { is = λ k. refl; fine = tt }
+
+  item_front : (to : ℕ) (home : Home) (index count bytes : ℕ) → IsFront own many (code.item_code to home index count bytes)
+  item_front to (Variable v) index count bytes = record { is = λ k. refl; fine = (inl (omega arith), tt) }
+  item_front to (Placed at) index count bytes = record { is = λ k. refl; fine = (inl (omega arith), tt) }
+  item_front to (Static at) index count bytes = record { is = λ k. refl; fine = (inl (omega arith), tt) }
+
+  word_argument_front : (index : ℕ) (home : Home) → IsFront own many (code.word_argument index home)
+  word_argument_front index (Variable v) = record { is = λ k. refl; fine = tt }
+  word_argument_front index (Placed at) = record { is = λ k. refl; fine = tt }
+  word_argument_front index (Static at) = record { is = λ k. refl; fine = tt }
+
+  swap_front : (left right : Home) (bytes : ℕ) → IsFront own many (code.swap_code left right bytes)
+  swap_front left right bytes =
+      front_on own many (code.word_argument 0 left) (λ k. code.word_argument 1 right (called k)) (word_argument_front 0 left)
+      (front_on own many (code.word_argument 1 right) called (word_argument_front 1 right) (record { is = λ k. refl; fine = tt }))
+    where
+      called : Coding
+      called k = Constant THIRD bytes ∷ Argument 2 THIRD ∷ Call FIRST SWAP ∷ k
+
+  -- ---- returns, and what is written
+
+  back_front : (is_word : Bool) (spot : Spot) → IsFront own many (code.back_code is_word spot)
+  back_front w (Held v) = record { is = λ k. refl; fine = tt }
+  back_front true (Lies home) =
+      front_address own many FIRST home (λ k. Load FIRST FIRST whole ∷ Return FIRST ∷ k) (record { is = λ k. refl; fine = tt })
+  back_front false (Lies home) = record { is = λ k. refl; fine = tt }
+
+  text_front : (at bytes : ℕ) → IsFront own many (code.text_code at bytes)
+  text_front at zero = front_none own many
+  text_front at (suc n) = record { is = λ k. refl; fine = tt }
+
+  literal_front : (literals : ℕ) (other : Alias) → IsFront own many (code.literal_code literals other)
+  literal_front literals alias.Own = front_none own many
+  literal_front literals (alias.Place p global) = front_none own many
+  literal_front literals (alias.Value t) = front_none own many
+  literal_front literals (alias.Text behind bytes) = text_front (literals + behind) bytes
+
+  number_front : (from : ℕ) → IsFront own many (code.number_code from)
+  number_front from = record { is = λ k. refl; fine = tt }
+
+  exit_front : IsFront own many code.exit_code
+  exit_front = record { is = λ k. refl; fine = tt }
+
+  checked_front : (start : Bool) → IsFront own many (code.checked_code start)
+  checked_front true = record { is = λ k. refl; fine = tt }
+  checked_front false = record { is = λ k. refl; fine = (inl (omega arith), tt) }
+
+  parts_front : (to : Home) (hs : List Housed) → IsFront own many (code.parts_code to hs)
+  parts_front to [] = front_none own many
+  parts_front to (h ∷ hs) =
+      front_on own many (moved h.is_word h.bytes (Lies to) (spot_of h)) (code.parts_code (shifted h.bytes to) hs)
+      (moved_front own many h.is_word h.bytes (Lies to) (spot_of h)) (parts_front (shifted h.bytes to) hs)
+
+  converted_front : (limit : Option ℕ) (to from : Housed) → IsFront own many (code.converted_code limit to from)
+  converted_front None to from = moves_front to from
+  converted_front (Some values) to from = narrow_front own many (code.variable_of to) (code.variable_of from) values
+
+  quit_front : (hs : List Housed) → IsFront own many (code.quit_code hs)
+  quit_front [] = exit_front
+  quit_front (status ∷ hs) = record { is = λ k. refl; fine = tt }
+
+  module _ (high : 7 < own) where
+    updated_front : (operator : Operator) (spot : Spot) (by : ℕ) → IsFront own many (code.updated_code own operator spot by)
+    updated_front operator (Held v) by = binary_front own many high operator v v by
+    updated_front operator (Lies home) by =
+        front_on own many loads (λ k. binary_code own operator FOURTH FOURTH by (stores k))
+        (front_address own many SECOND home (λ k. Load FOURTH SECOND whole ∷ k) (record { is = λ k. refl; fine = tt }))
+        (front_on own many (binary_code own operator FOURTH FOURTH by) stores (binary_front own many high operator FOURTH FOURTH by)
+        (front_address own many FIRST home (λ k. Store FIRST FOURTH whole ∷ k) (record { is = λ k. refl; fine = tt })))
+      where
+        loads : Coding
+        loads k = address SECOND home ∷ Load FOURTH SECOND whole ∷ k
+
+        stores : Coding
+        stores k = address FIRST home ∷ Store FIRST FOURTH whole ∷ k
+
+    update_front : (operator : Operator) (hs : List Housed) → IsFront own many (code.update_code own operator hs)
+    update_front operator [] = front_none own many
+    update_front operator (to ∷ []) =
+        front_more own many (Constant FIFTH 1) (code.updated_code own operator (spot_of to) FIFTH) refl (updated_front operator (spot_of to) FIFTH)
+    update_front operator (to ∷ by ∷ hs) = updated_front operator (spot_of to) (code.variable_of by)
+
+  module _ (x : Around) where
+    fields_front : (to : Home) (ty : ℕ) (fields : List ℕ) (hs : List Housed) → IsFront own many (code.fields_code x to ty fields hs)
+    fields_front to ty [] hs = front_none own many
+    fields_front to ty (field ∷ fields) [] = front_none own many
+    fields_front to ty (field ∷ fields) (h ∷ hs) =
+        let there : Home = shifted (part_at x.table ty field) to in
+        front_on own many (moved h.is_word h.bytes (Lies there) (spot_of h)) (code.fields_code x to ty fields hs)
+        (moved_front own many h.is_word h.bytes (Lies there) (spot_of h)) (fields_front to ty fields hs)
+
+    -- ---- calls
+
+    argument_front : 7 < own → (i : ℕ) (param : Home) (from : Housed) → i ≤ many → IsFront own many (code.argument_code x (own + 2 * i) param from)
+    argument_front high i (Variable v) from few = word_argument_front v from.home
+    argument_front high i (Placed at) from few =
+        front_more own many (Place FIRST (x.own.free.byte + at)) (handed (own + 2 * i) from.bytes (spot_of from)) refl
+        (handed_front own many high i from.bytes (spot_of from) few)
+    argument_front high i (Static at) from few = front_none own many
+
+    arguments_front : 7 < own → (ps hs : List Housed) → length hs ≤ many → IsFront own many (code.arguments_code x own ps hs)
+    arguments_front high [] hs few = front_none own many
+    arguments_front high (p ∷ ps) [] few = front_none own many
+    arguments_front high (p ∷ ps) (h ∷ hs) few =
+        front_on own many (code.argument_code x (own + 2 * suc (length hs)) p.home h) (code.arguments_code x own ps hs)
+        (argument_front high (suc (length hs)) p.home h few) (arguments_front high ps hs (omega (arith, few)))
+
+    result_front : (to : Housed) (r : Option Housed) → IsFront own many (code.result_code x to r)
+    result_front to None = front_none own many
+    result_front to (Some r) = moved_front own many r.is_word r.bytes (spot_of to) (Lies (code.left_at x.own.free.byte r.home))
+
+    entered_front : (proc : ℕ) (to : Housed) (spot : Spot) → IsFront own many (code.entered_code x proc to spot)
+    entered_front proc to (Held v) = record { is = λ k. refl; fine = tt }
+    entered_front proc to (Lies home) =
+        front_more own many (Call FIRST (code.proc_number proc)) (code.result_code x to (result_in (code.layout_at x proc).all)) refl
+        (result_front to (result_in (code.layout_at x proc).all))
+
+    nothing_front : (ty : Option ℕ) (to : ℕ) → IsFront own many (code.nothing_code x ty to)
+    nothing_front None to = front_none own many
+    nothing_front (Some ty) to = record { is = λ k. refl; fine = tt }
+
+    called_front : 7 < own → (runs : Bool) (proc : ℕ) (ty : Option ℕ) (to : ℕ) (hs : List Housed) → length hs ≤ many
+        → IsFront own many (code.called_code x runs own proc ty to hs)
+    called_front high true proc ty to hs few =
+        front_on own many (code.arguments_code x own (params_in (code.layout_at x proc).all) hs)
+        (λ k. code.checked_code x.setting.start (Argument LEFT FIRST ∷ code.given_code x proc to k))
+        (arguments_front high (params_in (code.layout_at x proc).all) hs few)
+        (front_on own many (code.checked_code x.setting.start) (λ k. Argument LEFT FIRST ∷ code.given_code x proc to k) (checked_front x.setting.start)
+        (front_more own many (Argument LEFT FIRST) (code.given_code x proc to) refl (entered_front proc (code.value x to) (spot_of (code.value x to)))))
+    called_front high false proc ty to hs few =
+        front_on own many (code.checked_code x.setting.start) (code.nothing_code x ty to) (checked_front x.setting.start) (nothing_front ty to)
+
+    return_front : (start : Bool) (result : Option ℕ) → IsFront own many (code.return_code x start result)
+    return_front true result = exit_front
+    return_front false None = record { is = λ k. refl; fine = tt }
+    return_front false (Some p) = back_front (code.own_place x p).is_word (spot_of (code.own_place x p))
+
+    -- ---- texts
+
+    written_front : (def : Option TypeDef) (enum : ℕ) (from : Housed) → IsFront own many (code.written_code x def enum from)
+    written_front None enum from = number_front (code.variable_of from)
+    written_front (Some D.Int) enum from = number_front (code.variable_of from)
+    written_front (Some D.Bool) enum from = record { is = λ k. refl; fine = tt }
+    written_front (Some D.Char) enum from = record { is = λ k. refl; fine = tt }
+    written_front (Some D.Text) enum from = literal_front x.setting.literals from.alias
+    written_front (Some (D.Enum name at members)) enum from =
+        record { is = λ k. refl; fine = tt }
+    written_front (Some (D.Seq i)) enum from = front_none own many
+    written_front (Some (D.Param n)) enum from = front_none own many
+    written_front (Some (D.Array n i)) enum from = front_none own many
+    written_front (Some (D.Tuple names is)) enum from = front_none own many
+    written_front (Some (D.Object name at is all own_hooks parts)) enum from = front_none own many
+    written_front (Some (D.Distinct name at i)) enum from = front_none own many
+    written_front (Some (D.Ref name i)) enum from = front_none own many
+    written_front (Some (D.Exception name at parent)) enum from = front_none own many
+
+    typed_front : (ty : Option ℕ) (from : Housed) → IsFront own many (code.typed_code x ty from)
+    typed_front None from = front_none own many
+    typed_front (Some ty) from = written_front (entry_at x.table ty) (base_at x.table ty) from
+
+    texts_front : (of : List (Option ℕ)) (hs : List Housed) → IsFront own many (code.texts_code x of hs)
+    texts_front [] hs = front_none own many
+    texts_front (ty ∷ tys) [] = front_none own many
+    texts_front (ty ∷ tys) (h ∷ hs) =
+        front_on own many (code.typed_code x ty h) (code.texts_code x tys hs) (typed_front ty h) (texts_front tys hs)
+
+    -- ---- operations
+
+    row_front : 7 < own → (operation : Operation) (ty : Option ℕ) (of : List (Option ℕ)) (to : Housed) (hs : List Housed)
+        → IsFront own many (code.row_code x operation own ty of to hs)
+    row_front high O.Default ty of to hs = starts_front to.bytes to
+    row_front high (O.Unary operator) ty of to hs = unary_front own many operator (code.variable_of to) (code.variable_of (code.operand_at hs 0))
+    row_front high (O.Binary operator) ty of to hs =
+        binary_front own many high operator (code.variable_of to) (code.variable_of (code.operand_at hs 0)) (code.variable_of (code.operand_at hs 1))
+    row_front high (O.Compare c) ty of to hs =
+        compare_front own many c (code.variable_of to) (code.variable_of (code.operand_at hs 0)) (code.variable_of (code.operand_at hs 1))
+    row_front high O.Convert ty of to hs = converted_front (limit_at x.table ty) to (code.operand_at hs 0)
+    row_front high O.Join ty of to hs = front_none own many
+    row_front high O.Show ty of to hs = front_none own many
+    row_front high O.Make ty of to hs = parts_front to.home hs
+    row_front high O.Sequence ty of to hs = front_none own many
+    row_front high O.NewSequence ty of to hs = front_none own many
+    row_front high (O.Measure measure) ty of to hs = record { is = λ k. refl; fine = tt }
+    row_front high O.IsNil ty of to hs = front_none own many
+    row_front high O.Echo ty of to hs =
+        front_on own many (code.texts_code x of hs) (code.text_code LINE_END_AT 1) (texts_front of hs) (text_front LINE_END_AT 1)
+    row_front high O.Quit ty of to hs = quit_front hs
+    row_front high O.ReadLine ty of to hs = front_none own many
+    row_front high O.ReadLineInto ty of to hs = front_none own many
+    row_front high O.Assign ty of to hs = moves_front (code.operand_at hs 0) (code.operand_at hs 1)
+    row_front high (O.Update operator) ty of to hs = update_front high operator hs
+    row_front high O.Add ty of to hs = front_none own many
+    row_front high O.Append ty of to hs = front_none own many
+    row_front high O.SetLength ty of to hs = front_none own many
+    row_front high O.Pop ty of to hs = front_none own many
+    row_front high O.Move ty of to hs =
+        front_on own many (moves to (code.operand_at hs 0)) (clears (code.operand_at hs 0)) (moves_front to (code.operand_at hs 0))
+        (clears_front (code.operand_at hs 0))
+    row_front high O.Swap ty of to hs = swap_front (code.operand_at hs 0).home (code.operand_at hs 1).home (code.operand_at hs 0).bytes
+    row_front high O.Discard ty of to hs = front_none own many
+    row_front high O.Destroy ty of to hs = front_none own many
+    row_front high O.Blank ty of to hs = front_none own many
+
+-- ---- lines
+
+-- a line that is no label
+abbrev pub IsNoLabel : Line → Type 0
+IsNoLabel (L.Label name) = ⊥
+IsNoLabel line = Unit {0}
+
+operands_few : (x : Around) (from : List From) → length (code.operands x from) ≤ length from
+operands_few x from = let l = length-map from (code.operand x) in omega (arith, l)
+
+far : (name : ℕ) → 7 < code.own_label name
+far name = omega arith
+
+pub line_front : (x : Around) (line : Line) (own : ℕ) → 7 < own → IsNoLabel line → IsFront own (length (arguments_of line)) (code.line_code x line own)
+line_front x (L.Label name) own high plain = absurd plain
+line_front x (L.Apply to operation how ty of from) own high plain = row_front own 0 x high operation ty of (code.value x to) (code.operands x from)
+line_front x (L.Construct to how ty fields from) own high plain =
+    front_on own 0 (clears (code.value x to)) (code.fields_code x (code.value x to).home ty fields (code.operands x from))
+    (clears_front own 0 (code.value x to))
+    (fields_front own 0 x (code.value x to).home ty fields (code.operands x from))
+line_front x (L.Constant to how ty pieces) own high plain = constant_front own 0 (text_in pieces) (code.value x to) pieces
+line_front x (L.Call to how ty proc from) own high plain =
+    called_front own (length from) x high (code.layout_at x proc).runs proc ty to (code.operands x from) (operands_few x from)
+line_front x (L.Get to from how site ty) own high plain = moves_front own 0 (code.value x to) (code.location x from)
+line_front x (L.Look to from) own high plain = moves_front own 0 (code.value x to) (code.location x from)
+line_front x (L.Root to p global) own high plain = front_none own 0
+line_front x (L.Fresh to from) own high plain = front_none own 0
+line_front x (L.Part to from field) own high plain =
+    part_front own 0 (code.led x to) (code.location x from).home (part_at x.table (code.location x from).ty field)
+line_front x (L.Item to from index) own high plain =
+    item_front own 0 (code.led x to) (code.location x from).home (code.held x index) (code.count_at x from) (code.bytes_each x from)
+line_front x (L.Object to from) own high plain = front_none own 0
+line_front x (L.Pass to from how ty) own high plain = passes_front own 0 (code.value x from).bytes (code.value x to) (code.value x from)
+line_front x (L.Truth to holds) own high plain = record { is = λ k. refl; fine = tt }
+line_front x (L.Fill p from) own high plain = moves_front own 0 (code.own_place x p) (code.value x from)
+line_front x (L.Blank p ty) own high plain = clears_front own 0 (code.own_place x p)
+line_front x (L.Give p from) own high plain = moves_front own 0 (code.own_place x p) (code.value x from)
+line_front x (L.Zero to) own high plain = record { is = λ k. refl; fine = tt }
+line_front x (L.Length to from) own high plain = record { is = λ k. refl; fine = tt }
+line_front x (L.Still from len) own high plain = record { is = λ k. refl; fine = (inl (omega arith), tt) }
+line_front x (L.Element to from index) own high plain =
+    let v : Housed = code.value x to in
+    front_on own 0 (code.element_code FIFTH (code.location x from).home (code.held x index) (code.bytes_each x from))
+    (moved v.is_word v.bytes (spot_of v) (Lies (Variable FIFTH)))
+    (element_front own 0 FIFTH (code.location x from).home (code.held x index) (code.bytes_each x from))
+    (moved_front own 0 v.is_word v.bytes (spot_of v) (Lies (Variable FIFTH)))
+line_front x (L.Beyond counter last inclusive to) own high plain =
+    beyond_front own 0 inclusive (code.held x counter) (code.held x last) (code.own_label to) (far to)
+line_front x (L.Next counter last) own high plain = record { is = λ k. refl; fine = tt }
+line_front x (L.Jump to) own high plain = record { is = λ k. refl; fine = tt }
+line_front x (L.Unless from to) own high plain = unless_front own 0 (code.held x from) (code.own_label to) (far to)
+line_front x (L.Fits from low most to) own high plain = fits_front own 0 (code.held x from) (code.own_label to) low most (far to)
+line_front x L.Enter own high plain = front_none own 0
+line_front x (L.Turn to) own high plain = record { is = λ k. refl; fine = tt }
+line_front x (L.TurnIf from to) own high plain = when_front own 0 (code.held x from) (code.own_label to) (far to)
+line_front x (L.CountTurn counter last inclusive to) own high plain =
+    turn_front own 0 high (code.held x counter) (code.held x last) inclusive (code.own_label to)
+line_front x (L.Return result) own high plain = return_front own 0 x x.setting.start result
+
+-- what a line is: a label, or another line
+pub data Kind : Line → Type 0 where
+  is_label : (name : ℕ) → Kind (L.Label name)
+  is_other : {line : Line} → IsNoLabel line → label_in line ≡ None → Kind line
+
+pub kind_of : (line : Line) → Kind line
+kind_of (L.Label name) = is_label name
+kind_of (L.Apply to operation how ty of from) = is_other tt refl
+kind_of (L.Construct to how ty fields from) = is_other tt refl
+kind_of (L.Constant to how ty pieces) = is_other tt refl
+kind_of (L.Call to how ty proc from) = is_other tt refl
+kind_of (L.Get to from how site ty) = is_other tt refl
+kind_of (L.Look to from) = is_other tt refl
+kind_of (L.Root to p global) = is_other tt refl
+kind_of (L.Fresh to from) = is_other tt refl
+kind_of (L.Part to from field) = is_other tt refl
+kind_of (L.Item to from index) = is_other tt refl
+kind_of (L.Object to from) = is_other tt refl
+kind_of (L.Pass to from how ty) = is_other tt refl
+kind_of (L.Truth to holds) = is_other tt refl
+kind_of (L.Fill p from) = is_other tt refl
+kind_of (L.Blank p ty) = is_other tt refl
+kind_of (L.Give p from) = is_other tt refl
+kind_of (L.Zero to) = is_other tt refl
+kind_of (L.Length to from) = is_other tt refl
+kind_of (L.Still from len) = is_other tt refl
+kind_of (L.Element to from index) = is_other tt refl
+kind_of (L.Beyond counter last inclusive to) = is_other tt refl
+kind_of (L.Next counter last) = is_other tt refl
+kind_of (L.Jump to) = is_other tt refl
+kind_of (L.Unless from to) = is_other tt refl
+kind_of (L.Fits from low high to) = is_other tt refl
+kind_of L.Enter = is_other tt refl
+kind_of (L.Turn to) = is_other tt refl
+kind_of (L.TurnIf from to) = is_other tt refl
+kind_of (L.CountTurn counter last inclusive to) = is_other tt refl
+kind_of (L.Return result) = is_other tt refl
+
+-- whatever follows
+pub line_appends : (x : Around) (line : Line) (own : ℕ) → 7 < own → (k : List WordInstr) → code.line_code x line own k ≡ code.line_code x line own [] ++ k
+line_appends x line own high k = by line (kind_of line)
+  where
+    by : (line : Line) → Kind line → code.line_code x line own k ≡ code.line_code x line own [] ++ k
+    by _ (is_label name) = refl
+    by line (is_other plain e) = (line_front x line own high plain).is k

@@ -1,0 +1,219 @@
+-- Where what a line writes at a location stands, and that it is written.
+use Rattle.std.proofs.Common.{◌≡◌, inl, inr, ℕ, ◌+◌, ◌*◌, ◌≤◌, List, [], Some, Bool, true, false, refl, sym, ap, subst, ◌∙◌, arith, ◌⊎◌}
+use Rattle.std.proofs.lemmas.Bool.{cases_Bool}
+use Rattle.word_code.proofs.ForCallers.{at, Runs}
+use Rattle.word_lowering.proofs.RoutineCalls.{awaiting}
+use Rattle.nim_meaning.specs.Values.{Value, bytes, Location, Standing, Holds}
+use Rattle.nim_meaning.specs.State.{slot_at, load, store, with_slot}
+use Rattle.nim_meaning.specs.Places.{place_at, root_of, through_slot}
+use Rattle.word_lowering.specs.LineCode.{location, named, place, Around, variable_in, variable_of}
+use Rattle.flat_code.specs.declared.block.BlockLine.{BlockLine}
+use Rattle.flat_code.specs.Fits.{is_own, is_standing}
+use Rattle.flat_code.specs.Scene.{Where, Located, Temps, Passes}
+use Rattle.flat_code.specs.Shapes.{Shape, has_shape, shape_of}
+use Rattle.word_lowering.specs.declared.homes.Alias.{Alias}
+use Rattle.word_lowering.specs.declared.homes.Alias.TheVariants as alias
+use Rattle.word_lowering.specs.declared.homes.Home.{Home}
+use Rattle.word_lowering.specs.declared.homes.Home.TheVariants.{Variable, Static, Placed}
+use Rattle.word_lowering.specs.declared.homes.Housed.{Housed}
+use Rattle.word_lowering.specs.declared.spots.Spot.TheVariants.{Lies}
+use Rattle.word_lowering.specs.Layouts.{is_address}
+use Rattle.nim_meaning.specs.Deeds.{Answers}
+use Rattle.nim_types.specs.Table.{facts_in}
+use Rattle.word_lowering.proofs.ControlLines.{plain}
+use Rattle.word_lowering.proofs.Gets.{Gets, SameTemps, gets_moved, good_place}
+use Rattle.word_lowering.proofs.Keeping.{declared_address, location_address, spot_address, spot_memory}
+use Rattle.word_lowering.proofs.Lines.{Basis, IsGood, Settles, all_procs, all_sites, changed, goes_on, stands_next, starts}
+use Rattle.word_lowering.proofs.Located.{place_located}
+use Rattle.word_lowering.proofs.MovedLines.{own_plain}
+use Rattle.word_lowering.proofs.Moves.{IsHigh}
+use Rattle.word_lowering.proofs.ReadFacts.{Read, each_call, global_root, own_root}
+use Rattle.word_lowering.proofs.Related.{Both, body_of, within}
+use Rattle.word_lowering.proofs.Scenes.{Leads, Filled, FromPlace, IsAddressed, IsFilled, IsLedBy, IsNamed, IsRoot, IsThere, Name, Points, address_of}
+use Rattle.word_lowering.proofs.Scenes.{house, looked, of_location, of_place}
+use Rattle.word_lowering.proofs.Settling.{code_here, code_next}
+use Rattle.word_lowering.proofs.ShapeFacts.{bytes_is, never}
+use Rattle.word_lowering.proofs.Sites.{Housing, InMemory, around, by_address, data_end, in_data, in_places, in_variable, room, type_of}
+use Rattle.word_lowering.proofs.SitesApart.{houses}
+use Rattle.word_lowering.proofs.Sources.{Lying, to_bytes_by}
+use Rattle.word_lowering.proofs.Stores.{good_stored}
+use Rattle.word_lowering.proofs.ValueFacts.{has_type, look_of, place_there}
+use Rattle.word_lowering.specs.Spots.{moves, spot_of}
+use Rattle.word_lowering.specs.declared.homes.TheConstants.{OWN_FROM}
+use Rattle.word_lowering.specs.declared.texts.TheConstants.{FIXED_BYTES}
+
+pub high_in_memory : (home : Home) → InMemory home → IsHigh home
+high_in_memory (Variable v) i = absurd i
+high_in_memory (Placed at) i = tt
+high_in_memory (Static at) i = tt
+
+module _ (x : Basis) (g : Both) (line : BlockLine) (rest : List BlockLine) (y : IsGood x (starts g line rest)) where
+  abbrev here : Around
+  here = around x.table x.blocks (body_of g)
+
+  -- all of a place of the call, or a part of some place
+  pub data Written (h : Housed) (l : Location) (s : Shape) : Type 0 where
+    own_written : (n : ℕ) → IsThere g.call.site (of_place n) → is_own (house g.call.site (of_place n)).kind ≡ true
+        → h ≡ house g.call.site (of_place n) → looked x.table g.call.site (of_place n) ≡ s
+        → (old : Value) → slot_at g.world g.call.site.level n ≡ Some (Holds old) → l ≡ place_at g.call.site.level n → Written h l s
+    far_written : (home : Home) → spot_of h ≡ Lies home → IsHigh home → (a : ℕ) → Points g.call.site.base g.call.vars home a
+        → FromPlace x.table (all_sites x g line rest y) g.world l a s → Written h l s
+
+  -- what is in the variable of a place that has an address
+  record AddressIn (f : Name) (a : ℕ) : Type 0 where
+    variable_is : ℕ
+    spot : spot_of (house g.call.site f) ≡ Lies (Variable variable_is)
+    high_is : OWN_FROM ≤ variable_is
+    points : g.call.vars variable_is ≡ Some a
+
+  address_in : (f : Name) (a : ℕ) → IsThere g.call.site f → is_address (house g.call.site f).kind ≡ true
+      → g.call.vars (variable_of (house g.call.site f)) ≡ Some a → AddressIn f a
+  address_in f a there address is = by (houses x.table x.blocks g.call.site f y.linked.0 there).where_is
+    where
+      by : Housing (room (body_of g)) FIXED_BYTES (data_end x.table x.blocks) (body_of g).start (house g.call.site f) → AddressIn f a
+      by (in_variable v e plain least w) = never (sym plain ∙ address)
+      by (by_address v e k least) = record {
+        variable_is = v;
+        spot = spot_address (house g.call.site f) v address e;
+        high_is = least;
+        points = ap g.call.vars (sym (ap variable_in e)) ∙ is;
+      }
+      by (in_places m e plain whole within) = never (sym plain ∙ address)
+      by (in_data m e plain whole least within start) = never (sym plain ∙ address)
+
+  pub record WrittenAt (t : ℕ) (there : Where) : Type 0 where
+    pub location_is : Location
+    pub is : there ≡ Located location_is
+    pub written : Written (location here t) location_is (looked x.table g.call.site (of_location t))
+
+  pub written_at : (t : ℕ) (there : Where) → IsNamed g.call.site (of_location t)
+      → is_standing (house g.call.site (of_location t)).kind ≡ true → g.call.temps.places t ≡ Some there → WrittenAt t there
+  written_at t there n standing e = by (house g.call.site (of_location t)).alias refl (y.hold.0.led t there n e)
+    where
+      s : Shape
+      s = looked x.table g.call.site (of_location t)
+
+      as_location : (a : Alias) (l : Location) → (house g.call.site (of_location t)).alias ≡ a
+          → Written (named here a (house g.call.site (of_location t))) l s → Written (location here t) l s
+      as_location a l is w = subst (λ b. Written (named here b (house g.call.site (of_location t))) l s) (sym is) w
+
+      far_own : (is : (house g.call.site (of_location t)).alias ≡ alias.Own) (l : Location) → there ≡ Located l
+          → IsAddressed x.table (all_sites x g line rest y) g.world g.call t there → WrittenAt t there
+      far_own is l at_l r =
+          let there_is : IsThere g.call.site (of_location t) = record { among = n.among; number = n.number; kind = n.kind; own = is } in
+          let p = address_in (of_location t) r.address there_is (location_address (house g.call.site (of_location t)).kind n.kind) r.holds in
+          record {
+            location_is = l;
+            is = at_l;
+            written = as_location alias.Own l is (far_written (Variable p.variable_is) p.spot p.high_is r.address p.points
+                (subst (λ w. Leads x.table (all_sites x g line rest y) g.world g.call.site g.call.temps w r.address s) at_l r.leads));
+          }
+
+      by_place : (p : ℕ) (global : Bool) → (house g.call.site (of_location t)).alias ≡ alias.Place p global
+          → IsRoot x.table (all_sites x g line rest y) g.world g.call p global there → WrittenAt t there
+      by_place p true is r =
+          let ty = y.linked.0.aliased t p true n is in
+          let filled : Filled g.world 0 p = subst (λ l. Filled g.world l p) r.level r.filled in
+          let u = global_root x g line rest y p (type_of x.table (house g.call.site (of_location t))) ty filled in
+          let site0 = u.start.site in
+          let l : Location = root_of (Standing site0.level p) g.world in
+          let at_l : there ≡ Located l = r.is ∙ ap (λ k. Located (root_of (Standing k p) g.world)) (r.level ∙ sym u.start.level) in
+          let same : house site0 (of_place p) ≡ place here p true = sym u.global.same in
+          let a : ℕ = address_of site0.base (house site0 (of_place p)).home in
+          let own = own_root x g line rest y site0.level p u.root.value u.root.slot in
+          let points : Points g.call.site.base g.call.vars (house site0 (of_place p)).home a
+          = subst (λ h. Points g.call.site.base g.call.vars h (address_of site0.base h)) (sym u.global.home) refl in
+          record {
+            location_is = l;
+            is = at_l;
+            written = as_location (alias.Place p true) l is
+                (subst (λ h. Written h l s) same (far_written (house site0 (of_place p)).home
+                (spot_memory (house site0 (of_place p)) u.root.item.plain u.home) (high_in_memory (house site0 (of_place p)).home u.home) a points
+                (subst (λ k. FromPlace x.table (all_sites x g line rest y) g.world k a s) (sym own) (record {
+                  site = site0;
+                  among = u.start.among;
+                  number = p;
+                  base = refl;
+                  filled = u.filled;
+                  there = u.there;
+                  home = u.home;
+                  offset = 0;
+                  path = (refl, ap (shape_of (facts_in x.table)) u.global.typed);
+                  address = omega arith;
+                }))));
+          }
+      by_place p false is r =
+          let ty = y.linked.0.aliased t p false n is in
+          let filled : Filled g.world g.call.site.level p = subst (λ l. Filled g.world l p) r.level r.filled in
+          let typed = has_type x g.call.site (of_place p) (type_of x.table (house g.call.site (of_location t))) y.linked.0 ty in
+          let there_is = place_there x g.call.site p y.linked.0 typed.named in
+          let l : Location = root_of (Standing g.call.site.level p) g.world in
+          let at_l : there ≡ Located l = r.is ∙ ap (λ k. Located (root_of (Standing k p) g.world)) r.level in
+          let look = look_of x g.call.site (of_place p) (type_of x.table (house g.call.site (of_location t))) typed in
+          let f = y.hold.0.filled p there_is filled in
+          record {
+            location_is = l;
+            is = at_l;
+            written = as_location (alias.Place p false) l is
+                (of_call p l there_is look f refl (cases_Bool (is_own (house g.call.site (of_place p)).kind)));
+          }
+        where
+          of_call : (p : ℕ) (l : Location) → IsThere g.call.site (of_place p) → looked x.table g.call.site (of_place p) ≡ s
+              → IsFilled x.table (all_sites x g line rest y) g.world g.call p → l ≡ root_of (Standing g.call.site.level p) g.world
+              → (is_own (house g.call.site (of_place p)).kind ≡ true) ⊎ (is_own (house g.call.site (of_place p)).kind ≡ false)
+              → Written (house g.call.site (of_place p)) l s
+          of_call p l there_is look f root (inl own) =
+              let v = f.own own in
+              own_written p there_is own refl look v.0 v.1 (root ∙ own_root x g line rest y g.call.site.level p v.0 v.1)
+          of_call p l there_is look f root (inr no_own) =
+              let v = f.other no_own in
+              let q = address_in (of_place p) v.address there_is (declared_address (house g.call.site (of_place p)).kind there_is.kind no_own) v.holds in
+              let same : v.location ≡ l = sym (ap (through_slot (Standing g.call.site.level p)) v.slot) ∙ sym root in
+              far_written (Variable q.variable_is) q.spot q.high_is v.address q.points
+              (subst (λ k. FromPlace x.table (all_sites x g line rest y) g.world l v.address k) look
+              (subst (λ k. FromPlace x.table (all_sites x g line rest y) g.world k v.address (looked x.table g.call.site (of_place p))) same v.leads))
+
+      by : (a : Alias) → (house g.call.site (of_location t)).alias ≡ a → IsLedBy x.table a (all_sites x g line rest y) g.world g.call t there
+          → WrittenAt t there
+      by alias.Own is r = let l = r.standing standing in far_own is l.0 l.1 r
+      by (alias.Place p global) is r = by_place p global is r
+      by (alias.Value u) is r = never (sym (y.linked.0.valued t u n is).1 ∙ standing)
+      by (alias.Text m size) is r = absurd r
+
+  -- ---- a value is written
+
+  module _ (h : Housed) (l : Location) (s : Shape) (v : Value) (shaped : has_shape v s ≡ true) (from : Housed) (r : Read x g line rest y true from v)
+      (code : code_here x g line rest y ≡ moves h from (code_next x g line rest y)) (temps : Temps) (same : SameTemps x g line rest y temps) (work : ℕ)
+      (le : 10 + 2 * bytes v ≤ 16 * work) where
+    abbrev Stored : Type 0
+    Stored = Settles x (starts g line rest) rest (Passes (Answers [] work temps (store g.world l v)))
+
+    pub stored_settles : Written h l s → Stored
+    stored_settles (own_written n there own is look old slot l_is) =
+        let shape : has_shape v (looked x.table g.call.site (of_place n)) ≡ true = subst (λ k. has_shape v k ≡ true) (sym look) shaped in
+        let plain_is = own_plain (house g.call.site (of_place n)).kind own in
+        let next = code_next x g line rest y in
+        let get = subst (λ k. Gets x g line rest y k next (of_place n) v (10 + 2 * bytes v)) (sym (code ∙ ap (λ k. moves k from next) is))
+        (gets_moved x g line rest y (of_place n) there plain_is v shape next from r.word r.size r.small true r.source) in
+        subst (λ k. Settles x (starts g line rest) rest (Passes (Answers [] work temps (store g.world k v)))) (sym l_is)
+        (goes_on x (starts g line rest)
+        (changed g rest temps get.vars get.memory get.words get.awaits (with_slot g.world g.call.site.level n (Some (Holds v)))) rest
+        (good_place x g line rest y n there own v rest (stands_next x.table x.blocks (body_of g) line rest y.stands) temps same
+        (code_here x g line rest y) next (10 + 2 * bytes v) shape plain_is get)
+        get.steps work temps (with_slot g.world g.call.site.level n (Some (Holds v))) get.runs get.some (let f = get.few in omega (arith, f, le)) refl)
+    stored_settles (far_written home spot high_is a points f) =
+        let sites = all_sites x g line rest y in
+        let was = place_located x sites y.linked g.memory g.world (each_call x g line rest y) l a s f in
+        let size : bytes (load g.world l) ≡ bytes v = bytes_is (load g.world l) s was.numbers was.shaped ∙ sym (bytes_is v s was.numbers shaped) in
+        let lying : Lying x sites y.linked a (bytes v) = subst (λ k. Lying x sites y.linked a k) size was.lying in
+        let next = code_next x g line rest y in
+        let put_there = to_bytes_by x sites y.linked (within x.table x.blocks g) refl g.words g.memory y.memory next g.call.vars h from v r.word r.size r.small
+        home spot a points lying true r.source (inr refl) in
+        goes_on x (starts g line rest)
+        (changed g rest temps put_there.vars put_there.memory put_there.words put_there.awaits (store g.world l v)) rest
+        (good_stored x g line rest y l a s f v shaped put_there.memory put_there.changed put_there.there rest
+        (stands_next x.table x.blocks (body_of g) line rest y.stands) temps same put_there.vars put_there.words put_there.awaits put_there.same lying)
+        put_there.steps work temps (store g.world l v)
+        (subst (λ k. Runs x.live (all_procs x) put_there.steps (at (within x.table x.blocks g) g.memory k g.call.vars g.words)
+        (at (awaiting (within x.table x.blocks g) put_there.awaits) put_there.memory next put_there.vars put_there.words)) (sym code) put_there.runs)
+        put_there.some (let k = put_there.few in omega (arith, k, le)) refl

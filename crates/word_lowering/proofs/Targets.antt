@@ -1,0 +1,145 @@
+-- What gets something from a line: it has a home, unless the line makes it another name; and what that line is by its types.
+use Rattle.std.proofs.Common.{◌≡◌, Bool, false, ◌⊎◌, inl, inr, ℕ, List, [], ◌∷◌, ◌++◌, length, map, Option, Some, None, true, false, refl, sym, ap, subst, ◌∙◌}
+use Rattle.std.proofs.lemmas.Bool.{and_parts, cond-true, cond-false, eqb-true}
+use Rattle.nim_types.specs.declared.types.TypeDef.{TypeDef}
+use Rattle.nim_types.specs.Types.{Ty}
+use Rattle.nim_types.specs.Forms.{hooked, form_of}
+use Rattle.nim_types.specs.Table.{facts_in}
+use Rattle.flat_code.specs.declared.block.BlockLine.{BlockLine}
+use Rattle.flat_code.specs.Codes.{block_plain}
+use Rattle.flat_code.specs.Fits.{is_value, is_location, if_type_of, place_named, place_type}
+use Rattle.flat_code.specs.Shapes.{shape_of}
+use Rattle.word_lowering.specs.declared.homes.Alias.{Alias}
+use Rattle.word_lowering.specs.declared.homes.Alias.TheVariants as alias
+use Rattle.word_lowering.specs.declared.homes.Housed.{Housed}
+use Rattle.word_lowering.specs.Aliases.{value_to, location_to, alias_by, texts_of}
+use Rattle.word_lowering.specs.MayLower.{same_alias, is_as, reads_plain, line_may, lines_may}
+use Rattle.flat_code.specs.Scene.{known_in}
+use Rattle.flat_code.specs.declared.place.FlatPlace.{FlatPlace}
+use Rattle.word_lowering.proofs.Lines.{Basis, IsGood, starts}
+use Rattle.word_lowering.proofs.Options.{none_some}
+use Rattle.word_lowering.proofs.Related.{Both, body_of}
+use Rattle.word_lowering.proofs.Scenes.{IsNamed, IsThere, house, looked, of_location, of_value}
+use Rattle.word_lowering.proofs.ShapeFacts.{never, of_numbers}
+use Rattle.word_lowering.proofs.ValueFacts.{has_type, look_of, type_in, with_home}
+use Rattle.word_lowering.specs.Layouts.{behind, found, nowhere}
+use Rattle.word_lowering.proofs.Sites.{Among, There}
+use Rattle.flat_code.specs.declared.place.PlaceKind.{PlaceKind}
+use Rattle.std.specs.Prelude.{◌&&◌, nat_eq}
+use Rattle.word_lowering.proofs.SitesApart.{houses}
+
+-- ---- what is tested of each line
+
+line_at : (table : List TypeDef) (hs : List Housed) (before : List BlockLine) (line : BlockLine) (rest : List BlockLine)
+    → lines_may table hs (map block_plain (before ++ line ∷ rest)) ≡ true
+    → line_may table hs (block_plain line) (length (texts_of (map block_plain rest))) ≡ true
+line_at table hs [] line rest h = (and_parts (line_may table hs (block_plain line) (length (texts_of (map block_plain rest)))) _ h).0
+line_at table hs (p ∷ before) line rest h =
+    line_at table hs before line rest (and_parts (line_may table hs (block_plain p) (length (texts_of (map block_plain (before ++ line ∷ rest))))) _ h).1
+
+pub own_alias : (a : Alias) → same_alias a alias.Own ≡ true → a ≡ alias.Own
+own_alias alias.Own h = refl
+own_alias (alias.Place p global) h = never h
+own_alias (alias.Value t) h = never h
+own_alias (alias.Text behind size) h = never h
+
+-- a place is there, or stands nowhere
+pub found_or : (is : PlaceKind → Bool) (n : ℕ) (hs : List Housed) → There hs is n ⊎ (found is n hs ≡ nowhere)
+found_or is n [] = inr refl
+found_or is n (h ∷ hs) = by (nat_eq h.number n && is h.kind) refl (found_or is n hs)
+  where
+    by : (b : Bool) → (nat_eq h.number n && is h.kind) ≡ b → There hs is n ⊎ (found is n hs ≡ nowhere)
+        → There (h ∷ hs) is n ⊎ (found is n (h ∷ hs) ≡ nowhere)
+    by true e other =
+        let p = and_parts (nat_eq h.number n) (is h.kind) e in
+        let same : found is n (h ∷ hs) ≡ h = cond-true (nat_eq h.number n && is h.kind) h (found is n hs) e in
+        inl (record {
+          among = inl (sym same);
+          number = ap (λ k. k.number) same ∙ eqb-true h.number n p.0;
+          kind = ap (λ k. is k.kind) same ∙ p.1;
+        })
+    by false e (inl there) =
+        let same : found is n (h ∷ hs) ≡ found is n hs = cond-false (nat_eq h.number n && is h.kind) h (found is n hs) e in
+        inl (record {
+          among = inr (subst (λ k. Among k hs) (sym same) there.among);
+          number = ap (λ k. k.number) same ∙ there.number;
+          kind = ap (λ k. is k.kind) same ∙ there.kind;
+        })
+    by false e (inr none) = inr (cond-false (nat_eq h.number n && is h.kind) h (found is n hs) e ∙ none)
+
+module _ (x : Basis) (g : Both) (line : BlockLine) (rest : List BlockLine) (y : IsGood x (starts g line rest)) where
+  abbrev pub texts_behind : ℕ
+  texts_behind = length (texts_of (map block_plain rest))
+
+  pub may_here : line_may x.table (body_of g).own.all (block_plain line) texts_behind ≡ true
+  may_here = line_at x.table (body_of g).own.all y.stands.before line rest
+      (subst (λ l. lines_may x.table (body_of g).own.all (map block_plain l) ≡ true) y.stands.whole y.linked.0.may)
+
+  pub value_alias : (to : ℕ) (a : Alias) → value_to (block_plain line) ≡ Some to → alias_by (block_plain line) texts_behind ≡ a
+      → same_alias (found is_value to (body_of g).own.all).alias a ≡ true
+  value_alias to a is named =
+      let m = and_parts (is_as is_value (body_of g).own.all (value_to (block_plain line)) (alias_by (block_plain line) texts_behind)) _ may_here in
+      subst (λ b. same_alias (found is_value to (body_of g).own.all).alias b ≡ true) named
+      (subst (λ o. is_as is_value (body_of g).own.all o (alias_by (block_plain line) texts_behind) ≡ true) is m.0)
+
+  pub location_alias : (to : ℕ) (a : Alias) → location_to (block_plain line) ≡ Some to → alias_by (block_plain line) texts_behind ≡ a
+      → same_alias (found is_location to (body_of g).own.all).alias a ≡ true
+  location_alias to a is named =
+      let m = and_parts (is_as is_value (body_of g).own.all (value_to (block_plain line)) (alias_by (block_plain line) texts_behind)) _ may_here in
+      let n = and_parts (is_as is_location (body_of g).own.all (location_to (block_plain line)) (alias_by (block_plain line) texts_behind)) _ m.1 in
+      subst (λ b. same_alias (found is_location to (body_of g).own.all).alias b ≡ true) named
+      (subst (λ o. is_as is_location (body_of g).own.all o (alias_by (block_plain line) texts_behind) ≡ true) is n.0)
+
+  pub plain_operands : reads_plain x.table (block_plain line) ≡ true
+  plain_operands =
+      let m = and_parts (is_as is_value (body_of g).own.all (value_to (block_plain line)) (alias_by (block_plain line) texts_behind)) _ may_here in
+      (and_parts (is_as is_location (body_of g).own.all (location_to (block_plain line)) (alias_by (block_plain line) texts_behind)) _ m.1).1
+
+  -- ---- what gets a value
+
+  pub record Target (to : ℕ) (ty : Ty) : Type 0 where
+    pub there : IsThere g.call.site (of_value to)
+    pub look : looked x.table g.call.site (of_value to) ≡ shape_of (facts_in x.table) ty
+    pub numbers : of_numbers (shape_of (facts_in x.table) ty) ≡ true
+    pub unhooked : hooked (form_of (facts_in x.table) ty) ≡ false
+
+  pub target : (to : ℕ) (ty : Ty) → value_to (block_plain line) ≡ Some to → alias_by (block_plain line) texts_behind ≡ alias.Own
+      → type_in x is_value (body_of g) to ≡ Some ty → Target to ty
+  target to ty is own typed =
+      let n = has_type x g.call.site (of_value to) ty y.linked.0 typed in
+      let there : IsThere g.call.site (of_value to)
+      = with_home x n.named (own_alias (house g.call.site (of_value to)).alias (value_alias to alias.Own is own)) in
+      let h = houses x.table x.blocks g.call.site (of_value to) y.linked.0 there in
+      let look = look_of x g.call.site (of_value to) ty n in
+      record {
+        there = there;
+        look = look;
+        numbers = sym (ap of_numbers look) ∙ h.numbers;
+        unhooked = subst (λ t. hooked (form_of (facts_in x.table) t) ≡ false) n.typed h.unhooked;
+      }
+
+  -- what gives nothing gives it to no place
+  pub no_target : (to : ℕ) → type_in x is_value (body_of g) to ≡ None → IsNamed g.call.site (of_value to) → ⊥
+  no_target to none named = y.linked.0.unnamed is_value to (no_place (place_named is_value (body_of g).proc.places to) none) named
+    where
+      no_place : (o : Option FlatPlace) → if_type_of (known_in x.table) o ≡ None → o ≡ None
+      no_place None e = refl
+      no_place (Some p) e = absurd (none_some (place_type (known_in x.table) p) (sym e))
+
+  pub unnamed_value : (to : ℕ) → type_in x is_value (body_of g) to ≡ None → house g.call.site (of_value to) ≡ nowhere
+  unnamed_value to none = by (found_or is_value to (body_of g).own.all)
+    where
+      by : There (body_of g).own.all is_value to ⊎ (found is_value to (body_of g).own.all ≡ nowhere) → house g.call.site (of_value to) ≡ nowhere
+      by (inl there) = absurd (no_target to none there)
+      by (inr e) = e
+
+  -- ---- what gets a location
+
+  pub record Pointed (to : ℕ) (ty : Ty) : Type 0 where
+    pub named : IsNamed g.call.site (of_location to)
+    pub look : looked x.table g.call.site (of_location to) ≡ shape_of (facts_in x.table) ty
+
+  pub pointed : (to : ℕ) (ty : Ty) → type_in x is_location (body_of g) to ≡ Some ty → Pointed to ty
+  pointed to ty typed =
+      let n = has_type x g.call.site (of_location to) ty y.linked.0 typed in
+      record { named = n.named; look = look_of x g.call.site (of_location to) ty n }

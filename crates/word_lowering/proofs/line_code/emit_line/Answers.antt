@@ -1,0 +1,25 @@
+use Rattle.std.proofs.Common.{ℕ, List, Option, ap₂}
+use Rattle.flat_code.specs.declared.line.From.{From}
+use Rattle.flat_code.specs.declared.line.Line.TheVariants.{Apply}
+use Rattle.word_lowering.specs.LineCode.{value, operands, row_code, line_code}
+use Rattle.word_lowering.specs.Scope.{around_of}
+use Rattle.word_lowering.proofs.Emits.{ok_as, put_as}
+use Rattle.word_lowering.proofs.line_code.emit_line.Goals as goal
+
+pub returns-in-Apply : goal.returns-in-Apply
+returns-in-Apply c =
+    let l = c.in-Apply in
+    let x = around_of c.args.x.now in
+    let label = c.args.label in
+    rw l.is
+    (ok_as c.emit_apply.result
+    (λ p. put_as _ _ _ (line_code x (Apply l.to l.operation l.how l.ty l.of l.from) label) p
+    (λ k. ap₂ (λ (tys : List (Option ℕ)) (from : List From). row_code x l.operation label l.ty tys (value x l.to) (operands x from) k)
+    c.as_slice-tys.ensures c.as_slice-operands.ensures))
+    c.emit_apply.ensures)
+
+pub returns-in-Part : goal.returns-in-Part
+returns-in-Part c = rw c.in-Part.is c.emit_part_at.ensures
+
+pub returns-in-Item : goal.returns-in-Item
+returns-in-Item c = rw c.in-Item.is c.emit_item_at.ensures
