@@ -3,18 +3,14 @@ use Rattle.std.proofs.Common.{◌≡◌, ℕ, List, [], ◌∷◌, ◌++◌, len
 use Rattle.std.proofs.lemmas.Option.{none-some, same_Some}
 use Rattle.std.proofs.Common.{zero, suc, add-one, Some, length-append, Vec, Global, ◌+◌, drop}
 use Rattle.std.proofs.lemmas.List.{map-append}
-use Rattle.std.specs.Prelude.{slice_get, Result, Ok, Err, Bool, true, false, map, None, IfErr, OnOk}
-use Rattle.std.proofs.lemmas.Bool.{true≢false}
+use Rattle.std.specs.Prelude.{slice_get, Result, Ok, Err, Bool, true, map, None, IfErr, OnOk}
 use Rattle.arc_base.specs.declared.place.Place.{Place}
 use Rattle.arc_base.specs.declared.place.Stop.{Stop}
 use Rattle.arc_base.specs.declared.place.Stop.TheVariants as stop
 use Rattle.arc_base.specs.Refusal.{Refusal, and_then, Answers}
 use Rattle.nim_tree.specs.declared.stmt.Module.{Module}
-use Rattle.nim_tree.specs.Statements.{discards, returns, raises, breaks, continues, imports, evaluates, assigns, commands, defines, types, branches}
-use Rattle.nim_tree.specs.Statements.{selects, repeats, counts, tries, defers, proclaims, body_in, Head}
+use Rattle.nim_tree.specs.Statements.{proclaims, body_in, Head}
 use Rattle.nim_tree.specs.Statements.{Statement, Statements, empty, then}
-use Rattle.decl_rules.specs.Places.{is_procedure}
-use Rattle.decl_stmts.specs.ViewStated.{IsPlain}
 use Rattle.nim_types.specs.Types.{Ty}
 use Rattle.nim_program.specs.declared.program.Proc.{Proc as RustProc}
 use Rattle.nim_program.specs.declared.stmt.Stmt.{Stmt as RustStmt}
@@ -303,26 +299,6 @@ next_form modules order i n body is at =
     ∙ ap (λ (b : Statements). and_then (nothing_left_out b) (λ _. none_left_out (in_order modules (drop (i + 1) order)))) (sym is)
 
 -- ---- procedures and other statements
-
-pub plain_by : (s : Statement) → is_procedure s ≡ false → IsPlain true s
-plain_by (discards at t) e = tt
-plain_by (returns at t) e = tt
-plain_by (raises at t) e = tt
-plain_by (breaks at) e = tt
-plain_by (continues at) e = tt
-plain_by (imports at names) e = tt
-plain_by (evaluates at t) e = tt
-plain_by (assigns at op t u) e = tt
-plain_by (commands at t operands) e = tt
-plain_by (defines at b all) e = tt
-plain_by (types at all) e = tt
-plain_by (branches at all otherwise) e = tt
-plain_by (selects at t all otherwise) e = tt
-plain_by (repeats at t body) e = tt
-plain_by (counts at x course body) e = tt
-plain_by (tries at body all finally) e = tt
-plain_by (defers at body) e = tt
-plain_by (proclaims at h body) e = absurd (true≢false e)
 
 pub proclaims_by : {s : Statement} {at : Place} {h : Head} {q d : Statements} → s ≡ proclaims at h q → d ≡ body_in s → proclaims at h d ≡ s
 proclaims_by {at = at} {h = h} e f = ap (proclaims at h) (f ∙ ap body_in e) ∙ sym e

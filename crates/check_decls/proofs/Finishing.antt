@@ -1,5 +1,6 @@
 -- The program, behind all modules.
-use Rattle.std.proofs.Common.{◌≡◌, ℕ, zero, suc, ◌≤◌, ◌<◌, Bool, true, false, List, [], ◌∷◌, length, refl, sym, ap, ap₂, subst, ◌∙◌, append-nil, Some, None, arith}
+use Rattle.std.proofs.Common.{◌≡◌, ℕ, zero, suc, ◌≤◌, ◌<◌, Bool, true, false, List, [], ◌∷◌, length, refl, sym, ap, ap₂, subst, ◌∙◌, append-nil, Some, None}
+use Rattle.std.proofs.Common.{arith}
 use Rattle.std.specs.Prelude.{◌||◌, Result, Ok, Err, IfOk, map, slice_get}
 use Rattle.std.proofs.lemmas.Option.{slice_get_within}
 use Rattle.arc_base.specs.declared.place.Stop.{Stop}
@@ -74,7 +75,7 @@ text_stops ts d text e s h =
 -- ---- all modules
 
 -- the types of a table alone
-over_table : (ds : List TypeDef) → IsTable ds → Under ds (types_in ds) (facts_in ds)
+pub over_table : (ds : List TypeDef) → IsTable ds → Under ds (types_in ds) (facts_in ds)
 over_table ds t = record { table = t; more = []; begins = sym (append-nil (types_in ds)); said = refl }
 
 carried_so : (ts : List Ty) (first : Draft) (all : List Module) → IsFirst first

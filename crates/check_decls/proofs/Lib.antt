@@ -6,3 +6,4 @@ mod Scopes
 mod Beginning
 mod Proclaiming
 mod Finishing
+mod Reaching

@@ -105,7 +105,7 @@ proclaim_stops {T = T} d behind body at h g k trees of s name declared j = recor
 -- ---- behind the head
 
 -- what is known stays, with more types
-grown_known : (ts : List Ty) (b : Beside) (old new : RustState) → Grown old.types new.types → new ≡ record old { types = new.types } → Over new ts
+pub grown_known : (ts : List Ty) (b : Beside) (old new : RustState) → Grown old.types new.types → new ≡ record old { types = new.types } → Over new ts
     → state_of ts b new ≡ state_of ts b old
 grown_known ts b old new g e u =
     ap (state_of ts b) e

@@ -19,6 +19,7 @@ use Rattle.expr_parts.specs.declared.scope.Scope.{Scope}
 use Rattle.decl_rules.specs.State.{State, Step, Stated, stated_as}
 use Rattle.decl_rules.specs.Elaborated.{module_begins, program_of}
 use Rattle.decl_rules.specs.Whole.{text_rule}
+use Rattle.typing_laws.specs.Reached.{IsReached}
 use Rattle.check_uses.specs.declared.text.Item.{Item as RustItem}
 use Rattle.check_uses.specs.declared.text.Item.TheVariants as item
 use Rattle.check_uses.specs.View.{items_of}
@@ -81,6 +82,10 @@ pub record Sound (d : Draft) : Type 0 where
   pub ready : Ready d.state
   pub text : AllStand (length d.procs.items) (length d.start.items) d.text
   pub completed : (ts : List Ty) → Over d.state ts → AreCompleted d.completed.items (beside_of ts d)
+
+-- by a state that the rules reach
+abbrev pub Reached : Draft → Type 0
+Reached d = (ts : List Ty) → Over d.state ts → IsReached (known_in ts d)
 
 -- before all modules
 pub record IsFirst (d : Draft) : Type 0 where

@@ -96,6 +96,10 @@ pub record NumberFits (st : State) (k : Headed) (has_body : Bool) : Type 0 where
   pub waits : k.is_new ≡ false → is_completed k.number st.text ≡ false
   pub whole : k.is_new ≡ false → has_body ≡ true
 
+-- the procedure that is completed is there
+abbrev pub CompletesThere : Draft → RustHeaded → Type 0
+CompletesThere d k = k.is_new ≡ false → (k.number < length d.procs.items) × (k.number < length d.completed.items)
+
 -- ---- places of parameters and results
 
 abbrev pub result_decl : PlaceDecl → Decl

@@ -1,5 +1,5 @@
 // A program as far as it has been typed.
-ghost use Rattle.std.specs.Prelude.{◌≡◌, ◌++◌, [], pos};
+ghost use Rattle.std.specs.Prelude.{◌≡◌, ◌<◌, ◌++◌, [], length, pos};
 ghost use Rattle.std.specs.Prelude.{IfOk, OnOk, IfErr};
 ghost use Rattle.arc_base.specs.declared.place.Stop.TheVariants as Stop;
 ghost use Rattle.check_decls.specs.View.{first_kinds, first_types, first_decls, truth_of};
@@ -186,21 +186,16 @@ pub fn add_procedure(draft: &mut Draft, proc: Proc, borrowed: bool) -> Result<()
     Ok(())
 }
 
-/// Notes the declaration with the body of a procedure that is declared before. Each number in
-/// scope is one of a procedure.
+/// Notes the declaration with the body of a procedure that is declared before.
 pub fn complete_procedure(draft: &mut Draft, number: u32, proc: Proc) -> Result<(), Stop>
+    requires there { number < length draft.old.procs.items }
+    requires noted { number < length draft.old.completed.items }
     ensures completed { OnOk result (Completed draft.old draft.new number proc) }
     ensures state { draft.new.state ≡ draft.old.state }
     ensures start { draft.new.start ≡ draft.old.start }
     ensures memory { IfErr result (λ stop. stop ≡ Stop.Memory) }
 {
     let i = number as usize;
-    if i >= draft.procs.len() {
-        return Err(Stop::Memory);
-    }
-    if i >= draft.completed.len() {
-        return Err(Stop::Memory);
-    }
     draft.text.push(Item::Completes { proc: number })?;
     draft.procs[i] = proc;
     draft.completed[i] = true;

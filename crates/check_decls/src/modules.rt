@@ -5,11 +5,10 @@ ghost use Rattle.arc_base.specs.Refusal.{Answers};
 ghost use Rattle.nim_tree.specs.Statements.{statement_of, statements_of, head_of, proclaims};
 ghost use Rattle.decl_rules.specs.State.{in_module};
 ghost use Rattle.decl_rules.specs.Stated.{all_stated};
-ghost use Rattle.decl_rules.specs.Places.{is_procedure};
 ghost use Rattle.decl_rules.specs.Elaborated.{none_left_out, modules_stated, module_stated};
 ghost use Rattle.decl_stmts.specs.ViewStated.{IsPlain};
 ghost use Rattle.check_decls.specs.Modules.{body_at, in_order};
-ghost use Rattle.check_decls.specs.View.{Sound, Carrying, Begins};
+ghost use Rattle.check_decls.specs.View.{Sound, Reached, Carrying, Begins};
 ghost use Rattle.check_decls.specs.ViewBodies.{noted_rule};
 
 use crate::draft::{Draft, first_scope, note_code};
@@ -79,7 +78,8 @@ fn proclamation(
     head: &ProcHead,
     trees: &[Tree],
 ) -> Result<(), Stop>
-    requires { Sound draft.old }
+    requires sound { Sound draft.old }
+    requires reached { Reached draft.old }
     ensures { Carrying draft.old draft.new (λ st. noted_rule st (proclaims at
         (head_of head.now) (statements_of trees.now))) result }
 {
@@ -89,11 +89,14 @@ fn proclamation(
     }
 }
 
-fn is_procedure(tree: &Tree) -> bool
-    ensures { result ≡ is_procedure (statement_of tree.now) }
+// A statement of module code.
+fn outermost_statement(alloc: Global, draft: &mut Draft, tree: &Tree) -> Result<(), Stop>
+    requires sound { Sound draft.old }
+    requires reached { Reached draft.old }
+    ensures { Carrying draft.old draft.new (λ st. noted_rule st (statement_of tree.now)) result }
 {
     match tree {
-        Tree::Proc { .. } => true,
+        Tree::Proc { at, head, .. } => proclamation(alloc, draft, *at, head, tree.body()),
         Tree::Discard { .. }
         | Tree::Return { .. }
         | Tree::Raise { .. }
@@ -110,37 +113,16 @@ fn is_procedure(tree: &Tree) -> bool
         | Tree::While { .. }
         | Tree::For { .. }
         | Tree::Try { .. }
-        | Tree::Defer { .. } => false,
-    }
-}
-
-// No other statement is a procedure.
-fn procedure_statement(alloc: Global, draft: &mut Draft, tree: &Tree) -> Result<(), Stop>
-    requires { Sound draft.old }
-    ensures { Carrying draft.old draft.new (λ st. noted_rule st (statement_of tree.now)) result }
-{
-    match tree {
-        Tree::Proc { at, head, .. } => proclamation(alloc, draft, *at, head, tree.body()),
-        _ => Err(Stop::Memory),
-    }
-}
-
-// A statement of module code.
-fn outermost_statement(alloc: Global, draft: &mut Draft, tree: &Tree) -> Result<(), Stop>
-    requires { Sound draft.old }
-    ensures { Carrying draft.old draft.new (λ st. noted_rule st (statement_of tree.now)) result }
-{
-    if is_procedure(tree) {
-        procedure_statement(alloc, draft, tree)
-    } else {
-        plain_statement(alloc, draft, tree)
+        | Tree::Defer { .. } => plain_statement(alloc, draft, tree),
     }
 }
 
 fn outermost_statements(alloc: Global, draft: &mut Draft, trees: &[Tree]) -> Result<(), Stop>
-    requires { Sound draft.old }
-    ensures { Carrying draft.old draft.new (λ st. all_stated in_module None st
+    requires sound { Sound draft.old }
+    requires reached { Reached draft.old }
+    ensures carrying { Carrying draft.old draft.new (λ st. all_stated in_module None st
         (statements_of trees.now)) result }
+    ensures reached { OnOk result (Reached draft.new) }
 {
     for tree in trees {
         match outermost_statement(alloc, draft, tree) {
@@ -166,11 +148,13 @@ fn begin_module(alloc: Global, draft: &mut Draft, number: u32) -> Result<(), Sto
 }
 
 fn module(alloc: Global, draft: &mut Draft, number: u32, trees: &[Tree]) -> Result<(), Stop>
-    requires { Sound draft.old }
-    ensures { Carrying draft.old draft.new (λ st. module_stated st (record {
+    requires sound { Sound draft.old }
+    requires reached { Reached draft.old }
+    ensures carrying { Carrying draft.old draft.new (λ st. module_stated st (record {
       number = number;
       body = statements_of trees.now;
     })) result }
+    ensures reached { OnOk result (Reached draft.new) }
 {
     begin_module(alloc, draft, number)?;
     outermost_statements(alloc, draft, trees)
@@ -183,7 +167,8 @@ pub fn all_modules(
     modules: &[Module],
     order: &[u32],
 ) -> Result<(), Stop>
-    requires { Sound draft.old }
+    requires sound { Sound draft.old }
+    requires reached { Reached draft.old }
     ensures { Carrying draft.old draft.new (λ st. modules_stated st
         (in_order modules.now order.now)) result }
 {

@@ -8,10 +8,10 @@ ghost use Rattle.decl_rules.specs.Heads.{head_by, procedure_name};
 ghost use Rattle.decl_rules.specs.State.{in_module, stated_as};
 ghost use Rattle.decl_rules.specs.Stated.{has_statements, stated};
 ghost use Rattle.decl_parts.specs.View.{Over};
-ghost use Rattle.check_decls.specs.View.{Sound, Passing, known_in};
+ghost use Rattle.check_decls.specs.View.{Sound, Reached, Passing, known_in};
 ghost use Rattle.decl_heads.specs.ViewHeads.{AreNumbered, SignatureWithin};
 ghost use Rattle.decl_heads.specs.ViewHeads.{headed_of, signature_of};
-ghost use Rattle.check_decls.specs.ViewBodies.{proclaim_rule, NumberFits, Noted};
+ghost use Rattle.check_decls.specs.ViewBodies.{proclaim_rule, NumberFits, CompletesThere, Noted};
 
 use crate::bodies::{body_of, has_statements};
 use crate::draft::{Draft, add_procedure, complete_procedure};
@@ -22,6 +22,7 @@ use decl_heads::signature::{Signature, head_signature};
 use nim_program::{Body, Proc};
 use nim_tree::{ProcHead, Stmt as Tree};
 use std::alloc::Global;
+use typing_laws::completed_there;
 
 fn proc_of(
     alloc: Global,
@@ -54,6 +55,7 @@ fn proc_of(
 }
 
 fn note_procedure(draft: &mut Draft, headed: &Headed, proc: Proc) -> Result<(), Stop>
+    requires there { CompletesThere draft.old headed.now }
     ensures noted { OnOk result (Noted headed.now.is_new draft.old draft.new headed.now.number
         proc headed.now.borrowed) }
     ensures state { draft.new.state ≡ draft.old.state }
@@ -77,6 +79,7 @@ fn note_body(
     headed: &Headed,
     body: Option<Body>,
 ) -> Result<(), Stop>
+    requires there { CompletesThere draft.old headed.now }
     ensures noted { OnOk result (Noted headed.now.is_new draft.old draft.new headed.now.number
         (record {
           name = head.now.name.text;
@@ -109,6 +112,7 @@ fn proclaim(
     requires within { SignatureWithin (length draft.old.state.types) signature }
     requires numbered { AreNumbered draft.old.state.place signature.params }
     requires name { headed.now.name ≡ procedure_name head.now.name }
+    requires there { CompletesThere draft.old headed.now }
     requires fits { (ts : List Ty) → Over draft.old.state ts → NumberFits (known_in ts draft.old)
         (headed_of ts signature headed.now) (has_statements (statements_of trees.now)) }
     ensures passing { Passing draft.old draft.new (λ ts. stated_as [] (known_in ts draft.new))
@@ -133,6 +137,7 @@ fn procedure_by(
     trees: &[Tree],
 ) -> Result<(), Stop>
     requires sound { Sound draft.old }
+    requires reached { Reached draft.old }
     requires within { SignatureWithin (length draft.old.state.types) signature }
     requires numbered { AreNumbered draft.old.state.place signature.params }
     ensures passing { Passing draft.old draft.new (λ ts. stated_as [] (known_in ts draft.new))
@@ -141,6 +146,8 @@ fn procedure_by(
         proclaim_rule st at (head_of head.now) k (statements_of trees.now))) result }
     ensures start { draft.new.start ≡ draft.old.start }
 {
+    completed_there();
+    let _types = draft.state.types.count();
     let whole = has_statements(trees);
     let completed = draft.completed.as_slice();
     match head_by(alloc, &draft.state, completed, at, head, whole, &signature) {
@@ -157,7 +164,8 @@ pub fn procedure(
     head: &ProcHead,
     trees: &[Tree],
 ) -> Result<(), Stop>
-    requires { Sound draft.old }
+    requires sound { Sound draft.old }
+    requires reached { Reached draft.old }
     ensures passing { Passing draft.old draft.new (λ ts. stated_as [] (known_in ts draft.new))
         (λ ts st. stated in_module None st (proclaims at (head_of head.now)
         (statements_of trees.now))) result }

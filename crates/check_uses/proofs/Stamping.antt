@@ -1,8 +1,8 @@
 -- Numbers and their stamps.
-use Rattle.std.proofs.Common.{◌≡◌, ℕ, zero, suc, ◌-◌, ◌<◌, ◌≤◌, List, [], ◌∷◌, ◌++◌, length, take}
-use Rattle.std.proofs.Common.{refl, sym, ap, ap₂, ◌∙◌, arith, inl, inr, Some}
-use Rattle.std.specs.Prelude.{◌⊎◌, Bool, true, false, ◌||◌, nat_eq, slice_get, slice_set, replicate}
-use Rattle.std.proofs.lemmas.Bool.{both_ways, eqb-true, eq-eqb}
+use Rattle.std.proofs.Common.{◌≡◌, ℕ, zero, suc, ◌<◌, ◌≤◌, List, [], ◌∷◌, ◌++◌, length}
+use Rattle.std.proofs.Common.{refl, sym, ap, ◌∙◌, arith, inl, inr, Some, None}
+use Rattle.std.specs.Prelude.{◌⊎◌, Bool, Option, true, false, ◌||◌, nat_eq, slice_get, slice_set}
+use Rattle.std.proofs.lemmas.Bool.{both_ways, eqb-true, eq-eqb, ne_eqb}
 use Rattle.std.proofs.lemmas.Option.{none-some, same_Some}
 use Rattle.std.proofs.lemmas.List.{append-nil}
 use Rattle.check_uses.specs.Numbers.{is_stamped, is_among, with_if, with_number, AreStamped}
@@ -55,30 +55,49 @@ with_more n xs = by_test (is_among n xs)
 
 -- ---- stamps
 
-never_stamped : (now bound n : ℕ) → 0 < now → is_stamped now (slice_get (replicate bound 0) n) ≡ false
-never_stamped now zero n l = refl
-never_stamped now (suc bound) zero l = grind arith
-never_stamped now (suc bound) (suc n) l = never_stamped now bound n l
-
-never_past : (bound n stamp : ℕ) → slice_get (replicate bound 0) n ≡ Some stamp → stamp ≡ 0
-never_past zero n stamp e = absurd (none-some stamp e)
-never_past (suc bound) zero stamp e = sym (same_Some 0 stamp e)
-never_past (suc bound) (suc n) stamp e = never_past bound n stamp e
-
-pub filled : (n m : ℕ) (xs : List ℕ) (x : ℕ) → xs ≡ [] → m ≡ 0 → take n xs ++ replicate (n - m) x ≡ replicate n x
-filled n m xs x e z = ap₂ (λ ys k. take n ys ++ replicate (n - k) x) e z ∙ whole n
-  where
-    whole : (n : ℕ) → take n [] ++ replicate (n - 0) x ≡ replicate n x
-    whole zero = refl
-    whole (suc n) = let e : suc n - 0 ≡ suc n = omega arith in ap (λ k. replicate k x) e
-
-pub stamped_new : (now bound : ℕ) (stamps numbers : List ℕ) → now ≡ 1 → stamps ≡ replicate bound 0 → numbers ≡ [] →
-    AreStamped now stamps numbers
-stamped_new now bound stamps numbers d e f =
+-- without stamps
+pub stamped_none : (now : ℕ) (stamps numbers : List ℕ) → now ≡ 1 → stamps ≡ [] → numbers ≡ [] → AreStamped now stamps numbers
+stamped_none now stamps numbers d e f =
     record {
-      past = λ n stamp h. omega (arith, never_past bound n stamp (sym (ap (λ l. slice_get l n) e) ∙ h), d);
-      same = λ n. ap (λ l. is_stamped now (slice_get l n)) e ∙ never_stamped now bound n (omega (arith, d)) ∙ sym (ap (is_among n) f);
+      begun = omega (arith, d);
+      past = λ n stamp h. absurd (none-some stamp (sym (ap (λ l. slice_get l n) e) ∙ h));
+      same = λ n. ap (λ l. is_stamped now (slice_get l n)) e ∙ sym (ap (is_among n) f);
     }
+
+-- a stamp of the past
+not_now : (now later : ℕ) (o : Option ℕ) → ((stamp : ℕ) → o ≡ Some stamp → stamp ≤ now) → now < later → is_stamped later o ≡ false
+not_now now later None h l = refl
+not_now now later (Some stamp) h l = ne_eqb stamp later (λ e. omega (arith, h stamp refl, l, e))
+
+-- at a later time, at which nothing was added
+pub stamped_later : (now later : ℕ) (stamps numbers : List ℕ) → now < later → AreStamped now stamps numbers → AreStamped later stamps []
+stamped_later now later stamps numbers l h =
+    record {
+      begun = omega (arith, l);
+      past = λ n stamp e. omega (arith, l, h.past n stamp e);
+      same = λ n. not_now now later (slice_get stamps n) (h.past n) l;
+    }
+
+-- one stamp more
+pub stamped_longer : (now : ℕ) (stamps numbers : List ℕ) → AreStamped now stamps numbers → AreStamped now (stamps ++ 0 ∷ []) numbers
+stamped_longer now stamps numbers h =
+    record {
+      begun = h.begun;
+      past = λ n stamp e. elim (longer_past stamps n stamp e) [ inl f ↦ h.past n stamp f | inr z ↦ omega (arith, z) ];
+      same = λ n. longer_same stamps n ∙ h.same n;
+    }
+  where
+    longer_past : (stamps : List ℕ) (n stamp : ℕ) → slice_get (stamps ++ 0 ∷ []) n ≡ Some stamp → (slice_get stamps n ≡ Some stamp) ⊎ (stamp ≡ 0)
+    longer_past [] zero stamp e = inr (sym (same_Some 0 stamp e))
+    longer_past [] (suc n) stamp e = inl e
+    longer_past (s ∷ stamps) zero stamp e = inl e
+    longer_past (s ∷ stamps) (suc n) stamp e = longer_past stamps n stamp e
+
+    longer_same : (stamps : List ℕ) (n : ℕ) → is_stamped now (slice_get (stamps ++ 0 ∷ []) n) ≡ is_stamped now (slice_get stamps n)
+    longer_same [] zero = ne_eqb 0 now (λ e. omega (arith, h.begun, e))
+    longer_same [] (suc n) = refl
+    longer_same (s ∷ stamps) zero = refl
+    longer_same (s ∷ stamps) (suc n) = longer_same stamps n
 
 set_same : (xs : List ℕ) (i x : ℕ) → i < length xs → slice_get (slice_set xs i x) i ≡ Some x
 set_same [] i x h = absurd (omega (arith, h))
@@ -113,6 +132,7 @@ pub stamped_more : (now : ℕ) (stamps numbers new : List ℕ) (i : ℕ) → i <
     AreStamped now stamps numbers → AreStamped now (slice_set stamps i now) new
 stamped_more now stamps numbers new i l e h =
     record {
+      begun = h.begun;
       past = λ n stamp g. set_past now stamps i n stamp h.past g;
       same = λ n. set_stamped now stamps i n l ∙ ap (λ b. nat_eq n i || b) (h.same n) ∙ sym (among_last n i numbers) ∙ sym (ap (is_among n) e);
     }

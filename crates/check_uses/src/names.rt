@@ -46,7 +46,7 @@ fn names(known: &Known, reached: &mut Numbers, global: u32, proc: u32) -> Result
     ensures { IfOk result (λ found. found ≡ names (all_procs known.now) global proc) }
 {
     names_found();
-    reached.clear()?;
+    reached.clear();
     reached.add(proc)?;
     let mut next = 0;
     while next < reached.count() {

@@ -1,17 +1,17 @@
 // Numbers, each once.
-ghost use Rattle.std.specs.Prelude.{◌≡◌, ◌<◌, [], length, slice_get, replicate, OnOk, IfOk};
-ghost use Rattle.check_uses.specs.Numbers.{is_stamped, is_among, with_number};
+ghost use Rattle.std.specs.Prelude.{◌≡◌, ◌<◌, ◌≤◌, ℕ, List, [], length, slice_get, OnOk};
+ghost use Rattle.check_uses.specs.Numbers.{is_stamped, is_among, with_number, AreStamped};
 
 use arc_base::Memory;
 use std::alloc::Global;
 use std::marker::Model;
 
-/// Numbers below a bound, each once, in the order in which they were added. Contracts see them as a
-/// list. All are taken away in one step.
+/// Numbers, each once, in the order in which they were added. Contracts see them as a list. All are
+/// taken away in one step.
 #[derive(Drop)]
 pub struct Numbers {
     numbers: Vec<u32>,
-    /// Beside each number below the bound the time at which it was added last, or 0.
+    /// By number: the time at which it was added last, or 0. Larger ones were never added.
     stamps: Vec<u32>,
     /// The time, which goes on where all are taken away.
     time: u32,
@@ -44,39 +44,49 @@ fn is_stamped(stamps: &[u32], now: u32, number: u32) -> bool
     }
 }
 
-fn no_stamps(alloc: Global, bound: usize) -> Result<Vec<u32>, Memory>
-    ensures { IfOk result (λ stamps. stamps.items ≡ replicate bound NEVER) }
+// Stamps of so many numbers at least.
+fn make_room(stamps: &mut Vec<u32>, count: usize) -> Result<(), Memory>
+    ensures enough { OnOk result (count ≤ length stamps.new.items) }
+    ensures kept { (now : ℕ) (numbers : List ℕ) → AreStamped now stamps.old.items numbers
+        → AreStamped now stamps.new.items numbers }
 {
-    let mut stamps = Vec::new(alloc);
-    stamps.resize(bound, NEVER)?;
-    Ok(stamps)
+    while stamps.len() < count {
+        stamps.push(NEVER)?;
+    }
+    Ok(())
+}
+
+// The next time, at which nothing was added yet. Where there is none, time begins anew, and all
+// stamps are forgotten.
+fn next_time(stamps: &mut Vec<u32>, time: u32) -> u32
+    ensures { (numbers : List ℕ) → AreStamped time stamps.old.items numbers
+        → AreStamped result stamps.new.items [] }
+{
+    if time == u32::MAX {
+        stamps.clear();
+        return NEVER + 1;
+    }
+    time + 1
 }
 
 impl Numbers {
-    /// No numbers, with room for those below the bound.
-    pub fn new(alloc: Global, bound: usize) -> Result<Numbers, Memory>
-        ensures { IfOk result (λ numbers. numbers ≡ []) }
+    /// No numbers.
+    pub fn new(alloc: Global) -> Numbers
+        ensures { result ≡ [] }
     {
-        let stamps = no_stamps(alloc, bound)?;
-        Ok(Numbers {
+        Numbers {
             numbers: Vec::new(alloc),
-            stamps,
+            stamps: Vec::new(alloc),
             time: NEVER + 1,
-        })
+        }
     }
 
-    /// Takes all away. There is a want of memory at the 4,294,967,295th time.
-    pub fn clear(&mut self) -> Result<(), Memory>
-        ensures { OnOk result (self.new ≡ []) }
+    /// Takes all away.
+    pub fn clear(&mut self)
+        ensures { self.new ≡ [] }
     {
-        match self.time.checked_add(1) {
-            None => Err(Memory),
-            Some(next) => {
-                self.numbers.clear();
-                self.time = next;
-                Ok(())
-            }
-        }
+        self.numbers.clear();
+        self.time = next_time(&mut self.stamps, self.time);
     }
 
     /// How many there are.
@@ -101,8 +111,7 @@ impl Numbers {
         is_stamped(&self.stamps, self.time, number)
     }
 
-    /// Adds a number at the end, if it isn't one of them. There is no memory for one that isn't below
-    /// the bound.
+    /// Adds a number at the end, if it isn't one of them.
     pub fn add(&mut self, number: u32) -> Result<(), Memory>
         ensures { OnOk result (self.new ≡ with_number number self.old) }
     {
@@ -110,9 +119,7 @@ impl Numbers {
             return Ok(());
         }
         let i = number as usize;
-        if i >= self.stamps.len() {
-            return Err(Memory);
-        }
+        make_room(&mut self.stamps, i + 1)?;
         self.numbers.push(number)?;
         self.stamps[i] = self.time;
         Ok(())

@@ -94,10 +94,9 @@ fn pass(later: &mut Numbers, start: &Vec<Stmt>, item: Item) -> Result<(), Memory
         Item::Completes { proc } => later.add(proc),
         Item::Code { first, count } => {
             if declares_any(part(start.as_slice(), first as usize, count as usize)) {
-                later.clear()
-            } else {
-                Ok(())
+                later.clear();
             }
+            Ok(())
         }
     }
 }
@@ -127,8 +126,8 @@ fn check_items(alloc: Global, known: &Known, text: &[Item], start: &Vec<Stmt>) -
     ensures { Answers (λ _. tt) (text_rule (all_procs known.now)
         (items_of [] known.now.procs.now.items start.now.items text.now)) result }
 {
-    let mut reached = Numbers::new(alloc, known.procs.len())?;
-    let mut later = Numbers::new(alloc, known.procs.len())?;
+    let mut reached = Numbers::new(alloc);
+    let mut later = Numbers::new(alloc);
     let mut answer = Ok(());
     let mut left = text.len();
     while left > 0 {

@@ -36,6 +36,7 @@ use Rattle.rv32_codegen.specs.declared.layout.LayFault.TheVariants.{TooLarge, Me
 use Rattle.program_limits.specs.Data.{data_counted}
 use Rattle.core_compiler.specs.Stages.{HasLines, IsTooLarge, IsImageOf, IsFlatOf, AreWordsOf}
 use Rattle.core_compiler.proofs.Refusals.{bound_is}
+use Rattle.core_compiler.proofs.CodeSizes.{joined_bytes}
 use Rattle.core_compiler.proofs.InTime.{in_time}
 
 abbrev pub AgreesLaw : Type 0
@@ -126,7 +127,9 @@ module _ (law : AgreesLaw) (pace : PaceLaw) where
           whole = low.whole;
           statics_most = low.data_most;
         };
-        weight = let few = low.weight in omega (arith, few, injected.form.weight, branched.form.weight);
+        code_most =
+            let most = joined_bytes (length own.statics) own.procs runtime.procs routines.routines in
+            omega (arith, most, lowered.weight, routines.weight, injected.form.weight, branched.form.weight);
         data_size =
             let few = lowered.data_size in
             let more = branched.form.statics table in
@@ -170,7 +173,7 @@ module _ (law : AgreesLaw) (pace : PaceLaw) where
         law _ _ _ (middle.agrees heap stack input few top.fits top.hooks (sound_low upper)) upper
 
     pub code_most : (bytes : ℕ) → bytes ≤ most_bytes words.procs → bytes ≤ code_bound program
-    code_most bytes few = let bound = bound_is program flat words.procs top.weight middle.weight in omega (arith, few, bound)
+    code_most bytes few = let bound = bound_is program flat words.procs top.weight middle.code_most in omega (arith, few, bound)
 
     pub data_most : length words.statics ≤ data_counted program + 4092
     data_most = let few = middle.data_size in omega (arith, few, top.data_size)

@@ -1,9 +1,7 @@
 -- Flat code that is that of a program does what the program means.
-use Rattle.std.proofs.Common.{◌≡◌, ◌≤◌, ℕ, ◌+◌, ◌*◌, List, [], refl, sym, ap, subst, ◌∙◌, arith, true, Ok}
-use Rattle.arc_base.specs.Behaviour.{Agrees, Sound}
+use Rattle.std.proofs.Common.{◌≡◌, ◌≤◌, ℕ, ◌+◌, ◌*◌, List, [], sym, ap, subst, ◌∙◌, arith, true}
+use Rattle.arc_base.specs.Behaviour.{Agrees}
 use Rattle.arc_base.specs.Pace.{Paced}
-use Rattle.nim_types.specs.declared.types.TypeDef.{TypeDef}
-use Rattle.nim_types.specs.Table.{types_in, facts_in}
 use Rattle.nim_plan.specs.declared.plan.Plan.{Plan}
 use Rattle.nim_program.specs.declared.program.Program.{Program as RustProgram}
 use Rattle.nim_program.specs.Sizes.{HaveForms}
@@ -23,7 +21,9 @@ use Rattle.program_limits.specs.Limits.{program_in}
 use Rattle.flattening.specs.Counted.{program_parts, program_data}
 use Rattle.flattening.specs.Flattened.{known_of, code_of, flat_meaning, IsExact}
 use Rattle.flattening.specs.Given.{flat_procs, flat_of}
-use Rattle.core_compiler.specs.Stages.{ShowsSame, IsFlatOf}
+use Rattle.flattening.specs.Alike.{AllAlike}
+use Rattle.flattening.specs.PlainCode.{ArePlainProcs}
+use Rattle.core_compiler.specs.Stages.{have_members, ShowsSame, IsFlatOf}
 use Rattle.core_compiler.proofs.TableNames.{names_count}
 
 module _ (p : RustProgram) (plan : Plan) (flat : Code Line) (procs : flat.procs ≡ flat_procs (program_in p) plan)
@@ -33,8 +33,10 @@ module _ (p : RustProgram) (plan : Plan) (flat : Code Line) (procs : flat.procs 
     (exact : (heap : ℕ) (input : List ℕ) (units : ℕ) → IsExact (program_in p) plan heap input units)
     (fits : code_fits flat_plain (known_of (program_in p)) (flat_procs (program_in p) plan) ≡ true)
     (hooks : AreNone (hooks_of (flat_of (program_in p) plan)))
-    (weight : code_weight flat_plain (flat_procs (program_in p) plan) ≤ 38 * program_parts (program_in p))
+    (weight : code_weight flat_plain (flat_procs (program_in p) plan) ≤ 25 * program_parts (program_in p))
     (sized : data_bytes flat_plain p.types (flat_procs (program_in p) plan) ≤ program_data p.types (program_in p)) (forms : HaveForms p.types)
+    (alike : AllAlike (flat_procs (program_in p) plan)) (plain : ArePlainProcs (known_of (program_in p)) 16384 (flat_procs (program_in p) plan))
+    (few : data_counted (program_in p) ≤ 1040384) (members : have_members p.types ≡ true)
   where
     abbrev program : Program
     program = program_in p
@@ -52,6 +54,17 @@ module _ (p : RustProgram) (plan : Plan) (flat : Code Line) (procs : flat.procs 
         (meaning program plan heap input units))) (sym code)
         (e.0, λ more. record { events = (e.1 more).0; phase = (e.1 more).1 })
 
+    fit : code_fits flat_plain known flat.procs ≡ true
+    fit = ap (code_fits flat_plain known) procs ∙ fits
+
+    none : AreNone (hooks_of flat)
+    none = subst (λ ps. AreNone (hooks_of (record { procs = ps }))) (sym procs) hooks
+
+    data_most : data_bytes flat_plain p.types flat.procs ≤ data_counted program
+    data_most =
+        let names = names_count p.types in
+        subst (λ ps. data_bytes flat_plain p.types ps ≤ data_counted program) (sym procs) (omega (arith, sized, names))
+
     pub is_flat_of : IsFlatOf p.types program plan flat
     is_flat_of = record {
       agrees = λ heap input. subst (λ (ps : List (Proc Line)). Agrees (runs label_in (does known plan) ps heap input) (meaning program plan heap input))
@@ -59,11 +72,17 @@ module _ (p : RustProgram) (plan : Plan) (flat : Code Line) (procs : flat.procs 
       paced = λ heap input. subst (λ (ps : List (Proc Line)). Paced 12 (runs label_in (does known plan) ps heap input) (meaning program plan heap input))
           (sym code) (paced heap input);
       exact = shown;
-      fits = ap (code_fits flat_plain known) procs ∙ fits;
-      weight = subst (λ ps. code_weight flat_plain ps ≤ 38 * program_parts program) (sym procs) weight;
-      data_size =
-          let names = names_count p.types in
-          subst (λ ps. data_bytes flat_plain p.types ps ≤ data_counted program) (sym procs) (omega (arith, sized, names));
-      hooks = subst (λ ps. AreNone (hooks_of (record { procs = ps }))) (sym procs) hooks;
+      fits = fit;
+      weight = subst (λ ps. code_weight flat_plain ps ≤ 25 * program_parts program) (sym procs) weight;
+      data_size = data_most;
+      hooks = none;
+      may = record {
+        alike = subst (λ ps. AllAlike ps) (sym procs) alike;
+        plain = subst (λ ps. ArePlainProcs known 16384 ps) (sym procs) plain;
+        fits = fit;
+        hooks = none;
+        data_few = let most = data_most in omega (arith, most, few);
+        members = members;
+      };
       forms = forms;
     }

@@ -3,7 +3,14 @@ mod StackSize
 mod Homes
 mod Refusals
 mod Limiting
+mod CodeSizes
 mod Composing
 mod Flattened
 mod Shown
 mod TableNames
+mod FrameSums
+mod LineNames
+mod LinesAgree
+mod LayoutRooms
+mod EnumMembers
+mod MayLower

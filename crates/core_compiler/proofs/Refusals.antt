@@ -1,6 +1,6 @@
 -- Which limits say no, and which say yes.
-use Rattle.std.proofs.Common.{◌≡◌, ◌≤◌, ◌<◌, ℕ, ◌+◌, ◌*◌, Bool, false, List, map, Option, Some, None, Result, Ok, Err}
-use Rattle.std.proofs.Common.{refl, sym, ap, ◌∙◌, arith, inl, inr}
+use Rattle.std.proofs.Common.{◌≡◌, ◌≤◌, ◌<◌, ℕ, ◌+◌, ◌*◌, false, List, Option, Some, None, Result, Ok, Err}
+use Rattle.std.proofs.Common.{refl, ap, ◌∙◌, arith, inl, inr}
 use Rattle.std.specs.Prelude.{nat_le}
 use Rattle.std.proofs.lemmas.Bool.{leb-true, le-leb, cases_Bool}
 use Rattle.arc_base.specs.declared.place.Place.{Place}
@@ -12,7 +12,6 @@ use Rattle.nim_plan.specs.declared.plan.Plan.{Plan}
 use Rattle.nim_program.specs.Program.{Program}
 use Rattle.nim_meaning.specs.LeftOut.{first_left_out}
 use Rattle.word_code.specs.declared.word.WordProc.{WordProc}
-use Rattle.word_code.specs.Sizes.{word_weight}
 use Rattle.flat_code.specs.declared.code.Code.{Code}
 use Rattle.flat_code.specs.declared.line.Line.{Line}
 use Rattle.flat_code.specs.Codes.{flat_plain}
@@ -40,12 +39,11 @@ module _ (program : Program) where
         | inr f ↦ f
       ]
 
-  pub bound_is : (flat : Code Line) (procs : List WordProc) → code_weight flat_plain flat.procs ≤ 38 * program_parts program →
-      word_weight procs ≤ code_weight flat_plain flat.procs + 108 → most_bytes procs ≤ code_bound program
-  bound_is flat procs few words =
-      let all : most_bytes procs ≤ 20 + 48 * word_weight procs = omega arith in
-      let bound : 1824 * program_parts program + 5204 ≤ code_bound program = omega arith in
-      omega (arith, few, words, all, bound)
+  pub bound_is : (flat : Code Line) (procs : List WordProc) → code_weight flat_plain flat.procs ≤ 25 * program_parts program →
+      most_bytes procs ≤ 48 * code_weight flat_plain flat.procs + 2756 → most_bytes procs ≤ code_bound program
+  bound_is flat procs few most =
+      let bound : 1200 * program_parts program + 2756 ≤ code_bound program = omega arith in
+      omega (arith, few, most, bound)
 
 -- ---- where all of it is built
 

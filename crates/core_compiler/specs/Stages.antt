@@ -1,5 +1,5 @@
 -- What the stages of the compiler give one another. No public contract speaks of it.
-use Rattle.std.specs.Prelude.{◌≡◌, ◌≤◌, ◌<◌, ℕ, ◌+◌, ◌*◌, ◌%◌, true, List, [], length, map}
+use Rattle.std.specs.Prelude.{◌≡◌, ◌≤◌, ◌<◌, ℕ, ◌+◌, ◌*◌, ◌%◌, Bool, true, false, ◌&&◌, List, [], ◌∷◌, length}
 use Rattle.arc_base.specs.Event.{Event}
 use Rattle.arc_base.specs.Behaviour.{Seen, Agrees, Sound}
 use Rattle.arc_base.specs.Pace.{PacedFrom, Paced}
@@ -7,7 +7,10 @@ use Rattle.arc_base.specs.declared.place.Code.TheVariants as code
 use Rattle.arc_base.specs.declared.place.Stop.{Stop}
 use Rattle.arc_base.specs.declared.place.Stop.TheVariants as stop
 use Rattle.nim_types.specs.declared.types.TypeDef.{TypeDef}
+use Rattle.nim_types.specs.declared.types.TypeDef.TheVariants as D
 use Rattle.nim_plan.specs.declared.plan.Plan.{Plan}
+use Rattle.nim_program.specs.declared.sizes.TheConstants.{MOST_BYTES}
+use Rattle.nim_program.specs.declared.text_sizes.TheConstants.{MOST_DATA as MOST_DATA_BYTES}
 use Rattle.nim_program.specs.Program.{Program}
 use Rattle.nim_program.specs.Sizes.{HaveForms}
 use Rattle.nim_meaning.specs.Meaning.{meaning}
@@ -21,14 +24,16 @@ use Rattle.flat_code.specs.Codes.{flat_plain, flat_meaning, hooks_of, AreNone}
 use Rattle.flat_code.specs.Fits.{code_fits}
 use Rattle.flat_code.specs.Scene.{known_in}
 use Rattle.flat_code.specs.Sizes.{code_weight, data_bytes}
-use Rattle.word_code.specs.Sizes.{longest_chain, has_no_circle, word_weight}
+use Rattle.word_code.specs.Sizes.{longest_chain, has_no_circle}
 use Rattle.word_code.specs.Words.{word_meaning, is_word_code, have_no_hooks}
 use Rattle.flat_runner.specs.Mean.{by_units}
 use Rattle.program_limits.specs.Frames.{beginning}
 use Rattle.flattening.specs.declared.laws.TheConstants.{FLAT_PACE, NODE_WEIGHT}
+use Rattle.flattening.specs.Alike.{AllAlike}
 use Rattle.flattening.specs.Counted.{program_parts}
+use Rattle.flattening.specs.PlainCode.{ArePlainProcs}
 use Rattle.program_limits.specs.Data.{data_counted}
-use Rattle.rv32_codegen.specs.declared.label_code.TheConstants.{CODE_PACE}
+use Rattle.rv32_codegen.specs.declared.label_code.TheConstants.{BYTES_OF_LINE, CODE_PACE}
 use Rattle.rv32_codegen.specs.declared.layout.TheConstants.{LAYOUT_PACE, MOST_CODE_BYTES}
 use Rattle.rv32_codegen.specs.declared.layout.LayFault.{LayFault}
 use Rattle.rv32_codegen.specs.declared.layout.LayFault.TheVariants.{TooLarge, Memory}
@@ -37,9 +42,10 @@ use Rattle.rv32_codegen.specs.Lowering.{most_bytes}
 use Rattle.rv32_codegen.specs.Stack.{stack_need}
 use Rattle.reg_scan.specs.declared.homes.Homes.{Homes}
 use Rattle.word_code.specs.declared.routine.TheConstants.{ROUTINE_CHAIN, RUNTIME_DATA}
-use Rattle.word_lowering.specs.declared.lowering.TheConstants.{WORD_PACE, MOST_HEAP, ROUTINES_WEIGHT, MORE_DATA}
+use Rattle.word_lowering.specs.declared.lowering.TheConstants.{WORD_PACE, MOST_HEAP, MORE_DATA}
 use Rattle.word_lowering.specs.declared.may_lower.TheConstants.{MOST_DATA}
 use Rattle.word_lowering.specs.Lowers.{AreSmall}
+use Rattle.core_compiler.specs.declared.program.TheConstants.{BYTES_OF_ALL}
 use Rattle.core_compiler.specs.Compile.{live_objects, IsLabelCode}
 
 -- ---- a typed program and its flat code
@@ -48,6 +54,24 @@ use Rattle.core_compiler.specs.Compile.{live_objects, IsLabelCode}
 pub record ShowsSame (low high : Seen Event) : Type 0 where
   pub events : low.events ≡ high.events
   pub phase : low.phase ≡ high.phase
+
+abbrev pub has_member : TypeDef → Bool
+has_member (D.Enum name at []) = false
+has_member def = true
+
+-- each enum has a member
+abbrev pub have_members : List TypeDef → Bool
+have_members [] = true
+have_members (def ∷ defs) = has_member def && have_members defs
+
+-- what word code rests on beside that flat code fits: it has no heap, no procedure is too large, and neither are its data
+pub record MayBeLowered (table : List TypeDef) (flat : Code Line) : Type 0 where
+  pub alike : AllAlike flat.procs
+  pub plain : ArePlainProcs (known_in table) MOST_BYTES flat.procs
+  pub fits : code_fits flat_plain (known_in table) flat.procs ≡ true
+  pub hooks : AreNone (hooks_of flat)
+  pub data_few : data_bytes flat_plain table flat.procs ≤ MOST_DATA_BYTES
+  pub members : have_members table ≡ true
 
 -- Flat code does what the program means under the plan, and with so many units shows the same after some number of lines and ever after; its lines
 -- fit the types of its places; it weighs as much as the program's parts, and has the data that count. No type of the table contains itself.
@@ -61,6 +85,7 @@ pub record IsFlatOf (table : List TypeDef) (program : Program) (plan : Plan) (fl
   pub data_size : data_bytes flat_plain table flat.procs ≤ data_counted program
   pub hooks : AreNone (hooks_of flat)
   pub forms : HaveForms table
+  pub may : MayBeLowered table flat
 
 -- ---- flat code and its word code
 
@@ -73,7 +98,8 @@ pub record CanLayOut (words : WordCode) : Type 0 where
   pub whole : length words.statics % 4 ≡ 0
   pub statics_most : length words.statics ≤ MOST_DATA + RUNTIME_DATA
 
--- Word code, with its runtime, does what flat code does under the plan, where that is never at a fault and never wrong.
+-- Word code, with its runtime, does what flat code does under the plan, where that is never at a fault and never wrong; and what it becomes has at
+-- most so many bytes.
 pub record AreWordsOf (table : List TypeDef) (plan : Plan) (flat : Code Line) (words : WordCode) : Type 0 where
   pub agrees : (heap stack : ℕ) (input : List ℕ) → heap ≤ MOST_HEAP → code_fits flat_plain (known_in table) flat.procs ≡ true →
       AreNone (hooks_of flat) → Sound (flat_meaning table flat plan heap input) →
@@ -82,7 +108,7 @@ pub record AreWordsOf (table : List TypeDef) (plan : Plan) (flat : Code Line) (w
       AreNone (hooks_of flat) → Sound (flat_meaning table flat plan heap input) →
       PacedFrom WORD_PACE 1 (word_meaning live_objects words heap stack input) (flat_meaning table flat plan heap input)
   pub can : CanLayOut words
-  pub weight : word_weight words.procs ≤ code_weight flat_plain flat.procs + ROUTINES_WEIGHT
+  pub code_most : most_bytes words.procs ≤ BYTES_OF_LINE * code_weight flat_plain flat.procs + BYTES_OF_ALL
   pub data_size : length words.statics ≤ data_bytes flat_plain table flat.procs + (MORE_DATA + RUNTIME_DATA)
   pub hooks : AreNone (hooks_of flat) → have_no_hooks words.procs ≡ true
 

@@ -11,13 +11,13 @@ ghost use Rattle.program_limits.specs.Limits.{program_in, tree_limits};
 ghost use Rattle.core_compiler.specs.Limits.{build_limits, check_limits};
 ghost use Rattle.core_compiler.specs.Compile.{HasCodeWhereWithin, UnlessMemory, DoesProgram};
 ghost use Rattle.core_compiler.specs.Compile.{HasImageWhereBuilt};
-ghost use Rattle.core_compiler.specs.Stages.{IsFlatOf, AreWordsOf, too_large};
+ghost use Rattle.core_compiler.specs.Stages.{IsFlatOf, MayBeLowered, AreWordsOf, too_large};
 
 use crate::image::image_of_words;
 use arc_base::{Code, Memory, Place, Stop, agreement};
 use destructor_injection::owned_of;
 use flat_code::Flat;
-use flattening::{fits, flat_code, flatten, sizes};
+use flattening::{fits, flat_code, flatten, may_be_lowered, sizes};
 use formed_programs::{formed, table_forms};
 use goto_exceptions::branches;
 use nim_meaning::meanings;
@@ -46,10 +46,10 @@ pub const TIME_PACE: u32 = 262_144;
 pub const TIME_LATE: u32 = 64;
 
 /// The most bytes of code for each part that is counted of a program.
-pub const BYTES_OF_PART: u32 = 1_824;
+pub const BYTES_OF_PART: u32 = 1_200;
 
 /// And for the whole.
-pub const BYTES_OF_ALL: u32 = 5_204;
+pub const BYTES_OF_ALL: u32 = 2_756;
 
 // The main module is too large.
 fn too_large() -> Stop
@@ -73,11 +73,13 @@ pub fn flat_of(alloc: Global, program: &Program, plan: &Plan) -> Result<Flat, Me
     ensures { IfOk result (λ flat.
         IsFlatOf program.now.types (program_in program.now) plan.now flat) }
 {
+    let _types = program.types.count();
     let flat = flatten(alloc, program, plan)?;
     formed();
     table_forms();
     flat_code();
     fits();
+    may_be_lowered();
     sizes();
     meanings();
     Ok(flat)
@@ -87,6 +89,7 @@ pub fn flat_of(alloc: Global, program: &Program, plan: &Plan) -> Result<Flat, Me
 fn words_of(alloc: Global, types: &TypeTable, plan: &Plan, flat: &Flat) -> Result<WordCode, Memory>
     requires forms { HaveForms types.now }
     requires ordered { IsInOrder plan.now }
+    requires may { MayBeLowered types.now flat.now }
     ensures { IfOk result (λ words. AreWordsOf types.now plan.now flat.now words) }
 {
     agreement();

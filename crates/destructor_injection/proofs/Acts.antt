@@ -1,5 +1,6 @@
 -- What a plan has at a site, as it is looked up in its entries, is what it says there.
-use Rattle.std.proofs.Common.{◌≡◌, ◌≢◌, refl, sym, ◌∙◌, ap, subst, arith, ⊎_elim, ℕ, zero, suc, ◌<◌, List, [], ◌∷◌, length, slice_index_or, true, false, Option, Some, None}
+use Rattle.std.proofs.Common.{◌≡◌, ◌≢◌, refl, sym, ◌∙◌, ap, subst, arith, ⊎_elim, ℕ, zero, suc, ◌<◌, List, [], ◌∷◌, length, slice_index_or, true, false, Option}
+use Rattle.std.proofs.Common.{Some, None}
 use Rattle.std.specs.Prelude.{nat_eq, Contains, IfSome, if◌then◌else◌}
 use Rattle.std.proofs.lemmas.Bool.Decides.{eqb_tells}
 use Rattle.nim_plan.specs.declared.plan.Act.{Act}
@@ -41,7 +42,8 @@ is_none (x ∷ sites) site act e has = ⊎_elim
     at_position no.1 (λ h. is_none sites site act rest h) has.0 has.1 has.2)
     (eqb_tells x.site site)
   where
-    at_position : x.site ≢ site → (Contains sites (entry site act) → ⊥) → (k : ℕ) → k < length (x ∷ sites) → slice_index_or (x ∷ sites) k (entry site act) ≡ entry site act → ⊥
+    at_position : x.site ≢ site → (Contains sites (entry site act) → ⊥) → (k : ℕ) → k < length (x ∷ sites) →
+        slice_index_or (x ∷ sites) k (entry site act) ≡ entry site act → ⊥
     at_position apart none zero within is = apart (ap (λ (y : SiteAct). y.site) is)
     at_position apart none (suc k) within is = none (k, omega (arith, within), is)
 

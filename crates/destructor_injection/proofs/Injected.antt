@@ -52,7 +52,7 @@ same_line known plan (L.TurnIf from to) = (same, refl, λ x. refl)
 same_line known plan (L.CountTurn counter last inclusive to) = (same, refl, λ x. refl)
 same_line known plan (L.Return result) = (same, refl, λ x. refl)
 
-shown : (table : List TypeDef) (plan : Plan) (flat : Code Line) (heap : ℕ) (input : List ℕ) (n : ℕ) →
+pub shown : (table : List TypeDef) (plan : Plan) (flat : Code Line) (heap : ℕ) (input : List ℕ) (n : ℕ) →
     owned_meaning table (by_lines (under plan) flat) heap input n ≡ flat_meaning table flat plan heap input n
 shown table plan flat heap input n =
     let known = known_in table in
@@ -73,4 +73,5 @@ owned_by flat plan procs e itself steady = subst (λ ps. IsOwned flat plan (owne
   paced = λ table heap input sound.
       same_pace (owned_meaning table (by_lines (under plan) flat) heap input) (flat_meaning table flat plan heap input) (shown table plan flat heap input);
   form = form_by_lines (under plan) flat_plain owned_plain (λ line. (same_line (known_in []) plan line).0) flat;
+  each = refl;
 })

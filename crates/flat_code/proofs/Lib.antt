@@ -7,3 +7,4 @@ mod ShapeKinds
 mod ConstantShapes
 mod SortedTables
 pub mod ForCallers
+mod LineWeights

@@ -7,3 +7,4 @@ pub mod Shapes
 pub mod Fits
 pub mod Sizes
 pub mod Codes
+pub mod Examples

@@ -115,8 +115,8 @@ weight (L.Zero to) = 1
 weight (L.Length to from) = 1
 weight (L.Still from len) = 2
 weight (L.Element to from index) = 11
-weight (L.Beyond counter last inclusive to) = 8
-weight (L.Next counter last) = 2
+weight (L.Beyond counter last inclusive to) = 1
+weight (L.Next counter last) = 1
 weight (L.Label name) = 1
 weight (L.Jump to) = 1
 weight (L.Unless from to) = 2
@@ -124,7 +124,7 @@ weight (L.Fits from low high to) = 4
 weight L.Enter = 1
 weight (L.Turn to) = 1
 weight (L.TurnIf from to) = 2
-weight (L.CountTurn counter last inclusive to) = 8
+weight (L.CountTurn counter last inclusive to) = 6
 weight (L.Return result) = 3
 
 -- ---- data

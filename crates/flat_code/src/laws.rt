@@ -1,5 +1,5 @@
 // The laws of the codes.
-ghost use Rattle.std.specs.Prelude.{ℕ, List};
+ghost use Rattle.std.specs.Prelude.{◌≤◌, ℕ, List};
 ghost use Rattle.arc_base.specs.Behaviour.{Steady};
 ghost use Rattle.nim_types.specs.declared.types.TypeDef.{TypeDef};
 ghost use Rattle.nim_plan.specs.declared.plan.Plan.{Plan};
@@ -7,7 +7,9 @@ ghost use Rattle.flat_code.specs.declared.code.Code.{Code};
 ghost use Rattle.flat_code.specs.declared.line.Line.{Line};
 ghost use Rattle.flat_code.specs.declared.owned.OwnedLine.{OwnedLine};
 ghost use Rattle.flat_code.specs.declared.block.BlockLine.{BlockLine};
-ghost use Rattle.flat_code.specs.Codes.{flat_meaning, owned_meaning, block_meaning};
+ghost use Rattle.flat_code.specs.Codes.{flat_meaning, owned_meaning, block_meaning, lines_in};
+ghost use Rattle.flat_code.specs.Codes.{flat_plain, owned_plain, block_plain};
+ghost use Rattle.flat_code.specs.Sizes.{code_weight};
 
 /// What flat, owned and block code have shown only grows, and what is over stays so.
 pub fn codes()
@@ -17,4 +19,13 @@ pub fn codes()
         Steady (owned_meaning table owned heap input) }
     ensures blocks { (table : List TypeDef) (blocks : Code BlockLine) (heap : ℕ)
         (input : List ℕ) → Steady (block_meaning table blocks heap input) }
+{}
+
+/// Flat, owned and block code have no more lines than they weigh.
+pub fn weights()
+    ensures flat { (flat : Code Line) → lines_in flat.procs ≤ code_weight flat_plain flat.procs }
+    ensures owned { (owned : Code OwnedLine) →
+        lines_in owned.procs ≤ code_weight owned_plain owned.procs }
+    ensures blocks { (blocks : Code BlockLine) →
+        lines_in blocks.procs ≤ code_weight block_plain blocks.procs }
 {}

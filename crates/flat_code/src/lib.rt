@@ -4,6 +4,7 @@
 mod block;
 mod code;
 mod copy;
+mod examples;
 mod flat;
 mod laws;
 mod line;
@@ -13,8 +14,9 @@ mod place;
 pub use block::{BlockLine, Blocks};
 pub use code::{Code, CodeProc};
 pub use copy::copied;
+pub use examples::{flat_examples, form_examples};
 pub use flat::Flat;
-pub use laws::codes;
+pub use laws::{codes, weights};
 pub use line::{From, Line, Piece};
 pub use owned::{Owned, OwnedLine};
 pub use place::{FlatPlace, PlaceKind};

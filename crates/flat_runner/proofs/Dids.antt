@@ -12,9 +12,8 @@ use Rattle.nim_types.specs.declared.types.TypeDef.{TypeDef}
 use Rattle.nim_plan.specs.declared.plan.Plan.{Plan}
 use Rattle.nim_types.specs.Table.{type_at, types_in, facts_in}
 use Rattle.nim_program.specs.Program.{Building}
-use Rattle.nim_program.specs.declared.operation.Operation.{Operation}
 use Rattle.nim_program.specs.declared.operation.Use.{Use}
-use Rattle.nim_meaning.specs.Table.{acts, does as table_does}
+use Rattle.nim_meaning.specs.Table.{acts}
 use Rattle.flat_code.specs.declared.line.From.{From}
 use Rattle.nim_program.specs.Traps.{IndexOutOfBounds, NilDereference, LengthChanged}
 use Rattle.nim_meaning.specs.Values.{Value, Values, Location, deeper, nothing, number_of, length_of, bytes}

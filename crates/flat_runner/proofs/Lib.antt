@@ -1,5 +1,6 @@
 mod ValueRows
 mod StartRows
+mod AtOnce
 mod Deeds
 mod Falling
 mod Running

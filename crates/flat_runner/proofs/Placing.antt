@@ -1,10 +1,10 @@
 -- Places that are read and written.
 use Rattle.std.proofs.Common.{◌≡◌, ℕ, zero, suc, ◌-◌, ◌<◌, ◌≤◌, length, get_or, set, arith, List}
-use Rattle.std.proofs.Common.{[], ◌∷◌, map, refl, sym, ap, ap₂, subst, ◌∙◌, Option, Some, None}
+use Rattle.std.proofs.Common.{[], ◌∷◌, map, refl, sym, ap, ap₂, subst, ◌∙◌, Option, Some}
 use Rattle.std.specs.Prelude.{slice_get}
 use Rattle.std.proofs.lemmas.List.{map-set, length-map}
 use Rattle.nim_meaning.specs.Values.{Value, Slot, Location}
-use Rattle.nim_meaning.specs.State.{Frame, World, frame_in, slot_of, with_slot_of, with_slot, slot_at, joined, load, store, world_of}
+use Rattle.nim_meaning.specs.State.{Frame, World, frame_in, with_slot_of, with_slot, load, store, world_of}
 use Rattle.flat_runner.specs.declared.place.Spot.{Spot}
 use Rattle.flat_runner.specs.declared.place.Spot.TheVariants as P
 use Rattle.flat_runner.specs.declared.state.Slot.{Slot as RustSlot}

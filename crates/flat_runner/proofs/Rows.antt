@@ -1,17 +1,15 @@
 -- What the rows of the table come to.
-use Rattle.std.proofs.Common.{◌≡◌, ℕ, suc, ℤ, pos, ◌+◌, true, false, List, [], ◌∷◌, length, refl, sym, ap, subst, arith, append-nil}
-use Rattle.std.proofs.lemmas.Bool.{true≢false, ltb-true}
-use Rattle.std.specs.Prelude.{nat_lt}
+use Rattle.std.proofs.Common.{◌≡◌, ℕ, ℤ, ◌+◌, List, [], length, refl, sym, ap, subst, append-nil}
 use Rattle.arc_base.specs.Event.{Event, writes}
 use Rattle.arc_base.specs.declared.outside.Stream.TheVariants.{Out as Output}
 use Rattle.nim_types.specs.Types.{Ty, int, bool, char, text, sequence, array, tuple, parameter, enum, object, distinct, ref, exception, Facts}
 use Rattle.nim_program.specs.declared.operation.Operator.{Operator}
-use Rattle.nim_program.specs.Ints.{Fine, Trapped, applied, low_byte}
+use Rattle.nim_program.specs.Ints.{Fine, Trapped, applied}
 use Rattle.nim_program.specs.Traps.{Trap}
-use Rattle.nim_meaning.specs.Values.{Value, Number, nothing, number_of, bytes, Operand, Location, number}
+use Rattle.nim_meaning.specs.Values.{Number, nothing, number_of, bytes, Location}
 use Rattle.nim_meaning.specs.State.{World, load, store}
-use Rattle.nim_meaning.specs.Places.{put, exchanged}
-use Rattle.nim_meaning.specs.Table.{outcome, operate, updated, swapped, step_by, status_of, converted, moved}
+use Rattle.nim_meaning.specs.Places.{put}
+use Rattle.nim_meaning.specs.Table.{outcome, operate, updated}
 use Rattle.nim_meaning.specs.Table as table
 use Rattle.nim_meaning.specs.Deeds.{Works, Done, Answers, perform, give, write, ◌>>=◌, ◌>>◌}
 use Rattle.plain_values.specs.Values as plain

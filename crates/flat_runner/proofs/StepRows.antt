@@ -14,7 +14,7 @@ use Rattle.nim_meaning.specs.State.{World, with_frame, down_to}
 use Rattle.nim_meaning.specs.Meaning.{seen_call}
 use Rattle.flat_code.specs.declared.line.Line.{Line}
 use Rattle.flat_code.specs.declared.code.Code.{Code}
-use Rattle.flat_code.specs.Scene.{Known, known_in, Scene, Temps, Did, Passes, Leaps, Enters, Turns, Calls, Returns, with_value}
+use Rattle.flat_code.specs.Scene.{Known, known_in, Temps, Did, Leaps, Enters, Turns, with_value}
 use Rattle.flat_code.specs.Scene as scenes
 use Rattle.flat_code.specs.Lines.{does}
 use Rattle.flat_code.specs.Running.{Proc, Waiting, Machine, from_label, onward, jumped, gives_nothing, entered, called}

@@ -1,9 +1,8 @@
 -- What is found out of code and types before it runs.
 use Rattle.std.proofs.Common.{◌≡◌, ℕ, zero, suc, ◌+◌, ◌<◌, ◌≤◌, Bool, true, false, List, [], ◌∷◌}
-use Rattle.std.proofs.Common.{◌++◌, length, drop, take, get_or, refl, sym, ap, subst, ◌∙◌, arith, Option, Some, None}
-use Rattle.std.proofs.lemmas.Bool.{eqb-true, eqb-false}
+use Rattle.std.proofs.Common.{◌++◌, length, drop, take, get_or, refl, sym, ap, subst, ◌∙◌, arith, Option, Some}
 use Rattle.std.proofs.lemmas.Option.{none-some, same_Some}
-use Rattle.std.specs.Prelude.{slice_get, nat_eq, option_map, if◌then◌else◌}
+use Rattle.std.specs.Prelude.{slice_get, option_map, if◌then◌else◌}
 use Rattle.nim_types.specs.Types.{Ty, int}
 use Rattle.nim_types.specs.declared.types.TypeDef.{TypeDef}
 use Rattle.nim_types.proofs.ForCallers.{count}
@@ -11,7 +10,6 @@ use Rattle.nim_types.specs.Table.{type_at, types_in, facts_in}
 use Rattle.nim_meaning.specs.Here.{is_hooked}
 use Rattle.flat_code.specs.declared.line.Line.{Line}
 use Rattle.flat_code.specs.declared.code.CodeProc.{CodeProc}
-use Rattle.flat_code.specs.Scene.{put}
 use Rattle.flat_code.specs.Running.{from_label, is_name}
 use Rattle.flat_code.specs.Whole.{label_in}
 use Rattle.flat_runner.specs.declared.tables.Book.{Book}
@@ -102,24 +100,6 @@ book_of (q ∷ ps) (b ∷ books) zero p book h e f = subst (λ p. IsBook p book)
 book_of (q ∷ ps) (b ∷ books) (suc i) p book h e f = book_of ps books i p book h.1 e f
 
 -- ---- hooked types
-
-abbrev pub HookedTo : List TypeDef → List Bool → Type 0
-HookedTo types hooked = (i : ℕ) (b : Bool) → slice_get hooked i ≡ Some b → is_hooked (facts_in types) (type_at (types_in types) i) ≡ b
-
-pub one_hooked : (types : List TypeDef) (all hooked : List Bool) (k : ℕ) (b : Bool) → all ≡ hooked ++ b ∷ [] → length hooked ≡ k
-    → is_hooked (facts_in types) (type_at (types_in types) k) ≡ b → HookedTo types hooked → HookedTo types all
-one_hooked types all hooked k b e l is before i c f =
-    last hooked i (λ c f. before i c f)
-    (λ n. subst (λ k. k ≡ i → is_hooked (facts_in types) (type_at (types_in types) i) ≡ b) (sym l)
-    (λ n. subst (λ k. is_hooked (facts_in types) (type_at (types_in types) k) ≡ b) n is) n) c (sym (ap (λ l. slice_get l i) e) ∙ f)
-  where
-    last : (xs : List Bool) (j : ℕ) → ((c : Bool) → slice_get xs j ≡ Some c → is_hooked (facts_in types) (type_at (types_in types) i) ≡ c)
-        → (length xs ≡ j → is_hooked (facts_in types) (type_at (types_in types) i) ≡ b) → (c : Bool) → slice_get (xs ++ b ∷ []) j ≡ Some c
-        → is_hooked (facts_in types) (type_at (types_in types) i) ≡ c
-    last [] zero before end c f = end refl ∙ same_Some b c f
-    last [] (suc j) before end c f = absurd (none-some c f)
-    last (x ∷ xs) zero before end c f = before c f
-    last (x ∷ xs) (suc j) before end c f = last xs j before (λ n. end (ap suc n)) c f
 
 type_none : (ts : List Ty) (i : ℕ) → length ts ≤ i → type_at ts i ≡ int
 type_none [] i le = refl

@@ -1,18 +1,16 @@
 -- Values as the code has them.
-use Rattle.std.proofs.Common.{◌≡◌, ℕ, zero, suc, ◌<◌, ◌≤◌, Bool, true, false, ◌||◌, List, [], ◌∷◌}
-use Rattle.std.proofs.Common.{◌++◌, length, map, Vec, Global, refl, sym, ap, ap₂, ◌∙◌, arith, get_or, set}
+use Rattle.std.proofs.Common.{◌≡◌, ℕ, zero, suc, ◌<◌, ◌≤◌, Bool, true, false, List, [], ◌∷◌}
+use Rattle.std.proofs.Common.{◌++◌, length, map, Vec, Global, refl, sym, ap, ◌∙◌, arith, get_or, set}
 use Rattle.std.proofs.lemmas.Bool.{true≢false, eqb-true}
 use Rattle.std.specs.Prelude.{ℤ, pos, ◌==◌, unsigned_abs, Result, Ok, Err, IfOk}
 use Rattle.arc_base.specs.declared.bytes.Memory.{Memory}
 use mathlib.Core.Former.{Count}
-use Rattle.nim_types.specs.Forms.{Form, Forms, no_forms, forms, plain, reference, block, elements, row, parts, resource, wrapped, hooked, hooked_any, of_some}
 use Rattle.nim_meaning.specs.Values.{Value, Number, Parts, Handle, Fixed, Ref, Resource, Gone, Vacant, Values}
-use Rattle.nim_meaning.specs.Values.{number_of, Nil, More, nothing, count, nth, with_nth, with_part, part, parts_of, length_of}
-use Rattle.nim_meaning.specs.Values.{characters, repeated, blank, blanks}
+use Rattle.nim_meaning.specs.Values.{number_of, Nil, More, nothing, count, nth, with_nth, with_part, part, parts_of}
+use Rattle.nim_meaning.specs.Values.{characters}
 use Rattle.flat_runner.specs.declared.value.Value.{Value as RustValue, Row_of-Value, end_of-Value, more_of-Value, items-the_row-Value}
 use Rattle.flat_runner.specs.declared.value.Value.{items_hidden-the_row-Value-0}
 use Rattle.flat_runner.specs.declared.value.Value.TheVariants as V
-use Rattle.flat_runner.specs.Starts.{holds_hooks, hold_hooks}
 use Rattle.flat_runner.specs.View.{value_of, value_row, values_of, rowed}
 
 values_are : (n : Count) (cells : Row_of-Value n) → value_row cells ≡ values_of (items-the_row-Value n cells)
@@ -128,32 +126,3 @@ not_nil z (i ∷ path) e = part_nothing path
 pub part_more : (v : Value) (path more : List ℕ) → part v (path ++ more) ≡ part (part v path) more
 part_more v [] more = refl
 part_more v (i ∷ path) more = part_more (nth (parts_of v) i) path more
-
--- ---- what has hooks
-
-hooks_repeated : (n : ℕ) (v : Value) → hold_hooks (repeated n v) ≡ of_some n (holds_hooks v)
-hooks_repeated zero v = refl
-hooks_repeated (suc n) v = some n v (holds_hooks v) (hooks_repeated n v)
-  where
-    none : (n : ℕ) → of_some n false ≡ false
-    none zero = refl
-    none (suc n) = refl
-
-    some : (n : ℕ) (v : Value) (b : Bool) → hold_hooks (repeated n v) ≡ of_some n b → (b || hold_hooks (repeated n v)) ≡ b
-    some n v true e = refl
-    some n v false e = e ∙ none n
-
-mutual
-  pub blank_hooks : (f : Form) → holds_hooks (blank f) ≡ hooked f
-  blank_hooks plain = refl
-  blank_hooks reference = refl
-  blank_hooks block = refl
-  blank_hooks (elements f) = refl
-  blank_hooks (row n f) = hooks_repeated n (blank f) ∙ ap (of_some n) (blank_hooks f)
-  blank_hooks (parts fs) = blanks_hooks fs
-  blank_hooks (resource fs) = refl
-  blank_hooks (wrapped f) = blank_hooks f
-
-  blanks_hooks : (fs : Forms) → hold_hooks (blanks fs) ≡ hooked_any fs
-  blanks_hooks no_forms = refl
-  blanks_hooks (forms f fs) = ap₂ (λ a b. a || b) (blank_hooks f) (blanks_hooks fs)

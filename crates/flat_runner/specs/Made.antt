@@ -1,6 +1,6 @@
 -- What the runner's functions say of deeds, of what lines do, and of steps.
 -- It serves proofs alone: the promise of `mean` doesn't speak of it.
-use Rattle.std.specs.Prelude.{◌≡◌, ℕ, List, [], Option, Some, map}
+use Rattle.std.specs.Prelude.{◌≡◌, ℕ, ℤ, List, [], Option, Some, map}
 use Rattle.arc_base.specs.Event.{Event, writes}
 use Rattle.arc_base.specs.declared.outside.Stream.TheVariants.{Out as Output, Err as Errors}
 use Rattle.nim_types.specs.declared.types.TypeDef.{TypeDef}
@@ -9,7 +9,7 @@ use Rattle.nim_plan.specs.declared.plan.Plan.{Plan}
 use Rattle.nim_program.specs.declared.operation.Operation.{Operation}
 use Rattle.nim_program.specs.View.{if_type}
 use Rattle.nim_program.specs.Traps.{Trap, trap_text}
-use Rattle.nim_meaning.specs.Values.{Value, nothing, Slot}
+use Rattle.nim_meaning.specs.Values.{Value, Number, nothing, Slot, Holds}
 use Rattle.nim_meaning.specs.State.{World}
 use Rattle.nim_meaning.specs.Acts.{line_of}
 use Rattle.nim_meaning.specs.Deeds.{Deed, Done, Answers, Finishes, perform}
@@ -17,7 +17,7 @@ use Rattle.nim_meaning.specs.Table.{does as operates}
 use Rattle.flat_code.specs.declared.line.From.{From}
 use Rattle.flat_code.specs.declared.line.Line.{Line}
 use Rattle.flat_code.specs.Scene.{Temps, Did, Passes, Leaps, Enters, Turns, Calls, Returns}
-use Rattle.flat_code.specs.Scene.{known_in}
+use Rattle.flat_code.specs.Scene.{known_in, with_value}
 use Rattle.flat_code.specs.Scene as scenes
 use Rattle.flat_code.specs.Lines.{does}
 use Rattle.flat_runner.specs.declared.acted.Acted.{Acted}
@@ -27,7 +27,7 @@ use Rattle.flat_runner.specs.declared.did.Did.TheVariants as D
 use Rattle.flat_runner.specs.declared.state.Temps.{Temps as RustTemps}
 use Rattle.flat_runner.specs.declared.state.Frame.{Frame as RustFrame}
 use Rattle.flat_runner.specs.Stops.{last_line, status_of}
-use Rattle.flat_runner.specs.View.{value_of, slot_is, temps_is, world_with, operands_in}
+use Rattle.flat_runner.specs.View.{value_of, slot_is, frame_is, temps_is, world_with, operands_in}
 
 -- the events of a trap
 abbrev pub trapped : Trap → List Event
@@ -95,3 +95,18 @@ abbrev pub LineDid : List TypeDef → Plan → World → (level : ℕ) → RustT
 LineDid types plan w level old before line did new behind =
     IsDid (does (known_in types) plan (record { world = world_with w before; level = level; temps = temps_is old }) line)
     (temps_is old) (world_with w before) did (temps_is new) (world_with w behind)
+
+-- A line gives a number to a temporary, and does nothing else.
+abbrev pub IsNumber : List TypeDef → Plan → World → (level : ℕ) → RustTemps → List RustFrame → Line → (to : ℕ) → (z : ℤ) → Type 0
+IsNumber types plan w level temps frames line to z =
+    Passed (does (known_in types) plan (record { world = world_with w frames; level = level; temps = temps_is temps }) line) []
+    (with_value to (temps_is temps) (Number z)) (world_with w frames)
+
+-- no place has another slot than before
+abbrev pub IsKept : (old new : List RustFrame) → Type 0
+IsKept old new = map frame_is new ≡ map frame_is old
+
+-- a slot that holds a value
+abbrev pub IsHeld : Option Slot → Type 0
+IsHeld (Some (Holds v)) = Unit {0}
+IsHeld _ = ⊥

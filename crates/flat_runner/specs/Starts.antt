@@ -1,10 +1,10 @@
--- What values of a type start at by the entry of its number, and whether such a value has anything to do when it is copied or destroyed.
+-- What values of a type start at, by the entry of its number.
 -- It serves proofs alone: the promise of `mean` doesn't speak of it.
-use Rattle.std.specs.Prelude.{ℕ, Bool, true, false, ◌||◌, List}
+use Rattle.std.specs.Prelude.{ℕ, List}
 use Rattle.nim_types.specs.Forms.{form_in, forms_in, form_within}
 use Rattle.nim_types.specs.declared.types.TypeDef.{TypeDef}
 use Rattle.nim_types.specs.Table.{type_at, types_at, types_in, facts_in}
-use Rattle.nim_meaning.specs.Values.{Value, Number, Parts, Values, Nil, More, blank, blanks}
+use Rattle.nim_meaning.specs.Values.{Value, Values, Nil, More, blank, blanks}
 
 -- so many declared types looked through
 abbrev pub starts_at : ℕ → List TypeDef → ℕ → Value
@@ -17,13 +17,3 @@ starts_all n ds is = blanks (forms_in (form_within n (facts_in ds)) (types_at (t
 abbrev pub and_last : Values → Value → Values
 and_last Nil v = More v Nil
 and_last (More first rest) v = More first (and_last rest v)
-
-abbrev mutual
-  pub holds_hooks : Value → Bool
-  holds_hooks (Number n) = false
-  holds_hooks (Parts all) = hold_hooks all
-  holds_hooks _ = true
-
-  pub hold_hooks : Values → Bool
-  hold_hooks Nil = false
-  hold_hooks (More first rest) = holds_hooks first || hold_hooks rest

@@ -1,10 +1,10 @@
 -- What the runner finds out of code and types before it runs.
 -- It serves proofs alone: the promise of `mean` doesn't speak of it.
-use Rattle.std.specs.Prelude.{◌≡◌, ℕ, Bool, List, [], ◌∷◌, Option, Some, None, option_map, drop, length, slice_get}
+use Rattle.std.specs.Prelude.{◌≡◌, ℕ, List, [], ◌∷◌, Option, Some, None, option_map, drop, length}
 use Rattle.nim_types.specs.declared.types.TypeDef.{TypeDef}
-use Rattle.nim_types.specs.Table.{type_at, types_in, facts_in}
+use Rattle.nim_types.specs.Table.{type_at, facts_in}
+use Rattle.nim_program.specs.Sizes.{HaveForms}
 use Rattle.nim_meaning.specs.Values.{Slot, Holds, default_of}
-use Rattle.nim_meaning.specs.Here.{is_hooked}
 use Rattle.flat_code.specs.declared.line.Line.{Line}
 use Rattle.flat_code.specs.declared.code.Code.{Code}
 use Rattle.flat_code.specs.declared.code.CodeProc.{CodeProc}
@@ -34,13 +34,8 @@ AreBooks [] [] = Unit {0}
 AreBooks (p ∷ ps) (book ∷ books) = IsBook p book × AreBooks ps books
 AreBooks _ _ = ⊥
 
--- which types have values that have anything to do when they are copied or destroyed, by number; none beyond the table
-abbrev pub AreHooked : List TypeDef → List Bool → Type 0
-AreHooked types hooked = (length hooked ≡ length types)
-    × ((i : ℕ) (b : Bool) → slice_get hooked i ≡ Some b → is_hooked (facts_in types) (type_at (types_in types) i) ≡ b)
-
 pub record HasTables (types : List TypeDef) (tables : Tables) : Type 0 where
-  pub hooked : AreHooked types tables.hooked.items
+  pub forms : HaveForms types
   pub declared : tables.declared ≡ length (facts_in types)
 
 pub record IsTables (types : List TypeDef) (flat : Code Line) (tables : Tables) : Type 0 where

@@ -96,7 +96,7 @@ fn measured(measure: Measure, whole: Found) -> Acted
 }
 
 // By how much a number goes up or down.
-fn step_of(temps: &Temps, from: &[From]) -> i32
+pub fn step_of(temps: &Temps, from: &[From]) -> i32
     ensures { result ≡ step_by (operands_in (temps_is temps.now) from.now) }
 {
     if from.len() < 2 {

@@ -7,6 +7,7 @@ ghost use Rattle.nim_types.specs.Table.{facts_in};
 ghost use Rattle.nim_types.specs.declared.types.TypeDef.{TypeDef};
 ghost use Rattle.std.specs.Prelude.{List, length, ℕ, ◌≡◌};
 
+use crate::at_once::at_once;
 use crate::did::{Did, gives};
 use crate::loop_lines::{beyond, count_turn, element, fits, length, next, still, turn_if, unless};
 use crate::numbers::number_value;
@@ -107,8 +108,8 @@ fn leads_on(
     }
 }
 
-/// What a line does.
-pub fn does(
+// What a line does, whatever it writes.
+fn carried(
     alloc: Global,
     types: &TypeTable,
     tables: &Tables,
@@ -140,14 +141,34 @@ pub fn does(
             ..
         } => construct(alloc, types, tables, temps, *to, *ty, fields, from),
         Line::Constant { to, ty, pieces, .. } => {
-            constant_of(alloc, types, tables, temps, *to, *ty, pieces)
+            constant_of(alloc, types, temps, *to, *ty, pieces)
         }
         Line::Call { to, proc, from, .. } => call(alloc, temps, *to, *proc, from),
-        Line::Get { to, from, ty, .. } => get(alloc, tables, temps, frames, *to, *from, *ty),
+        Line::Get { to, from, ty, .. } => get(alloc, types, temps, frames, *to, *from, *ty),
         Line::Look { to, from } => look(alloc, temps, frames, *to, *from),
-        Line::Pass { to, from, ty, .. } => pass(alloc, tables, temps, *to, *from, *ty),
+        Line::Pass { to, from, ty, .. } => pass(alloc, types, temps, *to, *from, *ty),
         Line::Truth { to, value } => gives(temps, *to, number_value(i32::from(*value))),
         Line::Zero { to } => gives(temps, *to, number_value(0)),
         _ => leads_on(alloc, types, tables.declared, level, temps, frames, line),
     }
+}
+
+/// What a line does.
+pub fn does(
+    alloc: Global,
+    types: &TypeTable,
+    tables: &Tables,
+    level: u32,
+    temps: &mut Temps,
+    frames: &mut Vec<Frame>,
+    line: &Line,
+) -> Did
+    requires { HasTables types.now tables.now }
+    ensures { (plan : Plan) (w : World) → LineDid types.now plan w level temps.old frames.old.items
+        line.now result temps.new frames.new.items }
+{
+    if at_once(types, level, temps, frames, line) {
+        return Did::Passes;
+    }
+    carried(alloc, types, tables, level, temps, frames, line)
 }

@@ -7,6 +7,7 @@ ghost use Rattle.flat_runner.specs.Tables.{IsTables};
 ghost use Rattle.flat_runner.specs.View.{frame_is, machine_is};
 ghost use Rattle.nim_meaning.specs.State.{world_of as first_world};
 ghost use Rattle.nim_plan.specs.declared.plan.Plan.{Plan};
+ghost use Rattle.nim_program.specs.Sizes.{HaveForms};
 ghost use Rattle.std.specs.Prelude.{IfOk, List, [], length, ℕ, ◌-◌, ◌≡◌};
 
 use crate::state::{Active, Frame, Run, Slot};
@@ -104,6 +105,7 @@ pub fn mean<I: Source, O: Sink, E: Sink>(
     out: &mut O,
     err: &mut E,
 ) -> MeanEnd
+    requires { HaveForms types.now }
     ensures means { (bytes : List ℕ) → Comes (by_units types.now plan.now flat.now heap bytes n)
         result (record {
           before = O.written out.old;

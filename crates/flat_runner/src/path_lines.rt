@@ -26,7 +26,7 @@ use plain_values::Trap;
 use std::alloc::Global;
 
 // Globals are places of the start code.
-fn level_of(global: bool, level: u32) -> u32
+pub fn level_of(global: bool, level: u32) -> u32
     ensures { result ≡ level_at global level }
 {
     if global { 0 } else { level }

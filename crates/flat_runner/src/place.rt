@@ -1,15 +1,18 @@
 // Places of calls, and the values at locations.
 ghost use Rattle.flat_code.specs.Lines.{is_there};
-ghost use Rattle.flat_code.specs.Scene.{location_at};
+ghost use Rattle.flat_code.specs.Scene.{Temps as SpecTemps, location_at};
+ghost use Rattle.flat_runner.specs.Made.{IsHeld, IsKept};
 ghost use Rattle.flat_runner.specs.View.{found_value, joined, location_of, slot_is, spot_is};
 ghost use Rattle.flat_runner.specs.View.{temps_is, value_of, value_or, where_of, world_in};
-ghost use Rattle.nim_meaning.specs.State.{held, load, slot_at, store, whole_at, with_slot};
-ghost use Rattle.nim_meaning.specs.Values.{Holds, Slot as SpecSlot, number, part, put_part};
-ghost use Rattle.std.specs.Prelude.{Some, map, option_map, slice_get, slice_set, true, ◌≡◌};
+ghost use Rattle.flat_runner.specs.View.{world_with};
+ghost use Rattle.nim_meaning.specs.State.{World, held, load, slot_at, store, whole_at, with_slot};
+ghost use Rattle.nim_meaning.specs.Values.{Holds, Number, Slot as SpecSlot, part, put_part};
+ghost use Rattle.std.specs.Prelude.{IfSome, Some, false, map, option_map, slice_get};
+ghost use Rattle.std.specs.Prelude.{slice_set, true, ◌≡◌};
 
 use crate::state::{Base, Frame, Location, Slot, Temps, Where};
 use crate::temps::value_at;
-use crate::value::{Found, Value, part, put_part};
+use crate::value::{Found, Value, part, plain_number, put_part, renumber};
 use std::mem::replace;
 
 /// A location that is looked at: at a place, or in a value that nobody owns.
@@ -92,6 +95,55 @@ pub fn standing(frames: &Vec<Frame>, level: u32, number: u32) -> Option<&Value>
             Slot::Closed => None,
             Slot::Holds(v) => Some(v),
             Slot::Stands(_) => None,
+        },
+    }
+}
+
+/// Whether a place holds a value.
+pub fn is_held(frames: &Vec<Frame>, level: u32, number: u32) -> bool
+    ensures { result ≡ true → IsHeld (slot_at (world_in frames.now.items) level number) }
+{
+    match slot_at(frames, level, number) {
+        None => false,
+        Some(slot) => match slot {
+            Slot::Closed => false,
+            Slot::Holds(_) => true,
+            Slot::Stands(_) => false,
+        },
+    }
+}
+
+// The number that a place holds.
+fn number_held(frames: &Vec<Frame>, level: u32, number: u32) -> Option<i32>
+    ensures { IfSome result (λ z. held (slot_at (world_in frames.now.items) level number)
+        ≡ Number z) }
+{
+    match slot_at(frames, level, number) {
+        None => None,
+        Some(slot) => match slot {
+            Slot::Closed => None,
+            Slot::Holds(v) => plain_number(Some(v)),
+            Slot::Stands(_) => None,
+        },
+    }
+}
+
+/// The number that stands where a path leads, if that is a place itself.
+pub fn number_there(frames: &Vec<Frame>, place: &Where) -> Option<i32>
+    ensures { (w : World) (temps : SpecTemps) → IfSome result (λ z. load
+        (world_with w frames.now.items) (location_at temps (where_of place.now)) ≡ Number z) }
+{
+    match place {
+        Where::Within { .. } => None,
+        Where::Located(location) => match &location.base {
+            Base::Made(_) => None,
+            Base::Standing { level, number } => {
+                if location.path.is_empty() {
+                    number_held(frames, *level, *number)
+                } else {
+                    None
+                }
+            }
         },
     }
 }
@@ -222,5 +274,67 @@ pub fn store(frames: &mut Vec<Frame>, spot: Spot, v: Value) -> bool
             path,
         } => put(frames, level, number, path, v),
         Spot::Made { .. } => true,
+    }
+}
+
+// A number that a slot holds becomes another one. Whether it holds one.
+fn renumber_slot(slot: &mut Slot, z: i32) -> bool
+    ensures done { result ≡ true → slot_is slot.new ≡ Some (Holds (Number z)) }
+    ensures kept { result ≡ false → slot_is slot.new ≡ slot_is slot.old }
+{
+    match slot {
+        Slot::Closed => false,
+        Slot::Holds(v) => renumber(v, z),
+        Slot::Stands(_) => false,
+    }
+}
+
+fn renumber_slots(slots: &mut Vec<Slot>, i: usize, z: i32) -> bool
+    ensures done { result ≡ true → map slot_is slots.new.items
+        ≡ slice_set (map slot_is slots.old.items) i (Some (Holds (Number z))) }
+    ensures kept { result ≡ false → map slot_is slots.new.items ≡ map slot_is slots.old.items }
+{
+    if i < slots.len() {
+        renumber_slot(&mut slots[i], z)
+    } else {
+        false
+    }
+}
+
+// The number of a place becomes another one. Whether it holds one.
+fn renumber_place(frames: &mut Vec<Frame>, level: u32, number: u32, z: i32) -> bool
+    ensures done { result ≡ true → world_in frames.new.items ≡ with_slot (world_in frames.old.items)
+        level number (Some (Holds (Number z))) }
+    ensures kept { result ≡ false → IsKept frames.old.items frames.new.items }
+{
+    if (level as usize) < frames.len() {
+        let frame = &mut frames[level as usize];
+        let i = number.saturating_sub(frame.first) as usize;
+        renumber_slots(&mut frame.slots, i, z)
+    } else {
+        false
+    }
+}
+
+/// The number where a path leads becomes another one. Whether that is a place itself, that holds a
+/// number.
+pub fn renumber_there(frames: &mut Vec<Frame>, place: &Where, z: i32) -> bool
+    ensures done { (w : World) (temps : SpecTemps) → result ≡ true → world_with w frames.new.items
+        ≡ store (world_with w frames.old.items) (location_at temps (where_of place.now))
+        (Number z) }
+    ensures kept { result ≡ false → IsKept frames.old.items frames.new.items }
+{
+    match place {
+        Where::Within { .. } => false,
+        Where::Located(location) => match &location.base {
+            Base::Made(_) => false,
+            Base::Standing { level, number } => {
+                if location.path.is_empty() {
+                    renumber_place(frames, *level, *number, z)
+                } else {
+                    false
+                }
+            }
+        },
     }
 }

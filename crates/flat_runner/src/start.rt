@@ -1,5 +1,5 @@
 // What places start at.
-ghost use Rattle.flat_runner.specs.Starts.{hold_hooks, holds_hooks, starts_all, starts_at};
+ghost use Rattle.flat_runner.specs.Starts.{starts_all, starts_at};
 ghost use Rattle.flat_runner.specs.View.{rowed, value_of, values_of};
 ghost use Rattle.nim_meaning.specs.Values.{Nil, Parts, default_of, repeated};
 ghost use Rattle.nim_types.specs.Table.{AllBelow, facts_in, type_at, types_in};
@@ -127,30 +127,4 @@ pub fn start_of(
         (type_at (types_in types.now) ty)) }
 {
     start(alloc, types, declared, ty)
-}
-
-/// Whether a value that a place starts at has anything to do when it is copied or destroyed.
-#[cycle(hooks)]
-pub fn has_hooks(v: &Value) -> bool
-    ensures { result ≡ holds_hooks (value_of v.now) }
-{
-    match v {
-        Value::Number(_) => false,
-        Value::Parts { hooks, all } => *hooks || have_hooks(all),
-        Value::Text(_) => true,
-        Value::Empty => true,
-        Value::Nil => true,
-    }
-}
-
-#[cycle(hooks)]
-fn have_hooks(all: &Vec<Value>) -> bool
-    ensures { result ≡ hold_hooks (values_of all.now.items) }
-{
-    for v in all {
-        if has_hooks(v) {
-            return true;
-        }
-    }
-    false
 }

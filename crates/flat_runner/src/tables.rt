@@ -2,16 +2,15 @@
 ghost use Rattle.flat_code.specs.Codes.{result_in};
 ghost use Rattle.flat_code.specs.Scene.{Known};
 ghost use Rattle.flat_code.specs.declared.place.FlatPlace.{FlatPlace as SpecPlace};
-ghost use Rattle.flat_runner.specs.Tables.{AreBooks, AreHooked, IsBook, IsTables, result_slots};
+ghost use Rattle.flat_runner.specs.Tables.{AreBooks, IsBook, IsTables, result_slots};
 ghost use Rattle.nim_meaning.specs.Here.{gives_hooked};
+ghost use Rattle.nim_program.specs.Sizes.{HaveForms};
 ghost use Rattle.nim_program.specs.View.{if_type};
 ghost use Rattle.nim_types.specs.Table.{facts_in, types_in};
-ghost use Rattle.nim_types.specs.declared.types.TypeDef.{TypeDef};
 ghost use Rattle.std.specs.Prelude.{IfOk, IfSome, List, Some, if◌then◌else◌, length, option_map};
 ghost use Rattle.std.specs.Prelude.{slice_get, ◌∷◌, ◌≡◌};
 
 use crate::labels::labels_of;
-use crate::start::{has_hooks, start_of};
 use arc_base::Memory;
 use flat_code::{CodeProc, Flat, FlatPlace, Line, PlaceKind};
 use nim_types::{TypeId, TypeTable, declared_types};
@@ -25,12 +24,10 @@ pub struct Book {
     pub result: Option<TypeId>,
 }
 
-/// What is found out of all procedures, by number, and of all types: whether values have anything to
-/// do when they are copied or destroyed, and of how many types something is said.
+/// What is found out of all procedures, by number, and of how many types something is said.
 #[derive(Drop)]
 pub struct Tables {
     pub books: Vec<Book>,
-    pub hooked: Vec<bool>,
     pub declared: u32,
 }
 
@@ -79,31 +76,14 @@ fn books_of(alloc: Global, procs: &[CodeProc<Line>]) -> Result<Vec<Book>, Memory
     Ok(books)
 }
 
-// Whether the values of each type have anything to do when they are copied or destroyed.
-fn hooked_of(alloc: Global, types: &TypeTable, declared: u32) -> Result<Vec<bool>, Memory>
-    requires { declared ≡ length (facts_in types.now) }
-    ensures { IfOk result (λ hooked. AreHooked types.now hooked.items) }
-{
-    let mut hooked = Vec::new(alloc);
-    for ty in 0..types.count() {
-        let v = start_of(alloc, types, declared, ty)?;
-        hooked.push(has_hooks(&v))?;
-    }
-    Ok(hooked)
-}
-
 /// What is found out of code and types.
 pub fn tables_of(alloc: Global, types: &TypeTable, flat: &Flat) -> Result<Tables, Memory>
+    requires { HaveForms types.now }
     ensures { IfOk result (λ tables. IsTables types.now flat.now tables) }
 {
     let books = books_of(alloc, flat.procs.as_slice())?;
     let declared = declared_types(types);
-    let hooked = hooked_of(alloc, types, declared)?;
-    Ok(Tables {
-        books,
-        hooked,
-        declared,
-    })
+    Ok(Tables { books, declared })
 }
 
 /// A procedure by its number, with what was found out of it.
@@ -126,15 +106,18 @@ pub fn proc_at<'a>(
 }
 
 /// Whether the values of a type have anything to do when they are copied or destroyed.
-pub fn is_hooked(hooked: &Vec<bool>, ty: Option<TypeId>) -> bool
-    ensures { (types : List TypeDef) → AreHooked types hooked.now.items →
-        gives_hooked (facts_in types) (if_type (types_in types) ty) ≡ result }
+pub fn is_hooked(types: &TypeTable, ty: Option<TypeId>) -> bool
+    requires { HaveForms types.now }
+    ensures { gives_hooked (facts_in types.now) (if_type (types_in types.now) ty) ≡ result }
 {
     match ty {
         None => false,
-        Some(ty) => match hooked.get(ty as usize) {
-            None => false,
-            Some(hooked) => *hooked,
-        },
+        Some(ty) => {
+            if ty < types.count() {
+                types.is_hooked(ty)
+            } else {
+                false
+            }
+        }
     }
 }

@@ -1,11 +1,11 @@
 // Temporaries.
 ghost use Rattle.flat_code.specs.Scene.{no_temps, put as put_at, with_place, with_value};
 ghost use Rattle.flat_runner.specs.View.{held_in, temps_is, value_of, where_of};
-ghost use Rattle.nim_meaning.specs.Values.{number_of};
-ghost use Rattle.std.specs.Prelude.{OnOk, option_map, ℕ, ◌≡◌};
+ghost use Rattle.nim_meaning.specs.Values.{Number, number_of};
+ghost use Rattle.std.specs.Prelude.{OnOk, Some, false, option_map, true, ℕ, ◌≡◌};
 
 use crate::state::{Temps, Where};
-use crate::value::{Value, number};
+use crate::value::{Value, number, renumber};
 use arc_base::Memory;
 use std::alloc::Global;
 
@@ -81,4 +81,28 @@ pub fn set_place(temps: &mut Temps, t: u32, place: Where) -> Result<(), Memory>
         ≡ with_place t (temps_is temps.old) (where_of place)) }
 {
     hold(&mut temps.places, t as usize, place)
+}
+
+// A number that is held becomes another one. Whether one is.
+fn renumber_held(held: &mut Option<Value>, z: i32) -> bool
+    ensures done { result ≡ true → option_map value_of held.new ≡ Some (Number z) }
+    ensures kept { result ≡ false → held.new ≡ held.old }
+{
+    match held {
+        None => false,
+        Some(v) => renumber(v, z),
+    }
+}
+
+/// A temporary that holds a number gets another one. Whether it holds one.
+pub fn set_number(temps: &mut Temps, t: u32, z: i32) -> bool
+    ensures done { result ≡ true → temps_is temps.new
+        ≡ with_value t (temps_is temps.old) (Number z) }
+    ensures kept { result ≡ false → temps_is temps.new ≡ temps_is temps.old }
+{
+    if (t as usize) < temps.values.len() {
+        renumber_held(&mut temps.values[t as usize], z)
+    } else {
+        false
+    }
 }

@@ -10,6 +10,7 @@ ghost use Rattle.nim_meaning.specs.State.{World};
 ghost use Rattle.nim_meaning.specs.Table.{acts};
 ghost use Rattle.nim_plan.specs.declared.plan.Plan.{Plan};
 ghost use Rattle.nim_program.specs.Program.{Building};
+ghost use Rattle.nim_program.specs.Sizes.{HaveForms};
 ghost use Rattle.nim_program.specs.View.{if_type};
 ghost use Rattle.nim_program.specs.declared.operation.Use.{Use};
 ghost use Rattle.nim_types.specs.Table.{facts_in, type_at, types_in};
@@ -69,7 +70,7 @@ pub fn apply(
         of,
         from,
     );
-    answers(temps, to, made(is_hooked(&tables.hooked, ty), acted))
+    answers(temps, to, made(is_hooked(types, ty), acted))
 }
 
 // An object of a type with operands in its fields.
@@ -117,26 +118,25 @@ pub fn construct(
         return Did::Fails;
     }
     let acted = built(alloc, types, tables.declared, temps, ty, fields, from);
-    answers(temps, to, made(is_hooked(&tables.hooked, Some(ty)), acted))
+    answers(temps, to, made(is_hooked(types, Some(ty)), acted))
 }
 
 pub fn constant_of(
     alloc: Global,
     types: &TypeTable,
-    tables: &Tables,
     temps: &mut Temps,
     to: u32,
     ty: TypeId,
     pieces: &Items<Piece>,
 ) -> Did
-    requires { HasTables types.now tables.now }
+    requires { HaveForms types.now }
     ensures { (plan : Plan) (w : World) (level : ℕ) (how : Use) (frames : List Frame) → LineDid
         types.now plan w level temps.old frames (L.Constant to how ty pieces.now) result
         temps.new frames }
 {
     let pieces = pieces.as_slice();
     let acted = given(constant(alloc, pieces));
-    answers(temps, to, made(is_hooked(&tables.hooked, Some(ty)), acted))
+    answers(temps, to, made(is_hooked(types, Some(ty)), acted))
 }
 
 pub fn call(alloc: Global, temps: &mut Temps, to: u32, proc: u32, from: &Items<From>) -> Did
@@ -166,18 +166,19 @@ fn fetched(alloc: Global, temps: &Temps, frames: &Vec<Frame>, place: &Where) -> 
 // The value at a location, or what stands for one with hooks.
 fn got(
     alloc: Global,
-    tables: &Tables,
+    types: &TypeTable,
     temps: &Temps,
     frames: &Vec<Frame>,
     place: &Where,
     ty: Option<TypeId>,
 ) -> Acted
-    ensures { (types : List TypeDef) (plan : Plan) (w : World) (site : ℕ) (how : Use) →
-        HasTables types tables.now → Acts (got_by (facts_in types) plan how site
-        (if_type (types_in types) ty) (location_at (temps_is temps.now) (where_of place.now)))
+    requires { HaveForms types.now }
+    ensures { (plan : Plan) (w : World) (site : ℕ) (how : Use) →
+        Acts (got_by (facts_in types.now) plan how site
+        (if_type (types_in types.now) ty) (location_at (temps_is temps.now) (where_of place.now)))
         (world_with w frames.now.items) result (world_with w frames.now.items) }
 {
-    if is_hooked(&tables.hooked, ty) {
+    if is_hooked(types, ty) {
         return Acted::Gives(number_value(0));
     }
     fetched(alloc, temps, frames, place)
@@ -185,21 +186,22 @@ fn got(
 
 pub fn get(
     alloc: Global,
-    tables: &Tables,
+    types: &TypeTable,
     temps: &mut Temps,
     frames: &Vec<Frame>,
     to: u32,
     from: u32,
     ty: Option<TypeId>,
 ) -> Did
-    ensures { (types : List TypeDef) (plan : Plan) (w : World) (level site : ℕ) (how : Use) →
-        HasTables types tables.now → LineDid types plan w level temps.old frames.now.items
+    requires { HaveForms types.now }
+    ensures { (plan : Plan) (w : World) (level site : ℕ) (how : Use) →
+        LineDid types.now plan w level temps.old frames.now.items
         (L.Get to from how site ty) result temps.new frames.now.items }
 {
     match place_at(temps, from) {
         None => Did::Fails,
         Some(place) => {
-            let acted = got(alloc, tables, temps, frames, place, ty);
+            let acted = got(alloc, types, temps, frames, place, ty);
             answers(temps, to, acted)
         }
     }
@@ -220,20 +222,21 @@ pub fn look(alloc: Global, temps: &mut Temps, frames: &Vec<Frame>, to: u32, from
 
 pub fn pass(
     alloc: Global,
-    tables: &Tables,
+    types: &TypeTable,
     temps: &mut Temps,
     to: u32,
     from: u32,
     ty: Option<TypeId>,
 ) -> Did
-    ensures { (types : List TypeDef) (plan : Plan) (w : World) (level : ℕ) (how : Use)
-        (frames : List Frame) → HasTables types tables.now → LineDid types plan w level temps.old
+    requires { HaveForms types.now }
+    ensures { (plan : Plan) (w : World) (level : ℕ) (how : Use)
+        (frames : List Frame) → LineDid types.now plan w level temps.old
         frames (L.Pass to from how ty) result temps.new frames }
 {
     match value_at(temps, from) {
         None => Did::Fails,
         Some(v) => {
-            let acted = made(is_hooked(&tables.hooked, ty), given(copied(alloc, v)));
+            let acted = made(is_hooked(types, ty), given(copied(alloc, v)));
             answers(temps, to, acted)
         }
     }

@@ -55,7 +55,8 @@ module _ (types : List Ty) (globals : List Declared) where
     stmt_declares (Leave node leaving parts) = none_of parts
     stmt_declares (Select node chooser tests blocks) = blocks_alone tests _ ∙ blocks_declare blocks
     stmt_declares (Loop node While head body) = ap₂ (λ x y. x ++ y) (none_of head) (declares body)
-    stmt_declares (Loop node (Count variable inclusive) head body) = ap (λ x. of_declared types K.ForVar variable ∷ x) (ap₂ (λ x y. x ++ y) (none_of head) (declares body))
+    stmt_declares (Loop node (Count variable inclusive) head body) =
+        ap (λ x. of_declared types K.ForVar variable ∷ x) (ap₂ (λ x y. x ++ y) (none_of head) (declares body))
     stmt_declares (Loop node (Each variable) head body) = ap (λ x. of_declared types K.ForVar variable ∷ x) (ap₂ (λ x y. x ++ y) (none_of head) (declares body))
     stmt_declares (Raise node exception message) = none_of message
     stmt_declares (Try node body handlers last) = ap₂ (λ x y. x ++ y) (declares body) (ap₂ (λ x y. x ++ y) (handlers_declare handlers) (declares last))
@@ -67,7 +68,8 @@ module _ (types : List Ty) (globals : List Declared) where
         ap (λ x. of_declared types (kind_declared (is_global globals) place.number cursor) place ∷ x) (ap₂ (λ x y. x ++ y) (none_of value) (declares rest))
     declares (Defer node last rest) = ap₂ (λ x y. x ++ y) (declares last) (declares rest)
 
-    blocks_declare : (blocks : Blocks) → together lists (each_block lists (own_declared types globals) blocks) ≡ declared_in_blocks types (is_global globals) blocks
+    blocks_declare : (blocks : Blocks) → together lists (each_block lists (own_declared types globals) blocks)
+        ≡ declared_in_blocks types (is_global globals) blocks
     blocks_declare (Otherwise block) = append-nil _ ∙ declares block
     blocks_declare (Block first rest) = ap₂ (λ x y. x ++ y) (declares first) (blocks_declare rest)
 

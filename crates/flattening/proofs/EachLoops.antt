@@ -287,7 +287,8 @@ module _ (c : Spot) (top : Bool) (room : ℕ → Type 0) (names : (proc place : 
       found_to_fill i location = acting.◌>>=◌ (still location len) (element_to_fill location i)
 
       -- its place is filled
-      fills : (i u : ℕ) (v : Value) (now : Temps) (d : State) → nat_lt i len ≡ true → now.values t ≡ Some v → HoldsAt i now → d.meter.units ≤ u → Since c.level world d.world →
+      fills : (i u : ℕ) (v : Value) (now : Temps) (d : State) → nat_lt i len ≡ true → now.values t ≡ Some v → HoldsAt i now → d.meter.units ≤ u →
+          Since c.level world d.world →
           Runs c.fixed (Turned EachAt Ends u) 2 6 (there c (L.Fill place.number t ∷ L.Turn (label Turn t) ∷ ending) now d.world) d.meter
           (then_do (acting.◌>>◌ (at_node node.number Fills (fill here place.number v)) (again acts (suc i)) d) turn_of)
       fills i u v now d is at x few since =

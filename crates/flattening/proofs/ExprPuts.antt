@@ -11,7 +11,8 @@ use Rattle.nim_program.specs.declared.operation.Short.{Short}
 use Rattle.nim_program.specs.declared.operation.Use.{Use}
 use Rattle.nim_program.specs.declared.operation.Use.TheVariants.{Owned}
 use Rattle.nim_program.specs.declared.program.Mode.{Mode}
-use Rattle.nim_program.specs.Program.{Label, Act, Declared, Expr, Apply, Early, Choose, ByConditions, ByLabels, Path, Field, Element, Args, NoArg, ByValue, types_in}
+use Rattle.nim_program.specs.Program.{Label, Act, Declared, Expr, Apply, Early, Choose, ByConditions, ByLabels, Path, Field, Element, Args, NoArg, ByValue}
+use Rattle.nim_program.specs.Program.{types_in}
 use Rattle.nim_program.specs.Uses.{use_of}
 use Rattle.nim_program.specs.View.{path_of, operand_before}
 use Rattle.nim_meaning.specs.Shapes.{is_covered, selector_type, is_last_value}
@@ -167,7 +168,8 @@ module _ (types : List Ty) (modes : (proc position : ℕ) → Mode) where
   arm_last covered last these labels value rest ty how t u e holds k =
       let all = λ (b : Bool) (c : Bool).
       arm_label b (label Next t) (label Arm u)
-      (branch_lines types modes value ty how t u (if c then k else L.Jump (label End t) ∷ arm_lines types modes covered labels rest ty how t (u + width value) k)) in
+      (branch_lines types modes value ty how t u
+      (if c then k else L.Jump (label End t) ∷ arm_lines types modes covered labels rest ty how t (u + width value) k)) in
       ap (all last) (sym holds) ∙ ap (λ b. all b b) e
 
   pub arm_next : (covered last : Bool) (these : List Label) (labels : List (List Label)) (value : Expr) (rest : Args) (ty : Option Ty) (how : Use)

@@ -217,7 +217,8 @@ module _ (program : Program) (plan : Plan) where
     typed_body : (p : Proc) (body : Body) → p.body ≡ Some body → is_typed_proc program p ≡ true →
         is_typed_body program (dest_of p.hook p.params) p.params p.gives body ≡ true
     typed_body p body e h =
-        subst (λ b. is_typed_if program (dest_of p.hook p.params) p.params p.gives b ≡ true) e (and_parts (hook_fits program p.hook p.params p.gives p.body) _ h).1
+        subst (λ b. is_typed_if program (dest_of p.hook p.params) p.params p.gives b ≡ true) e
+        (and_parts (hook_fits program p.hook p.params p.gives p.body) _ h).1
 
     -- what it takes and gives
     signed : (p : Proc) (body : Body) → p.body ≡ Some body → is_typed_proc program p ≡ true →

@@ -91,7 +91,8 @@ module _ (ts : List Ty) (facts : Facts) (p : RustProgram) (plan : Plan) where
         map (λ (proc : RustProc). code_proc ts (modes_of program plan) globals proc.hook (map (param_of ts) proc.params) (option_map (body_of ts) proc.body)) ps
         ≡ map (λ (proc : trees.Proc). flat_proc program plan proc.hook proc.params proc.body) (map (tree_of ts) ps)
     each_given [] = refl
-    each_given (first ∷ rest) = ap₂ (λ x xs. x ∷ xs) (proc_given first.hook (map (param_of ts) first.params) (option_map (body_of ts) first.body)) (each_given rest)
+    each_given (first ∷ rest) = ap₂ (λ x xs. x ∷ xs) (proc_given first.hook (map (param_of ts) first.params) (option_map (body_of ts) first.body))
+        (each_given rest)
 
     pub all_given :
         map (λ (proc : RustProc). code_proc ts (modes_of program plan) globals proc.hook (map (param_of ts) proc.params) (option_map (body_of ts) proc.body))

@@ -27,7 +27,7 @@ use Rattle.flattening.proofs.Parts.{Each, both}
 
 -- ---- a place of the kind has the number of one
 
-abbrev IsAmong : List Declared → FlatPlace → Type 0
+abbrev pub IsAmong : List Declared → FlatPlace → Type 0
 IsAmong globals p = is_global p.kind ≡ true → is_global_number globals p.number ≡ true
 
 module _ (types : List Ty) (globals : List Declared) where
@@ -47,7 +47,7 @@ module _ (types : List Ty) (globals : List Declared) where
   all_told kind told [] = tt
   all_told kind told (d ∷ ds) = (told d, all_told kind told ds)
 
-  block_told : (b : Stmts) → Each (IsAmong globals) (total_of lists (own_declared types globals) b)
+  pub block_told : (b : Stmts) → Each (IsAmong globals) (total_of lists (own_declared types globals) b)
   block_told b = related_of lists lists (own_declared types globals) own_places (λ ps ds. Each (IsAmong globals) ps) (record {
     none = tt;
     plus = λ ps qs ds es h k. both (IsAmong globals) ps qs h k;

@@ -75,3 +75,18 @@ mod GlobalSizes
 mod DataSizes
 mod LastOnes
 mod StmtWidths
+mod Simple
+mod Simples
+mod Tallies
+mod TallyExprs
+mod TallyStmts
+mod AlikeLines
+mod Covers
+mod CoversExprs
+mod CoversStmts
+mod PlainBodies
+mod PlainPrograms
+mod Led
+mod LedExprs
+mod LedStmts
+pub mod ForCallers

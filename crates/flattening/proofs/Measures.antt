@@ -23,7 +23,7 @@ use Rattle.flattening.specs.ExprLines.{lines, aim_lines, ready_lines, choice_lin
 use Rattle.flattening.specs.StmtLines.{Exits, leaving_by, in_loop, back_lines, result_line, block_tests, second, selector_lines, test_lines, look_up}
 use Rattle.flattening.specs.StmtLines.{lines_in, lines_of, branch_lines, arm_blocks}
 use Rattle.flattening.proofs.Amounts.{act_counted, labels_counted, branches_counted, expr_counted, path_counted, args_counted}
-use Rattle.flattening.proofs.Amounts.{stmt_counted, block_counted, blocks_counted}
+use Rattle.flattening.proofs.Amounts.{head_counted, stmt_counted, block_counted, blocks_counted}
 use Rattle.flattening.proofs.Spares.{Spare, spare_none, spare_line, ◌>>◌, spare_most, spare_if}
 
 -- so much for each operand
@@ -66,7 +66,8 @@ pub record Bounds (types : List Ty) (modes : (proc position : ℕ) → Mode) (m 
       + m (L.CountTurn counter last inclusive turn) + m (L.Label l) ≤ part
   pub elements : (t counter last at place turn next arm l : ℕ) →
       m (L.Length last at) + m (L.Zero counter) + m (L.Jump arm) + m (L.Label turn) + m (L.Label next) + m (L.Next counter last) + m (L.Label arm)
-      + m (L.Beyond counter last false l) + m (L.Still at last) + m (L.Element t at counter) + m (L.Fill place t) + m (L.Turn turn) + m (L.Label l) ≤ part
+      + m (L.Beyond counter last false l) + m (L.Still at last) + m (L.Element t at counter) + m (L.Fill place t) + m (L.Turn turn) + m (L.Label l) ≤
+      part + operand
   pub blank : (place ty : ℕ) → m (L.Blank place ty) ≤ part
   pub filled : (place from : ℕ) → m (L.Fill place from) ≤ part
 
@@ -319,9 +320,17 @@ module _ (types : List Ty) (modes : (proc position : ℕ) → Mode) (m : Line �
     test_spare (ByValue condition rest) t = spare_most 0 _ (omega arith) (expr_spare condition Owned t)
     test_spare (ByPath path rest) t = spare_most 0 _ (omega arith) (spare_line (L.Zero t))
 
+    abbrev H : Args → ℕ
+    H = head_counted part of_literal
+
+    head_least : (args : Args) → A args ≤ H args
+    head_least NoArg = omega arith
+    head_least (ByValue value rest) = omega arith
+    head_least (ByPath path rest) = omega arith
+
     -- a head whose path is looked up twice
-    head_spare : (args : Args) (t : ℕ) → Spare m (look_cost args t + look_cost args t) (A args) (ready_lines types modes args (λ i. Owned) 0 t)
-    head_spare NoArg t = spare_none
+    head_spare : (args : Args) (t : ℕ) → Spare m (look_cost args t + look_cost args t + operand) (H args) (ready_lines types modes args (λ i. Owned) 0 t)
+    head_spare NoArg t = let h = b.both 0 0 0 0 Owned in spare_most _ _ (omega (arith, h)) spare_none
     head_spare (ByValue value rest) t = spare_most _ _ (omega arith) (ready_spare (ByValue value rest) (λ i. Owned) 0 t)
     head_spare (ByPath path rest) t = spare_most _ _ (omega arith) (aim_spare path t >> ready_spare rest (λ i. Owned) 1 (t + width_at path))
 
@@ -353,7 +362,8 @@ module _ (types : List Ty) (modes : (proc position : ℕ) → Mode) (m : Line �
           >> (arm_blocks_spare (is_covered (selector_type tests)) labels blocks exits t (suc t) (u + widths tests) x >> spare_line (L.Label (label End t))))))
       stmt_spare (Loop node While head body) exits t x =
           let h = b.while t (suc t) (label Turn t) (label Next t) (label End t) in
-          spare_most 0 _ (omega (arith, h))
+          let a = head_least head in
+          spare_most 0 _ (omega (arith, h, a))
           (spare_line (L.Jump (label Next t))
           >> (spare_line (L.Label (label Turn t))
           >> (block_spare body (in_loop exits t) (suc t + widths head) (in_loop_spare exits t x)
@@ -362,7 +372,8 @@ module _ (types : List Ty) (modes : (proc position : ℕ) → Mode) (m : Line �
       stmt_spare (Loop node (Count place inclusive) head body) exits t x =
           let last = second head (suc t) in
           let h = b.count (suc t) last place.number (label Turn t) (label Next t) (label End t) inclusive in
-          spare_most 0 _ (omega (arith, h))
+          let a = head_least head in
+          spare_most 0 _ (omega (arith, h, a))
           (ready_spare head (λ i. Owned) 0 (suc t)
           >> (spare_line (L.Beyond (suc t) last inclusive (label End t))
           >> (spare_line L.Enter

@@ -1,5 +1,6 @@
 -- What is listed of the places of a body: parts, one after another.
-use Rattle.std.proofs.Common.{◌≡◌, ℕ, suc, ◌+◌, List, [], ◌++◌, Option, Some, None, Result, Ok, Err, IfOk, Bool, true, false, refl, sym, ap, ap₂, subst, ◌∙◌, append_assoc, arith}
+use Rattle.std.proofs.Common.{◌≡◌, ℕ, suc, ◌+◌, List, [], ◌++◌, Option, Some, None, Result, Ok, Err, IfOk, Bool, true, false, refl, sym, ap, ap₂, subst, ◌∙◌}
+use Rattle.std.proofs.Common.{append_assoc, arith}
 use Rattle.std.proofs.lemmas.List.{append-nil}
 use Rattle.arc_base.specs.declared.bytes.Memory.{Memory}
 use Rattle.nim_types.specs.Types.{Ty}
@@ -11,13 +12,15 @@ use Rattle.nim_program.specs.declared.stmt.Stmt.TheVariants as S
 use Rattle.nim_program.specs.declared.stmt.Leaving.TheVariants.{Break}
 use Rattle.nim_program.specs.Program as T
 use Rattle.nim_program.specs.Program.{Chooser, ByConditions, ByLabels, Label, Expr, Apply, Early, Choose, Path, Variable, Fresh, Field, Element, Deref}
-use Rattle.nim_program.specs.Program.{Act, Args, NoArg, ByValue, type_at, node_at, Stmt, Select, Loop, Kind, While, Count, Each, Stmts, Empty, Then, Blocks, Block}
+use Rattle.nim_program.specs.Program.{Act, Args, NoArg, ByValue, type_at, node_at, Stmt, Select, Loop, Kind, While, Count, Each, Stmts, Empty, Then, Blocks}
+use Rattle.nim_program.specs.Program.{Block}
 use Rattle.nim_program.specs.declared.operation.Short.{Short}
 use Rattle.nim_program.specs.View.{expr_of, if_type, if_value, operand_before, operands_of, stmt_before}
 use Rattle.flat_code.specs.declared.place.PlaceKind.TheVariants as K
 use Rattle.flat_code.specs.declared.place.FlatPlace.{FlatPlace}
 use Rattle.flattening.specs.Numbering.{width, width_at, widths, width_in, width_of, arm_count}
-use Rattle.flattening.specs.Places.{temporary, selector_place, location, expr_places, path_places, operand_places, block_places, branch_places, arm_places, stmt_places}
+use Rattle.flattening.specs.Places.{temporary, selector_place, location, expr_places, path_places, operand_places, block_places, branch_places, arm_places}
+use Rattle.flattening.specs.Places.{stmt_places}
 use Rattle.flattening.specs.Views.{behind, is_defer}
 use Rattle.flattening.specs.PlaceViews.{in_front, first_places, read_in_place, places_of_first, declared_in, declared_first}
 use Rattle.flattening.specs.Written.{IsPut}

@@ -208,7 +208,8 @@ result_is known globals params body same =
     let declared = total_of lists (own_declared types globals) body.stmts in
     let temporaries = block_places types body.stmts 0 in
     let none_declared : result_in known (declared ++ temporaries) ≡ result_in known temporaries =
-    ap (λ xs. result_in known (xs ++ temporaries)) (declares types globals body.stmts) ∙ (all_declared known types (is_global globals) body.stmts).skips temporaries in
+    ap (λ xs. result_in known (xs ++ temporaries)) (declares types globals body.stmts)
+    ∙ (all_declared known types (is_global globals) body.stmts).skips temporaries in
     let none_there : result_in known temporaries ≡ [] =
     ap (result_in known) (sym (append-nil temporaries)) ∙ (block_skips known types body.stmts 0).skips [] in
     (params_skip known types params).skips _ ∙ slots_of known body.result (declared ++ temporaries) same (none_declared ∙ none_there)

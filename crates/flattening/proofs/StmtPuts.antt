@@ -1,6 +1,7 @@
 -- What is put for statements, one after another.
 use Rattle.arc_base.specs.declared.bytes.Memory.{Memory}
-use Rattle.std.proofs.Common.{◌≡◌, ℕ, suc, ◌+◌, ◌<◌, List, [], ◌∷◌, length, Bool, true, false, Option, Some, None, Result, Ok, Err, IfOk, refl, sym, ap, subst, ◌∙◌, arith}
+use Rattle.std.proofs.Common.{◌≡◌, ℕ, suc, ◌+◌, ◌<◌, List, [], ◌∷◌, length, Bool, true, false, Option, Some, None, Result, Ok, Err, IfOk, refl, sym, ap, subst}
+use Rattle.std.proofs.Common.{◌∙◌, arith}
 use Rattle.std.specs.Prelude.{◌&&◌, if◌then◌else◌}
 use Rattle.nim_types.specs.Types.{Ty}
 use Rattle.nim_program.specs.declared.expr.Node.{Node}
@@ -23,7 +24,8 @@ use Rattle.flat_code.specs.declared.line.Line.TheVariants as L
 use Rattle.flattening.specs.declared.numbers.Purpose.TheVariants.{End, Next, Arm, Turn}
 use Rattle.flattening.specs.Numbering.{one, type_number, width, widths, width_in, width_of, label}
 use Rattle.flattening.specs.ExprLines.{lines, ready_lines, arm_label, label_tests}
-use Rattle.flattening.specs.StmtLines.{Exits, outermost, returned, second, result_line, back_lines, selector_lines, test_lines, lines_in, lines_of, branch_lines, block_tests, arm_blocks}
+use Rattle.flattening.specs.StmtLines.{Exits, outermost, returned, second, result_line, back_lines, selector_lines, test_lines, lines_in, lines_of}
+use Rattle.flattening.specs.StmtLines.{branch_lines, block_tests, arm_blocks}
 use Rattle.flattening.specs.Views.{behind, is_defer, exits_of, loop_lines, turn_lines, before_turns, element_lines}
 use Rattle.flattening.specs.Written.{IsPut}
 use Rattle.flattening.proofs.Widths.{same_width}

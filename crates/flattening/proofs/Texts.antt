@@ -23,7 +23,7 @@ use Rattle.flat_code.specs.Codes.{flat_plain}
 use Rattle.flat_code.specs.Pieces.{pieces_of, pieces_of_all, count_of}
 use Rattle.flat_code.specs.Sizes.{pieces_texts, texts_in, summed, code_texts}
 use Rattle.flattening.proofs.Amounts.{act_counted, labels_counted, branches_counted, expr_counted, path_counted, args_counted}
-use Rattle.flattening.proofs.Amounts.{stmt_counted, block_counted, blocks_counted, handlers_counted}
+use Rattle.flattening.proofs.Amounts.{head_counted, stmt_counted, block_counted, blocks_counted, handlers_counted}
 use Rattle.flattening.specs.ExprLines.{none_fits, froms, act_line}
 use Rattle.flattening.specs.Flattened.{modes_of}
 use Rattle.flattening.specs.Given.{flat_body, flat_proc, flat_procs}
@@ -87,6 +87,11 @@ mutual
   args_are (ByValue value rest) = let h = expr_is value in let i = args_are rest in omega (arith, h, i)
   args_are (ByPath path rest) = let h = path_is false path in let i = args_are rest in omega (arith, h, i)
 
+head_is : (head : Args) → head_counted 0 literal_texts head ≡ totals numbers own_texts head
+head_is NoArg = refl
+head_is (ByValue value rest) = args_are (ByValue value rest)
+head_is (ByPath path rest) = args_are (ByPath path rest)
+
 mutual
   stmt_is : (s : Stmt) → stmt_counted 0 literal_texts s ≡ total_in numbers own_texts s
   stmt_is (Do value) = let h = expr_is value in omega (arith, h)
@@ -101,7 +106,7 @@ mutual
       let j = in_turn_sum own_texts tests blocks in
       let k = no_branches labels in
       omega (arith, h, i, j, k)
-  stmt_is (Loop node kind head body) = let h = args_are head in let i = block_is body in omega (arith, h, i)
+  stmt_is (Loop node kind head body) = let h = head_is head in let i = block_is body in omega (arith, h, i)
   stmt_is (Raise node exception message) = let h = args_are message in omega (arith, h)
   stmt_is (Try node body handlers last) =
       let h = block_is body in let i = handlers_are handlers in let j = block_is last in omega (arith, h, i, j)

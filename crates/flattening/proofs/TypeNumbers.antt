@@ -32,12 +32,19 @@ number_is ds table i l =
     first_number (types_in ds) (type_at (types_in ds) i) i (omega (arith, l, same_length)) (same_refl (type_at (types_in ds) i))
     (λ j m. interned ds j i table (omega (arith, m, l)) l ∙ ne_eqb j i (λ e. omega (arith, m, e)))
 
--- ---- what labels cover
-
 beyond : (ts : List Ty) (i : ℕ) → length ts ≤ i → type_at ts i ≡ int
 beyond [] i l = refl
 beyond (t ∷ ts) zero l = absurd (omega (arith, l))
 beyond (t ∷ ts) (suc i) l = beyond ts i (omega (arith, l))
+
+-- a number beyond the table stands for an int
+pub number_beyond : (ds : List TypeDef) (i : ℕ) → length ds ≤ i →
+    type_number (types_in ds) (type_at (types_in ds) i) ≡ type_number (types_in ds) int
+number_beyond ds i l =
+    let same_length = count ds in
+    ap (type_number (types_in ds)) (beyond (types_in ds) i (omega (arith, l, same_length)))
+
+-- ---- what labels cover
 
 none_there : (ds : List TypeDef) (i : ℕ) → slice_get ds i ≡ None → length ds ≤ i
 none_there [] i e = omega arith

@@ -36,19 +36,19 @@ pieces_end : (a b : List Piece) → pieces_weight (a ++ b) ≡ pieces_weight a +
 pieces_end [] b = omega arith
 pieces_end (p ∷ a) b = let h = pieces_end a b in omega (arith, h)
 
-number_most : (zero : Bool) → (if zero then 0 else 3) + 0 ≤ 38 * (if zero then 0 else 1)
+number_most : (zero : Bool) → (if zero then 0 else 3) + 0 ≤ 25 * (if zero then 0 else 1)
 number_most true = omega arith
 number_most false = omega arith
 
 mutual
-  literal_most : (l : Literal) → pieces_weight (pieces_of l) ≤ 38 * literal_parts l
+  literal_most : (l : Literal) → pieces_weight (pieces_of l) ≤ 25 * literal_parts l
   literal_most (Number z) = number_most (int_eq z (pos 0))
   literal_most (Characters text) = omega arith
   literal_most NoObject = omega arith
   literal_most (PartsOf all) = let h = pieces_end (pieces_of_all all) (P.Parts (count_of all) ∷ []) in let i = all_most all in omega (arith, h, i)
   literal_most (ElementsOf all) = let h = pieces_end (pieces_of_all all) (P.Elements (count_of all) ∷ []) in let i = all_most all in omega (arith, h, i)
 
-  all_most : (all : Literals) → pieces_weight (pieces_of_all all) ≤ 38 * all_parts all
+  all_most : (all : Literals) → pieces_weight (pieces_of_all all) ≤ 25 * all_parts all
   all_most NoLiteral = omega arith
   all_most (ALiteral first rest) =
       let h = pieces_end (pieces_of first) (pieces_of_all rest) in
@@ -56,7 +56,7 @@ mutual
       let j = all_most rest in
       omega (arith, h, i, j)
 
-operation_most : (operation : Operation) (n : ℕ) → weight_of operation n ≤ 26 + 12 * n
+operation_most : (operation : Operation) (n : ℕ) → weight_of operation n ≤ 13 + 12 * n
 operation_most O.Default n = omega arith
 operation_most (O.Unary operator) n = omega arith
 operation_most (O.Binary operator) n = omega arith
@@ -80,7 +80,7 @@ reserves (ByPath path rest) t = let h = reserves rest (t + width_at path) in ome
 
 module _ (types : List Ty) (modes : (proc position : ℕ) → Mode) where
   act_most : (t : ℕ) (act : Act) (how : Use) (ty : Option Ty) (operands : Args) →
-      weight (act_line types modes t act how ty (types_in operands) (froms operands (suc t))) + 12 ≤ act_counted 38 taken act + reserved 12 operands
+      weight (act_line types modes t act how ty (types_in operands) (froms operands (suc t))) + 12 ≤ act_counted 25 taken act + reserved 12 operands
   act_most t (Doing operation) how ty operands =
       let h = operation_most operation (length (froms operands (suc t))) in let r = reserves operands (suc t) in omega (arith, h, r)
   act_most t (Building fields) how None operands = let r = reserves operands (suc t) in omega (arith, r)
@@ -89,7 +89,7 @@ module _ (types : List Ty) (modes : (proc position : ℕ) → Mode) where
   act_most t (Giving literal) how (Some ty) operands = let h = literal_most literal in omega (arith, h)
   act_most t (Calling proc of) how ty operands = let r = reserves operands (suc t) in omega (arith, r)
 
-  weight_bounds : Bounds types modes weight 38 taken 12 7 3
+  weight_bounds : Bounds types modes weight 25 taken 12 7 3
   weight_bounds = record {
     act = act_most;
     root = λ t place global. omega arith;
@@ -119,7 +119,7 @@ module _ (types : List Ty) (modes : (proc position : ℕ) → Mode) where
   }
 
 module _ (program : Program) (plan : Plan) where
-  exits_spare : (result : Option Declared) → ExitsSpare program.types (modes_of program plan) weight 38 taken 12 7 3
+  exits_spare : (result : Option Declared) → ExitsSpare program.types (modes_of program plan) weight 25 taken 12 7 3
       (weight_bounds program.types (modes_of program plan)) result (outermost result)
   exits_spare result = record {
     breaks = spare_most 0 3 (omega arith) spare_none;
@@ -132,10 +132,10 @@ module _ (program : Program) (plan : Plan) where
   some_most (l ∷ lines) = omega arith
 
   body_most : (hook : Option HookOf) (params : List Param) (body : Body) →
-      proc_weight (map flat_plain (flat_body program plan hook params body).lines) ≤ body_counted 38 taken body
+      proc_weight (map flat_plain (flat_body program plan hook params body).lines) ≤ body_counted 25 taken body
   body_most hook params body =
       let lines = body_lines program.types (modes_of program plan) body in
-      let s = (block_spare program.types (modes_of program plan) weight 38 taken 12 7 3 (weight_bounds program.types (modes_of program plan))
+      let s = (block_spare program.types (modes_of program plan) weight 25 taken 12 7 3 (weight_bounds program.types (modes_of program plan))
       body.result body.stmts (outermost body.result) 0 (exits_spare body.result)).all (returned body.result []) in
       let a = some_most lines in
       let e = ap proc_weight (map_same lines) in
@@ -143,18 +143,18 @@ module _ (program : Program) (plan : Plan) where
 
   procs_most : (procs : List Proc) (more : List (CodeProc Line)) →
       code_weight flat_plain (map (λ (p : Proc). flat_proc program plan p.hook p.params p.body) procs ++ more)
-      ≤ procs_counted 38 taken procs + code_weight flat_plain more
+      ≤ procs_counted 25 taken procs + code_weight flat_plain more
   procs_most [] more = omega arith
   procs_most (p ∷ procs) more =
       let h = of_body p.body in
       let i = procs_most procs more in
       omega (arith, h, i)
     where
-      of_body : (body : Option Body) → proc_weight (map flat_plain (flat_proc program plan p.hook p.params body).lines) ≤ if_counted 38 taken body
+      of_body : (body : Option Body) → proc_weight (map flat_plain (flat_proc program plan p.hook p.params body).lines) ≤ if_counted 25 taken body
       of_body None = omega arith
       of_body (Some body) = body_most p.hook p.params body
 
-  pub weighs : code_weight flat_plain (flat_procs program plan) ≤ 38 * program_parts program
+  pub weighs : code_weight flat_plain (flat_procs program plan) ≤ 25 * program_parts program
   weighs =
       let h = procs_most program.procs (flat_body program plan None [] program.start ∷ []) in
       let i = body_most None [] program.start in

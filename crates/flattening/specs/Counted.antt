@@ -57,6 +57,11 @@ abbrev mutual
   args_parts (ByValue value rest) = expr_parts value + args_parts rest
   args_parts (ByPath path rest) = path_parts path + args_parts rest
 
+-- a loop without a head would have one, and no source has one
+abbrev pub head_parts : Args → ℕ
+head_parts NoArg = 1
+head_parts head = args_parts head
+
 abbrev mutual
   pub stmt_parts : Stmt → ℕ
   stmt_parts (Do value) = expr_parts value
@@ -64,7 +69,7 @@ abbrev mutual
   stmt_parts (Give node back value) = suc (expr_parts value)
   stmt_parts (Leave node leaving parts) = suc (args_parts parts)
   stmt_parts (Select node chooser tests blocks) = suc (chooser_parts chooser + (args_parts tests + blocks_parts blocks))
-  stmt_parts (Loop node kind head body) = suc (args_parts head + block_parts body)
+  stmt_parts (Loop node kind head body) = suc (head_parts head + block_parts body)
   stmt_parts (Raise node exception message) = suc (args_parts message)
   stmt_parts (Try node body handlers last) = suc (block_parts body + (handlers_parts handlers + block_parts last))
 

@@ -11,3 +11,5 @@ pub mod Written
 pub mod Views
 pub mod PlaceViews
 pub mod Forms
+pub mod Alike
+pub mod PlainCode

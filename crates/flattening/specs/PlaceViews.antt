@@ -13,7 +13,8 @@ use Rattle.flat_code.specs.declared.place.PlaceKind.{PlaceKind}
 use Rattle.flat_code.specs.declared.place.PlaceKind.TheVariants as K
 use Rattle.flat_code.specs.declared.place.FlatPlace.{FlatPlace}
 use Rattle.flattening.specs.Numbering.{widths}
-use Rattle.flattening.specs.Places.{head_from, of_declared, expr_places, path_places, operand_places, read_place, value_places, stmt_places, block_places, param_places, result_places}
+use Rattle.flattening.specs.Places.{head_from, of_declared, expr_places, path_places, operand_places, read_place, value_places, stmt_places, block_places}
+use Rattle.flattening.specs.Places.{param_places, result_places}
 use Rattle.flattening.specs.StmtLines.{body_lines}
 
 -- a list, and whatever comes behind

@@ -51,7 +51,7 @@ fn operand_types(
 {
     let mut numbers = Items::new(alloc);
     for operand in operands {
-        numbers.push(if_number(around, type_of(operand))?)?;
+        numbers.push(if_number(around, type_of(operand)))?;
     }
     Ok(numbers)
 }
@@ -103,7 +103,7 @@ fn operation_line(
         (types_in (operands_of (types_of around.now) operands.now.items))
         (froms (operands_of (types_of around.now) operands.now.items) u)) }
 {
-    let ty = if_number(around, ty)?;
+    let ty = if_number(around, ty);
     let of = operand_types(alloc, around, operands)?;
     let from = froms(alloc, around, operands, u)?;
     Ok(Line::Apply {
@@ -151,7 +151,7 @@ fn call_line(
         (if_number (types_of around.now) (if_type (types_of around.now) ty)) proc
         (froms (operands_of (types_of around.now) operands.now.items) u)) }
 {
-    let ty = if_number(around, ty)?;
+    let ty = if_number(around, ty);
     let from = froms(alloc, around, operands, u)?;
     Ok(Line::Call {
         to: t,
@@ -206,7 +206,7 @@ fn object_line(
         (type_number (types_of around.now) (type_at (types_of around.now) ty)) fields.now
         (froms (operands_of (types_of around.now) operands.now.items) u)) }
 {
-    let ty = type_number(around, ty)?;
+    let ty = type_number(around, ty);
     let fields = copied(alloc, fields.as_slice())?;
     let from = froms(alloc, around, operands, u)?;
     Ok(Line::Construct {
@@ -250,7 +250,7 @@ fn constant_line(
         (type_number (types_of around.now) (type_at (types_of around.now) ty))
         (pieces_of (literal_of literal.now))) }
 {
-    let ty = type_number(around, ty)?;
+    let ty = type_number(around, ty);
     let mut pieces = Items::new(alloc);
     add_pieces(alloc, &mut pieces, literal)?;
     Ok(Line::Constant {
@@ -284,16 +284,13 @@ pub fn put_get(code: &mut Written<Line>, around: &Around, path: &Path, how: Use,
     ensures { IsPut code.old code.new
         (one (get_line (types_of around.now) (path_of (types_of around.now) path.now) how t)) }
 {
-    match if_number(around, path.ty()) {
-        Err(_) => code.lose(),
-        Ok(ty) => code.put(Line::Get {
-            to: t,
-            from: t,
-            how,
-            site: path.node().number,
-            ty,
-        }),
-    }
+    code.put(Line::Get {
+        to: t,
+        from: t,
+        how,
+        site: path.node().number,
+        ty: if_number(around, path.ty()),
+    })
 }
 
 /// The value of a branch is handed on, and that of the whole used.
@@ -308,15 +305,12 @@ pub fn put_handed_on(
     ensures { IsPut code.old code.new (one (handed_on (types_of around.now) (modes_of around.now)
         t from how (if_type (types_of around.now) ty))) }
 {
-    match if_number(around, ty) {
-        Err(_) => code.lose(),
-        Ok(ty) => code.put(Line::Pass {
-            to: t,
-            from,
-            how,
-            ty,
-        }),
-    }
+    code.put(Line::Pass {
+        to: t,
+        from,
+        how,
+        ty: if_number(around, ty),
+    })
 }
 
 /// The default of the type, where no branch is chosen.
@@ -331,15 +325,12 @@ pub fn put_none_fits(
     ensures { IsPut code.old code.new (one (none_fits (types_of around.now) (modes_of around.now)
         t (if_type (types_of around.now) ty) how)) }
 {
-    match if_number(around, ty) {
-        Err(_) => code.lose(),
-        Ok(ty) => code.put(Line::Apply {
-            to: t,
-            operation: Operation::Default,
-            how,
-            ty,
-            of: Items::new(alloc),
-            from: Items::new(alloc),
-        }),
-    }
+    code.put(Line::Apply {
+        to: t,
+        operation: Operation::Default,
+        how,
+        ty: if_number(around, ty),
+        of: Items::new(alloc),
+        from: Items::new(alloc),
+    })
 }

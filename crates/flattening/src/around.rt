@@ -1,14 +1,14 @@
 // What a part of a body knows of its surroundings.
-ghost use Rattle.std.specs.Prelude.{◌≡◌, ◌≤◌, ◌<◌, true, false, IfOk, List, Some};
-ghost use Rattle.nim_types.specs.Types.{Ty};
-ghost use Rattle.nim_types.specs.Table.{type_at, meant};
+ghost use Rattle.std.specs.Prelude.{◌≡◌, ◌≤◌, ◌<◌, true, false, List, Some};
+ghost use Rattle.nim_types.specs.Types.{Ty, int, same};
+ghost use Rattle.nim_types.specs.Table.{type_at, types_in, meant};
 ghost use Rattle.nim_program.specs.View.{if_type, param_of};
 ghost use Rattle.nim_program.specs.Uses.{use_by};
 ghost use Rattle.nim_meaning.specs.Shapes.{is_sink, mode_of, is_covered};
 ghost use Rattle.flattening.specs.Numbering.{type_number, if_number};
 ghost use Rattle.flattening.specs.Views.{types_of, modes_of, uses_of};
 
-use arc_base::{Items, Memory};
+use arc_base::Items;
 use nim_program::{Mode, Operation, Param, PlaceDecl, Proc, Use};
 use nim_types::{TypeDef, TypeId, TypeTable, entry};
 
@@ -39,29 +39,42 @@ pub struct Ways {
     pub continues: Option<u32>,
 }
 
-/// The number of a type of the table. `Memory` comes too for one beyond it, which no typed program
-/// has.
-pub fn type_number(around: &Around, ty: TypeId) -> Result<TypeId, Memory>
-    ensures { IfOk result (λ number. number
-        ≡ type_number (types_of around.now) (type_at (types_of around.now) ty)) }
+fn is_int(def: &TypeDef) -> bool
+    ensures { (ts : List Ty) → same (meant ts def.now) int ≡ result }
+{
+    matches!(def, TypeDef::Int)
+}
+
+/// The number of the type of ints; where the table hasn't it, how many types there are.
+pub fn int_number(types: &TypeTable) -> u32
+    ensures { result ≡ type_number (types_in types.now) int }
+{
+    for id in 0..types.count() {
+        if is_int(types.get(id)) {
+            return id;
+        }
+    }
+    types.count()
+}
+
+/// The number of a type of a tree. (One beyond the table, which no typed program has, stands for an
+/// int.)
+pub fn type_number(around: &Around, ty: TypeId) -> TypeId
+    ensures { result ≡ type_number (types_of around.now) (type_at (types_of around.now) ty) }
 {
     if ty >= around.types.count() {
-        return Err(Memory);
+        return int_number(around.types);
     }
-    Ok(ty)
+    ty
 }
 
 /// The same, where there is a type.
-pub fn if_number(around: &Around, ty: Option<TypeId>) -> Result<Option<TypeId>, Memory>
-    ensures { IfOk result (λ number. number
-        ≡ if_number (types_of around.now) (if_type (types_of around.now) ty)) }
+pub fn if_number(around: &Around, ty: Option<TypeId>) -> Option<TypeId>
+    ensures { result ≡ if_number (types_of around.now) (if_type (types_of around.now) ty) }
 {
     match ty {
-        None => Ok(None),
-        Some(ty) => match type_number(around, ty) {
-            Ok(number) => Ok(Some(number)),
-            Err(Memory) => Err(Memory),
-        },
+        None => None,
+        Some(ty) => Some(type_number(around, ty)),
     }
 }
 

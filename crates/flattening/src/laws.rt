@@ -14,20 +14,23 @@ ghost use Rattle.nim_meaning.specs.LeftOut.{IsPlain};
 ghost use Rattle.nim_meaning.specs.Meaning.{meaning};
 ghost use Rattle.flat_code.specs.Codes.{flat_plain, procs_of, hooks_of, AreNone};
 ghost use Rattle.flat_code.specs.Fits.{code_fits};
-ghost use Rattle.flat_code.specs.Scene.{known_in};
+ghost use Rattle.flat_code.specs.Scene.{Known, known_in};
 ghost use Rattle.flat_code.specs.Sizes.{code_weight, data_bytes};
+ghost use Rattle.flat_code.specs.Whole.{label_in, are_whole};
 ghost use Rattle.flattening.specs.declared.laws.TheConstants.{FLAT_PACE, NODE_WEIGHT};
+ghost use Rattle.flattening.specs.Alike.{AllAlike};
 ghost use Rattle.flattening.specs.Counted.{program_parts, program_data};
 ghost use Rattle.flattening.specs.Examples.{counting};
 ghost use Rattle.flattening.specs.Flattened.{known_of, code_of, flat_meaning, flat_by_units, IsExact};
 ghost use Rattle.flattening.specs.Formed.{IsFormed};
 ghost use Rattle.flattening.specs.Given.{flat_procs, flat_of};
+ghost use Rattle.flattening.specs.PlainCode.{ArePlainProcs, SumsWithin};
 
 /// Flat code does at most so many times the work of its program's meaning and one more.
 pub const FLAT_PACE: u32 = 12;
 
 /// The most that flat code weighs for each counted part of its program.
-pub const NODE_WEIGHT: u32 = 38;
+pub const NODE_WEIGHT: u32 = 25;
 
 /// The flat code of a program shows what the program means, under each plan, each heap and each
 /// input.
@@ -44,11 +47,14 @@ pub fn flat_code()
         (units : ℕ) → IsExact program plan heap input units }
 {}
 
-/// What is handed on as flat code of a typed program is its flat code; and where nothing is left out
-/// of the program, it fits the types of its places, and no procedure is a hook.
+/// What is handed on as flat code of a typed program is its flat code, and its lines lead somewhere;
+/// where nothing is left out of the program, it fits the types of its places, and no procedure is a
+/// hook.
 pub fn fits()
     ensures given { (program : Program) → IsTyped program → (plan : Plan) →
         procs_of (known_of program) (flat_of program plan) ≡ code_of program plan }
+    ensures whole { (program : Program) (plan : Plan) (known : Known) →
+        are_whole label_in flat_plain (procs_of known (flat_of program plan)) ≡ true }
     ensures fits { (table : List TypeDef) (program : Program) → program.facts ≡ facts_in table →
         IsTyped program → is_numbered_program program ≡ true → IsPlain program → (plan : Plan) →
         code_fits flat_plain (known_of program) (flat_procs program plan) ≡ true }
@@ -64,6 +70,18 @@ pub fn sizes()
     ensures data { (table : List TypeDef) (program : Program) (plan : Plan) → known_of program ≡ known_in table →
         IsTyped program → is_numbered_program program ≡ true →
         data_bytes flat_plain table (flat_procs program plan) ≤ program_data table program }
+{}
+
+/// What word code rests on beside that flat code fits: lines of flat code that give one label or one
+/// temporary are alike, so a label stands once, and a temporary is another name for one place.
+pub fn may_be_lowered()
+    ensures alike { (table : List TypeDef) (program : Program) → program.facts ≡ facts_in table →
+        IsTyped program → IsPlain program → (plan : Plan) → AllAlike (flat_procs program plan) }
+    // Places and lines are plain, and few where the sums of its bodies are small.
+    ensures plain { (table : List TypeDef) (program : Program) → program.facts ≡ facts_in table →
+        IsTyped program → is_numbered_program program ≡ true → IsPlain program →
+        (most : ℕ) → SumsWithin most program program.procs → (plan : Plan) →
+        ArePlainProcs (known_of program) most (flat_procs program plan) }
 {}
 
 /// A loop that is left, over calls, is such a program, and its flat code counts.

@@ -20,6 +20,6 @@ mod stmt_spans;
 mod temporaries;
 mod written;
 
-pub use laws::{FLAT_PACE, NODE_WEIGHT, counts_in_turn, fits, flat_code, sizes};
+pub use laws::{FLAT_PACE, NODE_WEIGHT, counts_in_turn, fits, flat_code, may_be_lowered, sizes};
 pub use numbers::{PURPOSES, Purpose};
 pub use program::flatten;

@@ -76,13 +76,10 @@ pub fn put_blank(code: &mut Written<Line>, around: &Around, place: &PlaceDecl)
     ensures { IsPut code.old code.new (one (L.Blank place.now.number
         (type_number (types_of around.now) (type_at (types_of around.now) place.now.ty)))) }
 {
-    match type_number(around, place.ty) {
-        Err(_) => code.lose(),
-        Ok(ty) => code.put(Line::Blank {
-            place: place.number,
-            ty,
-        }),
-    }
+    code.put(Line::Blank {
+        place: place.number,
+        ty: type_number(around, place.ty),
+    })
 }
 
 /// A place gets its first value.

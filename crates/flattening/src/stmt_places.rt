@@ -1,11 +1,9 @@
 // The temporaries of statements, by their numbers.
 ghost use Rattle.std.specs.Prelude.{◌≡◌, suc, List, IfSome};
-ghost use Rattle.nim_types.specs.Types.{Ty, int, same};
-ghost use Rattle.nim_types.specs.Table.{types_in, meant};
+ghost use Rattle.nim_types.specs.Types.{Ty, int};
 ghost use Rattle.nim_program.specs.Program.{Empty, Stmts};
 ghost use Rattle.nim_program.specs.View.{stmt_before, stmts_of, operands_of, kind_of};
 ghost use Rattle.nim_program.specs.View.{branch_conditions, branch_blocks, case_blocks};
-ghost use Rattle.flattening.specs.Numbering.{type_number};
 ghost use Rattle.flattening.specs.Places.{place, head_from, loop_places, block_places};
 ghost use Rattle.flattening.specs.Places.{branch_places, arm_places};
 ghost use Rattle.flattening.specs.Views.{types_of};
@@ -13,7 +11,7 @@ ghost use Rattle.flattening.specs.PlaceViews.{places_of_first, places_of_loop};
 ghost use Rattle.flattening.specs.Written.{IsPut, GoesOnAt, one};
 ghost use Rattle.flattening.specs.PlaceViews.{in_front};
 
-use crate::around::Around;
+use crate::around::{Around, int_number};
 use crate::expr_places::{list_expr, list_operand, list_operands};
 use crate::spans::{behind, behind_operand, behind_operands, behind_value, next};
 use crate::stmt_spans::{behind_block, behind_count, behind_stmt, is_defer};
@@ -21,7 +19,6 @@ use crate::temporaries::{put_place, put_selector};
 use crate::written::Written;
 use flat_code::{FlatPlace, PlaceKind};
 use nim_program::{Branch, CaseBranch, Kind, Node, Operand, Stmt};
-use nim_types::{TypeDef, TypeTable};
 
 /// Adds the temporaries of a block, whose numbers begin with t. Behind a `defer` nothing has lines
 /// yet.
@@ -103,24 +100,6 @@ fn list_stmt(places: &mut Written<FlatPlace>, around: &Around, stmt: &Stmt, t: u
         | Stmt::Try { .. }
         | Stmt::Defer { .. } => {}
     }
-}
-
-fn is_int(def: &TypeDef) -> bool
-    ensures { (ts : List Ty) → same (meant ts def.now) int ≡ result }
-{
-    matches!(def, TypeDef::Int)
-}
-
-// The number of the type of ints.
-fn int_number(types: &TypeTable) -> u32
-    ensures { result ≡ type_number (types_in types.now) int }
-{
-    for id in 0..types.count() {
-        if is_int(types.get(id)) {
-            return id;
-        }
-    }
-    types.count()
 }
 
 // The element of a turn, its number, and how many there are.

@@ -31,18 +31,15 @@ pub fn put_place(
     ensures { IsPut places.old places.new (one (place (types_of around.now) number at kind
         (type_at (types_of around.now) ty))) }
 {
-    match type_number(around, ty) {
-        Err(_) => places.lose(),
-        Ok(ty) => places.put(FlatPlace {
-            number,
-            at,
-            kind,
-            ty,
-            hooked: false,
-            resource: false,
-            copies: true,
-        }),
-    }
+    places.put(FlatPlace {
+        number,
+        at,
+        kind,
+        ty: type_number(around, ty),
+        hooked: false,
+        resource: false,
+        copies: true,
+    })
 }
 
 /// The value of a node, or where a path leads, where that has a type.

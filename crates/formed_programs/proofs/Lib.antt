@@ -6,3 +6,4 @@ mod Exprs
 mod Stmts
 mod Programs
 mod Tables
+mod Unhooked

@@ -1,6 +1,6 @@
 -- What holds where nothing is left out.
 use Rattle.std.proofs.Common.{◌≡◌, Bool, true, false, Option, Some, None, refl}
-use Rattle.std.specs.Prelude.{nat_lt}
+use Rattle.std.specs.Prelude.{nat_lt, option_map}
 use Rattle.nim_program.specs.declared.expr.Node.{Node}
 use Rattle.nim_meaning.specs.LeftOut.{out_if, ◌or_then◌, earlier}
 
@@ -23,3 +23,8 @@ none_earlier (Some node) (Some other) e = by_number (nat_lt node.number other.nu
     by_number : {A : Type 0} (b : Bool) → out_if b node or_then Some other ≡ None → A
     by_number true e = found node e
     by_number false e = found other e
+
+-- as a place
+pub none_mapped : (o : Option Node) → option_map (λ (node : Node). node.at) o ≡ None → o ≡ None
+none_mapped None e = refl
+none_mapped (Some node) e = cc

@@ -1,10 +1,9 @@
 -- Typed programs are formed.
 use Rattle.std.proofs.Common.{◌≡◌, ℕ, zero, suc, ◌+◌, ◌-◌, ◌<◌, ◌≤◌, inl, inr, Bool, true, false, List, [], ◌∷◌, ◌++◌, Option, Some, None, length, refl, sym}
 use Rattle.std.proofs.Common.{ap, subst, ◌∙◌, arith}
-use Rattle.std.specs.Prelude.{not, nat_eq, nat_le, ◌&&◌, slice_get, map, take, option_map}
+use Rattle.std.specs.Prelude.{not, nat_eq, nat_le, ◌&&◌, slice_get, map, take}
 use Rattle.std.proofs.lemmas.Bool.{both_ways, and_parts, eqb-true, leb-true}
 use Rattle.nim_types.specs.Types.{Ty}
-use Rattle.nim_program.specs.declared.expr.Node.{Node}
 use Rattle.nim_program.specs.declared.nodes.TheConstants.{MOST_NODES}
 use Rattle.nim_program.specs.Program.{Declared, Param, Body, Proc, Program}
 use Rattle.nim_program.specs.Folds.{lists, total_of, block_nodes, param_places, if_declared, block_places, body_places}
@@ -19,17 +18,13 @@ use Rattle.nim_meaning.specs.LeftOut.{left_out_in_head, left_out_in_block, left_
 use Rattle.nim_meaning.specs.LeftOut.{IsPlain}
 use Rattle.flattening.specs.Formed.{Ground, Scope, AtFirst, BodyFormed, ResultFormed, IsFormed, IsAmong, IsListed, ground_of, named_in, results}
 use Rattle.formed_programs.proofs.Parts.{Each, apart}
-use Rattle.formed_programs.proofs.Plain.{neither, none_earlier}
+use Rattle.formed_programs.proofs.Plain.{neither, none_earlier, none_mapped}
 use Rattle.formed_programs.proofs.Listed.{all_listed}
 use Rattle.formed_programs.proofs.Seen.{numbers, named_by, named_by_body, Sees}
 use Rattle.formed_programs.proofs.Stmts.{block_formed, code_formed}
 
 never : {A : Type 0} → false ≡ true → A
 never e = absurd (both_ways false refl e)
-
-none_mapped : (o : Option Node) → option_map (λ (node : Node). node.at) o ≡ None → o ≡ None
-none_mapped None e = refl
-none_mapped (Some node) e = cc
 
 -- ---- numbers
 

@@ -14,7 +14,7 @@ use Rattle.flat_code.proofs.ForCallers.{same_agrees, same_pace, runs_by_lines, f
 use Rattle.flat_code.proofs.ForCallers.{same as alike}
 use Rattle.goto_exceptions.specs.Branches.{IsBranched}
 
-same : (table : List TypeDef) (owned : Code OwnedLine) (heap : ℕ) (input : List ℕ) (n : ℕ) →
+pub same : (table : List TypeDef) (owned : Code OwnedLine) (heap : ℕ) (input : List ℕ) (n : ℕ) →
     block_meaning table (by_lines Plain owned) heap input n ≡ owned_meaning table owned heap input n
 same table owned heap input n =
     let known = known_in table in
@@ -33,4 +33,5 @@ branched owned procs e itself steady = subst (λ ps. IsBranched owned (blocks_wi
   paced = λ table heap input sound.
       same_pace (block_meaning table (by_lines Plain owned) heap input) (owned_meaning table owned heap input) (same table owned heap input);
   form = form_by_lines Plain owned_plain block_plain (λ line. alike) owned;
+  each = refl;
 })

@@ -2,5 +2,7 @@
 #![tactic(auto)]
 
 mod blocks;
+mod laws;
 
 pub use blocks::{LINES_EACH, PACE, branches};
+pub use laws::block_codes;

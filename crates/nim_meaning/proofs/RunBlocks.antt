@@ -9,12 +9,10 @@ use Rattle.nim_program.specs.declared.program.Mode.{Mode}
 use Rattle.nim_program.specs.declared.stmt.Leaving.TheVariants as K
 use Rattle.nim_program.specs.Program as T
 use Rattle.nim_program.specs.Program.{Label, Expr, Args, Declared, Stmt, Stmts, Blocks, node_of, last_after, last_of}
-use Rattle.nim_program.specs.Folds.{total, total_at, totals, total_in, total_of, in_turn as turns_of, each, each_block}
-use Rattle.nim_meaning.proofs.BlockSums.{sum_of_blocks, in_turn_holds}
 use Rattle.nim_program.specs.Traps.{LengthChanged}
 use Rattle.nim_program.specs.Ints.{is_true}
 use Rattle.nim_meaning.specs.ActTree as tree
-use Rattle.nim_meaning.specs.ActTree.{Root, Named, Role, Begins, Does as Done_by, Fills, Looks as Looks_up, Chooses, Turns, Asks, Decides, Leaves}
+use Rattle.nim_meaning.specs.ActTree.{Named, Begins, Does as Done_by, Fills, Looks as Looks_up, Chooses, Turns, Asks, Decides}
 use Rattle.nim_meaning.specs.ActTree.{Act, Pass, Fill, Acts, Done, Then, Do, Loop, Index}
 use Rattle.nim_meaning.specs.Ways.{Point, At, Exits, Graph, Raises, turn_begins, in_condition, loop_goes_on, loop_ends, in_turn, doing, here as at_here, later}
 use Rattle.nim_meaning.specs.Ways.{entry, onto, looped}
@@ -32,7 +30,7 @@ use Rattle.nim_meaning.specs.Meaning.{at_node, Aim, Value_of, find, eval, fill, 
 use Rattle.nim_meaning.specs.Meaning.{result_gets}
 use Rattle.nim_meaning.specs.Meaning.{head_values, ready_operand, ready_rest, ready_aim, test_of, selector_of, repeated, exec, exec_all, first_block}
 use Rattle.nim_meaning.specs.Meaning.{picked_block}
-use Rattle.nim_meaning.specs.Runs.{everywhere, is_plain_loop, is_plain}
+use Rattle.nim_meaning.specs.Runs.{is_plain_loop, is_plain_value, is_plain_path, are_plain, is_plain_stmt, is_plain_block, are_plain_blocks}
 use Rattle.nim_meaning.proofs.RunLemmas.{AreElsewhere, Goes, runs_past, runs_still, Still}
 use Rattle.nim_meaning.proofs.RunLoops.{TurnRuns, turn_then, turn_past, turn_again, turn_ends, runs_loop}
 use Rattle.nim_meaning.proofs.StillLemmas.{still_give, still_looks, still_branch, still_stop, still_carry, still_find}
@@ -180,33 +178,33 @@ module _ (raises : Raises) (E : Graph) (elsewhere : List Point → Type 0) (hook
 
   module _ (result : Option Declared) where
     abbrev PlainBlock : Stmts → Type 0
-    PlainBlock block = total_of everywhere (is_plain hooked) block ≡ true
+    PlainBlock block = is_plain_block hooked block ≡ true
 
     abbrev PlainArgs : Args → Type 0
-    PlainArgs args = totals everywhere (is_plain hooked) args ≡ true
+    PlainArgs args = are_plain hooked false args ≡ true
 
     done : {A : Type 0} (x : A) → B Done (give x)
     done x = block_still raises E elsewhere (still_give elsewhere x)
 
-    whole_value : (e : Expr) → total everywhere (is_plain hooked) e ≡ true → B (ended (acts_of hooked at_call Owned None e Done)) (eval e Owned here)
+    whole_value : (e : Expr) → is_plain_value hooked e ≡ true → B (ended (acts_of hooked at_call Owned None e Done)) (eval e Owned here)
     whole_value e h = alone raises E elsewhere hooked at_call here calls (eval_part raises E elsewhere hooked at_call here calls Owned None e Owned h)
 
     head_part : (head : Args) → PlainArgs head → P (head_acts hooked at_call head) (head_values head here)
-    head_part head h = ready_part raises E elsewhere hooked at_call here calls (λ i. Owned) 0 None head (λ i. Owned) h
+    head_part head h = ready_part raises E elsewhere hooked at_call here calls false (λ i. Owned) (λ e i. refl) 0 None head (λ i. Owned) h
 
     test_block : (head : Args) → PlainArgs head → B (ended (condition_acts hooked at_call head)) (test_of head here)
     test_block T.NoArg h = done nothing
     test_block (T.ByValue condition rest) h =
-        whole_value condition (and_parts (total everywhere (is_plain hooked) condition) (totals everywhere (is_plain hooked) rest) h).0
+        whole_value condition (and_parts (is_plain_value hooked condition) (are_plain hooked false rest) h).0
     test_block (T.ByPath path rest) h = done nothing
 
     selector_part : (tests : Args) → PlainArgs tests → P (selector_acts hooked at_call tests) (selector_of tests here)
     selector_part T.NoArg h = part_still raises E elsewhere (still_give elsewhere nothing)
     selector_part (T.ByValue selector rest) h =
         eval_part raises E elsewhere hooked at_call here calls Looked None selector Looked
-        (and_parts (total everywhere (is_plain hooked) selector) (totals everywhere (is_plain hooked) rest) h).0
+        (and_parts (is_plain_value hooked selector) (are_plain hooked false rest) h).0
     selector_part (T.ByPath path rest) h =
-        let p = and_parts (total_at everywhere (is_plain hooked) false path) (totals everywhere (is_plain hooked) rest) h in
+        let p = and_parts (is_plain_path hooked path) (are_plain hooked false rest) h in
         part_then raises E elsewhere (Value_of nothing) (aimed_part raises E elsewhere hooked at_call here calls path p.0)
         (λ aim. part_then raises E elsewhere nowhere (part_still raises E elsewhere (still_find elsewhere aim))
         (λ location. looked_part raises E elsewhere hooked at_call here calls path (still_carry elsewhere (fetched location))))
@@ -232,34 +230,31 @@ module _ (raises : Raises) (E : Graph) (elsewhere : List Point → Type 0) (hook
         (element_act hooked at_call variable head) (not_true (hooked variable.of) e) f (ready_aim ready) (length_of (load world location))))))))
 
     mutual
-      pub exec_part : (stmt : Stmt) → total_in everywhere (is_plain hooked) stmt ≡ true → P (stmt_acts hooked at_call result stmt) (exec stmt here)
+      pub exec_part : (stmt : Stmt) → is_plain_stmt hooked stmt ≡ true → P (stmt_acts hooked at_call result stmt) (exec stmt here)
       exec_part (T.Do value) h =
           part_then raises E elsewhere nothing (part_group raises E elsewhere (node_of value).number Begins (whole_value value h))
           (λ v. part_still raises E elsewhere (still_give elsewhere tt))
       exec_part (T.Idle node parts) h =
           part_costs raises E elsewhere 1 (part_do raises E elsewhere node.number Done_by Pass refl (still_give elsewhere tt))
       exec_part (T.Give node back value) h =
-          let p = and_parts true (total everywhere (is_plain hooked) value) h in
           part_costs raises E elsewhere 1 (part_group raises E elsewhere node.number Begins (block_ended raises E elsewhere
           (block_then raises E elsewhere nothing
-          (eval_part raises E elsewhere hooked at_call here calls ToPlace (result_root result) value ToPlace p.1)
+          (eval_part raises E elsewhere hooked at_call here calls ToPlace (result_root result) value ToPlace h)
           (λ v. block_then raises E elsewhere nothing
           (part_do raises E elsewhere node.number Done_by (result_act result) (result_makes_none result) (still_result here.result v))
           (λ given. back_block back node.number)))))
       exec_part (T.Leave node leaving parts) h = part_costs raises E elsewhere 1 (part_left raises E elsewhere node.number leaving)
       exec_part (T.Select node T.ByConditions tests blocks) h =
-          let p = and_parts true (turns_of everywhere (each everywhere (is_plain hooked) tests) (each_block everywhere (is_plain hooked) blocks)) h in
-          let q = in_turn_holds (is_plain hooked) tests blocks p.1 in
+          let q = and_parts (are_plain hooked false tests) (are_plain_blocks hooked blocks) h in
           part_costs raises E elsewhere 1 (part_group raises E elsewhere node.number Begins (first_block_part tests blocks q.0 q.1))
       exec_part (T.Select node (T.ByLabels labels) tests blocks) h =
-          let p = and_parts true (turns_of everywhere (each everywhere (is_plain hooked) tests) (each_block everywhere (is_plain hooked) blocks)) h in
-          let q = in_turn_holds (is_plain hooked) tests blocks p.1 in
+          let q = and_parts (are_plain hooked false tests) (are_plain_blocks hooked blocks) h in
           part_costs raises E elsewhere 1 (part_group raises E elsewhere node.number Begins (block_ended raises E elsewhere
           (part_block raises E elsewhere (part_then raises E elsewhere nothing (selector_part tests q.0)
           (λ x. part_choose raises E elsewhere node.number Chooses (block_chosen (is_covered (selector_type tests)) labels blocks x q.1))))))
       exec_part (T.Loop node kind head body) h =
-          let p = and_parts (is_plain_loop hooked kind) (totals everywhere (is_plain hooked) head && total_of everywhere (is_plain hooked) body) h in
-          let q = and_parts (totals everywhere (is_plain hooked) head) (total_of everywhere (is_plain hooked) body) p.1 in
+          let p = and_parts (is_plain_loop hooked kind) (are_plain hooked false head && is_plain_block hooked body) h in
+          let q = and_parts (are_plain hooked false head) (is_plain_block hooked body) p.1 in
           part_costs raises E elsewhere 1 (loop_part node.number kind head (last_of body) p.0 q.0 (exec_block body q.1))
       exec_part (T.Raise node exception message) h = part_still raises E elsewhere (still_give elsewhere tt)
       exec_part (T.Try node body handlers last) h = part_still raises E elsewhere (still_give elsewhere tt)
@@ -267,20 +262,20 @@ module _ (raises : Raises) (E : Graph) (elsewhere : List Point → Type 0) (hook
       pub exec_block : (block : Stmts) → PlainBlock block → B (stmts_acts hooked at_call result block) (exec_all block here)
       exec_block T.Empty h = done tt
       exec_block (T.Then first rest) h =
-          let p = and_parts (total_in everywhere (is_plain hooked) first) (total_of everywhere (is_plain hooked) rest) h in
+          let p = and_parts (is_plain_stmt hooked first) (is_plain_block hooked rest) h in
           block_then raises E elsewhere tt (exec_part first p.0) (λ u. exec_block rest p.1)
       exec_block (T.Declare node place cursor T.NoArg rest) h =
-          let p = and_parts (not (hooked place.of)) (true && total_of everywhere (is_plain hooked) rest) h in
-          let q = and_parts true (total_of everywhere (is_plain hooked) rest) p.1 in
+          let p = and_parts (not (hooked place.of)) (true && is_plain_block hooked rest) h in
+          let q = and_parts true (is_plain_block hooked rest) p.1 in
           block_then raises E elsewhere tt
           (part_costs raises E elsewhere 1 (part_do raises E elsewhere node.number Done_by (Fill (Named place.number)) refl
           (still_fill place.number (default_of here.facts place.of))))
           (λ u. in_scope place (last_after node.number rest) (not_true (hooked place.of) p.0) (exec_block rest q.1))
       exec_block (T.Declare node place cursor (T.ByValue value more) rest) h =
-          let values = total everywhere (is_plain hooked) value && totals everywhere (is_plain hooked) more in
-          let p = and_parts (not (hooked place.of)) (values && total_of everywhere (is_plain hooked) rest) h in
-          let q = and_parts values (total_of everywhere (is_plain hooked) rest) p.1 in
-          let r = and_parts (total everywhere (is_plain hooked) value) (totals everywhere (is_plain hooked) more) q.0 in
+          let values = is_plain_value hooked value && are_plain hooked false more in
+          let p = and_parts (not (hooked place.of)) (values && is_plain_block hooked rest) h in
+          let q = and_parts values (is_plain_block hooked rest) p.1 in
+          let r = and_parts (is_plain_value hooked value) (are_plain hooked false more) q.0 in
           block_then raises E elsewhere tt
           (part_costs raises E elsewhere 1 (part_group raises E elsewhere node.number Begins (block_ended raises E elsewhere (part_block raises E elsewhere
           (part_then raises E elsewhere nothing
@@ -290,26 +285,26 @@ module _ (raises : Raises) (E : Graph) (elsewhere : List Point → Type 0) (hook
       exec_block (T.Declare node place cursor (T.ByPath path more) rest) h = done tt
       exec_block (T.Defer node last rest) h = done tt
 
-      first_block_part : (tests : Args) (blocks : Blocks) → PlainArgs tests → sum_of_blocks everywhere (is_plain hooked) blocks ≡ true →
+      first_block_part : (tests : Args) (blocks : Blocks) → PlainArgs tests → are_plain_blocks hooked blocks ≡ true →
           B (first_block_acts hooked at_call result tests blocks) (first_block tests blocks here)
       first_block_part T.NoArg (T.Otherwise block) h g = exec_block block g
       first_block_part T.NoArg (T.Block first more) h g =
-          exec_block first (and_parts (total_of everywhere (is_plain hooked) first) (sum_of_blocks everywhere (is_plain hooked) more) g).0
+          exec_block first (and_parts (is_plain_block hooked first) (are_plain_blocks hooked more) g).0
       first_block_part (T.ByPath path rest) blocks h g = done tt
       first_block_part (T.ByValue condition rest) (T.Otherwise block) h g = done tt
       first_block_part (T.ByValue condition rest) (T.Block first more) h g =
-          let p = and_parts (total everywhere (is_plain hooked) condition) (totals everywhere (is_plain hooked) rest) h in
-          let q = and_parts (total_of everywhere (is_plain hooked) first) (sum_of_blocks everywhere (is_plain hooked) more) g in
+          let p = and_parts (is_plain_value hooked condition) (are_plain hooked false rest) h in
+          let q = and_parts (is_plain_block hooked first) (are_plain_blocks hooked more) g in
           block_then raises E elsewhere nothing (part_group raises E elsewhere (node_of condition).number Asks (whole_value condition p.0))
           (λ x. block_either raises E elsewhere (node_of condition).number Decides (is_true (number_of x)) (exec_block first q.0)
           (first_block_part rest more p.1 q.1))
 
-      block_chosen : (covered : Bool) (labels : List (List Label)) (blocks : Blocks) (x : Value) → sum_of_blocks everywhere (is_plain hooked) blocks ≡ true →
+      block_chosen : (covered : Bool) (labels : List (List Label)) (blocks : Blocks) (x : Value) → are_plain_blocks hooked blocks ≡ true →
           Chosen raises E elsewhere (block_arms hooked at_call result covered labels blocks) (picked_block covered labels blocks x here)
       block_chosen covered labels (T.Otherwise block) x g = chosen_last raises E elsewhere (exec_block block g)
       block_chosen covered [] (T.Block first rest) x g =
           chosen_last raises E elsewhere
-          (exec_block first (and_parts (total_of everywhere (is_plain hooked) first) (sum_of_blocks everywhere (is_plain hooked) rest) g).0)
+          (exec_block first (and_parts (is_plain_block hooked first) (are_plain_blocks hooked rest) g).0)
       block_chosen covered (these ∷ labels) (T.Block first rest) x g =
-          let q = and_parts (total_of everywhere (is_plain hooked) first) (sum_of_blocks everywhere (is_plain hooked) rest) g in
+          let q = and_parts (is_plain_block hooked first) (are_plain_blocks hooked rest) g in
           chosen_picked raises E elsewhere these x (covered && is_last_block rest) (exec_block first q.0) (block_chosen covered labels rest x q.1)

@@ -1,5 +1,5 @@
 -- Each run of a program without hooks goes by ways through the acts of its bodies.
-use Rattle.std.proofs.Common.{◌≡◌, refl, sym, ap, subst, ◌∙◌, inl, inr, ◌⊎◌, ℕ, zero, suc, ◌+◌, Bool, true, false, not, ◌&&◌, if◌then◌else◌, List, [], ◌∷◌}
+use Rattle.std.proofs.Common.{◌≡◌, refl, sym, ap, subst, ◌∙◌, inl, inr, ◌⊎◌, ℕ, zero, suc, ◌+◌, Bool, true, false, not, if◌then◌else◌, List, [], ◌∷◌}
 use Rattle.std.proofs.Common.{Option, Some, None, slice_get}
 use Rattle.std.proofs.lemmas.Bool.{and_parts}
 use Rattle.std.proofs.lemmas.Option.{none-some, same_Some}
@@ -64,28 +64,26 @@ module _ (hooked : Ty → Bool) (at_call in_body : ℕ → ℕ → Mode) where
     pub acts : acts_at hooked at_call in_body at procs proc ≡ stmts_acts hooked at_call body.result body.stmts
     pub plain : is_plain_block hooked body.stmts ≡ true
 
-  found_body : (at : ℕ) (p : Proc) (body : Body) (b : Option Body) → p.body ≡ b → b ≡ Some body → are_plain_params hooked p.params ≡ true →
-      is_plain_if_body hooked b ≡ true → if_body hooked at_call in_body at p.params b ≡ stmts_acts hooked at_call body.result body.stmts
-  found_body at p body None e f h g = absurd (none-some body f)
-  found_body at p body (Some other) e f h g =
-      params_acts at 0 p.params (last_of other.stmts) (body_acts hooked at_call other) h ∙ plain_body other g
-      ∙ ap (λ (x : Body). stmts_acts hooked at_call x.result x.stmts) (same_Some other body f)
+  found_body : (at : ℕ) (params : List Param) (body : Body) (b : Option Body) → b ≡ Some body → is_plain_if_body hooked params b ≡ true →
+      (if_body hooked at_call in_body at params b ≡ stmts_acts hooked at_call body.result body.stmts) × (is_plain_block hooked body.stmts ≡ true)
+  found_body at params body None f h = absurd (none-some body f)
+  found_body at params body (Some other) f h =
+      let p = and_parts (are_plain_params hooked params) (is_plain_body hooked other) h in
+      let is = same_Some other body f in (
+        params_acts at 0 params (last_of other.stmts) (body_acts hooked at_call other) p.0 ∙ plain_body other p.1
+            ∙ ap (λ (x : Body). stmts_acts hooked at_call x.result x.stmts) is,
+        subst (λ (x : Body). is_plain_block hooked x.stmts ≡ true) is (and_parts (is_plain_place hooked other.result) (is_plain_block hooked other.stmts) p.1).1,
+      )
 
   pub found : (at proc : ℕ) (procs : List Proc) (p : Proc) (body : Body) → are_plain_procs hooked procs ≡ true → slice_get procs proc ≡ Some p →
       p.body ≡ Some body → Found at proc procs body
   found at proc [] p body h e f = absurd (none-some p e)
   found at zero (q ∷ procs) p body h e f =
-      let parts = and_parts (are_plain_params hooked q.params && is_plain_if_body hooked q.body) (are_plain_procs hooked procs) h in
-      let of_q = and_parts (are_plain_params hooked q.params) (is_plain_if_body hooked q.body) parts.0 in
       let is_q : q.body ≡ Some body = ap (λ (x : Proc). x.body) (same_Some q p e) ∙ f in
-      let plain : is_plain_body hooked body ≡ true = subst (λ b. is_plain_if_body hooked b ≡ true) is_q of_q.1 in
-      record {
-        acts = found_body at q body q.body refl is_q of_q.0 of_q.1;
-        plain = (and_parts (is_plain_place hooked body.result) (is_plain_block hooked body.stmts) plain).1;
-      }
+      let it = found_body at q.params body q.body is_q (and_parts (is_plain_if_body hooked q.params q.body) (are_plain_procs hooked procs) h).0 in
+      record { acts = it.0; plain = it.1 }
   found at (suc proc) (q ∷ procs) p body h e f =
-      let parts = and_parts (are_plain_params hooked q.params && is_plain_if_body hooked q.body) (are_plain_procs hooked procs) h in
-      let more = found (suc at) proc procs p body parts.1 e f in
+      let more = found (suc at) proc procs p body (and_parts (is_plain_if_body hooked q.params q.body) (are_plain_procs hooked procs) h).1 e f in
       record { acts = more.acts; plain = more.plain }
 
 -- ---- calls

@@ -1,16 +1,18 @@
 -- That each run does the acts of a way through the tree of acts, in order. The trail of a state has the points that the running call came by, the last
 -- one first; a run puts the points in front of it that it passes.
-use Rattle.std.specs.Prelude.{◌≡◌, ℕ, Bool, true, not, ◌&&◌, ◌⊎◌, List, [], ◌∷◌, ◌++◌, Option, Some, None}
+use Rattle.std.specs.Prelude.{◌≡◌, ℕ, Bool, true, false, not, ◌&&◌, ◌||◌, ◌⊎◌, List, [], ◌∷◌, ◌++◌, Option, Some, None}
 use Rattle.arc_base.specs.BigStep.{Res, Got, Over, Going, Errs}
 use Rattle.nim_types.specs.Types.{Ty}
-use Rattle.nim_program.specs.Program.{Declared, Kind, While, Count, Each, Expr, Stmts, Param, Body, Proc, Program}
-use Rattle.nim_program.specs.Folds.{Seen, AtApply, AtEarly, AtChoose, AtPath, AtStmt, AtDeclare, AtLoop, AtHandler, Sum, total, total_of}
+use Rattle.nim_program.specs.Program.{Giving, Characters, Expr, Apply, Read, Early, Choose, Path, Variable, Fresh, Field, Element, Deref, Args, NoArg}
+use Rattle.nim_program.specs.Program.{ByValue, ByPath, Declared, Kind, While, Count, Each, Stmt, Do, Idle, Give, Leave, Select, Loop, Raise, Try}
+use Rattle.nim_program.specs.Program.{Stmts, Empty, Then, Declare, Defer, Blocks, Otherwise, Block, Handlers, NoHandler, Handler, Param, Body, Proc, Program}
 use Rattle.nim_meaning.specs.ActTree as tree
 use Rattle.nim_meaning.specs.ActTree.{Out, Turn_over, Back}
 use Rattle.nim_meaning.specs.Ways.{Point, Exits, Raises, Graph, Behind, Trail, follows, start}
 use Rattle.nim_meaning.specs.State.{State}
 use Rattle.nim_meaning.specs.Acts.{Way, Broke, Continued, Returned, Raised, Flow, On, Out as LeftBy}
 use Rattle.nim_meaning.specs.Here.{is_hooked}
+use Rattle.nim_meaning.specs.LeftOut.{writes_literals}
 use Rattle.nim_meaning.specs.ActsOf.{start_acts, procedure_acts}
 
 -- the points of a way, the last one first
@@ -50,9 +52,6 @@ GoesBy E p exits elsewhere before (Errs s) = StopsBy E p elsewhere before s.trai
 
 -- ---- what has no hooks
 
-abbrev pub everywhere : Sum Bool
-everywhere = record { none = true; plus = λ a b. a && b }
-
 module _ (hooked : Ty → Bool) where
   abbrev pub is_plain_type : Option Ty → Bool
   is_plain_type None = true
@@ -67,22 +66,56 @@ module _ (hooked : Ty → Bool) where
   is_plain_loop (Count variable inclusive) = not (hooked variable.of)
   is_plain_loop (Each variable) = not (hooked variable.of)
 
-  -- the value of a part, or the place that it declares
-  abbrev pub is_plain : Seen → Bool
-  is_plain (AtApply node ty act) = is_plain_type ty
-  is_plain (AtEarly node ty short) = not (hooked ty)
-  is_plain (AtChoose node ty chooser) = is_plain_type ty
-  is_plain (AtPath read node ty step) = not (hooked ty)
-  is_plain (AtStmt node) = true
-  is_plain (AtDeclare node place cursor) = not (hooked place.of)
-  is_plain (AtLoop node kind) = is_plain_loop kind
-  is_plain (AtHandler name) = is_plain_place name
+  -- a literal text that is written as it stands
+  abbrev pub is_written : (written : Bool) → Expr → Bool
+  is_written true (Apply node ty (Giving (Characters text)) NoArg) = true
+  is_written written value = false
 
-  abbrev pub is_plain_value : Expr → Bool
-  is_plain_value = total everywhere is_plain
+  -- the values of all parts, but for the literals that `echo` writes
+  abbrev mutual
+    pub is_plain_value : Expr → Bool
+    is_plain_value (Apply node ty act operands) = is_plain_type ty && are_plain (writes_literals act) operands
+    is_plain_value (Read path) = is_plain_path path
+    is_plain_value (Early node ty short left right) = not (hooked ty) && (is_plain_value left && is_plain_value right)
+    is_plain_value (Choose node ty chooser parts) = is_plain_type ty && are_plain false parts
 
-  abbrev pub is_plain_block : Stmts → Bool
-  is_plain_block = total_of everywhere is_plain
+    pub is_plain_path : Path → Bool
+    is_plain_path (Variable node ty place global) = not (hooked ty)
+    is_plain_path (Fresh value) = is_plain_value value
+    is_plain_path (Field node ty base field) = not (hooked ty) && is_plain_path base
+    is_plain_path (Element node ty base index constant) = not (hooked ty) && (is_plain_path base && is_plain_value index)
+    is_plain_path (Deref ty base) = is_plain_path base
+
+    pub are_plain : (written : Bool) → Args → Bool
+    are_plain written NoArg = true
+    are_plain written (ByValue value rest) = (is_written written value || is_plain_value value) && are_plain written rest
+    are_plain written (ByPath path rest) = is_plain_path path && are_plain written rest
+
+  -- and the places that are declared
+  abbrev mutual
+    pub is_plain_stmt : Stmt → Bool
+    is_plain_stmt (Do value) = is_plain_value value
+    is_plain_stmt (Idle node parts) = are_plain false parts
+    is_plain_stmt (Give node back value) = is_plain_value value
+    is_plain_stmt (Leave node leaving parts) = are_plain false parts
+    is_plain_stmt (Select node chooser tests blocks) = are_plain false tests && are_plain_blocks blocks
+    is_plain_stmt (Loop node kind head body) = is_plain_loop kind && (are_plain false head && is_plain_block body)
+    is_plain_stmt (Raise node exception message) = are_plain false message
+    is_plain_stmt (Try node body handlers last) = is_plain_block body && (are_plain_handlers handlers && is_plain_block last)
+
+    pub is_plain_block : Stmts → Bool
+    is_plain_block Empty = true
+    is_plain_block (Then first rest) = is_plain_stmt first && is_plain_block rest
+    is_plain_block (Declare node place cursor value rest) = not (hooked place.of) && (are_plain false value && is_plain_block rest)
+    is_plain_block (Defer node last rest) = is_plain_block last && is_plain_block rest
+
+    pub are_plain_blocks : Blocks → Bool
+    are_plain_blocks (Otherwise block) = is_plain_block block
+    are_plain_blocks (Block first rest) = is_plain_block first && are_plain_blocks rest
+
+    pub are_plain_handlers : Handlers → Bool
+    are_plain_handlers NoHandler = true
+    are_plain_handlers (Handler types name body rest) = is_plain_place name && (is_plain_block body && are_plain_handlers rest)
 
   abbrev pub is_plain_body : Body → Bool
   is_plain_body body = is_plain_place body.result && is_plain_block body.stmts
@@ -91,15 +124,16 @@ module _ (hooked : Ty → Bool) where
   are_plain_params [] = true
   are_plain_params (param ∷ params) = not (hooked param.place.of) && are_plain_params params
 
-  abbrev pub is_plain_if_body : Option Body → Bool
-  is_plain_if_body None = true
-  is_plain_if_body (Some body) = is_plain_body body
+  -- a procedure without a body isn't called
+  abbrev pub is_plain_if_body : List Param → Option Body → Bool
+  is_plain_if_body params None = true
+  is_plain_if_body params (Some body) = are_plain_params params && is_plain_body body
 
   abbrev pub are_plain_procs : List Proc → Bool
   are_plain_procs [] = true
-  are_plain_procs (p ∷ procs) = are_plain_params p.params && is_plain_if_body p.body && are_plain_procs procs
+  are_plain_procs (p ∷ procs) = is_plain_if_body p.params p.body && are_plain_procs procs
 
--- no value and no place of a program has hooks
+-- no value and no place of a program has hooks, but literals that `echo` writes
 abbrev pub has_no_hooks : Program → Bool
 has_no_hooks program = are_plain_procs (is_hooked program.facts) program.procs && is_plain_body (is_hooked program.facts) program.start
 

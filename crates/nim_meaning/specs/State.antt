@@ -4,7 +4,8 @@ use Rattle.arc_base.specs.Event.{Event}
 use Rattle.arc_base.specs.Behaviour.{Live, no_objects}
 use Rattle.arc_base.specs.BigStep.{Meter}
 use Rattle.nim_types.specs.Types.{Ty}
-use Rattle.nim_meaning.specs.Values.{Value, Parts, Fixed, More, Nil, nothing, nth, parts_of, text_in, part, put_part, Base, Standing, Waiting, InBlock, InHand, InException, Made, Location, Slot, Holds, value_in}
+use Rattle.nim_meaning.specs.Values.{Value, Parts, Fixed, More, Nil, nothing, nth, parts_of, text_in, part, put_part, Base, Standing, Waiting, InBlock, InHand}
+use Rattle.nim_meaning.specs.Values.{InException, Made, Location, Slot, Holds, value_in}
 use Rattle.nim_meaning.specs.Heap.{Contents, Characters, Elements, Object, Heap, block_at, Block, with_contents, heap_of}
 use Rattle.nim_meaning.specs.Ways.{Point}
 

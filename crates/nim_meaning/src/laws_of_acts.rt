@@ -68,7 +68,7 @@ pub fn exits()
 /// Each run does the acts of a way through the tree of acts, in order. An expression leads from its
 /// first point to that of what follows, in front of any rest, and a block to where its flow leads;
 /// a run that is over, or that has no unit left, has come by a way so far. So does each run of a
-/// program without hooks, in its start code and in each call.
+/// program without hooks, but for literals that `echo` writes, in its start code and in each call.
 pub fn runs()
     ensures value { (raises : Raises) (program : Program) (plan : Plan) (left level : ℕ)
         (body : Body) (how : Use) (to : Option Root) (e : Expr) (rest : Acts) (exits : Exits)

@@ -7,12 +7,14 @@ use Rattle.std.proofs.lemmas.List.{drop_more}
 use Rattle.nim_program.specs.declared.text_sizes.TheConstants.{MOST_DATA}
 use Rattle.nim_program.specs.Folds.{capped}
 
-pub sum_two : (r a b m n whole : ℕ) → r ≡ capped MOST_DATA (a + b) → a ≡ capped MOST_DATA m → b ≡ capped MOST_DATA n → whole ≡ m + n → r ≡ capped MOST_DATA whole
+pub sum_two : (r a b m n whole : ℕ) → r ≡ capped MOST_DATA (a + b) → a ≡ capped MOST_DATA m → b ≡ capped MOST_DATA n → whole ≡ m + n →
+    r ≡ capped MOST_DATA whole
 sum_two r a b m n whole e f g h = omega (arith, e, f, g, h)
 
 -- one more of several, and the last one
 pub sums_next : (sum one new m rest after whole : ℕ) → capped MOST_DATA (sum + rest) ≡ capped MOST_DATA whole → sum ≤ suc MOST_DATA →
-    new ≡ capped MOST_DATA (sum + one) → one ≡ capped MOST_DATA m → rest ≡ m + after → (capped MOST_DATA (new + after) ≡ capped MOST_DATA whole) × (new ≤ suc MOST_DATA)
+    new ≡ capped MOST_DATA (sum + one) → one ≡ capped MOST_DATA m → rest ≡ m + after →
+    (capped MOST_DATA (new + after) ≡ capped MOST_DATA whole) × (new ≤ suc MOST_DATA)
 sums_next sum one new m rest after whole h l e f g = (omega (arith, h, l, e, f, g), omega (arith, e))
 
 pub sums_ended : (sum rest whole : ℕ) → capped MOST_DATA (sum + rest) ≡ capped MOST_DATA whole → sum ≤ suc MOST_DATA → rest ≡ 0 → sum ≡ capped MOST_DATA whole

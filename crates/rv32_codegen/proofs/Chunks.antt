@@ -60,7 +60,7 @@ few_datum rd address = cond_both (is_near ((address + negative statics_at) % 2 ^
 pub few_shift : (rd amount : ℕ) → Few 3 (shift rd amount)
 few_shift rd amount = cond_both (amount == 0) _ _ (Few 3) (λ e. omega arith) (λ e. few_sum rd rd amount)
 
-few_load : (rd offset : ℕ) → Few 3 (load rd offset)
+pub few_load : (rd offset : ℕ) → Few 3 (load rd offset)
 few_load rd offset = cond_both (is_near offset) _ _ (Few 3) (λ e. omega arith) (λ e. omega arith)
 
 pub few_save : (rs offset : ℕ) → Few 3 (save rs offset)

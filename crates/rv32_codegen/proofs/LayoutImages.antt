@@ -24,7 +24,8 @@ use Rattle.rv32_isa.specs.Labels.{AreLines, is_instruction, has_instruction, hoo
 use Rattle.rv32_isa.specs.LabelsMeaning.{OfDataAndHeap, label_meaning}
 use Rattle.rv32_isa.proofs.ForCallers.{length-word_bytes}
 use Rattle.word_code.specs.Memory.{data_of}
-use Rattle.rv32_codegen.specs.Layout.{Far, size, too_far, code_size, laid_at, laid, instrs, hook_of, entry, hook_table, code_bytes, laid_out, is_none, enters_no_hook}
+use Rattle.rv32_codegen.specs.Layout.{Far, size, too_far, code_size, laid_at, laid, instrs, hook_of, entry, hook_table, code_bytes, laid_out, is_none}
+use Rattle.rv32_codegen.specs.Layout.{enters_no_hook}
 use Rattle.rv32_codegen.specs.Layout.{target, distance, branched, DoesCode}
 use Rattle.rv32_codegen.proofs.LayoutSizes.{line_least, size_four, reach_all}
 use Rattle.rv32_codegen.proofs.LayoutMarks.{mark_at, marks_rise}

@@ -5,6 +5,7 @@ mod Wider
 mod Chunks
 mod Frees
 mod Ranges
+mod Reaches
 mod Bytes
 mod Computed
 mod Lookups

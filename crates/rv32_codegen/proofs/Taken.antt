@@ -2,10 +2,11 @@
 use Rattle.std.proofs.Common.{◌≡◌, ℕ, zero, suc, ◌+◌, ◌-◌, ◌*◌, ◌/◌, ◌^◌, ◌<◌, ◌≤◌, List, [], ◌∷◌}
 use Rattle.std.proofs.Common.{length, Bool, true, false, Option, Some, None}
 use Rattle.std.proofs.Common.{refl, sym, ap, subst, ◌∙◌, arith, inl, inr, drop, get_or}
-use Rattle.std.specs.Prelude.{max, ◌==◌, if◌then◌else◌, slice_get}
-use Rattle.std.proofs.lemmas.Bool.{cases_Bool, ne_eqb, cond-true, cond-false}
+use Rattle.std.specs.Prelude.{max, nat_eq, ◌==◌, if◌then◌else◌}
+use Rattle.std.specs.HashMap.{HashMap, get}
+use Rattle.std.specs.Map.{lookup}
+use Rattle.std.proofs.lemmas.Bool.{cases_Bool, cond-true, cond-false}
 use Rattle.std.proofs.lemmas.List.{drop_more, drop_all}
-use Rattle.std.proofs.lemmas.Option.{slice_get_read}
 use Rattle.word_code.specs.declared.word.TheConstants.{MOST_ARGUMENTS, SPARE_ROOM}
 use Rattle.word_code.specs.declared.word.WordInstr.{WordInstr}
 use Rattle.word_code.specs.declared.word.WordProc.{WordProc}
@@ -13,10 +14,10 @@ use Rattle.word_code.specs.Words.{is_counted, most_calls, from_proc, callee_of, 
 use Rattle.reg_scan.specs.declared.homes.Homes.{Homes}
 use Rattle.rv32_codegen.specs.Stack.{frame_for, most_frame, stack_need}
 use Rattle.rv32_codegen.specs.Chains.{cut, number_for, chain_from, chains_from, most_of, rooms_of, frames_of, none_of, cut_chain}
-use Rattle.rv32_codegen.specs.Chains.{AreLongest, NoneBehind}
+use Rattle.rv32_codegen.specs.Chains.{AreLongest, taken_at, by_index, LeadsFrom, IsIndex}
 use Rattle.rv32_codegen.specs.Chains.{IsCallSize}
 use Rattle.rv32_codegen.specs.Lowering.{AllHomes}
-use Rattle.rv32_codegen.proofs.Lookups.{none_some, some_same, nil_cons, here, later}
+use Rattle.rv32_codegen.proofs.Lookups.{nil_cons, here, later}
 
 -- ---- rounds
 
@@ -207,54 +208,35 @@ module _ (procs : List WordProc) (homes : List Homes) (all : AllHomes procs home
 
 -- ---- steps of loops
 
-no_taken : (n : ℕ) (procs : List WordProc) → number_for procs [] n ≡ 0
-no_taken n [] = refl
-no_taken n (p ∷ procs) = refl
+-- what is taken of the first procedure of each number, by an index of them
+module _ {S : Type 0} (procs : List WordProc) where
+  pub first_leads : (index : HashMap ℕ ℕ S) → index.entries ≡ [] → LeadsFrom index (length procs) procs
+  first_leads index e taken same n =
+      ap (λ es. taken_at taken (lookup (nat_eq n) es)) e
+      ∙ sym (ap (λ ps. number_for ps (drop (length procs) taken) n) (drop_all (length procs) procs (omega arith)))
 
-drop_none : (i : ℕ) → drop {A = ℕ} i [] ≡ []
-drop_none zero = refl
-drop_none (suc i) = refl
+  -- one procedure before those that are left
+  pub next_leads : (i : ℕ) (p d : WordProc) (old new : HashMap ℕ ℕ S) → i < length procs → p ≡ get_or procs i d
+      → ((n : ℕ) → get nat_eq new n ≡ (if nat_eq p.number n then Some i else get nat_eq old n)) → LeadsFrom old (i + 1) procs → LeadsFrom new i procs
+  next_leads i p d old new lt e put leads taken same n =
+      ap (taken_at taken) (put n) ∙ by (nat_eq p.number n) refl ∙ sym is
+    where
+      t : ℕ
+      t = get_or taken i 0
 
-none_left : (procs : List WordProc) (i n : ℕ) → number_for procs (drop i []) n ≡ 0
-none_left procs i n = ap (λ l. number_for procs l n) (drop_none i) ∙ no_taken n procs
+      is : number_for (drop i procs) (drop i taken) n ≡ (if nat_eq p.number n then t else number_for (drop (i + 1) procs) (drop (i + 1) taken) n)
+      is =
+          ap (λ (ps : List WordProc). number_for ps (drop i taken) n) (drop_more procs i d lt ∙ ap (λ (y : WordProc). y ∷ drop (i + 1) procs) (sym e))
+          ∙ ap (λ (ts : List ℕ). number_for (p ∷ drop (i + 1) procs) ts n) (drop_more taken i 0 (omega (arith, lt, same)))
 
--- the numbers that are there come up to their end
-pub none_past : (taken : List ℕ) → NoneBehind (length taken) taken
-none_past taken m le procs n = ap (λ l. number_for procs l n) (drop_all m taken le) ∙ no_taken n procs
+      by : (b : Bool) → nat_eq p.number n ≡ b → taken_at taken (if b then Some i else get nat_eq old n)
+          ≡ (if nat_eq p.number n then t else number_for (drop (i + 1) procs) (drop (i + 1) taken) n)
+      by true s = sym (ap (λ b. if b then t else number_for (drop (i + 1) procs) (drop (i + 1) taken) n) s)
+      by false s = leads taken same n ∙ sym (ap (λ b. if b then t else number_for (drop (i + 1) procs) (drop (i + 1) taken) n) s)
 
--- one more of them is 0
-pub none_more : (taken : List ℕ) (count : ℕ) → count < length taken → get_or taken count zero ≡ zero → NoneBehind (count + 1) taken → NoneBehind count taken
-none_more taken count lt e h m le procs n = by (m - count) refl
-  where
-    same_if : (b : Bool) (k : ℕ) → (if b then k else k) ≡ k
-    same_if true k = refl
-    same_if false k = refl
-
-    first : (ps : List WordProc) → number_for ps (0 ∷ drop (count + 1) taken) n ≡ 0
-    first [] = refl
-    first (p ∷ ps) = ap (λ k. if p.number == n then 0 else k) (h (count + 1) (omega arith) ps n) ∙ same_if (p.number == n) 0
-
-    here : drop count taken ≡ 0 ∷ drop (count + 1) taken
-    here = drop_more taken count zero lt ∙ ap (λ k. k ∷ drop (count + 1) taken) e
-
-    by : (d : ℕ) → m - count ≡ d → number_for procs (drop m taken) n ≡ 0
-    by zero is = ap (λ k. number_for procs (drop k taken) n) (omega (arith, le, is)) ∙ ap (λ l. number_for procs l n) here ∙ first procs
-    by (suc d) is = h m (omega (arith, is)) procs n
-
--- past a procedure of another number
-past_number : (procs : List WordProc) (taken : List ℕ) (i n : ℕ) (p : WordProc) → slice_get procs i ≡ Some p → (p.number == n) ≡ false →
-    number_for (drop i procs) (drop i taken) n ≡ number_for (drop (suc i) procs) (drop (suc i) taken) n
-past_number [] taken i n p e f = absurd (none_some p e)
-past_number (q ∷ procs) [] i n p e f = none_left (drop i (q ∷ procs)) i n ∙ sym (none_left (drop (suc i) (q ∷ procs)) (suc i) n)
-past_number (q ∷ procs) (t ∷ taken) zero n p e f =
-    let is = some_same q p e in cond-false (q.number == n) t (number_for procs taken n) (ap (λ x. x.number == n) is ∙ f)
-past_number (q ∷ procs) (t ∷ taken) (suc i) n p e f = past_number procs taken i n p e f
-
-pub next_number : (procs : List WordProc) (taken : List ℕ) (i n : ℕ) (p : WordProc) → i < length procs → p ≡ get_or procs i p →
-    ((get_or procs i p).number ≡ n → ⊥) → number_for (drop i procs) (drop i taken) n ≡ number_for (drop (i + 1) procs) (drop (i + 1) taken) n
-next_number procs taken i n p lt e other =
-    past_number procs taken i n p (slice_get_read procs (length procs) i p refl lt e) (ne_eqb p.number n (λ s. other (ap (λ x. x.number) (sym e) ∙ s)))
-    ∙ ap (λ k. number_for (drop k procs) (drop k taken) n) (let g : suc i ≡ i + 1 = omega arith in g)
+pub same_taken : {S : Type 0} (index : HashMap ℕ ℕ S) (procs : List WordProc) (taken : List ℕ) → IsIndex index procs → length taken ≡ length procs
+    → by_index index taken ≡ number_for procs taken
+same_taken index procs taken h same = λ i n. h taken same n i
 
 -- what a call takes
 pub call_is : (procs : List WordProc) (sizes taken : List ℕ) (most chain : ℕ) → AreLongest procs sizes taken → most ≡ most_of sizes →

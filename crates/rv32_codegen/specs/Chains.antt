@@ -1,6 +1,7 @@
 -- Chains of calls as they are computed: a number for each procedure, in order, of at most 32 bits. No public contract speaks of it.
-use Rattle.std.specs.Prelude.{◌≡◌, ◌<◌, ◌≤◌, ℕ, zero, suc, ◌+◌, ◌-◌, ◌^◌, max, min, ◌==◌, if◌then◌else◌, List, [], ◌∷◌}
-use Rattle.std.specs.Prelude.{length, drop}
+use Rattle.std.specs.Prelude.{◌≡◌, ◌<◌, ℕ, zero, suc, ◌+◌, ◌-◌, ◌^◌, max, min, ◌==◌, if◌then◌else◌, List, [], ◌∷◌}
+use Rattle.std.specs.Prelude.{length, drop, get_or, nat_eq, Option, None, Some}
+use Rattle.std.specs.HashMap.{HashMap, get}
 use Rattle.word_code.specs.declared.word.WordProc.{WordProc}
 use Rattle.word_code.specs.Words.{is_counted, most_called, most_chain}
 use Rattle.reg_scan.specs.declared.homes.Homes.{Homes}
@@ -15,9 +16,22 @@ number_for [] taken number = 0
 number_for (p ∷ procs) [] number = 0
 number_for (p ∷ procs) (n ∷ taken) number = if p.number == number then n else number_for procs taken number
 
--- what stands behind the first so many isn't taken of any procedure
-abbrev pub NoneBehind : ℕ → List ℕ → Type 0
-NoneBehind count taken = (m : ℕ) → count ≤ m → (procs : List WordProc) (number : ℕ) → number_for procs (drop m taken) number ≡ 0
+-- what is taken at a position, if there is one
+abbrev pub taken_at : List ℕ → Option ℕ → ℕ
+taken_at taken None = 0
+taken_at taken (Some i) = get_or taken i 0
+
+-- what is taken of the procedure of each number that stands where an index says
+abbrev pub by_index : {S : Type 0} → HashMap ℕ ℕ S → (taken : List ℕ) → ℕ → ℕ
+by_index index taken number = taken_at taken (get nat_eq index number)
+
+-- it is the first one of that number, from a position on
+abbrev pub LeadsFrom : {S : Type 0} → HashMap ℕ ℕ S → (from : ℕ) → List WordProc → Type 0
+LeadsFrom index from procs =
+    (taken : List ℕ) → length taken ≡ length procs → (number : ℕ) → by_index index taken number ≡ number_for (drop from procs) (drop from taken) number
+
+abbrev pub IsIndex : {S : Type 0} → HashMap ℕ ℕ S → List WordProc → Type 0
+IsIndex index procs = LeadsFrom index 0 procs
 
 -- what chains take from a procedure on, where those from the procedures that it calls take so much
 abbrev pub chain_from : (taken : ℕ → ℕ) → (size : ℕ) → WordProc → ℕ

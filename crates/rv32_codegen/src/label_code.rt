@@ -33,6 +33,12 @@ pub const LINES_OF_START: u32 = 5;
 /// are laid out as too far.
 pub const BYTES_OF_LINE: u32 = 48;
 
+/// The same of a procedure whose frame and places are near: `NEAR_BYTES` at most each.
+pub const BYTES_OF_NEAR_LINE: u32 = 24;
+
+/// One instruction reaches so many bytes from a register, up and down.
+pub const NEAR_BYTES: u32 = 2_047;
+
 /// What stands in front of all procedures has so many bytes.
 pub const BYTES_OF_START: u32 = 20;
 

@@ -1,5 +1,6 @@
 // The stack that label code needs.
-ghost use Rattle.std.specs.Prelude.{◌≡◌, ◌≤◌, ◌+◌, ◌*◌, true, false, max, length, IfOk};
+ghost use Rattle.std.specs.Prelude.{◌≡◌, ◌≤◌, ◌+◌, ◌*◌, true, false, max, nat_eq, length, IfOk};
+ghost use Rattle.std.specs.HashMap.{get};
 ghost use Rattle.word_code.specs.Words as words;
 ghost use Rattle.word_code.specs.Sizes.{has_no_circle};
 ghost use Rattle.rv32_codegen.specs.Stack as stack;
@@ -10,6 +11,7 @@ use arc_base::{Items, Memory};
 use nim_program::ACTIVE_CALLS;
 use reg_scan::Homes;
 use std::alloc::Global;
+use std::collections::HashMap;
 use word_code::{MOST_ARGUMENTS, ProcKind, SPARE_ROOM, WordCode, WordInstr, WordProc};
 
 fn larger(a: u32, b: u32) -> u32
@@ -37,93 +39,94 @@ fn callee_of(line: WordInstr) -> Option<u32>
     }
 }
 
-// How many of these numbers come up to the last one that isn't 0.
-fn used(taken: &[u32]) -> usize
-    ensures within { result ≤ length taken.now }
-    ensures none { chains.NoneBehind result taken.now }
+// Where the first procedure of each number stands.
+type Index = HashMap<u32, usize>;
+
+// The first of several procedures of a number counts, so they are gone over from their end.
+fn index_of(alloc: Global, procs: &[WordProc]) -> Result<Index, Memory>
+    ensures { IfOk result (λ index. chains.IsIndex index procs.now) }
 {
-    let mut count = taken.len();
-    while count > 0 {
-        if taken[count - 1] > 0 {
-            return count;
-        }
-        count -= 1;
+    let mut index = HashMap::new(alloc);
+    let mut i = procs.len();
+    while i > 0 {
+        i -= 1;
+        index.insert(procs[i].number, i)?;
     }
-    count
+    Ok(index)
 }
 
-// What the first procedure of this number takes, or 0. Those behind the first so many take nothing.
-fn number_for(procs: &[WordProc], taken: &[u32], count: usize, number: u32) -> u32
-    requires long { length taken.now ≡ length procs.now }
-    requires within { count ≤ length taken.now }
-    requires none { chains.NoneBehind count taken.now }
-    ensures { result ≡ chains.number_for procs.now taken.now number }
+fn place_at(index: &Index, number: u32) -> Option<usize>
+    ensures { result ≡ get nat_eq index.now number }
 {
-    for i in 0..count {
-        if procs[i].number == number {
-            return taken[i];
-        }
+    match index.get(&number) {
+        Some(at) => Some(*at),
+        None => None,
     }
-    0
+}
+
+fn taken_at(taken: &[u32], at: Option<usize>) -> u32
+    ensures { result ≡ chains.taken_at taken.now at }
+{
+    match at {
+        None => 0,
+        Some(i) => { if i < taken.len() { taken[i] } else { 0 } }
+    }
+}
+
+// What the first procedure of this number takes, or 0.
+fn number_for(index: &Index, taken: &[u32], number: u32) -> u32
+    ensures { result ≡ chains.by_index index.now taken.now number }
+{
+    taken_at(taken, place_at(index, number))
 }
 
 // What the procedure takes that a line calls, or 0.
-fn taken_for(procs: &[WordProc], taken: &[u32], count: usize, line: WordInstr) -> u32
-    requires long { length taken.now ≡ length procs.now }
-    requires within { count ≤ length taken.now }
-    requires none { chains.NoneBehind count taken.now }
+fn taken_for(index: &Index, taken: &[u32], line: WordInstr) -> u32
     ensures { result
-        ≡ words.taken_for (chains.number_for procs.now taken.now) (words.callee_of line) }
+        ≡ words.taken_for (chains.by_index index.now taken.now) (words.callee_of line) }
 {
     match callee_of(line) {
-        Some(callee) => number_for(procs, taken, count, callee),
+        Some(callee) => number_for(index, taken, callee),
         None => 0,
     }
 }
 
 // The most that one of the procedures takes that these lines call.
-fn most_called(procs: &[WordProc], taken: &[u32], count: usize, lines: &[WordInstr]) -> u32
-    requires long { length taken.now ≡ length procs.now }
-    requires within { count ≤ length taken.now }
-    requires none { chains.NoneBehind count taken.now }
-    ensures { result ≡ words.most_called (chains.number_for procs.now taken.now) lines.now }
+fn most_called(index: &Index, taken: &[u32], lines: &[WordInstr]) -> u32
+    ensures { result ≡ words.most_called (chains.by_index index.now taken.now) lines.now }
 {
     let mut most = 0;
     for line in lines {
-        most = larger(most, taken_for(procs, taken, count, *line));
+        most = larger(most, taken_for(index, taken, *line));
     }
     most
 }
 
 // What chains take from a procedure on that takes so much itself.
-fn chain_from(procs: &[WordProc], taken: &[u32], count: usize, size: u32, proc: &WordProc) -> u32
-    requires long { length taken.now ≡ length procs.now }
-    requires within { count ≤ length taken.now }
-    requires none { chains.NoneBehind count taken.now }
-    ensures { result ≡ chains.chain_from (chains.number_for procs.now taken.now) size proc.now }
+fn chain_from(index: &Index, taken: &[u32], size: u32, proc: &WordProc) -> u32
+    ensures { result ≡ chains.chain_from (chains.by_index index.now taken.now) size proc.now }
 {
     if is_counted(proc.kind) {
         return 0;
     }
-    size.saturating_add(most_called(procs, taken, count, proc.lines.as_slice()))
+    size.saturating_add(most_called(index, taken, proc.lines.as_slice()))
 }
 
 // The same of each procedure.
 fn chains_from(
     alloc: Global,
+    index: &Index,
     procs: &[WordProc],
     taken: &[u32],
     sizes: &[u32],
 ) -> Result<Items<u32>, Memory>
-    requires taken { length taken.now ≡ length procs.now }
-    requires sizes { length sizes.now ≡ length procs.now }
+    requires { length sizes.now ≡ length procs.now }
     ensures { IfOk result (λ next. next
-        ≡ chains.chains_from (chains.number_for procs.now taken.now) procs.now sizes.now) }
+        ≡ chains.chains_from (chains.by_index index.now taken.now) procs.now sizes.now) }
 {
-    let count = used(taken);
     let mut next = Items::new(alloc);
     for i in 0..procs.len() {
-        next.push(chain_from(procs, taken, count, sizes[i], &procs[i]))?;
+        next.push(chain_from(index, taken, sizes[i], &procs[i]))?;
     }
     Ok(next)
 }
@@ -145,13 +148,19 @@ fn is_same(a: &[u32], b: &[u32]) -> bool
 }
 
 // What the longest chains take, from each procedure on.
-fn longest_chains(alloc: Global, procs: &[WordProc], sizes: &[u32]) -> Result<Items<u32>, Memory>
-    requires { length sizes.now ≡ length procs.now }
+fn longest_chains(
+    alloc: Global,
+    index: &Index,
+    procs: &[WordProc],
+    sizes: &[u32],
+) -> Result<Items<u32>, Memory>
+    requires index { chains.IsIndex index.now procs.now }
+    requires sizes { length sizes.now ≡ length procs.now }
     ensures { IfOk result (λ taken. chains.AreLongest procs.now sizes.now taken) }
 {
     let mut taken = none_of(alloc, procs)?;
     for _round in 0..procs.len() {
-        let next = chains_from(alloc, procs, taken.as_slice(), sizes)?;
+        let next = chains_from(alloc, index, procs, taken.as_slice(), sizes)?;
         if is_same(next.as_slice(), taken.as_slice()) {
             return Ok(taken);
         }
@@ -161,17 +170,12 @@ fn longest_chains(alloc: Global, procs: &[WordProc], sizes: &[u32]) -> Result<It
 }
 
 // The longest chain that a procedure may call.
-fn most_chain(procs: &[WordProc], taken: &[u32]) -> u32
-    requires { length taken.now ≡ length procs.now }
-    ensures { result ≡ words.most_chain (chains.number_for procs.now taken.now) procs.now }
+fn most_chain(index: &Index, procs: &[WordProc], taken: &[u32]) -> u32
+    ensures { result ≡ words.most_chain (chains.by_index index.now taken.now) procs.now }
 {
-    let count = used(taken);
     let mut most = 0;
     for proc in procs {
-        most = larger(
-            most,
-            most_called(procs, taken, count, proc.lines.as_slice()),
-        );
+        most = larger(most, most_called(index, taken, proc.lines.as_slice()));
     }
     most
 }
@@ -191,8 +195,9 @@ fn call_size(alloc: Global, procs: &[WordProc], sizes: &[u32]) -> Result<u64, Me
     requires { length sizes.now ≡ length procs.now }
     ensures { IfOk result (λ size. chains.IsCallSize procs.now sizes.now size) }
 {
-    let taken = longest_chains(alloc, procs, sizes)?;
-    let chain = most_chain(procs, taken.as_slice());
+    let index = index_of(alloc, procs)?;
+    let taken = longest_chains(alloc, &index, procs, sizes)?;
+    let chain = most_chain(&index, procs, taken.as_slice());
     Ok(u64::from(most_of(sizes)) + u64::from(chain))
 }
 

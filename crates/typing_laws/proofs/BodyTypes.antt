@@ -107,7 +107,8 @@ module _ (calls : CallsComputed) (nodes : NodesComputed) (covers : EnoughCompute
       → Under (behind_head st at h k).place (map placed (behind_head st at h k).globals) → AtLeast s.state.place more
       → are_among_types program.types
       (body_types (params_from (behind_head st at h k).place k.signature.params) (body_of (behind_head st at h k) h k s)) ≡ true
-      → (is_typed_body program None (params_from (behind_head st at h k).place k.signature.params) k.signature.gives (body_of (behind_head st at h k) h k s) ≡ true)
+      → (is_typed_body program None (params_from (behind_head st at h k).place k.signature.params) k.signature.gives
+      (body_of (behind_head st at h k) h k s) ≡ true)
       × At (at_module program n) (with_body (behind_head st at h k) at h k s)
   typed_body {st} {at} {h} {b} {k} head n l before_head at_head body s read some is end more globals under later among =
       let st' = behind_head st at h k in
@@ -130,7 +131,8 @@ module _ (calls : CallsComputed) (nodes : NodesComputed) (covers : EnoughCompute
         both
             (both among
             (both
-            (both (own_held place st'.place here head before_head) (value_by_same (type_of_place (result_of st' h k)) k.signature.gives (given_of_place _ ∙ gives)))
+            (both (own_held place st'.place here head before_head)
+            (value_by_same (type_of_place (result_of st' h k)) k.signature.gives (given_of_place _ ∙ gives)))
             (eq-eqb (before program st'.place) (before program (st'.place + (s.state.place - st'.place)))
             (first ∙ sym last ∙ ap (λ p. before program p) (sym up)))))
             (both

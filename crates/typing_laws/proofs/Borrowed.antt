@@ -12,7 +12,8 @@ use Rattle.expr_rules.specs.Env.{Env, Parameter, Procedure, callable, known_as}
 use Rattle.expr_rules.specs.Builtins.{is_shown}
 use Rattle.expr_rules.specs.Constructions.{base_of}
 use Rattle.decl_rules.specs.State.{State}
-use Rattle.decl_rules.specs.Heads.{Given, parameters_of, quoted_name, procedure_name, is_dollar, is_comparison, is_plain, is_error, has_pragma, is_shower, takes_first}
+use Rattle.decl_rules.specs.Heads.{Given, parameters_of, quoted_name, procedure_name, is_dollar, is_comparison, is_plain, is_error, has_pragma, is_shower}
+use Rattle.decl_rules.specs.Heads.{takes_first}
 use Rattle.decl_rules.specs.Heads.{borrows_for, has_base, is_borrowing, name_fits, borrow_fits, Headed}
 use Rattle.decl_rules.specs.Bodies.{procedure_entry}
 use Rattle.typing_laws.specs.Sound.{Sound}

@@ -15,7 +15,7 @@ use Rattle.expr_rules.specs.Choices.{same_value}
 use Rattle.decl_rules.specs.State.{State, own_entries, if_typed, is_completed}
 use Rattle.decl_rules.specs.Heads.{Given, Signature, parameters_of, procedure_name, same_mode, same_types, same_modes, Earlier, nothing_earlier, one_earlier}
 use Rattle.decl_rules.specs.Heads.{no_procedure, earlier, earlier_by, completes_if, is_completion, is_awaited, completion_rule, has_pragma, is_borrow}
-use Rattle.decl_rules.specs.Heads.{head_fits, Headed, headed}
+use Rattle.decl_rules.specs.Heads.{head_fits, head_by, Headed, headed}
 use Rattle.decl_rules.specs.Bodies.{params_from}
 use Rattle.decl_rules.specs.Rules as R
 use Rattle.decl_rules.specs.Rules.{IsSignature, IsHead}
@@ -60,8 +60,18 @@ heading st at h b s (one_earlier p) f completed c = by_test (is_completion st.te
     by_test false e c = cc
 heading st at h b s no_procedure f completed c = cc
 
-pub head_is : {st : State} {at : Place} {h : Head} {b : Bool} {k : Headed} → IsHead st at h b k → HeadIs st h b k
-head_is {st} {at} {h} {b} {k} (R.h_head {s = s} g e) =
+typed : (at : Place) (t : Bool) (x : Unit {0}) → ◌≡◌ {A = Answer (Unit {0})} (if_typed t at) (Ok x) → t ≡ true
+typed at true x e = refl
+typed at false x e = cc
+
+-- what is found by a signature
+pub record HeadedBy (st : State) (h : Head) (b : Bool) (s : Signature) (k : Headed) : Type 0 where
+  pub signature : k.signature ≡ s
+  pub fits : head_fits st.env h k.borrowed b (parameters_of k.signature.params) k.signature.gives ≡ true
+  pub heading : Heading st h b k
+
+pub headed_by : (st : State) (at : Place) (h : Head) (b : Bool) (s : Signature) (k : Headed) → head_by st at h b s ≡ Ok k → HeadedBy st h b s k
+headed_by st at h b s k e =
     let found = earlier (procedure_name h.name) (parameters_of s.params) (own_entries st) in
     let c =
     then_is (completion_rule st at b (parameters_of s.params) s.gives found)
@@ -70,15 +80,16 @@ head_is {st} {at} {h} {b} {k} (R.h_head {s = s} g e) =
     let t =
     then_is (if_typed (head_fits st.env h (has_pragma is_borrow h.pragmas) b (parameters_of s.params) s.gives) at)
     (λ _. Ok (headed st h s c.value)) k c.next in
-    subst (HeadIs st h b) (ok_one t.next) (record {
-      signature = g;
-      fits = typed (head_fits st.env h (has_pragma is_borrow h.pragmas) b (parameters_of s.params) s.gives) t.value t.is;
+    subst (HeadedBy st h b s) (ok_one t.next) (record {
+      signature = refl;
+      fits = typed at (head_fits st.env h (has_pragma is_borrow h.pragmas) b (parameters_of s.params) s.gives) t.value t.is;
       heading = heading st at h b s found refl c.value c.is;
     })
-  where
-    typed : (t : Bool) (x : Unit {0}) → ◌≡◌ {A = Answer (Unit {0})} (if_typed t at) (Ok x) → t ≡ true
-    typed true x e = refl
-    typed false x e = cc
+
+pub head_is : {st : State} {at : Place} {h : Head} {b : Bool} {k : Headed} → IsHead st at h b k → HeadIs st h b k
+head_is {st} {at} {h} {b} {k} (R.h_head {s = s} g e) =
+    let found = headed_by st at h b s k e in
+    record { signature = subst (IsSignature st h) (sym found.signature) g; fits = found.fits; heading = found.heading }
 
 -- ---- what completes what
 

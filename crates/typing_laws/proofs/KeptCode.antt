@@ -14,7 +14,7 @@ use Rattle.expr_rules.specs.Env.{Env}
 use Rattle.decl_rules.specs.State.{ResultPlace, Around, in_module, Item, code, State, Stated, block_of, noting}
 use Rattle.decl_rules.specs.Definitions.{place_for, variable_as, with_variable}
 use Rattle.decl_rules.specs.Places.{is_procedure, PlacesNumbered, ProcedureNumbered}
-use Rattle.decl_rules.specs.Elaborated.{Module, module_begins}
+use Rattle.decl_rules.specs.Elaborated.{Module, module_begins, nothing_known}
 use Rattle.decl_rules.specs.Rules as R
 use Rattle.decl_rules.specs.Rules.{IsVariable, AreVariables, IsDefinition, AreDefinitions, IsStated, AreStated}
 use Rattle.decl_rules.specs.ProgramRules as M
@@ -193,3 +193,7 @@ module _ (statements : PlacesNumbered) (procedures : ProcedureNumbered) where
       let r = code_kept h b.kept in
       let q = modules_kept k r.kept in
       record { kept = q.kept; later = later_then b.later (later_then r.later q.later) }
+
+-- before all modules
+pub nothing_kept : Kept nothing_known
+nothing_kept = record { reading = record { served = tt; bodies = tt; under = tt }; globals = refl }

@@ -59,3 +59,9 @@ mod TableDeclared
 mod Computed
 mod Programs
 mod TableFacts
+mod Reaching
+mod Giving
+mod Unhooked
+mod FieldValues
+mod ConstantRows
+mod ConstantValues

@@ -189,7 +189,8 @@ module _ (ts : List Ty) (ints : is_among_types ts type.int ≡ true) where
   mutual
     stmt_listed : (s : RustStmt) (rest : Stmts) → BlockListed rest → BlockListed (stmt_before ts s rest)
     stmt_listed (S.Do value) rest h = both_among ts (total lists own_types (expr_of ts value)) _ (expr_listed value) h
-    stmt_listed (S.Idle node parts) rest h = both_among ts (totals lists own_types (operands_of ts parts.items)) _ (totals_among ts _ (all_listed parts.items)) h
+    stmt_listed (S.Idle node parts) rest h =
+        both_among ts (totals lists own_types (operands_of ts parts.items)) _ (totals_among ts _ (all_listed parts.items)) h
     stmt_listed (S.Give node back value) rest h = both_among ts (total lists own_types (expr_of ts value)) _ (expr_listed value) h
     stmt_listed (S.Leave node leaving parts) rest h =
         both_among ts (totals lists own_types (operands_of ts parts.items)) _ (totals_among ts _ (all_listed parts.items)) h

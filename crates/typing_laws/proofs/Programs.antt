@@ -37,7 +37,7 @@ use Rattle.typing_laws.proofs.Steps.{onto_none, At}
 use Rattle.typing_laws.proofs.Bodies.{SectionsKept}
 use Rattle.typing_laws.proofs.Sections.{section_kept}
 use Rattle.typing_laws.proofs.Kept.{Kept, Later, later_then, later_same}
-use Rattle.typing_laws.proofs.KeptCode.{module_kept, code_kept, modules_kept}
+use Rattle.typing_laws.proofs.KeptCode.{module_kept, code_kept, modules_kept, nothing_kept}
 use Rattle.typing_laws.proofs.Lists.{placed_length}
 use Rattle.typing_laws.proofs.Standing.{standing}
 use Rattle.typing_laws.proofs.Globals.{no_code, both_code}
@@ -51,9 +51,6 @@ use Rattle.typing_laws.proofs.TableDeclared.{table_declared, table_forms}
 
 -- ---- modules
 
-nothing_kept : Kept nothing_known
-nothing_kept = record { reading = record { served = tt; bodies = tt; under = tt }; globals = refl }
-
 module _ (calls : CallsComputed) (nodes : NodesComputed) (covers : EnoughComputed) (preserved : Preserved) (closed : Closed) (closed_one : ClosedOne)
     (sections : SectionsKept) (statements : PlacesNumbered) (procedures : ProcedureNumbered) (types : List Ty) (whole : Stated) (ended : Kept whole.state)
     (ruled : text_rule whole.state.procs whole.state.text ≡ Ok tt) (said : AllSaid whole.state.env.facts whole.state.env.facts) where
@@ -61,7 +58,8 @@ module _ (calls : CallsComputed) (nodes : NodesComputed) (covers : EnoughCompute
   Done = CodeDone (program_of types whole) whole.state
 
   -- what is known where a module begins
-  module_at : (st : State) (number : ℕ) → At (standing whole.state (length st.globals)) st → At (standing whole.state (length st.globals)) (module_begins st number)
+  module_at : (st : State) (number : ℕ) → At (standing whole.state (length st.globals)) st →
+      At (standing whole.state (length st.globals)) (module_begins st number)
   module_at st number at =
       let here = standing whole.state (length st.globals) in
       let all : Knows here (module_begins st number).env = record {
@@ -104,7 +102,8 @@ is_whole : {types : List Ty} {all : List Module} {program : Program} → IsProgr
 is_whole (M.p_program {s = s} n h r) = record { stated = s; modules = h; ruled = r; is = refl }
 
 -- procedures whose types are all among those of the program
-procs_typed : (program : Program) (procs : List RustProc) → ((p : RustProc) → IfListed program.types (proc_of program.types p).params (proc_of program.types p).body)
+procs_typed : (program : Program) (procs : List RustProc) →
+    ((p : RustProc) → IfListed program.types (proc_of program.types p).params (proc_of program.types p).body)
     → ProcsRight program (map (proc_of program.types) procs) → are_typed_procs program (map (proc_of program.types) procs) ≡ true
 procs_typed program [] listed r = refl
 procs_typed program (p ∷ procs) listed r = both (r.0 (listed p)) (procs_typed program procs listed r.1)
@@ -164,7 +163,8 @@ module _ (g : Grounds) (p : RustProgram) (all : List Module) (read : ModulesRead
 
   done : CodeDone (program_of types s) s.state nothing_known s
   done =
-      modules_done g.calls g.nodes g.covers g.preserved g.closed g.closed_one (section_kept g.found g.closed g.closed_one) g.statements g.procedures types s kept
+      modules_done g.calls g.nodes g.covers g.preserved g.closed g.closed_one (section_kept g.found g.closed g.closed_one) g.statements g.procedures
+      types s kept
       w.ruled said w.modules read nothing_kept begins ends
 
   start_typed : is_typed_code (standing s.state 0) (block_of s.steps) ≡ true
@@ -186,10 +186,14 @@ module _ (g : Grounds) (p : RustProgram) (all : List Module) (read : ModulesRead
   table_sound : AreSound (facts_in p.types)
   table_sound = subst AreSound facts sound
 
+  pub whole_sound : AreSound (program_of types s).facts
+  whole_sound = sound
+
   pub whole_typed : IsTyped (program_of types s)
   whole_typed =
       record {
-        forms = subst (λ f. (ty : Ty) → is_among_types types ty ≡ true → (x : Form) × HasForm f ty x) (sym facts) (table_forms p.types table.table table.forms table_sound);
+        forms = subst (λ f. (ty : Ty) → is_among_types types ty ≡ true → (x : Form) × HasForm f ty x) (sym facts)
+            (table_forms p.types table.table table.forms table_sound);
         typed = both
             (subst (λ f. are_declared f types ≡ true) (sym facts) (table_declared p.types table.table table.forms table_sound))
             (both (subst (λ (q : Program). are_typed_procs q q.procs ≡ true) (sym w.is) procs_are_typed)
@@ -209,3 +213,8 @@ pub typed_programs : Grounds → (p : RustProgram) (all : List Module) → IsPro
 typed_programs g p all is read table within =
     let w = is_whole is in
     (subst IsTyped w.is (whole_typed g p all read table within w), subst (λ q. is_numbered_program q ≡ true) w.is (whole_numbered g p all read table within w))
+
+pub types_sound : Grounds → (p : RustProgram) (all : List Module) → IsProgram (types_in p.types) all (over_table p) → ModulesRead all → IsWholeTable p.types
+    → NodesWithin all → AreSound (over_table p).facts
+types_sound g p all is read table within =
+    let w = is_whole is in subst (λ (q : Program). AreSound q.facts) w.is (whole_sound g p all read table within w)

@@ -71,6 +71,7 @@ module _ (here : Here) (sizing : Sizing) (env : Env) (types : (x : List ℕ) (ty
     all_right R.w_none = tt
     all_right (R.w_more h rest) = (spelled_right h, all_right rest)
 
-    pub parts_right : {before : List (List ℕ)} {inside : Fields} {all : Parted} → AreParts sizing env before inside all → AllSound here.facts (types_of all.parts)
+    pub parts_right : {before : List (List ℕ)} {inside : Fields} {all : Parted} → AreParts sizing env before inside all →
+        AllSound here.facts (types_of all.parts)
     parts_right R.w_no_parts = no_more
     parts_right (R.w_parts {all = names} {s = s} {more = more} e h rest) = more_parts names s.of more.parts (spelled_right h) (parts_right rest)

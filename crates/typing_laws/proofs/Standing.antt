@@ -47,7 +47,8 @@ module _ (final : State) (ended : Kept final) (ruled : text_rule final.procs fin
         there = served.there;
         no_hook = served.serves.no_hook;
         ready = subst (λ b. is_ready (with_facts (standing final n) facts) b ≡ true) (sym (ap (λ (p : Proc). p.body) same ∙ has.has))
-            (le-leb (count_below has.body.first (map placed final.globals)) n (subst (λ n. count_below has.body.first (map placed final.globals) ≤ n) g has.few));
+            (le-leb (count_below has.body.first (map placed final.globals)) n
+            (subst (λ n. count_below has.body.first (map placed final.globals) ≤ n) g has.few));
         types = served.serves.types;
         gives = served.serves.gives;
         params = served.serves.params;

@@ -3,4 +3,6 @@
 
 mod laws;
 
-pub use laws::{bodies_numbered, exprs_typed, typed_programs};
+pub use laws::{
+    bodies_numbered, completed_there, constant_values, exprs_typed, typed_programs, types_sound,
+};

@@ -12,5 +12,5 @@ pub use Rattle.word_code.proofs.Areas.{aligned, put_cell, put_area, word_in, wit
 pub use Rattle.word_code.proofs.CopiedWords.{at_same, Apart, span, span_is, SameOutside, Changed, changed_none, changed_rewritten, changed_more}
 pub use Rattle.word_code.proofs.CopiedWords.{changed_word, CopiedTo, separate_on, copied_to}
 -- ---- procedures of codes that are joined
-pub use Rattle.word_code.proofs.JoinedProcs.{found_first, found_last, free_of, joined_formed, joined_weight, joined_ranked}
+pub use Rattle.word_code.proofs.JoinedProcs.{found_first, found_last, free_of, joined_formed, joined_ranked}
 pub use Rattle.word_code.proofs.JoinedProcs.{joined_unhooked, joined_room}

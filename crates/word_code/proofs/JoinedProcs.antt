@@ -1,10 +1,10 @@
 -- Procedures of two codes that are joined: those of the first are found as before, and those of the second with their data moved.
-use Rattle.std.proofs.Common.{◌≡◌, ◌≢◌, inl, inr, ℕ, suc, ◌+◌, ◌≤◌, List, [], ◌∷◌, ◌++◌, length, Bool, true, false, not, refl, sym, ap, ◌∙◌, arith}
-use Rattle.std.specs.Prelude.{◌==◌, ◌&&◌, ◌||◌, if◌then◌else◌}
+use Rattle.std.proofs.Common.{◌≡◌, inl, inr, ℕ, ◌+◌, ◌≤◌, List, [], ◌∷◌, ◌++◌, Bool, true, false, not, refl, sym, ap, ◌∙◌, arith}
+use Rattle.std.specs.Prelude.{◌==◌, ◌&&◌, ◌||◌}
 use Rattle.std.proofs.lemmas.Bool.{and_parts, and_from, cases_Bool, cond-true, cond-false, ne_eqb, eqb-true}
 use Rattle.word_code.specs.declared.word.WordProc.{WordProc}
-use Rattle.word_code.specs.Words.{from_proc, is_counted, is_proc, has_number, are_procs, is_no_hook, have_no_hooks, first_of, most_room}
-use Rattle.word_code.specs.Sizes.{AreRanked, word_weight}
+use Rattle.word_code.specs.Words.{from_proc, is_proc, has_number, are_procs, is_no_hook, have_no_hooks, most_room}
+use Rattle.word_code.specs.Sizes.{AreRanked}
 use Rattle.word_code.specs.Joined.{moved, all_moved, IsFree, AreApart}
 
 -- ---- by number
@@ -97,14 +97,6 @@ joined_formed n (p ∷ procs) others apart h i =
     let none = both_number p.number procs (all_moved n others) (not_false (has_number p.number procs) b.0) free in
     and_from (is_proc p) _ a.0 (and_from (not (has_number p.number (procs ++ all_moved n others))) (are_procs (procs ++ all_moved n others))
     (ap not none) (joined_formed n procs others apart.1 b.1 i))
-
-moved_weight : (n : ℕ) (procs : List WordProc) → word_weight (all_moved n procs) ≡ word_weight procs
-moved_weight n [] = refl
-moved_weight n (p ∷ procs) = ap (λ w. suc (length p.lines) + w) (moved_weight n procs)
-
-pub joined_weight : (n : ℕ) (procs others : List WordProc) → word_weight (procs ++ all_moved n others) ≡ word_weight procs + word_weight others
-joined_weight n [] others = let e = moved_weight n others in omega (arith, e)
-joined_weight n (p ∷ procs) others = let e = joined_weight n procs others in omega (arith, e)
 
 moved_ranked : (rank : ℕ → ℕ) (n : ℕ) (procs : List WordProc) → AreRanked rank procs → AreRanked rank (all_moved n procs)
 moved_ranked rank n [] h = tt

@@ -145,7 +145,6 @@ module _ (table : List TypeDef) (blocks : Code BlockLine) (is_table : IsTable ta
     no_circle = no_circle table blocks runtime is;
     chain = chain_short table blocks runtime is;
     small = are_small table blocks may runtime is.routines;
-    weight = weight_is table blocks runtime is.weight;
     whole = whole_joined runtime is.whole;
     data_most = most_joined runtime is.data_most;
     hooks = unhooked table blocks runtime is.routines;
@@ -166,6 +165,7 @@ module _ (table : List TypeDef) (blocks : Code BlockLine) (is_table : IsTable ta
   lowers = record {
     apart = λ runtime is. apart_from table blocks may runtime.procs is.routines;
     lowers = lowers_with;
+    weight = weight_is table blocks;
     whole = data_whole table blocks;
     data_size = data_sized table blocks;
   }

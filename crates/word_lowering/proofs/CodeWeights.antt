@@ -16,20 +16,16 @@ use Rattle.flat_code.specs.declared.line.Line.TheVariants as L
 use Rattle.flat_code.specs.Codes.{block_plain}
 use Rattle.flat_code.specs.Running.{last_of}
 use Rattle.flat_code.specs.Sizes.{weight_of, weight, summed, proc_weight, code_weight}
-use Rattle.word_code.specs.declared.routine.TheConstants.{RUNTIME_WEIGHT}
-use Rattle.word_code.specs.declared.word.WordCode.{WordCode}
 use Rattle.word_code.specs.declared.word.WordInstr.{WordInstr}
 use Rattle.word_code.specs.declared.word.WordInstr.TheVariants.{Argument}
 use Rattle.word_code.specs.declared.word.WordProc.{WordProc}
-use Rattle.word_code.specs.Joined.{joined}
 use Rattle.word_code.specs.RoutineTable.{trap_number}
 use Rattle.word_code.specs.Sizes.{word_weight}
-use Rattle.word_code.proofs.ForCallers.{joined_weight}
 use Rattle.word_lowering.specs.declared.homes.TheConstants.{LEFT, FIRST, FIFTH}
 use Rattle.word_lowering.specs.declared.homes.Home.{Home}
 use Rattle.word_lowering.specs.declared.homes.Home.TheVariants.{Variable, Placed, Static}
 use Rattle.word_lowering.specs.declared.homes.Housed.{Housed}
-use Rattle.word_lowering.specs.declared.lowering.TheConstants.{ROUTINES_WEIGHT}
+use Rattle.word_lowering.specs.declared.lowering.TheConstants.{START_WEIGHT}
 use Rattle.word_lowering.specs.declared.spots.Spot.{Spot}
 use Rattle.word_lowering.specs.declared.spots.Spot.TheVariants.{Held, Lies}
 use Rattle.word_lowering.specs.declared.texts.TheConstants.{LINE_END_AT, FIXED_BYTES}
@@ -330,9 +326,6 @@ weight_by table (p ∷ ps) =
     let i = procs_weigh table FIXED_BYTES x 0 code.no_proc p ps in
     omega (arith, h, i)
 
-pub weight_is : (table : List TypeDef) (blocks : Code BlockLine) (runtime : WordCode) → word_weight runtime.procs ≤ RUNTIME_WEIGHT
-    → word_weight (joined (code.lowered table blocks) runtime).procs ≤ code_weight block_plain blocks.procs + ROUTINES_WEIGHT
-weight_is table blocks runtime few =
-    let own = weight_by table blocks.procs in
-    let both = joined_weight (length (code.lowered table blocks).statics) (code.lowered table blocks).procs runtime.procs in
-    omega (arith, own, both, few)
+pub weight_is : (table : List TypeDef) (blocks : Code BlockLine)
+    → word_weight (code.lowered table blocks).procs ≤ code_weight block_plain blocks.procs + START_WEIGHT
+weight_is table blocks = weight_by table blocks.procs

@@ -5,7 +5,7 @@ use Rattle.std.proofs.Common.{append-nil, append_assoc, length-append, add-zero}
 use Rattle.std.proofs.lemmas.Option.{none-some, same_Some}
 use Rattle.nim_types.specs.declared.types.TypeDef.{TypeDef}
 use Rattle.rv32_isa.specs.Words.{word_bytes}
-use Rattle.word_lowering.specs.MayLower.{def_may, defs_may}
+use Rattle.word_lowering.specs.MayLower.{has_names, have_names}
 use Rattle.word_lowering.specs.Texts.{members_of, all_names, joined_all, starts_from}
 
 pub names_more : (table : List TypeDef) (id : ℕ) (def : TypeDef) → slice_get table id ≡ Some def
@@ -22,9 +22,9 @@ names_from (d ∷ ds) zero def e = ap (λ x. members_of x ++ all_names ds) (same
 names_from (d ∷ ds) (suc id) def e = names_from ds id def e
 
 pub defs_from : (table : List TypeDef) (id : ℕ) (def : TypeDef) → slice_get table id ≡ Some def
-    → defs_may (drop id table) ≡ (def_may def && defs_may (drop (suc id) table))
+    → have_names (drop id table) ≡ (has_names def && have_names (drop (suc id) table))
 defs_from [] id def e = absurd (none-some def e)
-defs_from (d ∷ ds) zero def e = ap (λ x. def_may x && defs_may ds) (same_Some d def e)
+defs_from (d ∷ ds) zero def e = ap (λ x. has_names x && have_names ds) (same_Some d def e)
 defs_from (d ∷ ds) (suc id) def e = defs_from ds id def e
 
 pub joined_append : (xs ys : List (List ℕ)) → joined_all (xs ++ ys) ≡ joined_all xs ++ joined_all ys

@@ -59,7 +59,6 @@ mod Keeping
 mod LabelFacts
 mod LabelsFirst
 mod LabelsHere
-mod LabelsOnce
 mod LayoutBounds
 mod LeadLines
 mod LineFits

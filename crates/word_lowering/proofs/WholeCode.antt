@@ -1,7 +1,7 @@
 -- All of word code, from what makes its parts.
 use Rattle.std.proofs.Common.{◌≡◌, ℕ, zero, suc, ◌-◌, List, [], ◌∷◌, ◌++◌, length, Some, slice_get}
 use Rattle.std.proofs.Common.{sym, ap, ap₂, ◌∙◌, arith}
-use Rattle.std.proofs.Common.{map, ◌+◌, ◌==◌, ◌&&◌, nat_le, true, false, add-one, length-append}
+use Rattle.std.proofs.Common.{map, ◌+◌, ◌==◌, true, false, add-one, length-append}
 use Rattle.std.proofs.lemmas.Bool.{true≢false}
 use Rattle.std.proofs.lemmas.Option.{none-some, same_Some}
 use Rattle.nim_types.specs.declared.types.TypeDef.{TypeDef}
@@ -17,8 +17,7 @@ use Rattle.word_lowering.specs.Emission.{Puts}
 use Rattle.word_lowering.specs.LineCode.{Around, no_layout, proc_number}
 use Rattle.word_lowering.specs.Texts.{texts_of, texts_in, padded, data_in}
 use Rattle.word_lowering.specs.Lowered.{word_proc, with_own, if_runs, word_procs, no_proc, all_layouts, around_start, lowered}
-use Rattle.word_lowering.specs.declared.may_lower.TheConstants.{MOST_DATA}
-use Rattle.word_lowering.specs.MayLower.{defs_may, labels_may, procs_may, may_lower}
+use Rattle.word_lowering.specs.MayLower.{may_lower}
 use Rattle.word_lowering.specs.Lowers.{IsLowered}
 
 -- the last item, by its number
@@ -97,23 +96,17 @@ module _ (table : List TypeDef) (blocks : Code BlockLine) where
 
   -- from the slices that the code has
   pub whole_by : (slice : List (CodeProc BlockLine)) (slices : List Layout) (own : Layout) (start : CodeProc BlockLine) (x : Around)
-      (procs : List WordProc) (statics bytes : List ℕ)
+      (procs : List WordProc) (statics : List ℕ)
       → slice ≡ blocks.procs → slices ≡ all_layouts table blocks.procs
       → slice_get slices (length slices - 1) ≡ Some own → slice_get slice (length slice - 1) ≡ Some start
       → x ≡ around_start table slices own → procs ≡ word_proc x 0 start ∷ word_procs x 0 x.layouts slice
       → statics ≡ padded (data_in table own.free.datum slice)
-      → bytes ≡ statics → (procs_may table slices slice && (nat_le (length bytes) MOST_DATA && (defs_may table && labels_may slice))) ≡ true
+      → may_lower table blocks ≡ true
       → IsLowered table blocks (both procs statics)
-  whole_by slice slices own start x procs statics bytes s there o f around h d b may =
+  whole_by slice slices own start x procs statics s there o f around h d may =
       let is : ◌≡◌ {A = WordCode} (both procs statics) (lowered table blocks) =
       whole slices own start x procs statics there (last_is no_layout slices own o)
       (ap (λ ps. last_of no_proc ps) (sym s) ∙ last_is no_proc slice start f) around
       (h ∙ ap (λ ps. word_proc x 0 start ∷ word_procs x 0 x.layouts ps) s)
       (d ∙ ap (λ ps. padded (data_in table own.free.datum ps)) s) in
-      let tested : may_lower table blocks ≡ true =
-      sym (ap (λ ls. procs_may table ls slice && (nat_le (length bytes) MOST_DATA && (defs_may table && labels_may slice))) there
-      ∙ ap (λ ps. procs_may table (all_layouts table blocks.procs) ps && (nat_le (length bytes) MOST_DATA && (defs_may table && labels_may ps))) s
-      ∙ ap (λ bs. procs_may table (all_layouts table blocks.procs) blocks.procs
-      && (nat_le (length bs) MOST_DATA && (defs_may table && labels_may blocks.procs)))
-      (b ∙ ap (λ (code : WordCode). code.statics) is)) ∙ may in
-      record { is = is; may = tested }
+      record { is = is; may = may }

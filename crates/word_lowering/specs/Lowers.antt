@@ -23,7 +23,7 @@ use Rattle.word_code.specs.Sizes.{word_weight, longest_chain, has_no_circle}
 use Rattle.word_code.specs.Words.{is_counted, have_no_hooks, is_word_code, word_meaning}
 use Rattle.word_code.specs.Joined.{joined, AreApart}
 use Rattle.word_code.specs.Runtime.{IsSmallRoutine, IsRuntime}
-use Rattle.word_lowering.specs.declared.lowering.TheConstants.{WORD_PACE, MOST_HEAP, ROUTINES_WEIGHT, MORE_DATA}
+use Rattle.word_lowering.specs.declared.lowering.TheConstants.{WORD_PACE, MOST_HEAP, START_WEIGHT, MORE_DATA}
 use Rattle.word_lowering.specs.declared.may_lower.TheConstants.{MOST_ROOM, MOST_VARS, MOST_DATA}
 use Rattle.word_lowering.specs.Lowered.{lowered}
 use Rattle.word_lowering.specs.MayLower.{may_lower}
@@ -65,8 +65,6 @@ pub record Lowers (table : List TypeDef) (blocks : Code BlockLine) (code : WordC
   pub no_circle : has_no_circle code.procs ≡ true
   pub chain : longest_chain code.procs ≤ ROUTINE_CHAIN
   pub small : AreSmall code.procs
-  -- its lines, and one for each procedure, by what block code weighs
-  pub weight : word_weight code.procs ≤ code_weight block_plain blocks.procs + ROUTINES_WEIGHT
   -- data is whole words, and as much as an image has
   pub whole : length code.statics % 4 ≡ 0
   pub data_most : length code.statics ≤ MOST_DATA + RUNTIME_DATA
@@ -77,6 +75,8 @@ pub record Lowers (table : List TypeDef) (blocks : Code BlockLine) (code : WordC
 pub record LowersWithRuntime (table : List TypeDef) (blocks : Code BlockLine) (code : WordCode) : Type 0 where
   pub apart : (runtime : WordCode) → IsRuntime runtime → AreApart code.procs runtime.procs
   pub lowers : (runtime : WordCode) → IsRuntime runtime → Lowers table blocks (joined code runtime)
+  -- its own lines, and one for each of its procedures, by what block code weighs
+  pub weight : word_weight code.procs ≤ code_weight block_plain blocks.procs + START_WEIGHT
   -- its own data is whole words, by what block code's is
   pub whole : length code.statics % 4 ≡ 0
   pub data_size : length code.statics ≤ data_bytes block_plain table blocks.procs + MORE_DATA

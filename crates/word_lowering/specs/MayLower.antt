@@ -1,5 +1,5 @@
--- What `words` tests before it gives code: that no form comes that word code has no room for, and none that isn't built. Block code that comes from a
--- program without what the heap is for has no such form.
+-- What `words` asks of block code, and tests of names alone: that no form comes that word code has no room for, and none that isn't built. Block code
+-- that comes from a program without what the heap is for has no such form.
 use Rattle.std.specs.Prelude.{ℕ, ◌+◌, nat_eq, nat_le, nat_lt, Bool, true, false, not, ◌&&◌, ◌||◌, if◌then◌else◌}
 use Rattle.std.specs.Prelude.{List, [], ◌∷◌, length, map, Option, Some, None}
 use Rattle.nim_types.specs.declared.types.TypeDef.{TypeDef}
@@ -136,6 +136,15 @@ def_may def = true
 abbrev pub defs_may : List TypeDef → Bool
 defs_may [] = true
 defs_may (def ∷ defs) = def_may def && defs_may defs
+
+-- of that, what is tested: each member of an enum has a name
+abbrev pub has_names : TypeDef → Bool
+has_names (D.Enum name at members) = none_empty members
+has_names def = true
+
+abbrev pub have_names : List TypeDef → Bool
+have_names [] = true
+have_names (def ∷ defs) = has_names def && have_names defs
 
 -- ---- sizes
 

@@ -5,7 +5,6 @@ mod addresses;
 mod aliases;
 mod calls;
 mod homes;
-mod labels;
 mod layouts;
 mod line_code;
 mod locations;
@@ -26,7 +25,7 @@ mod writing;
 
 pub use aliases::Names;
 pub use homes::{Alias, Free, Home, Housed, Layout, Sort};
-pub use lowering::{MORE_DATA, MOST_HEAP, ROUTINES_WEIGHT, WORD_PACE, words};
+pub use lowering::{MORE_DATA, MOST_HEAP, START_WEIGHT, WORD_PACE, words};
 pub use may_lower::{MOST_DATA, MOST_ROOM, MOST_VARS};
 pub use place_table::PlaceTable;
 pub use scope::Scope;

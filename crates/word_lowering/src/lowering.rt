@@ -1,20 +1,20 @@
 // From block code to word code.
-ghost use Rattle.std.specs.Prelude.{◌≡◌, ◌∷◌, ◌++◌, map, IfOk, OnOk};
+ghost use Rattle.std.specs.Prelude.{◌≡◌, ◌∷◌, ◌++◌, true, map, IfOk, OnOk};
 ghost use Rattle.flat_code.specs.Codes.{block_plain};
 ghost use Rattle.word_lowering.specs.Emission.{Puts};
 ghost use Rattle.word_lowering.specs.LineCode.{proc_number};
 ghost use Rattle.word_lowering.specs.Lowered.{result_cleared, kind_of, kind_in, code_of, word_proc};
 ghost use Rattle.word_lowering.specs.Lowered.{with_own, if_runs, word_procs, all_layouts, around_start};
 ghost use Rattle.word_lowering.specs.Lowers.{LowersWithRuntime};
+ghost use Rattle.word_lowering.specs.MayLower.{have_names, may_lower};
 ghost use Rattle.word_lowering.specs.Scope.{around_of};
 ghost use Rattle.word_lowering.specs.Stored.{HaveForms};
 
 use crate::calls::proc_number;
 use crate::homes::{Housed, Layout, OWN_FROM};
-use crate::labels::labels_may;
 use crate::layouts::{kept_in, layouts, result_in};
 use crate::line_code::emit_lines;
-use crate::may_lower::may_lower;
+use crate::may_lower::have_names;
 use crate::scope::Scope;
 use crate::setting::Setting;
 use crate::spots::{emit_clears, sum};
@@ -31,9 +31,9 @@ use word_code::{ProcKind, WordCode, WordInstr, WordProc};
 /// Word code has at most so many lines carried out for each work of the block code that it is of.
 pub const WORD_PACE: u32 = 16;
 
-/// With a runtime word code has at most so many lines and procedures beside what block code weighs:
-/// the routines, and a start code without lines.
-pub const ROUTINES_WEIGHT: u32 = 108;
+/// Without a runtime word code has at most so many lines and procedures beside what block code weighs:
+/// a start code without lines.
+pub const START_WEIGHT: u32 = 6;
 
 /// Without a runtime data has at most so many bytes beside those of globals, of names of enums and of
 /// texts.
@@ -221,6 +221,7 @@ fn words_of(
 ) -> Result<WordCode, Memory>
     requires forms { HaveForms types.now }
     requires layouts { layouts.now ≡ all_layouts types.now blocks.now.procs }
+    requires may { have_names types.now ≡ true → may_lower types.now blocks.now ≡ true }
     ensures { IfOk result (λ code. LowersWithRuntime types.now blocks.now code) }
 {
     memories();
@@ -232,11 +233,10 @@ fn words_of(
     let Some(start) = procs.last() else {
         return Err(Memory);
     };
-    let statics = data(alloc, types, own.free.datum, procs)?;
-    let labels = labels_may(alloc, procs)?;
-    if !may_lower(types, layouts, procs, statics.as_slice(), labels) {
+    if !have_names(types) {
         return Err(Memory);
     }
+    let statics = data(alloc, types, own.free.datum, procs)?;
     let x = start_scope(types, layouts, own)?;
     let procs = all_procs(alloc, &x, start, procs)?;
     Ok(WordCode { procs, statics })
@@ -245,10 +245,10 @@ fn words_of(
 /// The word code of block code, which calls routines by their numbers: it is to be joined with a
 /// runtime.
 ///
-/// `Memory` comes too where a procedure takes more places, or all take more data, than the machine
-/// has, and where block code is such as no program makes (specs/MayLower.antt).
+/// `Memory` comes too where a member of an enum has no name.
 pub fn words(alloc: Global, blocks: &Blocks, types: &TypeTable) -> Result<WordCode, Memory>
-    requires { HaveForms types.now }
+    requires forms { HaveForms types.now }
+    requires may { have_names types.now ≡ true → may_lower types.now blocks.now ≡ true }
     ensures { IfOk result (λ code. LowersWithRuntime types.now blocks.now code) }
 {
     let all = layouts(alloc, types, FIXED_BYTES, blocks.procs.as_slice())?;

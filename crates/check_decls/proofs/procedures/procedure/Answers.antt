@@ -4,6 +4,7 @@ use Rattle.decl_heads.specs.ViewHeads.{signature_of, AreNumbered}
 use Rattle.decl_parts.specs.declared.state.State.{State as RustState}
 use Rattle.check_decls.proofs.Drafts.{sound_state}
 use Rattle.check_decls.proofs.Proclaiming.{signature_goes, signature_stops}
+use Rattle.check_decls.proofs.Reaching.{reached_grown}
 use Rattle.check_decls.proofs.procedures.procedure.Goals as goal
 
 pub returns-in-Ok-clause-passing : goal.returns-in-Ok-clause-passing
@@ -19,11 +20,16 @@ returns-in-Err-clause-passing c =
 pub procedure_by-requires-clause-sound : goal.procedure_by-requires-clause-sound
 procedure_by-requires-clause-sound c =
     let j = c.in-Ok.ensures.said in
-    sound_state c.args.draft.now c.head_signature.new.state c.requires j.further j.stands.ready
+    sound_state c.args.draft.now c.head_signature.new.state c.requires.sound j.further j.stands.ready
+
+pub procedure_by-requires-clause-reached : goal.procedure_by-requires-clause-reached
+procedure_by-requires-clause-reached c =
+    let j = c.in-Ok.ensures in
+    reached_grown c.args.draft.now c.head_signature.new.state j.grown j.same j.said.further c.requires.reached
 
 pub procedure_by-requires-clause-numbered : goal.procedure_by-requires-clause-numbered
 procedure_by-requires-clause-numbered c =
     subst (λ n. AreNumbered n c.in-Ok.signature.params) (sym (ap (λ (s : RustState). s.place) c.in-Ok.ensures.same)) c.in-Ok.ensures.numbered
 
 pub head_signature-requires : goal.head_signature-requires
-head_signature-requires c = record { ready = c.requires.ready }
+head_signature-requires c = record { ready = c.requires.sound.ready }

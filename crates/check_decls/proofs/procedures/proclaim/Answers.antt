@@ -41,3 +41,6 @@ body_of-requires-clause-ready c = c.in_ok-declare_head.ensures.declared.stands.r
 pub body_of-requires-clause-within : goal.body_of-requires-clause-within
 body_of-requires-clause-within c =
     subst (λ (l : List TypeDef). SignatureWithin (length l) c.args.signature) (sym c.declare_head.ensures.types) c.requires.within
+
+pub note_body-requires : goal.note_body-requires
+note_body-requires c = record { there = c.requires.there }

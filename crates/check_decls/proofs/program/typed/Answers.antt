@@ -6,6 +6,7 @@ use Rattle.check_decls.specs.Modules.{in_order, program_in}
 use Rattle.check_decls.specs.View.{program_rule}
 use Rattle.check_decls.proofs.Beginning.{first_sound}
 use Rattle.check_decls.proofs.Finishing.{typed_goes, typed_stops, typed_whole}
+use Rattle.check_decls.proofs.Reaching.{reached_first}
 use Rattle.check_decls.proofs.program.typed.Goals as goal
 
 pub returns-in-Ok-clause-program : goal.returns-in-Ok-clause-program
@@ -23,8 +24,11 @@ returns-in-Err-clause-program c =
     typed_stops c.in_ok-draft.draft c.all_modules.new.draft (in_order c.args.modules.now c.args.order.now) c.in-Err.stop c.in_ok-draft.ensures.first
     c.count-count.ensures.table c.in-Err.ensures
 
-pub all_modules-requires : goal.all_modules-requires
-all_modules-requires c = first_sound c.in_ok-draft.draft c.in_ok-draft.ensures.first
+pub all_modules-requires-clause-sound : goal.all_modules-requires-clause-sound
+all_modules-requires-clause-sound c = first_sound c.in_ok-draft.draft c.in_ok-draft.ensures.first
+
+pub all_modules-requires-clause-reached : goal.all_modules-requires-clause-reached
+all_modules-requires-clause-reached c = reached_first c.in_ok-draft.draft c.in_ok-draft.ensures.first
 
 pub returns-in_err-draft-clause-program : goal.returns-in_err-draft-clause-program
 returns-in_err-draft-clause-program c =

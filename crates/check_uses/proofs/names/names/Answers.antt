@@ -11,7 +11,7 @@ use Rattle.check_uses.proofs.names.names.Goals as goal
 pub loop-next-init : goal.loop-next-init
 loop-next-init c =
     search_begins (all_procs c.args.known.now) c.args.global c.args.proc c.add.new.self
-    (c.in_ok-add.ensures ∙ ap (with_number c.args.proc) c.in_ok-clear.ensures)
+    (c.in_ok-add.ensures ∙ ap (with_number c.args.proc) c.clear.ensures)
 
 pub loop-next-preserved : goal.loop-next-preserved
 loop-next-preserved c =

@@ -16,7 +16,7 @@ loop-left-init c =
     let items = items_of [] c.args.known.now.procs.now.items c.args.start.now.items in
     let none : items (drop (length text) text) ≡ [] = ap items (drop_all (length text) text (omega arith)) in
     record {
-      later = λ p. ap (is_among p) c.in_ok-later.ensures ∙ sym (ap (comes_in_time p) none);
+      later = λ p. ap (is_among p) c.new-later.ensures ∙ sym (ap (comes_in_time p) none);
       answer = ap (text_rule all) none;
       below = omega arith;
     }

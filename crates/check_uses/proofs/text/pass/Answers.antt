@@ -25,11 +25,11 @@ pub returns-then-declares_any : goal.returns-then-declares_any
 returns-then-declares_any c =
     let start = c.args.start.now.items in
     let stmts = take c.in-Code.count (drop c.in-Code.first start) in
-    on_ok_weaker c.clear.result (λ e. λ procs rest h.
+    λ procs rest h.
     time_as procs start c.args.item (item.Code c.in-Code.first c.in-Code.count) c.clear.new.self rest c.in-Code.is
-    (time_same [] c.clear.new.self (code (stmts_of [] stmts) ∷ rest) e (time_over rest (stmts_of [] stmts)
+    (time_same [] c.clear.new.self (code (stmts_of [] stmts) ∷ rest) c.clear.ensures (time_over rest (stmts_of [] stmts)
     (ap (λ l. declares_any (stmts_of [] l)) (sym (c.part.ensures ∙ ap (λ l. take c.in-Code.count (drop c.in-Code.first l)) c.as_slice.ensures.value)) ∙
-    sym c.declares_any.ensures ∙ c.if-declares_any.true)))) c.clear.ensures
+    sym c.declares_any.ensures ∙ c.if-declares_any.true)))
 
 pub returns-else-declares_any : goal.returns-else-declares_any
 returns-else-declares_any c =

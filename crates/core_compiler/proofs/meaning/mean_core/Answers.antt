@@ -22,3 +22,6 @@ returns-clause-ends g c =
     ends meant (c.meanings.ensures.sound (program_in c.args.program.now) c.args.plan.now c.args.heap []) c.args.n _ _ c.mean.result
     (comes_means (by_units c.args.program.now.types c.args.plan.now c.in-Ok.flat c.args.heap [] c.args.n)
     (meant c.args.n) c.mean.result _ _ (c.in-Ok.ensures.exact c.args.heap [] c.args.n) (c.mean.ensures.means []))
+
+pub mean-requires : goal.mean-requires
+mean-requires g c = c.in-Ok.ensures.forms

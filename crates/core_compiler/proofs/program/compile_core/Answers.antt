@@ -12,6 +12,10 @@ use Rattle.core_compiler.proofs.Composing.{has_code, does_program}
 use Rattle.core_compiler.proofs.Refusals.{code_fits, code_large, refused_before, refused_with}
 use Rattle.core_compiler.proofs.program.compile_core.Goals as goal
 
+-- what flat code is may be lowered
+pub words_of-requires-clause-may : goal.words_of-requires-clause-may
+words_of-requires-clause-may c = c.in_ok-flat.ensures.may
+
 -- ---- it is refused before, or no memory
 
 pub returns-in_err-within_core-clause-answers : goal.returns-in_err-within_core-clause-answers

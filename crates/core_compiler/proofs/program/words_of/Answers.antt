@@ -2,11 +2,18 @@ use Rattle.std.proofs.Common.{sym, subst}
 use Rattle.std.proofs.lemmas.Result.{IfOk-weaker}
 use Rattle.core_compiler.specs.Stages.{AreWordsOf}
 use Rattle.core_compiler.proofs.Composing.{words_of_flat}
+use Rattle.core_compiler.proofs.MayLower.{may_be}
 use Rattle.core_compiler.proofs.program.words_of.Goals as goal
 
 -- `join` asks that no procedure is in both
 pub join-requires : goal.join-requires
 join-requires c = c.in_ok-words.ensures.apart c.in_ok-runtime.runtime c.in_ok-runtime.ensures
+
+-- `words` asks that block code may become word code
+pub words-requires-clause-may : goal.words-requires-clause-may
+words-requires-clause-may c = λ names.
+    may_be c.args.plan.now c.args.types.now c.args.flat.now c.in_ok-owned.owned c.in_ok-blocks.blocks (c.in_ok-owned.ensures c.requires.ordered)
+    c.in_ok-blocks.ensures c.requires.may names
 
 pub returns : goal.returns
 returns c =

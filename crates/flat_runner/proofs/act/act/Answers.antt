@@ -1,6 +1,4 @@
 use Rattle.std.proofs.Common.{subst, sym}
-use Rattle.nim_types.specs.Table.{types_in, facts_in}
-use Rattle.nim_program.specs.View.{if_type}
 use Rattle.nim_meaning.specs.Values.{Number, location, length_of}
 use Rattle.nim_meaning.specs.Places.{exchanged}
 use Rattle.nim_meaning.specs.Deeds.{give}

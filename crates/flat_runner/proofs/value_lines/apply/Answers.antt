@@ -41,7 +41,7 @@ returns c =
     let did = subst (λ fs. ActsAs c.args.types.now c.args.operation c.args.ty c.args.of.now c.args.temps.now fs before acted behind) c.as_slice-from.ensures
     (subst (λ os. ActsAs c.args.types.now c.args.operation c.args.ty os c.args.temps.now c.as_slice-from.result.now before acted behind) c.as_slice-of.ensures
     (c.act-acted.ensures w)) in
-    let made = hooked_acts facts ty c.is_hooked.result how deed before behind c.made.result (c.is_hooked.ensures c.args.types.now c.requires.hooked)
+    let made = hooked_acts facts ty c.is_hooked.result how deed before behind c.made.result c.is_hooked.ensures
     (c.made.ensures how deed before behind (acts_behind (table_does c.args.operation facts ty of xs) 1 acted before behind did)) in
     did_as (using_all t froms (λ xs. gives x c.args.to (row facts (Doing c.args.operation) how ty of xs)))
     (gives x c.args.to (row facts (Doing c.args.operation) how ty of xs)) t before c.answers.result (temps_is c.answers.new.temps) behind

@@ -17,7 +17,7 @@ returns c =
     let ty = Some (type_at types c.args.ty) in
     let pieces = c.args.pieces.now in
     let deed = costs 1 (costs (pieces_bytes pieces) (give (value_of pieces))) in
-    let made = hooked_acts facts ty c.is_hooked.result how deed before before c.made.result (c.is_hooked.ensures c.args.types.now c.requires.hooked)
+    let made = hooked_acts facts ty c.is_hooked.result how deed before before c.made.result c.is_hooked.ensures
     (c.made.ensures how deed before before (c.given-acted.ensures deed before (constant_acts before pieces c.as_slice-pieces.result.now c.constant.result
     c.as_slice-pieces.ensures c.constant.ensures))) in
     c.answers.ensures (deed >>= made_by (gives_hooked facts ty) how) before before made

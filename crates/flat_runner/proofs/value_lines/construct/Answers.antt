@@ -38,7 +38,7 @@ returns c =
     let did = subst (λ fs. IsBuiltBy c.args.types.now fields c.args.ty t fs before acted) c.as_slice-from.ensures
     (subst (λ os. IsBuiltBy c.args.types.now os c.args.ty t c.as_slice-from.result.now before acted) c.as_slice-fields.ensures
     (c.built-acted.ensures before)) in
-    let made = hooked_acts facts ty c.is_hooked.result how deed before before c.made.result (c.is_hooked.ensures c.args.types.now c.requires.hooked)
+    let made = hooked_acts facts ty c.is_hooked.result how deed before before c.made.result c.is_hooked.ensures
     (c.made.ensures how deed before before did) in
     did_as (using_all t froms (λ xs. gives x c.args.to (row facts (Building fields) how ty [] xs)))
     (gives x c.args.to (row facts (Building fields) how ty [] xs)) t before c.answers.result (temps_is c.answers.new.temps) before

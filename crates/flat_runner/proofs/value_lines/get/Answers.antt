@@ -11,7 +11,8 @@ use Rattle.flat_runner.proofs.value_lines.get.Goals as goal
 
 pub returns-in-Some : goal.returns-in-Some
 returns-in-Some c =
-    λ types plan w level site how tables.
+    λ plan w level site how.
+    let types = c.args.types.now in
     let t = temps_is c.args.temps.now in
     let world = world_with w c.args.frames.now.items in
     let place = where_of c.in-Some.place.now in
@@ -23,4 +24,4 @@ returns-in-Some c =
     (gives x c.args.to deed) t world
     c.answers.result (temps_is c.answers.new.temps) world
     (using_place_is t c.args.from place (λ place location. gives x c.args.to (got_by (facts_in types) plan how site ty location)) e)
-    (c.answers.ensures deed world world (c.got-acted.ensures types plan w site how tables))
+    (c.answers.ensures deed world world (c.got-acted.ensures plan w site how))

@@ -8,8 +8,8 @@ use Rattle.flat_runner.proofs.value_lines.got.Goals as goal
 
 pub returns : goal.returns
 returns c =
-    λ types plan w site how tables.
+    λ plan w site how.
     let world = world_with w c.args.frames.now.items in
     let l = location_at (temps_is c.args.temps.now) (where_of c.args.place.now) in
-    subst (λ b. Acts (taken_by b how (act_at plan site) l) world c.fetched.result world) (sym (c.is_hooked.ensures types tables.hooked ∙ c.if-is_hooked.false))
+    subst (λ b. Acts (taken_by b how (act_at plan site) l) world c.fetched.result world) (sym (c.is_hooked.ensures ∙ c.if-is_hooked.false))
     (c.fetched.ensures w)

@@ -13,7 +13,8 @@ use Rattle.flat_runner.proofs.value_lines.pass.Goals as goal
 
 pub returns-in-Some : goal.returns-in-Some
 returns-in-Some c =
-    λ types plan w level how frames tables.
+    λ plan w level how frames.
+    let types = c.args.types.now in
     let facts = facts_in types in
     let t = temps_is c.args.temps.now in
     let before = world_with w frames in
@@ -23,7 +24,7 @@ returns-in-Some c =
     let e : t.values c.args.from ≡ Some v = sym c.value_at.ensures ∙ ap (option_map (λ v. value_of v.now)) c.in-Some.is in
     let deed = costs (bytes v) (give v) in
     let made = handed_acts facts ty how v before before c.made-acted.result
-    (hooked_acts facts ty c.is_hooked.result how deed before before c.made-acted.result (c.is_hooked.ensures types tables.hooked)
+    (hooked_acts facts ty c.is_hooked.result how deed before before c.made-acted.result c.is_hooked.ensures
     (c.made-acted.ensures how deed before before (c.given.ensures deed before (copied_acts before v c.copied.result c.copied.ensures)))) in
     did_as (using (t.values c.args.from) (λ v. gives x c.args.to (costs 1 (handed_by facts how ty v)))) (gives x c.args.to (costs 1 (handed_by facts how ty v)))
     t before c.answers.result (temps_is c.answers.new.temps) before

@@ -8,7 +8,8 @@ pub loop-operand-preserved : goal.loop-operand-preserved
 loop-operand-preserved c =
     let loop = c.loop-operand in
     let x = c.operand-item.result in
-    let next = drop_turn c.args.operands.now.items c.deref-operand-items.result.now loop.operand-index x c.deref-operand-items.ensures.value c.loop-operand-test.true
+    let next = drop_turn c.args.operands.now.items c.deref-operand-items.result.now loop.operand-index x c.deref-operand-items.ensures.value
+    c.loop-operand-test.true
     c.operand-item.is in
     froms_next (types_of c.args.around.now) _ (drop (loop.operand-index + 1) c.args.operands.now.items) x c.from_of.result loop.all c.push.new.self _ loop.u
     c.in-Some.next next (c.from_of.ensures (types_of c.args.around.now)) c.in-Some.ensures c.in_ok-push.ensures.ok loop.invariant

@@ -13,14 +13,16 @@ declare_stmt-returns-in-If t c =
     let ts = types_of c.args.around.now in
     let given = c.in-If in
     let whole = ap (λ s. stmt_before ts s Empty) given.is ∙ decided ts given.node Empty given.branches given.otherwise in
-    listed_as _ _ (ap (declared_first ts (marked c.args.globals.now.items)) whole) (c.declare_branches.ensures (stmts_of ts given.otherwise.items) _ c.declare_block.ensures)
+    listed_as _ _ (ap (declared_first ts (marked c.args.globals.now.items)) whole)
+    (c.declare_branches.ensures (stmts_of ts given.otherwise.items) _ c.declare_block.ensures)
 
 pub declare_stmt-returns-in-Case : goal.declare_stmt-returns-in-Case
 declare_stmt-returns-in-Case t c =
     let ts = types_of c.args.around.now in
     let given = c.in-Case in
     let whole = ap (λ s. stmt_before ts s Empty) given.is ∙ selected_statement ts given.node Empty given.selector given.branches given.otherwise in
-    listed_as _ _ (ap (declared_first ts (marked c.args.globals.now.items)) whole) (c.declare_cases.ensures (stmts_of ts given.otherwise.items) _ c.declare_block-in-Case.ensures)
+    listed_as _ _ (ap (declared_first ts (marked c.args.globals.now.items)) whole)
+    (c.declare_cases.ensures (stmts_of ts given.otherwise.items) _ c.declare_block-in-Case.ensures)
 
 pub declare_stmt-returns-in-Loop : goal.declare_stmt-returns-in-Loop
 declare_stmt-returns-in-Loop t c =

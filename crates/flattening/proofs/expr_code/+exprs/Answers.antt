@@ -139,10 +139,12 @@ add_ready-loop-operand-preserved t c =
     let how = c.use_at-how.result in
     let uses = uses_of modes c.args.uses in
     let left = operands_of ts (drop (loop.operand-index + 1) c.args.operands.now.items) in
-    let next = drop_turn c.args.operands.now.items c.deref-operand-items.result.now loop.operand-index x c.deref-operand-items.ensures.value c.loop-operand-test.true
+    let next = drop_turn c.args.operands.now.items c.deref-operand-items.result.now loop.operand-index x c.deref-operand-items.ensures.value
+    c.loop-operand-test.true
     c.operand-item.is in (
       omega arith,
-      turned _ loop.code c.add_operand.new.code _ (ready_lines ts modes (operands_of ts (drop loop.operand-index c.args.operands.now.items)) uses loop.position loop.u)
+      turned _ loop.code c.add_operand.new.code _
+          (ready_lines ts modes (operands_of ts (drop loop.operand-index c.args.operands.now.items)) uses loop.position loop.u)
           (ready_lines ts modes (operand_before ts x NoArg) (λ j. how) 0 loop.u) (ready_lines ts modes left uses (loop.position + 1) c.in-Some.following)
           loop.invariant.1 c.add_operand.ensures
           (λ k. ready_next ts modes ts x left uses how loop.position (loop.position + 1) loop.u c.in-Some.following c.use_at-how.ensures (omega arith)
@@ -156,7 +158,8 @@ add_ready-returns t c =
     let modes = modes_of c.args.around.now in
     let loop = c.loop-operand in
     let uses = uses_of modes c.args.uses in
-    let none = drop_end c.args.operands.now.items c.deref-operand-items.result.now loop.operand-index c.deref-operand-items.ensures.value c.loop-operand-test.false in
+    let none = drop_end c.args.operands.now.items c.deref-operand-items.result.now loop.operand-index c.deref-operand-items.ensures.value
+    c.loop-operand-test.false in
     ended _ loop.code loop.code _ (ready_lines ts modes (operands_of ts (drop loop.operand-index c.args.operands.now.items)) uses loop.position loop.u) (λ k. k)
     loop.invariant.1 (λ k. ap (λ ys. ready_lines ts modes (operands_of ts ys) uses loop.position loop.u k) (sym none)) (puts_none loop.code)
 
@@ -168,7 +171,8 @@ add_choices-loop-branch-preserved t c last =
     let x = c.branch-item.result in
     let ty = if_type ts c.args.ty in
     let left = choices_of ts (drop (loop.branch-index + 1) c.args.branches.now.items) last in
-    let next = drop_turn c.args.branches.now.items c.deref-branch-items.result.now loop.branch-index x c.deref-branch-items.ensures.value c.loop-branch-test.true
+    let next = drop_turn c.args.branches.now.items c.deref-branch-items.result.now loop.branch-index x c.deref-branch-items.ensures.value
+    c.loop-branch-test.true
     c.branch-item.is in
     turned _ loop.code c.put_label.new.code _
     (choice_lines ts modes (choices_of ts (drop loop.branch-index c.args.branches.now.items) last) ty c.args.how c.args.t loop.u)
@@ -186,7 +190,8 @@ add_choices-returns t c last end put =
     let modes = modes_of c.args.around.now in
     let loop = c.loop-branch in
     let ty = if_type ts c.args.ty in
-    let none = drop_end c.args.branches.now.items c.deref-branch-items.result.now loop.branch-index c.deref-branch-items.ensures.value c.loop-branch-test.false in
+    let none = drop_end c.args.branches.now.items c.deref-branch-items.result.now loop.branch-index c.deref-branch-items.ensures.value
+    c.loop-branch-test.false in
     ended _ loop.code end _ (choice_lines ts modes (choices_of ts (drop loop.branch-index c.args.branches.now.items) last) ty c.args.how c.args.t loop.u)
     (choice_lines ts modes last ty c.args.how c.args.t loop.u) (loop.invariant last)
     (λ k. ap (λ ys. choice_lines ts modes (choices_of ts ys last) ty c.args.how c.args.t loop.u k) (sym none)) put

@@ -40,7 +40,8 @@ list_expr-returns-in-Construct t c =
     let whole = ap (expr_of ts) given.is ∙ constructed ts given.node given.ty given.fields given.operands in
     exprs_as ts _ _ c.args.t whole
     (listed_as _ _ (applied_list ts given.node (Some (type_at ts given.ty)) (Building given.fields) (operands_of ts given.operands.items) c.args.t
-    c.in-Some.u c.in-Some.ensures) (joined (temporary ts given.node (Some (type_at ts given.ty)) K.Temp c.args.t) _ c.put_temporary-in-Construct.ensures c.list_operands-in-Construct.ensures))
+    c.in-Some.u c.in-Some.ensures) (joined (temporary ts given.node (Some (type_at ts given.ty)) K.Temp c.args.t) _ c.put_temporary-in-Construct.ensures
+    c.list_operands-in-Construct.ensures))
 
 pub list_expr-returns-in-Constant : goal.list_expr-returns-in-Constant
 list_expr-returns-in-Constant t c =
@@ -122,7 +123,8 @@ list_path-returns-in-Some-behind_path t c =
     ∙ element_list ts given.node (type_at ts given.ty) (path_of ts c.deref-base-in-Element.result.now) (expr_of ts c.deref-index.result.now) given.constant
     c.args.t c.in-Some-next.u c.in-Some-behind_path.v c.in-Some-next.ensures c.in-Some-behind_path.ensures)
     (three
-    (location ts (T.Element given.node (type_at ts given.ty) (path_of ts c.deref-base-in-Element.result.now) (expr_of ts c.deref-index.result.now) given.constant)
+    (location ts (T.Element given.node (type_at ts given.ty) (path_of ts c.deref-base-in-Element.result.now) (expr_of ts c.deref-index.result.now)
+    given.constant)
     c.args.t) _ _ (listed_as _ _ (sym (ap (λ p. location ts p c.args.t) whole)) c.put_location-in-Element.ensures) c.list_path-in-Element.ensures
     c.list_expr-in-Element.ensures)
 
@@ -132,7 +134,8 @@ list_operands-loop-operand-preserved t c =
     let loop = c.loop-operand in
     let x = c.operand-item.result in
     let left = operands_of ts (drop (loop.operand-index + 1) c.args.operands.now.items) in
-    let next = drop_turn c.args.operands.now.items c.deref-operand-items.result.now loop.operand-index x c.deref-operand-items.ensures.value c.loop-operand-test.true
+    let next = drop_turn c.args.operands.now.items c.deref-operand-items.result.now loop.operand-index x c.deref-operand-items.ensures.value
+    c.loop-operand-test.true
     c.operand-item.is in
     listed_more _ loop.places _ _ (operand_places ts (operands_of ts (drop loop.operand-index c.args.operands.now.items)) loop.u)
     (first_places ts (operand_before ts x NoArg) loop.u) (operand_places ts left c.in-Some.following) loop.invariant c.list_operand.ensures
@@ -144,7 +147,8 @@ list_choices-loop-branch-preserved t c last =
     let loop = c.loop-branch in
     let x = c.branch-item.result in
     let left = choices_of ts (drop (loop.branch-index + 1) c.args.branches.now.items) last in
-    let next = drop_turn c.args.branches.now.items c.deref-branch-items.result.now loop.branch-index x c.deref-branch-items.ensures.value c.loop-branch-test.true
+    let next = drop_turn c.args.branches.now.items c.deref-branch-items.result.now loop.branch-index x c.deref-branch-items.ensures.value
+    c.loop-branch-test.true
     c.branch-item.is in
     listed_more _ loop.places _ _ (operand_places ts (choices_of ts (drop loop.branch-index c.args.branches.now.items) last) loop.u)
     (expr_places ts (expr_of ts x.condition) loop.u ++ expr_places ts (expr_of ts x.value) c.in-Some.v)

@@ -12,7 +12,8 @@ loop-operand-preserved c =
     let loop = c.loop-operand in
     let x = c.operand-item.result in
     let left = operands_of ts (drop (loop.operand-index + 1) c.args.operands.now.items) in
-    let next = drop_turn c.args.operands.now.items c.deref-operand-items.result.now loop.operand-index x c.deref-operand-items.ensures.value c.loop-operand-test.true
+    let next = drop_turn c.args.operands.now.items c.deref-operand-items.result.now loop.operand-index x c.deref-operand-items.ensures.value
+    c.loop-operand-test.true
     c.operand-item.is in
     turned _ loop.code c.add_place.new.code _ (settle_lines (operands_of ts (drop loop.operand-index c.args.operands.now.items)) loop.u)
     (settle_lines (operand_before ts x NoArg) loop.u) (settle_lines left c.in-Some.following) loop.invariant c.add_place.ensures

@@ -3,6 +3,7 @@ use Rattle.flat_code.proofs.ForCallers.{AreSorted, sorted_table}
 use Rattle.flattening.proofs.FitPrograms.{program_fits}
 use Rattle.flattening.proofs.CodeHandedOn.{code_given}
 use Rattle.flattening.proofs.NoHooks.{none_hooks}
+use Rattle.flattening.proofs.LedStmts.{code_whole}
 use Rattle.flattening.proofs.laws.fits.Goals as goal
 
 pub returns-clause-given : goal.returns-clause-given
@@ -15,3 +16,6 @@ returns-clause-fits c = λ table program said typed numbered plain plan.
 pub returns-clause-hooks : goal.returns-clause-hooks
 returns-clause-hooks c = λ table program said typed plain plan.
     none_hooks program plan typed (subst AreSorted (sym said) (sorted_table table)) plain
+
+pub returns-clause-whole : goal.returns-clause-whole
+returns-clause-whole c = λ program plan known. code_whole program plan known

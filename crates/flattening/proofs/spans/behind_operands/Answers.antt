@@ -7,4 +7,5 @@ use Rattle.flattening.proofs.spans.behind_operands.Goals as goal
 
 pub returns : goal.returns
 returns c =
-    behind_counted MOST c.args.t (widths (operands_of (types_of c.args.around.now) c.args.operands.now.items)) c.count_operands.result c.behind.result c.count_operands.ensures c.behind.ensures.number c.behind.ensures.small
+    behind_counted MOST c.args.t (widths (operands_of (types_of c.args.around.now) c.args.operands.now.items)) c.count_operands.result c.behind.result
+    c.count_operands.ensures c.behind.ensures.number c.behind.ensures.small

@@ -7,4 +7,5 @@ use Rattle.flattening.proofs.spans.behind_path.Goals as goal
 
 pub returns : goal.returns
 returns c =
-    behind_counted MOST c.args.t (width_at (path_of (types_of c.args.around.now) c.args.path.now)) c.count_path.result c.behind.result c.count_path.ensures c.behind.ensures.number c.behind.ensures.small
+    behind_counted MOST c.args.t (width_at (path_of (types_of c.args.around.now) c.args.path.now)) c.count_path.result c.behind.result c.count_path.ensures
+    c.behind.ensures.number c.behind.ensures.small

@@ -7,4 +7,5 @@ use Rattle.flattening.proofs.spans.behind_value.Goals as goal
 
 pub returns : goal.returns
 returns c =
-    behind_counted MOST c.args.t (width (expr_of (types_of c.args.around.now) c.args.value.now)) c.count_expr.result c.behind.result c.count_expr.ensures c.behind.ensures.number c.behind.ensures.small
+    behind_counted MOST c.args.t (width (expr_of (types_of c.args.around.now) c.args.value.now)) c.count_expr.result c.behind.result c.count_expr.ensures
+    c.behind.ensures.number c.behind.ensures.small

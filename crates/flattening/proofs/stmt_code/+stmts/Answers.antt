@@ -159,7 +159,8 @@ add_branches-loop-branch-preserved t c last =
     let loop = c.loop-branch in
     let x = c.branch-item.result in
     let rest = drop (loop.branch-index + 1) c.args.branches.now.items in
-    let next = drop_turn c.args.branches.now.items c.deref-branch-items.result.now loop.branch-index x c.deref-branch-items.ensures.value c.loop-branch-test.true
+    let next = drop_turn c.args.branches.now.items c.deref-branch-items.result.now loop.branch-index x c.deref-branch-items.ensures.value
+    c.loop-branch-test.true
     c.branch-item.is in
     turned _ loop.code c.put_label.new.code _
     (branch_lines ts modes (result_of a) (branch_conditions ts (drop loop.branch-index c.args.branches.now.items))
@@ -179,7 +180,8 @@ add_branches-returns t c last end put =
     let modes = modes_of a in
     let exits = exits_of (result_of a) c.args.ways in
     let loop = c.loop-branch in
-    let none = drop_end c.args.branches.now.items c.deref-branch-items.result.now loop.branch-index c.deref-branch-items.ensures.value c.loop-branch-test.false in
+    let none = drop_end c.args.branches.now.items c.deref-branch-items.result.now loop.branch-index c.deref-branch-items.ensures.value
+    c.loop-branch-test.false in
     ended _ loop.code end _
     (branch_lines ts modes (result_of a) (branch_conditions ts (drop loop.branch-index c.args.branches.now.items))
     (branch_blocks ts (drop loop.branch-index c.args.branches.now.items) last) exits c.args.t loop.u)

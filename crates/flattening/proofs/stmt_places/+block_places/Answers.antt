@@ -9,7 +9,8 @@ use Rattle.flattening.specs.PlaceViews.{places_of_first}
 use Rattle.flattening.proofs.StmtPuts.{behind_is, label_count}
 use Rattle.flattening.proofs.ExprPuts.{drop_turn, drop_end}
 use Rattle.flattening.proofs.Writing.{puts_none}
-use Rattle.flattening.proofs.PlacePuts.{joined, three, listed_as, listed_more, listed_end, block_as, stmts_list, stmts_end, decided_list, cases_list, branches_list, arms_list}
+use Rattle.flattening.proofs.PlacePuts.{joined, three, listed_as, listed_more, listed_end, block_as, stmts_list, stmts_end, decided_list, cases_list}
+use Rattle.flattening.proofs.PlacePuts.{branches_list, arms_list}
 use Rattle.flattening.proofs.stmt_places.+block_places.Goals as goal
 
 pub list_stmt-returns-in-Loop : goal.list_stmt-returns-in-Loop
@@ -74,7 +75,8 @@ list_branches-loop-branch-preserved t c last =
     let loop = c.loop-branch in
     let x = c.branch-item.result in
     let rest = drop (loop.branch-index + 1) c.args.branches.now.items in
-    let next = drop_turn c.args.branches.now.items c.deref-branch-items.result.now loop.branch-index x c.deref-branch-items.ensures.value c.loop-branch-test.true
+    let next = drop_turn c.args.branches.now.items c.deref-branch-items.result.now loop.branch-index x c.deref-branch-items.ensures.value
+    c.loop-branch-test.true
     c.branch-item.is in
     listed_more _ loop.places _ _
     (branch_places ts (branch_conditions ts (drop loop.branch-index c.args.branches.now.items))
@@ -98,7 +100,8 @@ pub list_branches-returns : goal.list_branches-returns
 list_branches-returns t c last end put =
     let ts = types_of c.args.around.now in
     let loop = c.loop-branch in
-    let none = drop_end c.args.branches.now.items c.deref-branch-items.result.now loop.branch-index c.deref-branch-items.ensures.value c.loop-branch-test.false in
+    let none = drop_end c.args.branches.now.items c.deref-branch-items.result.now loop.branch-index c.deref-branch-items.ensures.value
+    c.loop-branch-test.false in
     listed_end _ loop.places end _
     (branch_places ts (branch_conditions ts (drop loop.branch-index c.args.branches.now.items))
     (branch_blocks ts (drop loop.branch-index c.args.branches.now.items) last) loop.u) (block_places ts last loop.u) (loop.invariant last)
@@ -108,7 +111,8 @@ pub list_arms-returns : goal.list_arms-returns
 list_arms-returns t c last end put =
     let ts = types_of c.args.around.now in
     let loop = c.loop-branch in
-    let none = drop_end c.args.branches.now.items c.deref-branch-items.result.now loop.branch-index c.deref-branch-items.ensures.value c.loop-branch-test.false in
+    let none = drop_end c.args.branches.now.items c.deref-branch-items.result.now loop.branch-index c.deref-branch-items.ensures.value
+    c.loop-branch-test.false in
     listed_end _ loop.places end _ (arm_places ts (case_blocks ts (drop loop.branch-index c.args.branches.now.items) last) loop.u)
     (block_places ts last loop.u) (loop.invariant last) (ap (λ ys. arm_places ts (case_blocks ts ys last) loop.u) none) put
 
@@ -118,7 +122,8 @@ list_arms-loop-branch-preserved t c last =
     let loop = c.loop-branch in
     let x = c.branch-item.result in
     let rest = drop (loop.branch-index + 1) c.args.branches.now.items in
-    let next = drop_turn c.args.branches.now.items c.deref-branch-items.result.now loop.branch-index x c.deref-branch-items.ensures.value c.loop-branch-test.true
+    let next = drop_turn c.args.branches.now.items c.deref-branch-items.result.now loop.branch-index x c.deref-branch-items.ensures.value
+    c.loop-branch-test.true
     c.branch-item.is in
     listed_more _ loop.places _ _ (arm_places ts (case_blocks ts (drop loop.branch-index c.args.branches.now.items) last) loop.u)
     (block_places ts (stmts_of ts x.body.items) loop.u) (arm_places ts (case_blocks ts rest last) c.in-Some.following) (loop.invariant last)

@@ -1,6 +1,7 @@
 use Rattle.std.proofs.Common.{◌+◌, length, drop, sym, ap, ◌∙◌}
 use Rattle.nim_program.specs.Program.{NoArg, Empty}
-use Rattle.nim_program.specs.View.{stmt_before, stmts_of, operands_of, operand_before, kind_of, branch_conditions, branch_blocks, branch_labels, case_blocks, handlers_of}
+use Rattle.nim_program.specs.View.{stmt_before, stmts_of, operands_of, operand_before, kind_of, branch_conditions, branch_blocks, branch_labels, case_blocks}
+use Rattle.nim_program.specs.View.{handlers_of}
 use Rattle.nim_program.proofs.ForCallers.{decided, selected_statement, repeated, tried, deferred}
 use Rattle.flattening.specs.Numbering.{widths, width_of, width_of_blocks, width_of_handlers, loop_count}
 use Rattle.flattening.specs.Views.{types_of}

@@ -44,7 +44,7 @@ returns-clause-size c =
 pub returns-clause-bytes : goal.returns-clause-bytes
 returns-clause-bytes c =
     IfOk-weaker c.emit_code.result _ _
-    (λ lines e. subst (λ x. size all_far x ≤ most_bytes c.args.words.now.procs) (sym e) (code_bytes c.args.words.now.procs c.args.homes.now))
+    (λ lines e. subst (λ x. size all_far x ≤ most_bytes c.args.words.now.procs) (sym e) (code_bytes c.args.words.now.procs c.args.homes.now c.requires))
     c.emit_code.ensures
 
 pub returns-clause-unhooked : goal.returns-clause-unhooked

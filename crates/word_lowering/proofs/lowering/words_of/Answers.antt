@@ -21,7 +21,7 @@ returns c =
       elsewhere = c.memories.ensures.elsewhere;
     })
     (whole_by c.args.types.now c.args.blocks.now c.as_slice-procs.result.now c.args.layouts.now
-    c.in-Some.own.now c.in-Some-last.start.now (around_of c.in_ok-x.x) c.in_ok-procs.procs c.in_ok-statics.statics c.as_slice.result.now
+    c.in-Some.own.now c.in-Some-last.start.now (around_of c.in_ok-x.x) c.in_ok-procs.procs c.in_ok-statics.statics
     c.as_slice-procs.ensures c.requires.layouts (sym c.in-Some.ensures.value) (sym c.in-Some-last.ensures.value)
     c.in_ok-x.ensures c.in_ok-procs.ensures c.in_ok-statics.ensures
-    c.as_slice.ensures (c.may_lower.ensures c.if-not-may_lower.false))
+    (c.requires.may (c.have_names.ensures c.if-not-have_names.false)))

@@ -1,0 +1,275 @@
+-- Layouts of plain procedures: what is found in them, and how many variables and bytes they take.
+use Rattle.std.proofs.Common.{◌≡◌, ℕ, ◌+◌, ◌*◌, ◌≤◌, ◌<◌, ◌⊎◌, inl, inr, Bool, true, false, List, [], ◌∷◌, length, Some, None, refl, ap, ap₂}
+use Rattle.std.proofs.Common.{◌∙◌, subst, arith}
+use Rattle.std.specs.Prelude.{nat_eq, nat_lt, ◌&&◌, ◌||◌, not, if◌then◌else◌}
+use Rattle.std.proofs.lemmas.Bool.{both_ways, and_parts, and_from, eqb-true, lt-ltb}
+use Rattle.nim_types.specs.declared.types.TypeDef.{TypeDef}
+use Rattle.nim_types.specs.Table.{type_at, types_in, facts_in}
+use Rattle.nim_types.proofs.ForCallers.{count as counted}
+use Rattle.nim_program.specs.declared.program.Mode.TheVariants.{Plain, Sink, Var}
+use Rattle.nim_program.specs.Sizes.{type_bytes}
+use Rattle.flat_code.specs.declared.line.Line.{Line}
+use Rattle.flat_code.specs.declared.place.FlatPlace.{FlatPlace}
+use Rattle.flat_code.specs.declared.place.PlaceKind.{PlaceKind}
+use Rattle.flat_code.specs.declared.place.PlaceKind.TheVariants as K
+use Rattle.flat_code.specs.Fits.{Signature, is_value, is_location, is_global, place_named}
+use Rattle.flat_code.specs.Scene.{known_in}
+use Rattle.flat_code.specs.Sizes.{kind_bytes, places_bytes}
+use Rattle.flattening.specs.PlainCode.{is_counter, is_temporary, has_hooks, gets_text, IsPlainPlace, ArePlainPlaces, no_globals, params_among}
+use Rattle.flattening.specs.PlainCode as plain
+use Rattle.flattening.proofs.ForCallers.{bytes_least}
+use Rattle.word_lowering.specs.declared.homes.Alias.{Alias}
+use Rattle.word_lowering.specs.declared.homes.Alias.TheVariants.{Own, Place, Value, Text}
+use Rattle.word_lowering.specs.declared.homes.Free.{Free}
+use Rattle.word_lowering.specs.declared.homes.Housed.{Housed}
+use Rattle.word_lowering.specs.Aliases.{value_to, location_to, alias_in, alias_for, addressed, is_among}
+use Rattle.word_lowering.specs.Layouts.{is_kept, is_static, home_at, home_by, free_behind, free_by, word_by, bytes_by, place_word, place_kept, place_alias}
+use Rattle.word_lowering.specs.Layouts.{housed, behind, all_housed, behind_all}
+use Rattle.word_lowering.specs.Stored.{is_word, entry_at}
+use Rattle.word_lowering.specs.Lookups.{found, is_param, params_in, kept_by, kept_in}
+use Rattle.word_lowering.specs.MayLower.{no_params, params_lead, is_hooked, is_text, is_plain, all_plain, and_placed, placed_bytes}
+use Rattle.core_compiler.proofs.LinesAgree.{Finds, never, nothing, one}
+
+-- ---- parameters lead
+
+same_param : (kind : PlaceKind) → plain.is_param kind ≡ is_param kind
+same_param (K.Param mode) = refl
+same_param kind = refl
+
+none_same : (ps : List FlatPlace) → plain.no_params ps ≡ no_params ps
+none_same [] = refl
+none_same (p ∷ ps) = ap₂ (λ a b. not a && b) (same_param p.kind) (none_same ps)
+
+pub lead_same : (ps : List FlatPlace) → plain.params_lead ps ≡ params_lead ps
+lead_same [] = refl
+lead_same (p ∷ ps) =
+    ap (λ b. if b then plain.params_lead ps else plain.no_params ps) (same_param p.kind)
+    ∙ ap₂ (λ x y. if is_param p.kind then x else y) (lead_same ps) (none_same ps)
+
+-- ---- what one place takes
+
+-- what is kept in a variable counts as a word at least, and all else as its bytes
+kept_word : (word out : Bool) (kind : PlaceKind) (n : ℕ) → is_global kind ≡ false → 4 ≤ n → 4 ≤ kind_bytes kind n
+kept_word word out K.Global n g l = absurd (both_ways true g refl)
+kept_word word out (K.Param Var) n g l = omega arith
+kept_word word out K.Location n g l = omega arith
+kept_word word out K.Within n g l = omega arith
+kept_word word out K.Counter n g l = omega arith
+kept_word word out kind n g l = l
+
+placed_most : (out word : Bool) (kind : PlaceKind) (n : ℕ) → is_global kind ≡ false → is_kept out word kind ≡ false → bytes_by kind n ≤ kind_bytes kind n
+placed_most out word K.Global n g k = absurd (both_ways true g refl)
+placed_most out word (K.Param Var) n g k = absurd (both_ways true k refl)
+placed_most out word K.Location n g k = absurd (both_ways true k refl)
+placed_most out word K.Within n g k = absurd (both_ways true k refl)
+placed_most out word K.Counter n g k = absurd (both_ways true k refl)
+placed_most out word kind n g k = omega arith
+
+module _ (table : List TypeDef) (start : Bool) (lines : List Line) where
+  abbrev one_bytes : FlatPlace → ℕ
+  one_bytes p = kind_bytes p.kind (type_bytes (facts_in table) (type_at (types_in table) p.ty))
+
+  -- a global of the start code is in the data
+  of_static : (kind : PlaceKind) → (start ≡ false → is_global kind ≡ false) → is_static start kind ≡ false → is_global kind ≡ false
+  of_static K.Global g s = g s
+  of_static kind g s = refl
+
+  one_behind : (free : Free) (p : FlatPlace) → (start ≡ false → is_global p.kind ≡ false) →
+      4 * (behind table start lines free p).variable + (behind table start lines free p).byte ≤ 4 * free.variable + free.byte + one_bytes p
+  one_behind free p g = by (place_alias table start lines p) (is_static start p.kind) refl (place_kept table start lines p) refl
+    where
+      n : ℕ
+      n = type_bytes (facts_in table) (type_at (types_in table) p.ty)
+
+      out : Bool
+      out = is_among p.number (addressed lines)
+
+      by : (alias : Alias) (static : Bool) → is_static start p.kind ≡ static → (kept : Bool) → is_kept out (place_word table start lines p) p.kind ≡ kept →
+          4 * (free_by alias free (free_behind static kept (bytes_by p.kind n) free)).variable
+          + (free_by alias free (free_behind static kept (bytes_by p.kind n) free)).byte ≤ 4 * free.variable + free.byte + kind_bytes p.kind n
+      by (Place q other) static s kept k = omega arith
+      by (Value t) static s kept k = omega arith
+      by (Text other more) static s kept k = omega arith
+      by Own true s kept k = omega arith
+      by Own false s true k =
+          let h = kept_word out out p.kind n (of_static p.kind g s) (bytes_least (facts_in table) (type_at (types_in table) p.ty)) in omega (arith, h)
+      by Own false s false k = let h = placed_most out (place_word table start lines p) p.kind n (of_static p.kind g s) k in omega (arith, h)
+
+  abbrev Globals : List FlatPlace → Type 0
+  Globals ps = start ≡ false → no_globals ps ≡ true
+
+  first_global : (p : FlatPlace) (ps : List FlatPlace) → Globals (p ∷ ps) → start ≡ false → is_global p.kind ≡ false
+  first_global p ps g s = by (is_global p.kind) (and_parts (not (is_global p.kind)) (no_globals ps) (g s)).0
+    where
+      by : (b : Bool) → not b ≡ true → b ≡ false
+      by true e = never e
+      by false e = refl
+
+  rest_globals : (p : FlatPlace) (ps : List FlatPlace) → Globals (p ∷ ps) → Globals ps
+  rest_globals p ps g s = (and_parts (not (is_global p.kind)) (no_globals ps) (g s)).1
+
+  pub room : (ps : List FlatPlace) (free : Free) → Globals ps →
+      4 * (behind_all table start lines free ps).variable + (behind_all table start lines free ps).byte
+      ≤ 4 * free.variable + free.byte + places_bytes (known_in table) ps
+  room [] free g = omega arith
+  room (p ∷ ps) free g =
+      let h = one_behind free p (first_global p ps g) in
+      let i = room ps (behind table start lines free p) (rest_globals p ps g) in
+      omega (arith, h, i)
+
+  -- ---- parameters
+
+  param_kept : (p : FlatPlace) (free : Free) (rest : ℕ) (more : ℕ) → is_param p.kind ≡ true →
+      4 * kept_by (housed table start lines free p).home rest + and_placed (housed table start lines free p).home (housed table start lines free p).bytes more
+      ≤ one_bytes p + (4 * rest + more)
+  param_kept p free rest more is = of p.kind is
+    where
+      n : ℕ
+      n = type_bytes (facts_in table) (type_at (types_in table) p.ty)
+
+      l : 4 ≤ n
+      l = bytes_least (facts_in table) (type_at (types_in table) p.ty)
+
+      by : (kept : Bool) → 4 * kept_by (home_at false kept free) rest + and_placed (home_at false kept free) n more ≤ n + (4 * rest + more)
+      by true = let h = l in omega (arith, h)
+      by false = omega arith
+
+      of : (kind : PlaceKind) → is_param kind ≡ true →
+          4 * kept_by (home_by (alias_for kind p.number lines) (home_at (is_static start kind)
+          (is_kept (is_among p.number (addressed lines)) (word_by kind (is_word (entry_at table p.ty))) kind) free)) rest
+          + and_placed (home_by (alias_for kind p.number lines) (home_at (is_static start kind)
+          (is_kept (is_among p.number (addressed lines)) (word_by kind (is_word (entry_at table p.ty))) kind) free)) (bytes_by kind n) more
+          ≤ kind_bytes kind n + (4 * rest + more)
+      of (K.Param Plain) e = by _
+      of (K.Param Sink) e = by _
+      of (K.Param Var) e = omega arith
+      of kind e = never e
+
+  pub params_room : (ps : List FlatPlace) (free : Free) →
+      4 * kept_in (params_in (all_housed table start lines free ps)) + placed_bytes (params_in (all_housed table start lines free ps))
+      ≤ places_bytes (known_in table) (params_among ps)
+  params_room [] free = omega arith
+  params_room (p ∷ ps) free = by (is_param p.kind) refl (params_room ps (behind table start lines free p))
+    where
+      tail : List Housed
+      tail = params_in (all_housed table start lines (behind table start lines free p) ps)
+
+      by : (b : Bool) → is_param p.kind ≡ b → 4 * kept_in tail + placed_bytes tail ≤ places_bytes (known_in table) (params_among ps) →
+          4 * kept_in (if b then housed table start lines free p ∷ tail else tail) + placed_bytes (if b then housed table start lines free p ∷ tail else tail)
+          ≤ places_bytes (known_in table) (params_among (p ∷ ps))
+      by true e h =
+          let i = param_kept p free (kept_in tail) (placed_bytes tail) e in
+          let j : places_bytes (known_in table) (params_among (p ∷ ps)) ≡ one_bytes p + places_bytes (known_in table) (params_among ps)
+          = ap (λ c. places_bytes (known_in table) (if c then p ∷ params_among ps else params_among ps)) (same_param p.kind ∙ e) in
+          omega (arith, h, i, j)
+      by false e h =
+          let j : places_bytes (known_in table) (params_among (p ∷ ps)) ≡ places_bytes (known_in table) (params_among ps)
+          = ap (λ c. places_bytes (known_in table) (if c then p ∷ params_among ps else params_among ps)) (same_param p.kind ∙ e) in
+          omega (arith, h, j)
+
+  -- ---- what is found
+
+  -- a temporary is what its lines say, and the number of a loop its own
+  value_alias : (kind : PlaceKind) (n : ℕ) → is_value kind ≡ true →
+      (alias_for kind n lines ≡ alias_in value_to n lines) ⊎ ((alias_for kind n lines ≡ Own) × (is_counter kind ≡ true))
+  value_alias K.Temp n e = inl refl
+  value_alias K.Counter n e = inr (refl, refl)
+  value_alias kind n e = never e
+
+  location_alias : (kind : PlaceKind) (n : ℕ) → is_location kind ≡ true → alias_for kind n lines ≡ alias_in location_to n lines
+  location_alias K.Location n e = refl
+  location_alias K.Within n e = refl
+  location_alias kind n e = never e
+
+  value_found : (ps : List FlatPlace) (free : Free) (t : ℕ) →
+      ((found is_value t (all_housed table start lines free ps)).alias ≡ alias_in value_to t lines)
+      ⊎ (((found is_value t (all_housed table start lines free ps)).alias ≡ Own)
+      × ((p : FlatPlace) → place_named is_value ps t ≡ Some p → is_counter p.kind ≡ true))
+  value_found [] free t = inr (refl, λ p e. nothing e)
+  value_found (p ∷ ps) free t = by (nat_eq p.number t) refl (is_value p.kind) refl (value_found ps (behind table start lines free p) t)
+    where
+      tail : Housed
+      tail = found is_value t (all_housed table start lines (behind table start lines free p) ps)
+
+      here : p.number ≡ t →
+          (alias_for p.kind p.number lines ≡ alias_in value_to p.number lines) ⊎ ((alias_for p.kind p.number lines ≡ Own) × (is_counter p.kind ≡ true)) →
+          (alias_for p.kind p.number lines ≡ alias_in value_to t lines)
+          ⊎ ((alias_for p.kind p.number lines ≡ Own) × ((q : FlatPlace) → Some p ≡ Some q → is_counter q.kind ≡ true))
+      here n (inl a) = inl (a ∙ ap (λ m. alias_in value_to m lines) n)
+      here n (inr q) = inr (q.0, λ r e. subst (λ (r : FlatPlace). is_counter r.kind ≡ true) (one e) q.1)
+
+      by : (b : Bool) → nat_eq p.number t ≡ b → (c : Bool) → is_value p.kind ≡ c →
+          (tail.alias ≡ alias_in value_to t lines)
+          ⊎ ((tail.alias ≡ Own) × ((q : FlatPlace) → place_named is_value ps t ≡ Some q → is_counter q.kind ≡ true)) →
+          ((if b && c then housed table start lines free p else tail).alias ≡ alias_in value_to t lines)
+          ⊎ (((if b && c then housed table start lines free p else tail).alias ≡ Own)
+          × ((q : FlatPlace) → (if b && c then Some p else place_named is_value ps t) ≡ Some q → is_counter q.kind ≡ true))
+      by true n true k rest = here (eqb-true p.number t n) (value_alias p.kind p.number k)
+      by true n false k rest = rest
+      by false n c k rest = rest
+
+  location_found : (ps : List FlatPlace) (free : Free) (t : ℕ) →
+      ((found is_location t (all_housed table start lines free ps)).alias ≡ alias_in location_to t lines)
+      ⊎ (((found is_location t (all_housed table start lines free ps)).alias ≡ Own) × (place_named is_location ps t ≡ None))
+  location_found [] free t = inr (refl, refl)
+  location_found (p ∷ ps) free t = by (nat_eq p.number t) refl (is_location p.kind) refl (location_found ps (behind table start lines free p) t)
+    where
+      tail : Housed
+      tail = found is_location t (all_housed table start lines (behind table start lines free p) ps)
+
+      by : (b : Bool) → nat_eq p.number t ≡ b → (c : Bool) → is_location p.kind ≡ c →
+          (tail.alias ≡ alias_in location_to t lines) ⊎ ((tail.alias ≡ Own) × (place_named is_location ps t ≡ None)) →
+          ((if b && c then housed table start lines free p else tail).alias ≡ alias_in location_to t lines)
+          ⊎ (((if b && c then housed table start lines free p else tail).alias ≡ Own)
+          × ((if b && c then Some p else place_named is_location ps t) ≡ None))
+      by true n true k rest = inl (location_alias p.kind p.number k ∙ ap (λ m. alias_in location_to m lines) (eqb-true p.number t n))
+      by true n false k rest = rest
+      by false n c k rest = rest
+
+  pub finds : (procs : List Signature) (globals ps : List FlatPlace) (free : Free) → Finds table procs globals ps lines (all_housed table start lines free ps)
+  finds procs globals ps free = record { value = value_found ps free; location = location_found ps free }
+
+  -- ---- plain places
+
+  counter_plain : (ty : ℕ) (alias : Alias) (kind : PlaceKind) → is_counter kind ≡ true → is_plain table ty alias kind ≡ true
+  counter_plain ty alias K.Counter e = refl
+  counter_plain ty alias kind e = never e
+
+  right_plain : (ty : ℕ) (alias : Alias) (kind : PlaceKind) → nat_lt ty (length table) && (is_text alias || not (is_hooked table ty)) ≡ true →
+      is_plain table ty alias kind ≡ true
+  right_plain ty alias K.Counter e = refl
+  right_plain ty alias kind e = e
+
+  temporary_text : (kind : PlaceKind) (n : ℕ) → is_temporary kind ≡ true → is_text (alias_in value_to n lines) ≡ true → is_text (alias_for kind n lines) ≡ true
+  temporary_text K.Temp n e h = h
+  temporary_text kind n e h = never e
+
+  module _ (texts : (t : ℕ) → gets_text t lines ≡ true → is_text (alias_in value_to t lines) ≡ true) where
+    within : (p : FlatPlace) → p.ty < length (types_in table) → nat_lt p.ty (length table) ≡ true
+    within p l = let c = counted table in lt-ltb p.ty (length table) (omega (arith, l, c))
+
+    unhooked : (ty : ℕ) (b : Bool) → has_hooks (known_in table) ty ≡ false → b || not (is_hooked table ty) ≡ true
+    unhooked ty true e = refl
+    unhooked ty false e = ap not (both_false (nat_lt ty (length table)) (has_hooks (known_in table) ty) e)
+      where
+        both_false : (a b : Bool) → b ≡ false → a && b ≡ false
+        both_false true b f = f
+        both_false false b f = refl
+
+    or_first : (a b : Bool) → a ≡ true → a || b ≡ true
+    or_first true b e = refl
+    or_first false b e = never e
+
+    one_plain : (p : FlatPlace) → IsPlainPlace (known_in table) lines p → is_plain table p.ty (alias_for p.kind p.number lines) p.kind ≡ true
+    one_plain p (inl counter) = counter_plain p.ty (alias_for p.kind p.number lines) p.kind counter
+    one_plain p (inr h) = right_plain p.ty (alias_for p.kind p.number lines) p.kind (and_from _ _ (within p h.0) (by h.1))
+      where
+        by : (has_hooks (known_in table) p.ty ≡ false) ⊎ ((is_temporary p.kind ≡ true) × (gets_text p.number lines ≡ true)) →
+            is_text (alias_for p.kind p.number lines) || not (is_hooked table p.ty) ≡ true
+        by (inl e) = unhooked p.ty (is_text (alias_for p.kind p.number lines)) e
+        by (inr q) = or_first _ _ (temporary_text p.kind p.number q.0 (texts p.number q.1))
+
+    pub plain_all : (ps : List FlatPlace) (free : Free) → ArePlainPlaces (known_in table) lines ps →
+        all_plain table (all_housed table start lines free ps) ≡ true
+    plain_all [] free h = refl
+    plain_all (p ∷ ps) free h = and_from _ _ (one_plain p h.0) (plain_all ps (behind table start lines free p) h.1)

@@ -1,0 +1,32 @@
+-- Each line weighs at least one.
+use Rattle.std.proofs.Common.{ℕ, ◌≤◌, List, [], ◌∷◌, length, arith}
+use Rattle.std.specs.Prelude.{map}
+use Rattle.nim_program.specs.declared.operation.Operation.{Operation}
+use Rattle.nim_program.specs.declared.operation.Operation.TheVariants as O
+use Rattle.flat_code.specs.declared.code.CodeProc.{CodeProc}
+use Rattle.flat_code.specs.declared.line.Line.{Line}
+use Rattle.flat_code.specs.declared.line.Line.TheVariants as L
+use Rattle.flat_code.specs.Codes.{lines_in}
+use Rattle.flat_code.specs.Sizes.{weight_of, weight, summed, proc_weight, code_weight}
+
+operation_weighs : (o : Operation) (n : ℕ) → 1 ≤ weight_of o n
+operation_weighs O.Make n = omega arith
+operation_weighs O.Echo n = omega arith
+operation_weighs o n = omega arith
+
+line_weighs : (line : Line) → 1 ≤ weight line
+line_weighs (L.Apply to operation how ty of from) = operation_weighs operation (length from)
+line_weighs line = omega arith
+
+module _ {L : Type 0} (plain : L → Line) where
+  all_weigh : (lines : List L) → length lines ≤ summed weight (map plain lines)
+  all_weigh [] = omega arith
+  all_weigh (line ∷ lines) = omega (arith, line_weighs (plain line), all_weigh lines)
+
+  proc_weighs : (lines : List L) → length lines ≤ proc_weight (map plain lines)
+  proc_weighs [] = omega arith
+  proc_weighs (line ∷ lines) = omega (arith, line_weighs (plain line), all_weigh lines)
+
+  pub code_weighs : (procs : List (CodeProc L)) → lines_in procs ≤ code_weight plain procs
+  code_weighs [] = omega arith
+  code_weighs (p ∷ procs) = omega (arith, proc_weighs p.lines, code_weighs procs)
