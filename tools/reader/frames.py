@@ -37,7 +37,7 @@ def _faults(program: Program) -> Iterator[Position]:
     if sums.block(program.statements) > MOST_BYTES:
         yield MODULE_CODE
     bodies = {id(procedure.body): procedure for procedure in program.procedures if procedure.body is not None}
-    constant = {id(node) for node in _nodes_of_constants(program)}
+    constant = {id(node) for node in nodes_of_constants(program)}
     for node in walk(program.statements):
         if id(node) in constant:
             continue
@@ -54,7 +54,7 @@ def _faults(program: Program) -> Iterator[Position]:
             yield place_of(node)
 
 
-def _nodes_of_constants(program: Program) -> Iterator[tree.Node]:
+def nodes_of_constants(program: Program) -> Iterator[tree.Node]:
     """They are no nodes of the program: only a constant's uses are."""
     for node in walk(program.statements):
         if isinstance(node, tree.Definitions) and node.word == 'const':

@@ -4,26 +4,28 @@ use Rattle.arc_base.specs.Behaviour.{Agrees}
 use Rattle.arc_base.specs.Pace.{Paced}
 use Rattle.nim_plan.specs.declared.plan.Plan.{Plan}
 use Rattle.nim_program.specs.declared.program.Program.{Program as RustProgram}
-use Rattle.nim_program.specs.Sizes.{HaveForms}
+use Rattle.nim_program.specs.Sizes.{HaveForms, globals_size}
+use Rattle.nim_program.specs.TextSizes.{all_bytes}
 use Rattle.nim_program.specs.Program.{Program}
 use Rattle.nim_meaning.specs.Meaning.{meaning}
 use Rattle.flat_code.specs.declared.code.Code.{Code}
 use Rattle.flat_code.specs.declared.line.Line.{Line}
 use Rattle.flat_code.specs.Codes.{flat_plain, procs_of, hooks_of, AreNone}
-use Rattle.flat_code.specs.Fits.{code_fits}
+use Rattle.flat_code.specs.Fits.{code_fits, start_places}
 use Rattle.flat_code.specs.Lines.{does}
 use Rattle.flat_code.specs.Running.{Proc, at_first, runs, run_by}
 use Rattle.flat_code.specs.Scene.{Known, known_in}
-use Rattle.flat_code.specs.Sizes.{code_weight, data_bytes}
+use Rattle.flat_code.specs.Sizes.{code_weight, code_texts, distinct_texts, data_bytes, globals_bytes}
 use Rattle.flat_code.specs.Whole.{label_in}
-use Rattle.program_limits.specs.Data.{data_counted}
+use Rattle.program_limits.specs.Data.{data_counted, program_texts, texts_size}
 use Rattle.program_limits.specs.Limits.{program_in}
-use Rattle.flattening.specs.Counted.{program_parts, program_data}
+use Rattle.flattening.specs.Counted.{program_parts, times, program_times}
 use Rattle.flattening.specs.Flattened.{known_of, code_of, flat_meaning, IsExact}
 use Rattle.flattening.specs.Given.{flat_procs, flat_of}
 use Rattle.flattening.specs.Alike.{AllAlike}
 use Rattle.flattening.specs.PlainCode.{ArePlainProcs}
 use Rattle.core_compiler.specs.Stages.{have_members, ShowsSame, IsFlatOf}
+use Rattle.core_compiler.proofs.ProgramTexts.{distinct_most}
 use Rattle.core_compiler.proofs.TableNames.{names_count}
 
 module _ (p : RustProgram) (plan : Plan) (flat : Code Line) (procs : flat.procs ≡ flat_procs (program_in p) plan)
@@ -34,7 +36,10 @@ module _ (p : RustProgram) (plan : Plan) (flat : Code Line) (procs : flat.procs 
     (fits : code_fits flat_plain (known_of (program_in p)) (flat_procs (program_in p) plan) ≡ true)
     (hooks : AreNone (hooks_of (flat_of (program_in p) plan)))
     (weight : code_weight flat_plain (flat_procs (program_in p) plan) ≤ 25 * program_parts (program_in p))
-    (sized : data_bytes flat_plain p.types (flat_procs (program_in p) plan) ≤ program_data p.types (program_in p)) (forms : HaveForms p.types)
+    (globals : globals_bytes (known_of (program_in p)) (start_places (flat_procs (program_in p) plan))
+    ≤ globals_size (program_in p).facts (program_in p).globals)
+    (texts : (text : List ℕ) → times text (code_texts flat_plain (flat_procs (program_in p) plan)) ≤ program_times text (program_in p))
+    (forms : HaveForms p.types)
     (alike : AllAlike (flat_procs (program_in p) plan)) (plain : ArePlainProcs (known_of (program_in p)) 16384 (flat_procs (program_in p) plan))
     (few : data_counted (program_in p) ≤ 1040384) (members : have_members p.types ≡ true)
   where
@@ -63,7 +68,10 @@ module _ (p : RustProgram) (plan : Plan) (flat : Code Line) (procs : flat.procs 
     data_most : data_bytes flat_plain p.types flat.procs ≤ data_counted program
     data_most =
         let names = names_count p.types in
-        subst (λ ps. data_bytes flat_plain p.types ps ≤ data_counted program) (sym procs) (omega (arith, sized, names))
+        let own : globals_bytes known (start_places (flat_procs program plan)) ≤ globals_size program.facts program.globals = globals in
+        let distinct : all_bytes (distinct_texts flat_plain (flat_procs program plan)) ≤ texts_size (program_texts program) =
+        distinct_most program plan texts in
+        subst (λ ps. data_bytes flat_plain p.types ps ≤ data_counted program) (sym procs) (omega (arith, own, names, distinct))
 
     pub is_flat_of : IsFlatOf p.types program plan flat
     is_flat_of = record {

@@ -5,6 +5,7 @@ mod Refusals
 mod Limiting
 mod CodeSizes
 mod Composing
+mod ProgramTexts
 mod Flattened
 mod Shown
 mod TableNames

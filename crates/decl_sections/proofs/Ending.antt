@@ -1,5 +1,5 @@
 -- The whole section, by the answers to its parts.
-use Rattle.std.proofs.Common.{◌≡◌, List, length, sym, ap, ap₂, ◌∙◌}
+use Rattle.std.proofs.Common.{◌≡◌, List, [], length, sym, ap, ap₂, append-nil, ◌∙◌}
 use Rattle.std.specs.Prelude.{Ok, Err, Result}
 use Rattle.arc_base.specs.declared.place.Stop.{Stop}
 use Rattle.arc_base.specs.declared.place.Stop.TheVariants as stop
@@ -98,3 +98,9 @@ section_sized ts st all old frame ds es scope reading s r e f g grown contained 
     answers_as (λ (_ : Unit {0}). env_of ts (facts_in es) scope) (section_rule st all)
     (and_then (sizes_rule (facts_in es) k (all_defined ts (keys_of all) reading.read.items)) (λ _. Ok (env_of ts (facts_in es) scope))) r rule
     (answers_env (sizes_rule (facts_in es) k (all_defined ts (keys_of all) reading.read.items)) (env_of ts (facts_in es) scope) r h)
+
+-- ---- a section without definitions
+
+pub nothing_declared : (st : State) (env : Env) → st.env ≡ env → section_rule st [] ≡ Ok env
+nothing_declared st env e =
+    ap₂ (λ entries facts. Ok (record st.env { entries = entries; facts = facts })) (append-nil st.env.entries) (append-nil st.env.facts) ∙ ap Ok e

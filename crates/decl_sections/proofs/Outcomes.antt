@@ -1,5 +1,5 @@
 -- Answers where nothing was refused, and lists that are read.
-use Rattle.std.proofs.Common.{◌≡◌, ℕ, zero, suc, ◌+◌, ◌-◌, ◌<◌, List, [], ◌∷◌, ◌++◌, length, drop, get_or, Some, refl, sym, ap}
+use Rattle.std.proofs.Common.{◌≡◌, ℕ, zero, suc, ◌+◌, ◌-◌, ◌<◌, List, [], ◌∷◌, ◌++◌, length, drop, get_or, Some, None, refl, sym, ap}
 use Rattle.std.proofs.Common.{subst, ◌∙◌, arith, add-one}
 use Rattle.std.proofs.Common.{length-append}
 use Rattle.std.specs.Prelude.{Result, Ok, Err, OnOk, IfOk, IfErr, slice_get}
@@ -63,3 +63,7 @@ pub last_is : {X : Type 0} (xs before : List X) (x y : X) → Some y ≡ slice_g
 last_is xs before x y h e =
     let n : length (before ++ x ∷ []) - 1 ≡ length before = omega (arith, length-append before (x ∷ [])) in
     same_Some y x (h ∙ ap (λ l. slice_get l (length l - 1)) e ∙ ap (slice_get (before ++ x ∷ [])) n ∙ get_end before x)
+
+pub none_first : {X : Type 0} (xs : List X) → None ≡ slice_get xs 0 → xs ≡ []
+none_first [] e = refl
+none_first (x ∷ xs) e = absurd (none-some x e)

@@ -151,6 +151,10 @@ pub none_is : (all : List Declaration) → replicate (length all) None ≡ none_
 none_is [] = refl
 none_is (d ∷ rest) = ap (λ l. None ∷ l) (none_is rest)
 
+pub none_count : (all : List Declaration) → length (none_known all) ≡ length all
+none_count [] = refl
+none_count (d ∷ rest) = ap suc (none_count rest)
+
 nothing_read : (n : ℕ) (keys : List Key) → Reads n MOST_DEFINITIONS keys []
 nothing_read n keys = record { sound = λ i d e. cc; key = λ i d e. cc; within = omega arith }
 

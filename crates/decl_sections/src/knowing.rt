@@ -1,6 +1,6 @@
 // What becomes known behind the definitions that have been read.
-ghost use Rattle.std.specs.Prelude.{◌≡◌, ◌+◌, ◌<◌, length, ℕ, List, Some, map, slice_get, slice_set, true};
-ghost use Rattle.std.specs.Prelude.{IfOk, IfErr, OnOk};
+ghost use Rattle.std.specs.Prelude.{◌≡◌, ◌+◌, ◌<◌, ◌≤◌, length, ℕ, List, Some, map, slice_get};
+ghost use Rattle.std.specs.Prelude.{slice_set, IfOk, IfErr, IfSome, OnOk};
 ghost use Rattle.arc_base.specs.declared.place.Stop.TheVariants as Stop;
 ghost use Rattle.nim_types.specs.Types.{Ty, Key};
 ghost use Rattle.expr_parts.specs.declared.scope.What.TheVariants as What;
@@ -32,42 +32,42 @@ fn unknown_marks(alloc: Global, known: &[Option<TypeId>]) -> Result<Vec<bool>, M
 }
 
 // The first definition that becomes known next.
-fn next(alloc: Global, known: &[Option<TypeId>], read: &[Definition]) -> Result<Option<u32>, Memory>
-    ensures { IfOk result (λ next. (n m : ℕ) (ts : List Ty) (keys : List Key)
+fn next(
+    alloc: Global,
+    known: &[Option<TypeId>],
+    read: &[Definition],
+) -> Result<Option<usize>, Memory>
+    ensures next { IfOk result (λ next. (n m : ℕ) (ts : List Ty) (keys : List Key)
         (k : List KnownType) → IsReading n m ts keys k (map is_unknown known.now) read.now
         → next_in (is_next_key keys (all_defined ts keys read.now) k)
         (all_defined ts keys read.now) ≡ defined_at ts keys read.now next) }
+    ensures within { IfOk result (λ next. IfSome next (λ n. n < length read.now)) }
 {
     let marks = unknown_marks(alloc, known)?;
     next_known(alloc, marks.as_slice(), read, 0)
 }
 
-fn note(known: &mut Vec<Option<TypeId>>, number: u32, id: TypeId) -> Result<(), Stop>
-    ensures known { OnOk result (known.new.items
-        ≡ slice_set known.old.items number (Some id)) }
-    ensures memory { IfErr result (λ stop. stop ≡ Stop.Memory) }
+fn note(known: &mut Vec<Option<TypeId>>, number: usize, id: TypeId)
+    requires { number < length known.old.items }
+    ensures { known.new.items ≡ slice_set known.old.items number (Some id) }
 {
-    let i = number as usize;
-    if i >= known.len() {
-        return Err(Stop::Memory);
-    }
-    known[i] = Some(id);
-    Ok(())
+    known[number] = Some(id);
 }
 
-// Whether each definition before one has a declaration.
-fn is_declared(names: &Names, number: u32) -> bool
-    ensures { result ≡ true → slice_get names.now.numbers.items number ≡ Some number }
+// The declaration of a definition, where each definition before it has one.
+fn declaration_at(names: &Names, number: usize) -> Option<u32>
+    ensures first { IfSome result (λ _. slice_get names.now.numbers.items number ≡ Some number) }
+    ensures declaration { IfSome result (λ d. d ≡ names.now.start + number) }
 {
-    match names.numbers.get(number as usize) {
-        Some(first) => *first == number,
-        None => false,
+    match names.numbers.get(number) {
+        Some(first) if *first as usize == number => names.start.checked_add(*first),
+        _ => None,
     }
 }
 
 // The declaration of a definition has the definition's number among those of the section, where no
 // name before it is declared twice.
-fn mend(scope: &mut Scope, names: &Names, number: u32, id: TypeId) -> Result<(), Stop>
+fn mend(scope: &mut Scope, names: &Names, number: usize, id: TypeId) -> Result<(), Stop>
     ensures first { OnOk result (slice_get names.now.numbers.items number ≡ Some number) }
     ensures decls { OnOk result (scope.new.decls
         ≡ mended scope.old.decls (names.now.start + number) (What.Type id)) }
@@ -75,10 +75,7 @@ fn mend(scope: &mut Scope, names: &Names, number: u32, id: TypeId) -> Result<(),
     ensures home { scope.new.home ≡ scope.old.home }
     ensures memory { IfErr result (λ stop. stop ≡ Stop.Memory) }
 {
-    if !is_declared(names, number) {
-        return Err(Stop::Memory);
-    }
-    let Some(declaration) = names.start.checked_add(number) else {
+    let Some(declaration) = declaration_at(names, number) else {
         return Err(Stop::Memory);
     };
     if declaration >= scope.count() {
@@ -86,6 +83,14 @@ fn mend(scope: &mut Scope, names: &Names, number: u32, id: TypeId) -> Result<(),
     }
     scope.mend(declaration, What::Type(id));
     Ok(())
+}
+
+/// The definition of a number.
+pub fn definition_at(read: &[Definition], number: usize) -> &Definition
+    requires { number < length read.now }
+    ensures { slice_get read.now number ≡ Some result.now }
+{
+    &read[number]
 }
 
 // The type of a definition that names known types alone, in the scope too.
@@ -96,20 +101,19 @@ fn know(
     names: &Names,
     known: &mut Vec<Option<TypeId>>,
     read: &[Definition],
-    number: u32,
+    number: usize,
 ) -> Result<(), Stop>
+    requires found { number < length read.now }
+    requires room { number < length known.old.items }
     ensures kept { Kept types.old types.new }
     ensures ready { IsReady types.old scope.old → OnOk result (IsReady types.new scope.new) }
     ensures knows { OnOk result (KnowsOne types.old types.new scope.old scope.new names.now
         known.old.items known.new.items read.now number) }
-    ensures found { OnOk result (number < length read.now) }
+    ensures count { OnOk result (length known.new.items ≡ length known.old.items) }
     ensures memory { IfErr result (λ stop. stop ≡ Stop.Memory) }
 {
-    let Some(definition) = read.get(number as usize) else {
-        return Err(Stop::Memory);
-    };
-    let id = add_known(alloc, types, known.as_slice(), definition)?;
-    note(known, number, id)?;
+    let id = add_known(alloc, types, known.as_slice(), definition_at(read, number))?;
+    note(known, number, id);
     mend(scope, names, number, id)
 }
 
@@ -122,10 +126,12 @@ pub fn know_all(
     known: &mut Vec<Option<TypeId>>,
     read: &[Definition],
 ) -> Result<(), Stop>
+    requires { length read.now ≤ length known.old.items }
     ensures kept { Kept types.old types.new }
     ensures ready { IsReady types.old scope.old → OnOk result (IsReady types.new scope.new) }
     ensures knows { OnOk result (KnowsAll types.old types.new scope.old scope.new names.now
         known.old.items known.new.items read.now) }
+    ensures count { OnOk result (length known.new.items ≡ length known.old.items) }
     ensures memory { IfErr result (λ stop. stop ≡ Stop.Memory) }
 {
     for _definition in read {

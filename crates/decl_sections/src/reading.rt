@@ -1,5 +1,6 @@
 // The definitions of a section, one after another.
-ghost use Rattle.std.specs.Prelude.{◌≡◌, ◌<◌, ◌++◌, ◌∷◌, [], ℕ, List, suc, pos, drop, map, length, Ok};
+ghost use Rattle.std.specs.Prelude.{◌≡◌, ◌<◌, ◌≤◌, ◌+◌, ◌++◌, ◌∷◌, [], ℕ, List, suc, pos, drop, map};
+ghost use Rattle.std.specs.Prelude.{length, Ok};
 ghost use Rattle.std.specs.Prelude.{if◌then◌else◌, true, IfOk, IfErr, OnOk};
 ghost use Rattle.std.specs.HashSet.{contains};
 ghost use Rattle.arc_base.specs.declared.place.Stop.TheVariants as Stop;
@@ -25,7 +26,7 @@ ghost use Rattle.decl_sections.specs.declared.starting.TheConstants.{MOST_DEFINI
 ghost use Rattle.decl_sections.specs.ViewSections.{members_in, said_in, type_by, Leads, KnowsAll};
 ghost use Rattle.decl_sections.specs.ViewWalk.{Framed, StageOf, member_decl};
 
-use crate::knowing::know_all;
+use crate::knowing::{definition_at, know_all};
 use crate::starting::{Frame, MOST_DEFINITIONS, Reading};
 use arc_base::{Bytes, Items, Memory, Place, Stop};
 use decl_parts::state::after;
@@ -257,6 +258,7 @@ fn take_members(
     reading: &Reading,
     members: &[Bytes],
 ) -> Result<(), Stop>
+    requires read { 0 < length reading.now.read.items }
     ensures decls { OnOk result ((seen : List Decl) × (scope.new.decls ≡ scope.old.decls ++ seen)
         × DeclsWithin (length types.now) seen
         × ((ts : List Ty) (facts : Facts) (section : List (List ℕ)) (before : List Definition)
@@ -271,11 +273,10 @@ fn take_members(
     if members.is_empty() {
         return Ok(());
     }
-    let Some(definition) = reading.read.last() else {
-        return Err(Stop::Memory);
-    };
-    let number = reading.read.len() - 1;
-    let ty = enum_type(types, reading.known.as_slice(), number, definition)?;
+    let read = reading.read.as_slice();
+    let last = read.len() - 1;
+    let definition = definition_at(read, last);
+    let ty = enum_type(types, reading.known.as_slice(), last, definition)?;
     declare_members(alloc, scope, &frame.all, ty, members)
 }
 
@@ -290,6 +291,7 @@ fn take_up(
     reading: &mut Reading,
     definition: Definition,
 ) -> Result<(), Stop>
+    requires room { length reading.old.read.items < length reading.old.known.items }
     ensures kept { Kept types.old types.new }
     ensures ready { IsReady types.old scope.old → OnOk result (IsReady types.new scope.new) }
     ensures read { OnOk result (reading.new.read.items
@@ -297,6 +299,8 @@ fn take_up(
     ensures sound { OnOk result (IsSound frame.now.types MOST_DEFINITIONS definition) }
     ensures knows { OnOk result (KnowsAll types.old types.new scope.old scope.new frame.now.names
         reading.old.known.items reading.new.known.items reading.new.read.items) }
+    ensures count { OnOk result (length reading.new.known.items
+        ≡ length reading.old.known.items) }
     ensures declared { reading.new.declared ≡ reading.old.declared }
     ensures memory { IfErr result (λ stop. stop ≡ Stop.Memory) }
 {
@@ -323,11 +327,14 @@ fn read(
     reading: &mut Reading,
     def: &Tree,
 ) -> Result<(), Stop>
-    requires { IsReady types.old scope.old }
+    requires ready { IsReady types.old scope.old }
+    requires room { length reading.old.read.items < length reading.old.known.items }
     ensures kept { Kept types.old types.new }
     ensures ready { OnOk result (IsReady types.new scope.new) }
     ensures count { OnOk result (length reading.new.read.items
         ≡ suc (length reading.old.read.items)) }
+    ensures known { OnOk result (length reading.new.known.items
+        ≡ length reading.old.known.items) }
     ensures leads { (ts : List Ty) (st : State) (all : List Declaration) (old : List Decl)
         (s : Section) (rest : List Declaration) → Under types.new ts (facts_in types.new)
         → Framed ts st all old frame.now
@@ -361,7 +368,9 @@ pub fn read_all(
     reading: &mut Reading,
     defs: &[Tree],
 ) -> Result<(), Stop>
-    requires { IsReady types.old scope.old }
+    requires ready { IsReady types.old scope.old }
+    requires room { length reading.old.read.items + length defs.now
+        ≤ length reading.old.known.items }
     ensures kept { Kept types.old types.new }
     ensures ready { OnOk result (IsReady types.new scope.new) }
     ensures count { reading.old.read.items ≡ [] → OnOk result (length reading.new.read.items

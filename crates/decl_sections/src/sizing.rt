@@ -1,8 +1,8 @@
 // Sizes of the types of a section, and of what is written in it.
-ghost use Rattle.std.specs.Prelude.{◌<◌, ℕ, List, map};
+ghost use Rattle.std.specs.Prelude.{◌≡◌, ◌<◌, ℕ, List, Some, length, map, slice_get};
 ghost use Rattle.arc_base.specs.Refusal.{Answers, and_then};
 ghost use Rattle.nim_types.specs.Types.{Ty, Key, Facts};
-ghost use Rattle.nim_types.specs.Table.{type_at};
+ghost use Rattle.nim_types.specs.Table.{type_at, AllBelow};
 ghost use Rattle.expr_parts.specs.View.{Under, Grown, AllFormed};
 ghost use Rattle.decl_rules.specs.Meanings.{KnownType};
 ghost use Rattle.decl_rules.specs.Written.{within_size};
@@ -27,13 +27,11 @@ use std::alloc::Global;
 
 // Refuses a type that is too large.
 fn check_size(types: &TypeTable, id: TypeId, at: Place) -> Result<(), Stop>
-    requires { AllFormed types.now }
+    requires formed { AllFormed types.now }
+    requires within { id < length types.now }
     ensures { (ts : List Ty) (facts : Facts) → Under types.now ts facts
         → Answers (λ _. tt) (within_size facts at (type_at ts id)) result }
 {
-    if id >= types.count() {
-        return Err(Stop::Memory);
-    }
     if !is_sized(types, id) {
         return Err(refusal(Code::NotTyped, at));
     }
@@ -42,7 +40,8 @@ fn check_size(types: &TypeTable, id: TypeId, at: Place) -> Result<(), Stop>
 
 // Refuses an array or tuple type that is too large.
 fn check_node(types: &TypeTable, node: &Node, id: TypeId) -> Result<(), Stop>
-    requires { AllFormed types.now }
+    requires formed { AllFormed types.now }
+    requires within { id < length types.now }
     ensures { (ts : List Ty) (facts : Facts) → Under types.now ts facts
         → Answers (λ _. tt) (node_sized facts node.now (type_at ts id)) result }
 {
@@ -53,18 +52,24 @@ fn check_node(types: &TypeTable, node: &Node, id: TypeId) -> Result<(), Stop>
     }
 }
 
+fn id_at(ids: &[TypeId], number: usize) -> TypeId
+    requires { number < length ids.now }
+    ensures { slice_get ids.now number ≡ Some result }
+{
+    ids[number]
+}
+
 // Refuses the first array or tuple type that is too large, where nodes have these types.
 fn check_nodes(types: &TypeTable, nodes: &[Node], ids: &[TypeId]) -> Result<(), Stop>
-    requires { AllFormed types.now }
+    requires formed { AllFormed types.now }
+    requires within { AllBelow (length types.now) ids.now }
+    requires count { length ids.now ≡ length nodes.now }
     ensures { (ts : List Ty) (facts : Facts) → Under types.now ts facts
         → Answers (λ _. tt) (nodes_sized facts nodes.now (map (type_at ts) ids.now)) result }
 {
     let mut number = 0_usize;
     for node in nodes {
-        let Some(id) = ids.get(number) else {
-            return Err(Stop::Memory);
-        };
-        match check_node(types, node, *id) {
+        match check_node(types, node, id_at(ids, number)) {
             Ok(()) => {}
             Err(stop) => return Err(stop),
         }

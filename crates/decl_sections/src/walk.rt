@@ -1,5 +1,5 @@
 // The walk through a section.
-ghost use Rattle.std.specs.Prelude.{◌≡◌, ◌≤◌, ◌++◌, [], List, map, length, OnOk};
+ghost use Rattle.std.specs.Prelude.{◌≡◌, ◌≤◌, ◌+◌, ◌++◌, [], List, map, length, OnOk};
 ghost use Rattle.arc_base.specs.Refusal.{Answers};
 ghost use Rattle.nim_tree.specs.Types.{declaration_of};
 ghost use Rattle.nim_types.specs.Types.{Ty};
@@ -33,7 +33,9 @@ fn walk(
     reading: &mut Reading,
     defs: &[Tree],
 ) -> Result<(), Stop>
-    requires { IsReady types.old scope.old }
+    requires ready { IsReady types.old scope.old }
+    requires room { length reading.old.read.items + length defs.now
+        ≤ length reading.old.known.items }
     ensures kept { Kept types.old types.new }
     ensures ready { OnOk result (IsReady types.new scope.new) }
     ensures answers { (ts : List Ty) (st : State) (old : List Decl)
@@ -125,11 +127,11 @@ pub fn section(
     ensures begins { OnOk result ((more : List Decl)
         × (scope.new.decls ≡ scope.old.decls ++ more)) }
 {
-    // A section of a source has a definition; lines are counted from 1, and definitions stand in
-    // order, behind all types that are declared before them.
     let Some(first) = defs.first() else {
-        return Err(Stop::Memory);
+        return Ok(());
     };
+    // In a source lines are counted from 1, and definitions stand in order, behind all types that
+    // are declared before them.
     let home = first.name.at.module;
     let at = position(first.name.at);
     if at == 0 {

@@ -13,9 +13,8 @@ use Rattle.nim_types.specs.declared.types.TypeDef.TheVariants as D
 use Rattle.arc_base.specs.declared.place.Place.{Place}
 use Rattle.decl_rules.specs.Meanings.{renamed, renamed_all}
 use Rattle.decl_types.specs.declared.nodes.Node.{Node}
-use Rattle.decl_types.specs.declared.nodes.Node.TheVariants as N
 use Rattle.decl_types.specs.ViewNodes.{node_type, nodes_onto, node_types}
-use Rattle.decl_types.specs.ViewKnown.{NodeIn, NodesIn, IsMade, Declares}
+use Rattle.decl_types.specs.ViewKnown.{NodeIn, NodesIn, Declares}
 
 abbrev listed : List Ty → Tys
 listed [] = type.no_types
@@ -41,14 +40,17 @@ pub mapped_all : (by : Key → Ty) (done : List Ty) (is : List ℕ) → types_at
 mapped_all by done [] = refl
 mapped_all by done (i ∷ is) = ap₂ type.types (mapped_at (renamed by) refl done i) (mapped_all by done is)
 
--- a node that is made of others, renamed
-pub renamed_node : (ts : List Ty) (keys : List Key) (by : Key → Ty) (done : List Ty) (node : Node) → IsMade node
-    → node_type ts keys (map (renamed by) done) node ≡ renamed by (node_type ts keys done node)
-renamed_node ts keys by done (N.Known id) m = absurd m
-renamed_node ts keys by done (N.Named k) m = absurd m
-renamed_node ts keys by done (N.Sequence i) m = ap type.sequence (mapped_at (renamed by) refl done i)
-renamed_node ts keys by done (N.Array at len i) m = ap (type.array len) (mapped_at (renamed by) refl done i)
-renamed_node ts keys by done (N.Tuple at names is) m = ap (type.tuple names) (mapped_all by done is)
+-- types that are made of others, renamed
+module _ (by : Key → Ty) (done : List Ty) where
+  pub renamed_sequence : (i : ℕ) → type.sequence (type_at (map (renamed by) done) i) ≡ renamed by (type.sequence (type_at done i))
+  renamed_sequence i = ap type.sequence (mapped_at (renamed by) refl done i)
+
+  pub renamed_array : (len i : ℕ) → type.array len (type_at (map (renamed by) done) i) ≡ renamed by (type.array len (type_at done i))
+  renamed_array len i = ap (type.array len) (mapped_at (renamed by) refl done i)
+
+  pub renamed_tuple : (names : List (List ℕ)) (is : List ℕ)
+      → type.tuple names (types_at (map (renamed by) done) is) ≡ renamed by (type.tuple names (types_at done is))
+  renamed_tuple names is = ap (type.tuple names) (mapped_all by done is)
 
 abbrev first_or : {X : Type 0} → X → List X → X
 first_or d [] = d

@@ -34,12 +34,6 @@ abbrev pub NodesIn : (types definitions : ℕ) → List Node → Type 0
 NodesIn n m [] = Unit {0}
 NodesIn n m (node ∷ rest) = NodeIn n m node × NodesIn n m rest
 
--- made of others
-abbrev pub IsMade : Node → Type 0
-IsMade (N.Known id) = ⊥
-IsMade (N.Named k) = ⊥
-IsMade _ = Unit {0}
-
 -- an object has a type for each name
 abbrev pub OneEach : Meaning → Type 0
 OneEach (M.Object names is) = length names ≡ length is

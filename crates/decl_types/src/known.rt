@@ -2,12 +2,13 @@
 ghost use Rattle.std.specs.Prelude.{◌≡◌, ◌<◌, ℕ, List, Some, map, length, slice_get, IfOk, IfErr};
 ghost use Rattle.std.specs.Prelude.{OnOk, OnErr, true};
 ghost use Rattle.arc_base.specs.declared.place.Stop.TheVariants as Stop;
+ghost use Rattle.nim_types.specs.Types as type;
 ghost use Rattle.nim_types.specs.Types.{Ty, Key, Facts};
-ghost use Rattle.nim_types.specs.Table.{type_at, meant, AllBelow, IsWithin, MayAdd, Grows};
+ghost use Rattle.nim_types.specs.Table.{type_at, types_at, meant, AllBelow, IsWithin, MayAdd, Grows};
 ghost use Rattle.expr_parts.specs.View.{Under, Grown, IsBuilt};
 ghost use Rattle.decl_rules.specs.Meanings.{renamed};
 ghost use Rattle.decl_types.specs.ViewNodes.{node_type, node_types};
-ghost use Rattle.decl_types.specs.ViewKnown.{KnownAs, Untouched, NodeIn, NodesIn, IsMade};
+ghost use Rattle.decl_types.specs.ViewKnown.{KnownAs, Untouched, NodeIn, NodesIn};
 ghost use Rattle.decl_types.specs.ViewKnown.{OneEach, IsSound, AddsMeant, Becomes, Kept};
 ghost use Rattle.decl_types.specs.ViewKnown.{Declares, object_def, enum_def, distinct_def};
 
@@ -131,26 +132,44 @@ fn known_at(known: &[Option<TypeId>], number: u32) -> Result<TypeId, Stop>
     }
 }
 
-// The entry of a node that is made of others.
-fn built(alloc: Global, node: &Node, ids: &[TypeId]) -> Result<TypeDef, Memory>
-    ensures made { IfOk result (λ _. IsMade node.now) }
+// The entries of nodes that are made of others.
+
+fn sequence_of(ids: &[TypeId], of: u32) -> Result<TypeDef, Memory>
     ensures built { IfOk result (λ def. IsBuilt def) }
     ensures within { IfOk result (λ def. (n : ℕ) → AllBelow n ids.now → IsWithin n def) }
-    ensures means { IfOk result (λ def. (ts : List Ty) (keys : List Key) → meant ts def
-        ≡ node_type ts keys (map (type_at ts) ids.now) node.now) }
+    ensures means { IfOk result (λ def. (ts : List Ty) → meant ts def
+        ≡ type.sequence (type_at (map (type_at ts) ids.now) of)) }
 {
-    match node {
-        Node::Sequence(of) => Ok(TypeDef::Seq(number_at(ids, *of)?)),
-        Node::Array { len, of, .. } => Ok(TypeDef::Array {
-            len: *len,
-            of: number_at(ids, *of)?,
-        }),
-        Node::Tuple { names, parts, .. } => Ok(TypeDef::Tuple {
-            names: copies_of(alloc, names.as_slice())?,
-            parts: numbers_at(alloc, ids, parts.as_slice())?,
-        }),
-        Node::Known(_) | Node::Named(_) => Err(Memory),
-    }
+    Ok(TypeDef::Seq(number_at(ids, of)?))
+}
+
+fn array_of(ids: &[TypeId], len: u32, of: u32) -> Result<TypeDef, Memory>
+    ensures built { IfOk result (λ def. IsBuilt def) }
+    ensures within { IfOk result (λ def. (n : ℕ) → AllBelow n ids.now → IsWithin n def) }
+    ensures means { IfOk result (λ def. (ts : List Ty) → meant ts def
+        ≡ type.array len (type_at (map (type_at ts) ids.now) of)) }
+{
+    Ok(TypeDef::Array {
+        len,
+        of: number_at(ids, of)?,
+    })
+}
+
+fn tuple_of(
+    alloc: Global,
+    ids: &[TypeId],
+    names: &[Bytes],
+    parts: &[u32],
+) -> Result<TypeDef, Memory>
+    ensures built { IfOk result (λ def. IsBuilt def) }
+    ensures within { IfOk result (λ def. (n : ℕ) → AllBelow n ids.now → IsWithin n def) }
+    ensures means { IfOk result (λ def. (ts : List Ty) → meant ts def
+        ≡ type.tuple names.now (types_at (map (type_at ts) ids.now) parts.now)) }
+{
+    Ok(TypeDef::Tuple {
+        names: copies_of(alloc, names)?,
+        parts: numbers_at(alloc, ids, parts)?,
+    })
 }
 
 // A number that is of the table.
@@ -186,8 +205,13 @@ fn type_of(
     match node {
         Node::Known(id) => within(types, *id),
         Node::Named(number) => within(types, known_at(known, *number)?),
-        Node::Sequence(_) | Node::Array { .. } | Node::Tuple { .. } => {
-            add(types, built(alloc, node, ids)?)
+        Node::Sequence(of) => add(types, sequence_of(ids, *of)?),
+        Node::Array { len, of, .. } => add(types, array_of(ids, *len, *of)?),
+        Node::Tuple { names, parts, .. } => {
+            add(
+                types,
+                tuple_of(alloc, ids, names.as_slice(), parts.as_slice())?,
+            )
         }
     }
 }
@@ -201,6 +225,7 @@ pub fn types_of(
 ) -> Result<Vec<TypeId>, Stop>
     ensures grown { Grown types.old types.new }
     ensures within { IfOk result (λ ids. AllBelow (length types.new) ids.items) }
+    ensures count { IfOk result (λ ids. length ids.items ≡ length nodes.now) }
     ensures means { IfOk result (λ ids. (n m : ℕ) → NodesIn n m nodes.now
         → (ts : List Ty) (facts : Facts) → Under types.new ts facts
         → (keys : List Key) (by : Key → Ty) → KnownAs ts keys known.now by → Untouched ts n by

@@ -1,5 +1,5 @@
 // Types of the section in what definitions are made of, by marks of definitions.
-ghost use Rattle.std.specs.Prelude.{◌≡◌, ℕ, List, Bool, Some, IfOk, map, drop};
+ghost use Rattle.std.specs.Prelude.{◌≡◌, ◌<◌, ℕ, List, Bool, Some, IfOk, IfSome, length, map, drop};
 ghost use Rattle.nim_types.specs.Types.{Ty, Key};
 ghost use Rattle.decl_rules.specs.Meanings.{occurs_in_any, made_of, KnownType, next_in};
 ghost use Rattle.decl_rules.specs.Meanings.{is_next as is_next_key};
@@ -16,10 +16,10 @@ use arc_base::Memory;
 use std::alloc::Global;
 
 // Numbers that have none aren't marked.
-fn mark_at(marks: &[bool], number: u32) -> bool
+fn mark_at(marks: &[bool], number: usize) -> bool
     ensures { mark_at marks.now number ≡ result }
 {
-    match marks.get(number as usize) {
+    match marks.get(number) {
         Some(mark) => *mark,
         None => false,
     }
@@ -29,7 +29,7 @@ fn any_at(marks: &[bool], numbers: &[u32]) -> bool
     ensures { any_at marks.now numbers.now ≡ result }
 {
     for number in numbers {
-        if mark_at(marks, *number) {
+        if mark_at(marks, *number as usize) {
             return true;
         }
     }
@@ -42,9 +42,9 @@ fn node_mark(marks: &[bool], before: &[bool], node: &Node) -> bool
 {
     match node {
         Node::Known(_) => false,
-        Node::Named(number) => mark_at(marks, *number),
-        Node::Sequence(of) => mark_at(before, *of),
-        Node::Array { of, .. } => mark_at(before, *of),
+        Node::Named(number) => mark_at(marks, *number as usize),
+        Node::Sequence(of) => mark_at(before, *of as usize),
+        Node::Array { of, .. } => mark_at(before, *of as usize),
         Node::Tuple { parts, .. } => any_at(before, parts.as_slice()),
     }
 }
@@ -66,8 +66,8 @@ fn meaning_mark(before: &[bool], meaning: &Meaning) -> bool
     match meaning {
         Meaning::Object { types, .. } => any_at(before, types.as_slice()),
         Meaning::Enum(_) => false,
-        Meaning::Distinct(base) => mark_at(before, *base),
-        Meaning::Alias(of) => mark_at(before, *of),
+        Meaning::Distinct(base) => mark_at(before, *base as usize),
+        Meaning::Alias(of) => mark_at(before, *of as usize),
     }
 }
 
@@ -91,7 +91,7 @@ pub fn definition_mark(
 fn is_next(
     alloc: Global,
     marks: &[bool],
-    number: u32,
+    number: usize,
     definition: &Definition,
 ) -> Result<bool, Memory>
     ensures { IfOk result (λ next. next ≡ is_next marks.now number definition.now) }
@@ -108,17 +108,15 @@ fn next_from(
     alloc: Global,
     marks: &[bool],
     read: &[Definition],
-    from: u32,
-) -> Result<Option<u32>, Memory>
-    ensures { IfOk result (λ next. next ≡ next_from marks.now from (drop from read.now)) }
+    from: usize,
+) -> Result<Option<usize>, Memory>
+    ensures next { IfOk result (λ next. next ≡ next_from marks.now from (drop from read.now)) }
+    ensures within { IfOk result (λ next. IfSome next (λ n. n < length read.now)) }
 {
     let mut number = from;
-    while let Some(definition) = read.get(number as usize) {
+    while let Some(definition) = read.get(number) {
         if is_next(alloc, marks, number, definition)? {
             return Ok(Some(number));
-        }
-        if number == u32::MAX {
-            return Err(Memory);
         }
         number += 1;
     }
@@ -131,12 +129,13 @@ pub fn next_known(
     alloc: Global,
     marks: &[bool],
     read: &[Definition],
-    from: u32,
-) -> Result<Option<u32>, Memory>
-    ensures { IfOk result (λ next. (n m : ℕ) (ts : List Ty) (keys : List Key)
+    from: usize,
+) -> Result<Option<usize>, Memory>
+    ensures next { IfOk result (λ next. (n m : ℕ) (ts : List Ty) (keys : List Key)
         (known : List KnownType) → IsReading n m ts keys known marks.now read.now
         → NoneBefore marks.now from → next_in (is_next_key keys (all_defined ts keys read.now)
         known) (all_defined ts keys read.now) ≡ defined_at ts keys read.now next) }
+    ensures within { IfOk result (λ next. IfSome next (λ n. n < length read.now)) }
 {
     next_from(alloc, marks, read, from)
 }

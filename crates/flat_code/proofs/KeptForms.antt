@@ -2,8 +2,11 @@
 use Rattle.std.proofs.Common.{◌≡◌, refl, ap, ap₂, ◌∙◌, arith, ℕ, suc, ◌+◌, ◌*◌, ◌≤◌, Bool, true, false, ◌&&◌, List, [], ◌∷◌, ◌++◌, map, length, Option}
 use Rattle.std.proofs.Common.{Some, None}
 use Rattle.std.specs.Prelude.{option_map}
+use Rattle.std.specs.Set.{unique_keys}
+use Rattle.nim_types.specs.Types.{same_text}
 use Rattle.nim_types.specs.declared.types.TypeDef.{TypeDef}
 use Rattle.nim_program.specs.declared.operation.Use.{Use}
+use Rattle.nim_program.specs.TextSizes.{all_bytes}
 use Rattle.flat_code.specs.declared.code.Code.{Code}
 use Rattle.flat_code.specs.declared.code.CodeProc.{CodeProc}
 use Rattle.flat_code.specs.declared.line.Line.{Line}
@@ -14,7 +17,7 @@ use Rattle.flat_code.specs.Running.{from_label, before_last}
 use Rattle.flat_code.specs.Whole.{label_in, target, back_to, falls, is_found, is_followed, stands, all_lead, are_whole}
 use Rattle.flat_code.specs.Fits.{Signature, signature_of, fits, all_fit, has_lines_for, start_places, in_order, signatures, each_fits, code_fits}
 use Rattle.flat_code.specs.Fits.{are_none, params_at, results_at}
-use Rattle.flat_code.specs.Sizes.{summed, weight, proc_weight, texts_in, code_weight, code_texts, data_bytes, globals_bytes, names_bytes}
+use Rattle.flat_code.specs.Sizes.{summed, weight, proc_weight, texts_in, lines_texts, code_weight, code_texts, data_bytes, globals_bytes, names_bytes}
 use Rattle.flat_code.specs.Codes.{proc_of, lines_in, each_line, by_lines, KeepsForm}
 use Rattle.flat_code.proofs.LineMaps.{in_proc, before_last_map, label_map}
 use Rattle.flat_code.proofs.ByLines.{procs_by_lines}
@@ -81,9 +84,13 @@ module _ {L M : Type 0} (f : L → M) (plain : L → Line) (plain' : M → Line)
   weights [] = refl
   weights (p ∷ procs) = ap₂ (λ m n. m + n) (proc_weights p.lines) (weights procs)
 
+  own_texts : (lines : List L) → lines_texts (map plain' (map f lines)) ≡ lines_texts (map plain lines)
+  own_texts [] = refl
+  own_texts (l ∷ lines) = ap₂ (λ ts us. ts ++ us) (alike_texts (alike l)) (own_texts lines)
+
   texts : (procs : List (CodeProc L)) → code_texts plain' (map (each_line f) procs) ≡ code_texts plain procs
   texts [] = refl
-  texts (p ∷ procs) = ap₂ (λ m n. m + n) (sums texts_in (λ a b h. alike_texts h) p.lines) (texts procs)
+  texts (p ∷ procs) = ap₂ (λ ts us. ts ++ us) (own_texts p.lines) (texts procs)
 
   lines_same : (procs : List (CodeProc L)) → lines_in (map (each_line f) procs) ≡ lines_in procs
   lines_same [] = refl
@@ -96,7 +103,7 @@ module _ {L M : Type 0} (f : L → M) (plain : L → Line) (plain' : M → Line)
 
   data_same : (table : List TypeDef) (procs : List (CodeProc L)) → data_bytes plain' table (map (each_line f) procs) ≡ data_bytes plain table procs
   data_same table procs =
-      ap₂ (λ places m. globals_bytes (known_in table) places + (names_bytes table + m)) (starts procs) (texts procs)
+      ap₂ (λ places ts. globals_bytes (known_in table) places + (names_bytes table + all_bytes (unique_keys same_text ts))) (starts procs) (texts procs)
 
   -- ---- labels
 

@@ -1,6 +1,8 @@
 -- How much code there is, how many bytes the variables of a procedure take, and how many data: what passes bound.
-use Rattle.std.specs.Prelude.{ℕ, suc, ◌+◌, ◌*◌, pos, if◌then◌else◌, List, [], ◌∷◌, length, map}
+use Rattle.std.specs.Prelude.{ℕ, suc, ◌+◌, ◌*◌, pos, if◌then◌else◌, List, [], ◌∷◌, ◌++◌, length, map}
 use Rattle.std.specs.Ordering.{int_eq}
+use Rattle.std.specs.Set.{unique_keys}
+use Rattle.nim_types.specs.Types.{same_text}
 use Rattle.nim_types.specs.declared.types.TheConstants.{WORD_BYTES}
 use Rattle.nim_types.specs.declared.types.TypeDef.{TypeDef}
 use Rattle.nim_types.specs.declared.types.TypeDef.TheVariants as D
@@ -9,7 +11,7 @@ use Rattle.nim_program.specs.declared.operation.Operation.{Operation}
 use Rattle.nim_program.specs.declared.operation.Operation.TheVariants as O
 use Rattle.nim_program.specs.declared.program.Mode.TheVariants.{Plain, Sink, Var}
 use Rattle.nim_program.specs.Sizes.{type_bytes}
-use Rattle.nim_program.specs.TextSizes.{text_bytes, all_bytes}
+use Rattle.nim_program.specs.TextSizes.{all_bytes}
 use Rattle.flat_code.specs.declared.code.CodeProc.{CodeProc}
 use Rattle.flat_code.specs.declared.line.Line.{Line}
 use Rattle.flat_code.specs.declared.line.Line.TheVariants as L
@@ -129,18 +131,22 @@ weight (L.Return result) = 3
 
 -- ---- data
 
-abbrev pub piece_bytes : Piece → ℕ
-piece_bytes (P.Text text) = text_bytes text
-piece_bytes piece = 0
+abbrev pub piece_texts : Piece → List (List ℕ)
+piece_texts (P.Text text) = text ∷ []
+piece_texts piece = []
 
-abbrev pub pieces_texts : List Piece → ℕ
-pieces_texts [] = 0
-pieces_texts (piece ∷ pieces) = piece_bytes piece + pieces_texts pieces
+abbrev pub pieces_texts : List Piece → List (List ℕ)
+pieces_texts [] = []
+pieces_texts (piece ∷ pieces) = piece_texts piece ++ pieces_texts pieces
 
 -- the texts of constants, each as often as it stands there
-abbrev pub texts_in : Line → ℕ
+abbrev pub texts_in : Line → List (List ℕ)
 texts_in (L.Constant to how ty pieces) = pieces_texts pieces
-texts_in line = 0
+texts_in line = []
+
+abbrev pub lines_texts : List Line → List (List ℕ)
+lines_texts [] = []
+lines_texts (line ∷ lines) = texts_in line ++ lines_texts lines
 
 abbrev pub global_bytes : PlaceKind → (value : ℕ) → ℕ
 global_bytes Global value = value
@@ -180,10 +186,14 @@ module _ {L : Type 0} (plain : L → Line) where
   code_weight [] = 0
   code_weight (p ∷ procs) = proc_weight (map plain p.lines) + code_weight procs
 
-  abbrev pub code_texts : List (CodeProc L) → ℕ
-  code_texts [] = 0
-  code_texts (p ∷ procs) = summed texts_in (map plain p.lines) + code_texts procs
+  abbrev pub code_texts : List (CodeProc L) → List (List ℕ)
+  code_texts [] = []
+  code_texts (p ∷ procs) = lines_texts (map plain p.lines) ++ code_texts procs
+
+  -- each distinct text once
+  abbrev pub distinct_texts : List (CodeProc L) → List (List ℕ)
+  distinct_texts procs = unique_keys same_text (code_texts procs)
 
   -- globals are places of the start code
   abbrev pub data_bytes : List TypeDef → List (CodeProc L) → ℕ
-  data_bytes table procs = globals_bytes (known_in table) (start_places procs) + (names_bytes table + code_texts procs)
+  data_bytes table procs = globals_bytes (known_in table) (start_places procs) + (names_bytes table + all_bytes (distinct_texts procs))

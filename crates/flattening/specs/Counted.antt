@@ -1,16 +1,16 @@
 -- The parts of a program that bound how much code it has: nodes, fresh values and dereferences in paths, the branches of a `case` and their labels,
--- bodies, and what isn't zero in its constants. And what bounds its data.
+-- bodies, and what isn't zero in its constants. And how often a text stands in its constants.
 use Rattle.std.specs.Prelude.{ℕ, suc, ◌+◌, pos, if◌then◌else◌, List, [], ◌∷◌, length, Option, Some, None}
 use Rattle.std.specs.Ordering.{int_eq}
-use Rattle.nim_types.specs.declared.types.TypeDef.{TypeDef}
+use Rattle.nim_types.specs.Types.{same_text}
 use Rattle.nim_program.specs.Program.{Literal, Number, Characters, NoObject, PartsOf, ElementsOf, Literals, NoLiteral, ALiteral, Label, Act, Giving}
 use Rattle.nim_program.specs.Program.{Chooser, ByConditions, ByLabels}
 use Rattle.nim_program.specs.Program.{Expr, Apply, Read, Early, Choose, Path, Variable, Fresh, Field, Element, Deref, Args, NoArg, ByValue, ByPath}
 use Rattle.nim_program.specs.Program.{Stmt, Do, Idle, Give, Leave, Select, Loop, Raise, Try}
 use Rattle.nim_program.specs.Program.{Stmts, Empty, Then, Declare, Defer, Blocks, Otherwise, Block, Handlers, NoHandler, Handler, Body, Proc, Program}
-use Rattle.nim_program.specs.Sizes.{globals_size}
-use Rattle.nim_program.specs.TextSizes.{program_texts}
-use Rattle.flat_code.specs.Sizes.{names_bytes}
+use Rattle.nim_program.specs.Folds.{Seen, AtApply, numbers, total_of}
+use Rattle.flat_code.specs.Pieces.{pieces_of}
+use Rattle.flat_code.specs.Sizes.{pieces_texts}
 
 -- what isn't zero in a constant
 abbrev mutual
@@ -104,6 +104,28 @@ program_parts program = procs_parts program.procs + body_parts program.start
 
 -- ---- data
 
--- what data there is at most: globals, the names of members of enums, and texts
-abbrev pub program_data : List TypeDef → Program → ℕ
-program_data table program = globals_size program.facts program.globals + (names_bytes table + program_texts program)
+abbrev pub times : (text : List ℕ) → List (List ℕ) → ℕ
+times text [] = 0
+times text (other ∷ others) = (if same_text text other then 1 else 0) + times text others
+
+-- how often a text stands in the constants of a part, and of all
+abbrev pub literal_times : (text : List ℕ) → Literal → ℕ
+literal_times text literal = times text (pieces_texts (pieces_of literal))
+
+abbrev pub own_times : (text : List ℕ) → Seen → ℕ
+own_times text (AtApply node ty (Giving literal)) = literal_times text literal
+own_times text _ = 0
+
+abbrev pub body_times : (text : List ℕ) → Body → ℕ
+body_times text body = total_of numbers (own_times text) body.stmts
+
+abbrev pub times_if : (text : List ℕ) → Option Body → ℕ
+times_if text None = 0
+times_if text (Some body) = body_times text body
+
+abbrev pub procs_times : (text : List ℕ) → List Proc → ℕ
+procs_times text [] = 0
+procs_times text (p ∷ procs) = times_if text p.body + procs_times text procs
+
+abbrev pub program_times : (text : List ℕ) → Program → ℕ
+program_times text program = procs_times text program.procs + body_times text program.start

@@ -9,17 +9,18 @@ ghost use Rattle.nim_types.specs.Table.{facts_in};
 ghost use Rattle.nim_plan.specs.declared.plan.Plan.{Plan};
 ghost use Rattle.nim_program.specs.Numbering.{is_numbered_program};
 ghost use Rattle.nim_program.specs.Program.{Program};
+ghost use Rattle.nim_program.specs.Sizes.{globals_size};
 ghost use Rattle.nim_program.specs.Typed.{IsTyped};
 ghost use Rattle.nim_meaning.specs.LeftOut.{IsPlain};
 ghost use Rattle.nim_meaning.specs.Meaning.{meaning};
 ghost use Rattle.flat_code.specs.Codes.{flat_plain, procs_of, hooks_of, AreNone};
-ghost use Rattle.flat_code.specs.Fits.{code_fits};
+ghost use Rattle.flat_code.specs.Fits.{code_fits, start_places};
 ghost use Rattle.flat_code.specs.Scene.{Known, known_in};
-ghost use Rattle.flat_code.specs.Sizes.{code_weight, data_bytes};
+ghost use Rattle.flat_code.specs.Sizes.{code_weight, globals_bytes, code_texts};
 ghost use Rattle.flat_code.specs.Whole.{label_in, are_whole};
 ghost use Rattle.flattening.specs.declared.laws.TheConstants.{FLAT_PACE, NODE_WEIGHT};
 ghost use Rattle.flattening.specs.Alike.{AllAlike};
-ghost use Rattle.flattening.specs.Counted.{program_parts, program_data};
+ghost use Rattle.flattening.specs.Counted.{program_parts, times, program_times};
 ghost use Rattle.flattening.specs.Examples.{counting};
 ghost use Rattle.flattening.specs.Flattened.{known_of, code_of, flat_meaning, flat_by_units, IsExact};
 ghost use Rattle.flattening.specs.Formed.{IsFormed};
@@ -62,14 +63,17 @@ pub fn fits()
         IsTyped program → IsPlain program → (plan : Plan) → AreNone (hooks_of (flat_of program plan)) }
 {}
 
-/// Flat code weighs no more than the counted parts of its program allow, and has no more data than
-/// are counted.
+/// Flat code weighs no more than the counted parts of its program allow, its globals take no more
+/// bytes than the program's, and each text stands in it as often as in the program at most.
 pub fn sizes()
     ensures weight { (program : Program) (plan : Plan) →
         code_weight flat_plain (flat_procs program plan) ≤ NODE_WEIGHT * program_parts program }
-    ensures data { (table : List TypeDef) (program : Program) (plan : Plan) → known_of program ≡ known_in table →
-        IsTyped program → is_numbered_program program ≡ true →
-        data_bytes flat_plain table (flat_procs program plan) ≤ program_data table program }
+    ensures globals { (program : Program) (plan : Plan) → IsTyped program →
+        is_numbered_program program ≡ true →
+        globals_bytes (known_of program) (start_places (flat_procs program plan))
+        ≤ globals_size program.facts program.globals }
+    ensures texts { (program : Program) (plan : Plan) (text : List ℕ) →
+        times text (code_texts flat_plain (flat_procs program plan)) ≤ program_times text program }
 {}
 
 /// What word code rests on beside that flat code fits: lines of flat code that give one label or one

@@ -5,6 +5,8 @@ mod Rounds
 mod Listing
 mod FormRows
 mod Capping
+mod Meets
+mod Distinct
 mod Globals
 mod TypeNames
 pub mod ForCallers

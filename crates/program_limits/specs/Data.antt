@@ -1,12 +1,17 @@
--- The data of a program as its size counts (E25): its globals, the names of the members of its enums and of its exceptions, and its texts.
--- Each name and each text stands with a word for its length, up to whole words.
-use Rattle.std.specs.Prelude.{ℕ, ◌+◌, List, [], ◌∷◌}
-use Rattle.nim_types.specs.Types.{Ty, exception, Fact, members, below, Facts}
+-- The data of a program as its size counts (E25): its globals, the names of the members of its enums and of its exceptions, the names of the six
+-- exceptions that every program has, and the texts of its constants and literals, each distinct one once. Each name and each text stands with a
+-- word for its length, up to whole words. A name counts wherever it is declared, also where a text or another name is equal to it.
+use Rattle.std.specs.Prelude.{ℕ, ◌+◌, List, [], ◌∷◌, ◌++◌, codes, Option, Some, None}
+use Rattle.std.specs.Set.{unique_keys}
+use Rattle.nim_types.specs.Types.{Ty, exception, Fact, members, below, Facts, same_text}
 use Rattle.nim_types.specs.declared.types.TypeDef.{TypeDef}
 use Rattle.nim_types.specs.declared.types.TypeDef.TheVariants as D
-use Rattle.nim_program.specs.Program.{Program}
+use Rattle.nim_program.specs.Program.{Literal, Literals, Number, Characters, NoObject, PartsOf, ElementsOf, NoLiteral, ALiteral, Giving, Body, Proc, Program}
+use Rattle.nim_program.specs.Folds.{Seen, AtApply, lists, total_of}
 use Rattle.nim_program.specs.Sizes.{globals_size}
-use Rattle.nim_program.specs.TextSizes.{text_bytes, all_bytes, program_texts}
+use Rattle.nim_program.specs.TextSizes.{text_bytes, all_bytes}
+
+-- ---- names
 
 -- the names that a declaration of a type brings with it
 abbrev pub names_in : Ty → Fact → ℕ
@@ -18,10 +23,54 @@ abbrev pub names_size : Facts → ℕ
 names_size [] = 0
 names_size (said ∷ facts) = names_in said.of said.fact + names_size facts
 
-abbrev pub data_counted : Program → ℕ
-data_counted program = globals_size program.facts program.globals + (names_size program.facts + program_texts program)
+-- the exceptions that every program has
+abbrev pub given_names : List (List ℕ)
+given_names = codes "CatchableError" ∷ codes "ValueError" ∷ codes "IOError" ∷ codes "OSError" ∷ codes "KeyError" ∷ codes "EOFError" ∷ []
 
--- ---- the same by the entries of a table; it serves proofs alone
+-- ---- texts, in order
+
+abbrev mutual
+  pub literal_texts : Literal → List (List ℕ)
+  literal_texts (Number value) = []
+  literal_texts (Characters text) = text ∷ []
+  literal_texts NoObject = []
+  literal_texts (PartsOf all) = all_texts all
+  literal_texts (ElementsOf all) = all_texts all
+
+  pub all_texts : Literals → List (List ℕ)
+  all_texts NoLiteral = []
+  all_texts (ALiteral first rest) = literal_texts first ++ all_texts rest
+
+abbrev pub own_texts : Seen → List (List ℕ)
+own_texts (AtApply node ty (Giving literal)) = literal_texts literal
+own_texts _ = []
+
+abbrev pub body_texts : Body → List (List ℕ)
+body_texts body = total_of lists own_texts body.stmts
+
+abbrev pub texts_if : Option Body → List (List ℕ)
+texts_if None = []
+texts_if (Some body) = body_texts body
+
+abbrev pub procs_texts : List Proc → List (List ℕ)
+procs_texts [] = []
+procs_texts (p ∷ procs) = texts_if p.body ++ procs_texts procs
+
+-- of all procedures and the start code, each as often as it stands there
+abbrev pub program_texts : Program → List (List ℕ)
+program_texts program = procs_texts program.procs ++ body_texts program.start
+
+-- each distinct one once
+abbrev pub texts_size : List (List ℕ) → ℕ
+texts_size texts = all_bytes (unique_keys same_text texts)
+
+-- ---- all
+
+abbrev pub data_counted : Program → ℕ
+data_counted program = globals_size program.facts program.globals
+    + (names_size program.facts + (all_bytes given_names + texts_size (program_texts program)))
+
+-- ---- the names by the entries of a table; it serves proofs alone
 
 abbrev pub entry_names : TypeDef → ℕ
 entry_names (D.Enum name at all) = all_bytes all

@@ -4,7 +4,7 @@ use Rattle.arc_base.specs.declared.place.Place.{Place}
 use Rattle.nim_types.specs.Types.{Ty, int, text, array, tuple, enum, Key, members, types, no_types}
 use Rattle.nim_program.specs.declared.expr.Node.{Node}
 use Rattle.nim_program.specs.declared.operation.Operation.TheVariants as O
-use Rattle.nim_program.specs.Program.{Characters, Doing, Giving, Expr, Apply, NoArg, ByValue, Declared, Stmts, Empty, Then, Declare, Do, Program}
+use Rattle.nim_program.specs.Program.{Characters, Doing, Giving, Expr, Apply, Args, NoArg, ByValue, Declared, Stmts, Empty, Then, Declare, Do, Program}
 
 -- somewhere in the main module
 abbrev pub second_line : Place
@@ -29,9 +29,13 @@ starting globals stmts = record {
   start = record { first = 0; places = 2; before = 0; result = None; stmts = stmts };
 }
 
--- var a: array[65024, array[4, int]]
+-- var a: array[65018, array[4, int]]
 abbrev large : Declared
-large = declared 0 (array 65024 (array 4 int))
+large = declared 0 (array 65018 (array 4 int))
+
+-- var c: array[3, int]
+abbrev words : Declared
+words = declared 2 (array 3 int)
 
 -- var b: int
 abbrev word : Declared
@@ -39,10 +43,31 @@ word = declared 1 int
 
 -- as many bytes of data as a program may have, and a word more
 abbrev pub most_data : Program
-most_data = starting (large ∷ []) (Declare (at 0) large false NoArg Empty)
+most_data = starting (large ∷ words ∷ []) (Declare (at 0) large false NoArg (Declare (at 1) words false NoArg Empty))
 
 abbrev pub more_data : Program
-more_data = starting (large ∷ word ∷ []) (Declare (at 0) large false NoArg (Declare (at 1) word false NoArg Empty))
+more_data = starting (large ∷ words ∷ word ∷ [])
+    (Declare (at 0) large false NoArg (Declare (at 1) words false NoArg (Declare (at 2) word false NoArg Empty)))
+
+abbrev said : ℕ → List ℕ → Args → Args
+said n characters rest = ByValue (Apply (at n) (Some text) (Giving (Characters characters)) NoArg) rest
+
+-- echo "a", "b", "a", in a procedure and at the top
+abbrev saying : Stmts
+saying = Then (Do (Apply (at 0) None (Doing O.Echo) (said 1 (97 ∷ []) (said 2 (98 ∷ []) (said 3 (97 ∷ []) NoArg))))) Empty
+
+abbrev pub repeating : Program
+repeating = record (starting [] saying) {
+  procs = record {
+    name = [];
+    at = second_line;
+    type_params = 0;
+    params = [];
+    gives = None;
+    body = Some (record { first = 0; places = 0; before = 0; result = None; stmts = saying });
+    hook = None;
+  } ∷ [];
+}
 
 -- type Side = enum a, north
 -- var b: int

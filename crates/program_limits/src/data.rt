@@ -1,6 +1,6 @@
 // How many bytes of data a program has, as far as it matters: one more than the most stands for all
 // above.
-ghost use Rattle.std.specs.Prelude.{◌≡◌, ◌+◌, map, nat_le};
+ghost use Rattle.std.specs.Prelude.{◌≡◌, ◌+◌, map, nat_le, IfOk};
 ghost use Rattle.nim_types.specs.Table.{type_at, types_in, facts_in};
 ghost use Rattle.nim_program.specs.Sizes.{type_bytes, HaveForms};
 ghost use Rattle.nim_program.specs.View.{declared_of, program_under};
@@ -11,9 +11,14 @@ ghost use Rattle.program_limits.specs.Data.{data_counted};
 ghost use Rattle.nim_program.specs.declared.text_sizes.TheConstants.{MOST_DATA};
 ghost use Rattle.nim_program.specs.Folds.{capped};
 
-use arc_base::Bytes;
-use nim_program::{MOST_DATA, PlaceDecl, Program, program_texts, text_bytes};
+use crate::block_texts::texts_size;
+use arc_base::{Bytes, Memory};
+use nim_program::{MOST_DATA, PlaceDecl, Program, text_bytes};
 use nim_types::{TypeDef, TypeId, TypeTable, WORD_BYTES, type_forms};
+use std::alloc::Global;
+
+/// The bytes of the names of the six exceptions that every program has.
+const GIVEN_NAMES: u32 = 84;
 
 fn capped(bytes: u64) -> u32
     ensures { result ≡ capped MOST_DATA bytes }
@@ -25,8 +30,8 @@ fn capped(bytes: u64) -> u32
     }
 }
 
-// The sum of two.
-fn plus(a: u32, b: u32) -> u32
+/// The sum of two.
+pub fn plus(a: u32, b: u32) -> u32
     ensures { result ≡ capped MOST_DATA (a + b) }
 {
     capped(u64::from(a) + u64::from(b))
@@ -92,13 +97,13 @@ fn names_size(types: &TypeTable) -> u32
 // ---- all
 
 /// Whether a program has no more bytes of data than it may.
-pub fn data_fits(program: &Program) -> bool
+pub fn data_fits(alloc: Global, program: &Program) -> Result<bool, Memory>
     requires { HaveForms program.now.types }
-    ensures { result ≡ nat_le (data_counted (program_under (types_in program.now.types)
-        (facts_in program.now.types) program.now)) MOST_DATA }
+    ensures { IfOk result (λ fits. fits ≡ nat_le (data_counted (program_under
+        (types_in program.now.types) (facts_in program.now.types) program.now)) MOST_DATA) }
 {
-    let names = names_size(&program.types);
+    let texts = texts_size(alloc, program)?;
+    let names = plus(names_size(&program.types), plus(GIVEN_NAMES, texts));
     let globals = globals_size(&program.types, program.globals.as_slice());
-    let sum = plus(globals, plus(names, program_texts(program)));
-    sum <= MOST_DATA
+    Ok(plus(globals, names) <= MOST_DATA)
 }

@@ -6,13 +6,15 @@ ghost use Rattle.nim_types.specs.Types.{int, array};
 ghost use Rattle.program_limits.specs.Frames.{beginning, frame_limits};
 ghost use Rattle.program_limits.specs.Data.{data_counted};
 ghost use Rattle.program_limits.specs.Limits.{data_limits};
-ghost use Rattle.program_limits.specs.Examples.{most_data, more_data, several, discarding, holding};
-ghost use Rattle.program_limits.specs.Examples.{nested, second_line};
+ghost use Rattle.program_limits.specs.Examples.{most_data, more_data, several, repeating, discarding};
+ghost use Rattle.program_limits.specs.Examples.{holding, nested, second_line};
 
 /// Programs at the limits of data, of procedures and of levels.
 pub fn limit_examples()
-    // A word, names of one and of five bytes, and a text of five.
-    ensures several { data_counted several ≡ 4 + 8 + 12 + 12 }
+    // A word, names of one and of five bytes, those of the exceptions, and a text of five.
+    ensures several { data_counted several ≡ 4 + 8 + 12 + 84 + 12 }
+    // Two texts of one byte, of which one stands in four places and the other in two.
+    ensures repeating { data_counted repeating ≡ 84 + 8 + 8 }
     ensures most_data { data_counted most_data ≡ 1040384 }
     ensures fitting { data_limits most_data ≡ Ok tt }
     ensures more_data { data_limits more_data ≡ refused TooLarge beginning }

@@ -2,6 +2,7 @@
 //! for it, as far as that is said of the program alone.
 #![tactic(auto)]
 
+mod block_texts;
 mod data;
 mod frames;
 mod known;
@@ -11,6 +12,7 @@ mod limits;
 mod parts;
 mod plain;
 mod summary;
+mod texts;
 mod types;
 
 pub use laws::limit_examples;

@@ -41,7 +41,8 @@ pub fn within(alloc: Global, program: &Program) -> Result<(), Stop>
             at,
         });
     }
-    if !data_fits(program) {
+    let fits = data_fits(alloc, program)?;
+    if !fits {
         return Err(Stop::Refused {
             code: Code::TooLarge,
             at: Place {

@@ -50,7 +50,7 @@ module _ (x : Around) where
   written_weighs (Some D.Bool) ty from k = omega arith
   written_weighs (Some D.Char) ty from k = omega arith
   written_weighs (Some (D.Enum name at members)) ty from k = omega arith
-  written_weighs (Some D.Text) ty from k = literal_weighs x.setting.literals from.alias k
+  written_weighs (Some D.Text) ty from k = literal_weighs (lines.literal_at x) from.alias k
   written_weighs (Some (D.Seq i)) ty from k = omega arith
   written_weighs (Some (D.Param n)) ty from k = omega arith
   written_weighs (Some (D.Array n i)) ty from k = omega arith

@@ -2,14 +2,17 @@
 use Rattle.std.proofs.Common.{append-nil, ◌≡◌, ℕ, ◌+◌, List, [], ◌∷◌, ◌++◌, Option, Some, true, false, ℤ, refl, sym, ap, subst, ◌∙◌, arith, Bool}
 use Rattle.std.proofs.Common.{append_assoc, inl}
 use Rattle.std.proofs.Common.{inr, length, map, ◌≢◌, ◌⊎◌}
-use Rattle.std.specs.Prelude.{nat_eq}
+use Rattle.std.specs.Prelude.{nat_eq, ◌||◌}
+use Rattle.std.specs.Set.{is_member}
+use Rattle.std.proofs.lemmas.Cmp.{nat_list_eq_equiv}
 use Rattle.std.proofs.lemmas.Bool.{and_parts, eqb-true}
 use Rattle.nim_types.specs.Table.{type_at, facts_in}
-use Rattle.nim_types.specs.Types.{Ty}
+use Rattle.nim_types.specs.Types.{Ty, same_text}
 use Rattle.nim_meaning.specs.Values.{Value, Number, Fixed}
 use Rattle.flat_code.specs.declared.block.BlockLine.{BlockLine}
 use Rattle.flat_code.specs.declared.line.Line.TheVariants as L
 use Rattle.flat_code.specs.declared.line.Piece.TheVariants as P
+use Rattle.flat_code.specs.Sizes.{lines_texts, texts_in as line_texts}
 use Rattle.flat_code.specs.Shapes.{Shape, number, reference, block, elements, row, parts, resource, has_shape, shape_of}
 use Rattle.word_code.specs.declared.word.WordInstr.TheVariants.{Constant}
 use Rattle.word_lowering.specs.declared.homes.Alias.{Alias}
@@ -27,6 +30,7 @@ use Rattle.nim_program.specs.Kinds.{is_of}
 use Rattle.nim_program.specs.declared.operation.Use.{Use}
 use Rattle.word_lowering.proofs.ControlLines.{FollowedHere, plain, value_type}
 use Rattle.word_lowering.proofs.LineFits.{are_of}
+use Rattle.word_lowering.proofs.DistinctTexts.{has_behind}
 use Rattle.word_lowering.proofs.Lines.{Basis, Settles, all_procs, fits_here, known, starts, IsGood, all_sites, changed, good_changed, stands_next}
 use Rattle.word_lowering.proofs.Lines.{stays_on, waits_below}
 use Rattle.word_lowering.proofs.NumberLines.{constant_given, getting, variable}
@@ -55,6 +59,15 @@ text_whole (p ∷ before) line rest =
       h.0 ++ last,
       ap (λ l. l ++ last) h.1 ∙ (append_assoc texts (own ++ h.0) last ∙ ap (λ l. texts ++ l) (append_assoc own h.0 last)),
     )
+
+-- and it is one of all
+text_among : (to : ℕ) (how : Use) (ty : ℕ) (text : List ℕ) (before rest : List BlockLine) →
+    is_member same_text (lines_texts (map block_plain (before ++ plain (L.Constant to how ty (P.Text text ∷ [])) ∷ rest))) text ≡ true
+text_among to how ty text [] rest =
+    ap (λ b. b || is_member same_text (lines_texts (map block_plain rest)) text) (nat_list_eq_equiv.refl text)
+text_among to how ty text (p ∷ before) rest =
+    has_behind text (line_texts (block_plain p)) (lines_texts (map block_plain (before ++ plain (L.Constant to how ty (P.Text text ∷ [])) ∷ rest)))
+    (text_among to how ty text before rest)
 
 abbrev text_place : Alias → ℕ
 text_place (alias.Text n size) = n
@@ -135,6 +148,8 @@ module _ (x : Basis) (labels : LabelsLead x) (g : Both) (rest : List BlockLine) 
             after = w.0;
             whole = ap (λ l. texts_of (map block_plain l)) y.stands.whole ∙ w.1;
             at = refl;
+            among = ap (λ l. is_member same_text (lines_texts (map block_plain l)) text) y.stands.whole
+                ∙ text_among to how ty text y.stands.before rest;
           }
 
       different : (u : ℕ) → (g.call.site.level ≢ g.call.site.level) ⊎ (of_value u ≢ of_value to) → u ≢ to

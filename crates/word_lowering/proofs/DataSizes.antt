@@ -11,9 +11,6 @@ use Rattle.flat_code.specs.declared.block.BlockLine.{BlockLine}
 use Rattle.flat_code.specs.declared.code.Code.{Code}
 use Rattle.flat_code.specs.declared.code.CodeProc.{CodeProc}
 use Rattle.flat_code.specs.declared.line.Line.{Line}
-use Rattle.flat_code.specs.declared.line.Line.TheVariants as L
-use Rattle.flat_code.specs.declared.line.Piece.{Piece}
-use Rattle.flat_code.specs.declared.line.Piece.TheVariants as P
 use Rattle.flat_code.specs.declared.place.PlaceKind.{PlaceKind}
 use Rattle.flat_code.specs.declared.place.PlaceKind.TheVariants as K
 use Rattle.flat_code.specs.declared.place.FlatPlace.{FlatPlace}
@@ -21,7 +18,7 @@ use Rattle.flat_code.specs.Codes.{block_plain}
 use Rattle.flat_code.specs.Fits.{start_places}
 use Rattle.flat_code.specs.Running.{last_of}
 use Rattle.flat_code.specs.Scene.{known_in}
-use Rattle.flat_code.specs.Sizes.{pieces_texts, summed, code_texts, global_bytes, globals_bytes, members_bytes, names_bytes, data_bytes, texts_in as measured}
+use Rattle.flat_code.specs.Sizes.{distinct_texts, global_bytes, globals_bytes, members_bytes, names_bytes, data_bytes}
 use Rattle.word_lowering.specs.declared.homes.Alias.{Alias}
 use Rattle.word_lowering.specs.declared.homes.Alias.TheVariants.{Own, Place, Value, Text}
 use Rattle.word_lowering.specs.declared.homes.Free.{Free}
@@ -29,14 +26,15 @@ use Rattle.word_lowering.specs.declared.homes.Layout.{Layout}
 use Rattle.word_lowering.specs.declared.lowering.TheConstants.{MORE_DATA}
 use Rattle.word_lowering.specs.declared.may_lower.TheConstants.{MOST_DATA}
 use Rattle.word_lowering.specs.declared.texts.TheConstants.{FIXED_BYTES}
-use Rattle.word_lowering.specs.Aliases.{text_in, or_empty, text_of, texts_of, alias_for}
+use Rattle.word_lowering.specs.Aliases.{alias_for}
 use Rattle.word_lowering.specs.Stored.{bytes_at}
 use Rattle.word_lowering.specs.Layouts.{is_static, free_behind, free_by, bytes_by, place_kept, behind, behind_all, free_at, layouts, layout_of}
 use Rattle.word_lowering.specs.LineCode.{no_layout}
 use Rattle.word_lowering.specs.Lowered.{globals_end, data_of, lowered}
-use Rattle.word_lowering.specs.Texts.{missing, padded, fixed_texts, members_of, all_names, joined_all, starts_from, ends_from, texts_in, data_in}
+use Rattle.word_lowering.specs.Texts.{missing, padded, fixed_texts, members_of, all_names, joined_all, starts_from, ends_from, laid_texts, data_in}
 use Rattle.word_lowering.specs.MayLower.{defs_may, labels_may, procs_may, may_lower}
 use Rattle.word_lowering.proofs.EntryNames.{joined_append}
+use Rattle.word_lowering.proofs.DistinctTexts.{laid_most}
 
 -- ---- whole words
 
@@ -64,64 +62,6 @@ padded_most bytes =
 
 text_most : (text : List ℕ) → length text + 4 ≤ text_bytes text
 text_most text = omega arith
-
-pieces_most : (pieces : List Piece) → length (or_empty (text_in pieces)) ≤ pieces_texts pieces
-pieces_most [] = omega arith
-pieces_most (P.Text text ∷ []) = let h = text_most text in omega (arith, h)
-pieces_most (P.Text text ∷ piece ∷ pieces) = omega arith
-pieces_most (P.Ordinal z ∷ pieces) = omega arith
-pieces_most (P.Nil ∷ pieces) = omega arith
-pieces_most (P.Parts n ∷ pieces) = omega arith
-pieces_most (P.Elements n ∷ pieces) = omega arith
-
-line_most : (line : Line) → length (text_of line) ≤ measured line
-line_most (L.Constant to how ty pieces) = pieces_most pieces
-line_most (L.Apply to operation how ty of from) = omega arith
-line_most (L.Construct to how ty fields from) = omega arith
-line_most (L.Call to how ty proc from) = omega arith
-line_most (L.Get to from how site ty) = omega arith
-line_most (L.Look to from) = omega arith
-line_most (L.Root to p global) = omega arith
-line_most (L.Fresh to from) = omega arith
-line_most (L.Part to from field) = omega arith
-line_most (L.Item to from index) = omega arith
-line_most (L.Object to from) = omega arith
-line_most (L.Pass to from how ty) = omega arith
-line_most (L.Truth to holds) = omega arith
-line_most (L.Fill p from) = omega arith
-line_most (L.Blank p ty) = omega arith
-line_most (L.Give p from) = omega arith
-line_most (L.Zero to) = omega arith
-line_most (L.Length to from) = omega arith
-line_most (L.Still from len) = omega arith
-line_most (L.Element to from index) = omega arith
-line_most (L.Beyond counter last inclusive to) = omega arith
-line_most (L.Next counter last) = omega arith
-line_most (L.Label name) = omega arith
-line_most (L.Jump to) = omega arith
-line_most (L.Unless from to) = omega arith
-line_most (L.Fits from low high to) = omega arith
-line_most (L.Turn to) = omega arith
-line_most (L.TurnIf from to) = omega arith
-line_most (L.CountTurn counter last inclusive to) = omega arith
-line_most (L.Return result) = omega arith
-line_most L.Enter = omega arith
-
-texts_most : (lines : List Line) → length (texts_of lines) ≤ summed measured lines
-texts_most [] = omega arith
-texts_most (line ∷ rest) =
-    let e = length-append (texts_of rest) (text_of line) in
-    let h = texts_most rest in
-    let i = line_most line in
-    omega (arith, e, h, i)
-
-all_texts_most : (procs : List (CodeProc BlockLine)) → length (texts_in procs) ≤ code_texts block_plain procs
-all_texts_most [] = omega arith
-all_texts_most (p ∷ procs) =
-    let e = length-append (texts_in procs) (texts_of (map block_plain p.lines)) in
-    let h = all_texts_most procs in
-    let i = texts_most (map block_plain p.lines) in
-    omega (arith, e, h, i)
 
 -- ---- names of enums
 
@@ -231,14 +171,14 @@ fixed_length : length fixed_texts ≡ 16
 fixed_length = refl
 
 data_length : (table : List TypeDef) (globals_end : ℕ) (procs : List (CodeProc BlockLine))
-    → length (data_in table globals_end procs) ≤ 24 + (globals_end - FIXED_BYTES) + (names_bytes table + code_texts block_plain procs)
+    → length (data_in table globals_end procs) ≤ 24 + (globals_end - FIXED_BYTES) + (names_bytes table + all_bytes (distinct_texts block_plain procs))
 data_length table globals_end procs =
     let names : List (List ℕ) = all_names table in
-    let e = six_parts (replicate 4 0) fixed_texts (replicate (globals_end - FIXED_BYTES) 0) (ends_from 0 names) (joined_all names) (texts_in procs) in
+    let e = six_parts (replicate 4 0) fixed_texts (replicate (globals_end - FIXED_BYTES) 0) (ends_from 0 names) (joined_all names) (laid_texts procs) in
     let f = zeros_length (globals_end - FIXED_BYTES) in
     let g = ends_length 0 names in
     let h = all_names_most table in
-    let i = all_texts_most procs in
+    let i = laid_most (distinct_texts block_plain procs) in
     let j = fixed_length in
     let k = zeros_length 4 in
     omega (arith, e, f, g, h, i, j, k)

@@ -26,7 +26,7 @@ use Rattle.word_code.specs.RoutineTable.{Cell}
 use Rattle.word_code.proofs.ForCallers.{Sized, sizes_same}
 use Rattle.word_lowering.specs.declared.texts.TheConstants.{FIXED_BYTES}
 use Rattle.word_lowering.specs.declared.may_lower.TheConstants.{MOST_DATA}
-use Rattle.word_lowering.specs.Texts.{missing, fixed_texts, all_names, ends_from, joined_all, texts_in, data_in}
+use Rattle.word_lowering.specs.Texts.{missing, fixed_texts, all_names, ends_from, joined_all, laid_texts, data_in}
 use Rattle.word_lowering.specs.Lowered.{data_of, globals_end, lowered}
 use Rattle.word_lowering.proofs.Related.{procs, routines, IsOpen, MemoryGood}
 
@@ -178,7 +178,7 @@ module _ (table : List TypeDef) (blocks : Code BlockLine) where
   fixed = replicate 4 0 ++ fixed_texts
 
   abbrev pub behind : List ℕ
-  behind = ends_from 0 (all_names table) ++ (joined_all (all_names table) ++ texts_in blocks.procs)
+  behind = ends_from 0 (all_names table) ++ (joined_all (all_names table) ++ laid_texts blocks.procs)
 
   abbrev pub pad : List ℕ
   pad = replicate (missing (length (data_in table globals blocks.procs))) 0

@@ -17,7 +17,7 @@ use Rattle.word_code.specs.Joined.{joined}
 use Rattle.word_code.specs.Memory.{Memory, number_at, own_data_at}
 use Rattle.word_lowering.specs.declared.texts.TheConstants.{FIXED_BYTES}
 use Rattle.word_lowering.specs.declared.may_lower.TheConstants.{MOST_DATA}
-use Rattle.word_lowering.specs.Texts.{members_of, all_names, names_before, joined_all, starts_from, ends_from, texts_in}
+use Rattle.word_lowering.specs.Texts.{members_of, all_names, names_before, joined_all, starts_from, ends_from, laid_texts}
 use Rattle.word_lowering.specs.Lowered.{lowered}
 use Rattle.word_lowering.proofs.FirstMemory.{drop_past, zeros_length, first_memory, own_reads, own, globals, fixed, behind, pad, own_is, own_length}
 
@@ -159,7 +159,7 @@ module _ (table : List TypeDef) (blocks : Code BlockLine) (runtime : WordCode) (
   names = all_names table
 
   abbrev texts : List ℕ
-  texts = texts_in blocks.procs
+  texts = laid_texts blocks.procs
 
   pub past_globals : (o : ℕ) → drop (globals table blocks + o) (own table blocks) ≡ drop o (behind table blocks ++ pad table blocks)
   past_globals o =

@@ -37,6 +37,8 @@ mod EnterLines
 mod EnterRuns
 mod EntryNames
 mod Finding
+mod DistinctTexts
+mod LayingTexts
 mod FirstLiterals
 mod FirstMemory
 mod FirstNames

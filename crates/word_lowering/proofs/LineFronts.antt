@@ -122,11 +122,11 @@ module _ (own many : ℕ) where
   text_front at zero = front_none own many
   text_front at (suc n) = record { is = λ k. refl; fine = tt }
 
-  literal_front : (literals : ℕ) (other : Alias) → IsFront own many (code.literal_code literals other)
-  literal_front literals alias.Own = front_none own many
-  literal_front literals (alias.Place p global) = front_none own many
-  literal_front literals (alias.Value t) = front_none own many
-  literal_front literals (alias.Text behind bytes) = text_front (literals + behind) bytes
+  literal_front : (place : (behind bytes : ℕ) → ℕ) (other : Alias) → IsFront own many (code.literal_code place other)
+  literal_front place alias.Own = front_none own many
+  literal_front place (alias.Place p global) = front_none own many
+  literal_front place (alias.Value t) = front_none own many
+  literal_front place (alias.Text behind bytes) = text_front (place behind bytes) bytes
 
   number_front : (from : ℕ) → IsFront own many (code.number_code from)
   number_front from = record { is = λ k. refl; fine = tt }
@@ -235,7 +235,7 @@ module _ (own many : ℕ) where
     written_front (Some D.Int) enum from = number_front (code.variable_of from)
     written_front (Some D.Bool) enum from = record { is = λ k. refl; fine = tt }
     written_front (Some D.Char) enum from = record { is = λ k. refl; fine = tt }
-    written_front (Some D.Text) enum from = literal_front x.setting.literals from.alias
+    written_front (Some D.Text) enum from = literal_front (code.literal_at x) from.alias
     written_front (Some (D.Enum name at members)) enum from =
         record { is = λ k. refl; fine = tt }
     written_front (Some (D.Seq i)) enum from = front_none own many

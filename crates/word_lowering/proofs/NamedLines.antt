@@ -1,5 +1,5 @@
 -- The word code of lines names variables of its procedure alone.
-use Rattle.std.proofs.Common.{ℕ, zero, suc, ◌+◌, ◌≤◌, ◌<◌, List, [], ◌∷◌, Bool, true, false, Option, Some}
+use Rattle.std.proofs.Common.{ℕ, zero, suc, ◌≤◌, ◌<◌, List, [], ◌∷◌, Bool, true, false, Option, Some}
 use Rattle.std.proofs.Common.{None, arith}
 use Rattle.nim_types.specs.declared.types.TypeDef.{TypeDef}
 use Rattle.nim_types.specs.declared.types.TypeDef.TheVariants as D
@@ -130,11 +130,11 @@ module _ (vars : ℕ) (many : OWN_FROM ≤ vars) where
   text_named at zero rest = rest
   text_named at (suc n) rest = named.datum vars many (first_is vars many) (named.constant vars many (second_is vars many) (write_named rest))
 
-  literal_named : (literals : ℕ) (other : Alias) {k : List WordInstr} → AllNamed vars k → AllNamed vars (lines.literal_code literals other k)
-  literal_named literals alias.Own rest = rest
-  literal_named literals (alias.Place p global) rest = rest
-  literal_named literals (alias.Value t) rest = rest
-  literal_named literals (alias.Text behind bytes) rest = text_named (literals + behind) bytes rest
+  literal_named : (place : (behind bytes : ℕ) → ℕ) (other : Alias) {k : List WordInstr} → AllNamed vars k → AllNamed vars (lines.literal_code place other k)
+  literal_named place alias.Own rest = rest
+  literal_named place (alias.Place p global) rest = rest
+  literal_named place (alias.Value t) rest = rest
+  literal_named place (alias.Text behind bytes) rest = text_named (place behind bytes) bytes rest
 
   bool_named : (from : ℕ) {k : List WordInstr} → from < vars → AllNamed vars k → AllNamed vars (lines.bool_code from k)
   bool_named from f rest =
@@ -303,7 +303,7 @@ module _ (vars : ℕ) (many : OWN_FROM ≤ vars) where
     written_named (Some D.Int) ty from f rest = number_named _ (variable_is from f) rest
     written_named (Some D.Bool) ty from f rest = bool_named _ (variable_is from f) rest
     written_named (Some D.Char) ty from f rest = char_named _ (variable_is from f) rest
-    written_named (Some D.Text) ty from f rest = literal_named x.setting.literals from.alias rest
+    written_named (Some D.Text) ty from f rest = literal_named (lines.literal_at x) from.alias rest
     written_named (Some (D.Enum name at members)) ty from f rest = name_named _ x.setting.names _ (variable_is from f) rest
     written_named (Some (D.Seq i)) ty from f rest = rest
     written_named (Some (D.Param n)) ty from f rest = rest

@@ -162,11 +162,11 @@ text_weighs : (at bytes : ℕ) (k : List WordInstr) → length (lines.text_code 
 text_weighs at zero k = omega arith
 text_weighs at (suc n) k = omega arith
 
-pub literal_weighs : (literals : ℕ) (other : Alias) (k : List WordInstr) → length (lines.literal_code literals other k) ≤ 12 + length k
-literal_weighs literals alias.Own k = omega arith
-literal_weighs literals (alias.Place p global) k = omega arith
-literal_weighs literals (alias.Value t) k = omega arith
-literal_weighs literals (alias.Text behind bytes) k = let h = text_weighs (literals + behind) bytes k in omega (arith, h)
+pub literal_weighs : (place : (behind bytes : ℕ) → ℕ) (other : Alias) (k : List WordInstr) → length (lines.literal_code place other k) ≤ 12 + length k
+literal_weighs place alias.Own k = omega arith
+literal_weighs place (alias.Place p global) k = omega arith
+literal_weighs place (alias.Value t) k = omega arith
+literal_weighs place (alias.Text behind bytes) k = let h = text_weighs (place behind bytes) bytes k in omega (arith, h)
 
 pub back_weighs : (word : Bool) (spot : Spot) (k : List WordInstr) → length (lines.back_code word spot k) ≤ 3 + length k
 back_weighs word (Held v) k = omega arith

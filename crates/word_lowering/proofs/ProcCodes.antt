@@ -4,9 +4,10 @@ use Rattle.std.proofs.Common.{length, map, max}
 use Rattle.std.proofs.Common.{Some, None, Bool, true, false, not, ◌&&◌}
 use Rattle.std.proofs.Common.{refl, sym, ap, subst, ◌∙◌, arith, if◌then◌else◌, ◌==◌, nat_le}
 use Rattle.std.specs.Prelude.{slice_get}
+use Rattle.std.specs.Set.{is_member}
 use Rattle.std.proofs.lemmas.Bool.{and_parts, cases_Bool, eq-eqb, ne_eqb, leb-true, true≢false, false≢true}
 use Rattle.nim_types.specs.declared.types.TypeDef.{TypeDef}
-use Rattle.nim_types.specs.Types.{Ty}
+use Rattle.nim_types.specs.Types.{Ty, same_text}
 use Rattle.nim_types.specs.Table.{IsTable}
 use Rattle.nim_program.specs.declared.program.Mode.TheVariants.{Plain, Sink, Var}
 use Rattle.word_code.specs.declared.word.TheConstants.{SPARE_ROOM}
@@ -20,6 +21,7 @@ use Rattle.flat_code.specs.declared.code.Code.{Code}
 use Rattle.word_code.specs.declared.word.WordProc.{WordProc}
 use Rattle.flat_code.specs.Scene.{known_in}
 use Rattle.flat_code.specs.Codes.{block_plain, proc_of}
+use Rattle.flat_code.specs.Sizes.{lines_texts, code_texts}
 use Rattle.flat_code.specs.Running.{last_of, before_last}
 use Rattle.word_code.specs.Words.{from_proc, most_room}
 use Rattle.flat_code.specs.Fits.{place_type, has_lines_for, Taken, and_param, taken_by, given_by, Signature, signature_of, signatures, proc_fits}
@@ -37,7 +39,8 @@ use Rattle.word_lowering.specs.Layouts.{layouts, housed, behind}
 use Rattle.word_lowering.specs.Layouts.{all_housed, behind_all, is_param, params_in, is_address}
 use Rattle.word_lowering.specs.Layouts.{found as found_in}
 use Rattle.word_lowering.specs.LineCode.{Around, no_layout, or_none, proc_number}
-use Rattle.word_lowering.specs.Texts.{literals_at, texts_of, texts_in}
+use Rattle.word_lowering.specs.Texts.{texts_of, texts_in}
+use Rattle.word_lowering.proofs.DistinctTexts.{has_behind, has_before}
 use Rattle.word_lowering.specs.Lowered as code
 use Rattle.word_lowering.specs.Lowered.{no_proc, all_layouts, start_layout, start_around, lowered}
 use Rattle.word_lowering.specs.Lowers.{IsFitting, AreSilent}
@@ -50,7 +53,7 @@ use Rattle.word_lowering.proofs.NamedProcs.{fits_by}
 use Rattle.word_lowering.proofs.FirstPlaces.{ParamsAre, Orderly}
 use Rattle.word_lowering.proofs.Callees.{Callee}
 use Rattle.word_lowering.proofs.ShapeFacts.{never}
-use Rattle.word_lowering.proofs.Sites.{Body, type_of, Among, word_of, data_end, sigs, globals_of, IsBody}
+use Rattle.word_lowering.proofs.Sites.{Body, type_of, Among, word_of, sigs, globals_of, IsBody}
 use Rattle.word_lowering.proofs.LayoutBounds.{params_below}
 use Rattle.word_lowering.proofs.PlaceFacts.{one_found, own_home, declared_own}
 use Rattle.word_lowering.proofs.PlacesInOrder.{orderly}
@@ -257,6 +260,8 @@ module _ (table : List TypeDef) (blocks : Code BlockLine) where
     behind_it : List ℕ
     others : List ℕ
     texts : texts_in ps ≡ behind_it ++ (texts_of (map block_plain proc.lines) ++ others)
+    among : (text : List ℕ) → is_member same_text (lines_texts (map block_plain proc.lines)) text ≡ true
+        → is_member same_text (code_texts block_plain ps) text ≡ true
     sign : signature_of (known_in table) proc.places ≡ s
     block : slice_get (before_last (map (proc_of (known_in table)) ps)) i ≡ Some (proc_of (known_in table) proc)
     layout : slice_get (layouts table FIXED_BYTES ps) i ≡ Some (own_of proc)
@@ -284,6 +289,7 @@ module _ (table : List TypeDef) (blocks : Code BlockLine) where
         behind_it = texts_in (q ∷ ps);
         others = [];
         texts = ap (λ z. texts_in (q ∷ ps) ++ z) (sym (append-nil (texts_of (map block_plain p.lines))));
+        among = λ text i. has_before text (lines_texts (map block_plain p.lines)) (code_texts block_plain (q ∷ ps)) i;
         sign = some_same (signature_of (known_in table) p.places) s h;
         block = refl;
         layout = refl;
@@ -314,6 +320,7 @@ module _ (table : List TypeDef) (blocks : Code BlockLine) where
         texts = ap (λ z. z ++ texts_of (map block_plain p.lines)) r.texts
             ∙ append_assoc r.behind_it (texts_of (map block_plain r.proc.lines) ++ r.others) (texts_of (map block_plain p.lines))
             ∙ ap (λ z. r.behind_it ++ z) (append_assoc (texts_of (map block_plain r.proc.lines)) r.others (texts_of (map block_plain p.lines)));
+        among = λ text i. has_behind text (lines_texts (map block_plain p.lines)) (code_texts block_plain (q ∷ ps)) (r.among text i);
         sign = r.sign;
         block = r.block;
         layout = r.layout;
@@ -354,6 +361,13 @@ module _ (table : List TypeDef) (blocks : Code BlockLine) where
       let r = last_texts p q ps in
       let own : List ℕ = texts_of (map block_plain p.lines) in
       (r.0 ++ own, ap (λ z. z ++ own) r.1 ∙ append_assoc (texts_of (map block_plain (last_of p (q ∷ ps)).lines)) r.0 own)
+
+  last_among : (none p : CodeProc BlockLine) (ps : List (CodeProc BlockLine)) (text : List ℕ)
+      → is_member same_text (lines_texts (map block_plain (last_of none (p ∷ ps)).lines)) text ≡ true
+      → is_member same_text (code_texts block_plain (p ∷ ps)) text ≡ true
+  last_among none p [] text i = has_before text (lines_texts (map block_plain p.lines)) [] i
+  last_among none p (q ∷ ps) text i =
+      has_behind text (lines_texts (map block_plain p.lines)) (code_texts block_plain (q ∷ ps)) (last_among p q ps text i)
 
   pub start_laid : (p : CodeProc BlockLine) (ps : List (CodeProc BlockLine)) → blocks.procs ≡ p ∷ ps
       → start_layout table blocks.procs ≡ layout_of table true FIXED_BYTES (last_of no_proc blocks.procs)
@@ -425,7 +439,7 @@ module _ (table : List TypeDef) (blocks : Code BlockLine) where
         lines = map block_plain c.proc.lines
 
         literals : ℕ
-        literals = literals_at table (data_end table blocks) + length c.behind_it
+        literals = 0 + length c.behind_it
 
         body : Body
         body = body_at table blocks false c.proc literals (proc_number proc)
@@ -456,13 +470,13 @@ module _ (table : List TypeDef) (blocks : Code BlockLine) where
           globals = λ e. absurd (false≢true e);
           layout = λ e. absurd (false≢true e);
           within = within (cases_Bool (not (is_empty c.proc.lines)));
-        }) (record { behind = c.behind_it; others = c.others; whole = c.texts; at = refl })
+        }) (record { behind = c.behind_it; others = c.others; whole = c.texts; at = omega arith; among = c.among })
 
     -- the start code, where there is one
     pub start_is_body : (p : CodeProc BlockLine) (ps : List (CodeProc BlockLine)) → blocks.procs ≡ p ∷ ps → (number : ℕ)
-        → IsBody table blocks (body_at table blocks true (last_of no_proc blocks.procs) (literals_at table (data_end table blocks)) number)
+        → IsBody table blocks (body_at table blocks true (last_of no_proc blocks.procs) 0 number)
     start_is_body p ps e number =
-        is_body table blocks is_table have true (last_of no_proc blocks.procs) (literals_at table (data_end table blocks)) number tested (record {
+        is_body table blocks is_table have true (last_of no_proc blocks.procs) 0 number tested (record {
           globals = λ s. start_places p ps e;
           layout = λ s. start_laid p ps e;
           within = let h = ap (λ (l : Layout). l.free.byte) (start_laid p ps e) in omega (arith, h);
@@ -470,9 +484,16 @@ module _ (table : List TypeDef) (blocks : Code BlockLine) where
           behind = [];
           others = texts.0;
           whole = texts.1;
-          at = omega arith;
+          at = refl;
+          among = among;
         })
       where
+        among : (text : List ℕ) → is_member same_text (lines_texts (map block_plain (last_of no_proc blocks.procs).lines)) text ≡ true
+            → is_member same_text (code_texts block_plain blocks.procs) text ≡ true
+        among =
+            subst (λ qs. (text : List ℕ) → is_member same_text (lines_texts (map block_plain (last_of no_proc qs).lines)) text ≡ true
+            → is_member same_text (code_texts block_plain qs) text ≡ true) (sym e) (last_among no_proc p ps)
+
         tested : IsTested table blocks true (last_of no_proc blocks.procs)
         tested =
             subst (λ qs. IsTested table blocks true (last_of no_proc qs)) (sym e)

@@ -21,7 +21,7 @@ use Rattle.word_code.proofs.ForCallers.{joined_room}
 use Rattle.word_code.specs.declared.routine.TheConstants.{ROUTINE_ROOM, ROUTINE_CHAIN}
 use Rattle.word_lowering.specs.declared.may_lower.TheConstants.{MOST_ROOM, MOST_DATA}
 use Rattle.word_lowering.specs.declared.texts.TheConstants.{FIXED_BYTES}
-use Rattle.word_lowering.specs.Texts.{missing, padded, fixed_texts, all_names, joined_all, ends_from, texts_in, data_in}
+use Rattle.word_lowering.specs.Texts.{missing, padded, fixed_texts, all_names, joined_all, ends_from, laid_texts, data_in}
 use Rattle.word_lowering.specs.Lowered.{all_layouts, globals_end, data_of, lowered}
 use Rattle.word_lowering.specs.MayLower.{procs_may, defs_may, labels_may, may_lower}
 use Rattle.word_lowering.proofs.SmallProcs.{own_small, are_small, no_chain, chain_short}
@@ -93,7 +93,7 @@ zeros_length (suc n) = ap (λ m. suc m) (zeros_length n)
 globals_within : (table : List TypeDef) (globals_end : ℕ) (procs : List (CodeProc BlockLine)) → globals_end ≤ length (padded (data_in table globals_end procs))
 globals_within table globals_end procs =
     let names : List (List ℕ) = all_names table in
-    let rest : List ℕ = ends_from 0 names ++ (joined_all names ++ texts_in procs) in
+    let rest : List ℕ = ends_from 0 names ++ (joined_all names ++ laid_texts procs) in
     let h = three_parts (replicate 4 0) fixed_texts (replicate (globals_end - FIXED_BYTES) 0) rest in
     let z = zeros_length (globals_end - FIXED_BYTES) in
     let k = zeros_length 4 in

@@ -1,6 +1,8 @@
 -- What block code and word code have in common while they run: each value is where its place is, and each location has the address to
 -- which it leads.
 use Rattle.std.proofs.Common.{◌≡◌, ℕ, ◌+◌, List, [], ◌∷◌, ◌++◌, length, map, Some, Bool, true, false}
+use Rattle.std.specs.Set.{is_member}
+use Rattle.nim_types.specs.Types.{same_text}
 use Rattle.nim_types.specs.declared.types.TypeDef.{TypeDef}
 use Rattle.nim_meaning.specs.Values.{Value, Fixed, number_of, Location, Standing, Slot, Holds, Stands}
 use Rattle.nim_meaning.specs.Places.{root_of}
@@ -20,6 +22,7 @@ use Rattle.word_lowering.specs.declared.homes.Housed.{Housed}
 use Rattle.word_lowering.specs.declared.spots.Spot.{Spot}
 use Rattle.word_lowering.specs.declared.spots.Spot.TheVariants.{Held, Lies}
 use Rattle.flat_code.specs.Lines.{level_at}
+use Rattle.flat_code.specs.Sizes.{lines_texts}
 use Rattle.word_lowering.specs.Aliases.{texts_of}
 use Rattle.word_lowering.specs.Layouts.{found, is_address}
 use Rattle.word_lowering.specs.Spots.{spot_of}
@@ -107,6 +110,7 @@ pub record IsLiteral (b : Body) (behind bytes : ℕ) (x : Value) : Type 0 where
   pub after : List ℕ
   pub whole : texts_of (lines_of b) ≡ before ++ (text ++ after)
   pub at : length before ≡ behind
+  pub among : is_member same_text (lines_texts (lines_of b)) text ≡ true
 
 module _ (table : List TypeDef) where
   abbrev pub looked : Site → Name → Shape

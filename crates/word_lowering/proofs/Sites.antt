@@ -3,9 +3,10 @@
 use Rattle.std.proofs.Common.{◌≡◌, ◌⊎◌, ℕ, ◌+◌, ◌%◌, ◌<◌, ◌≤◌, List, [], ◌∷◌, ◌++◌, length, map, Option, Some, None}
 use Rattle.std.proofs.Common.{Bool, true}
 use Rattle.std.proofs.Common.{false}
+use Rattle.std.specs.Set.{is_member}
 use Rattle.rv32_isa.specs.Image.{stack_at}
 use Rattle.nim_types.specs.declared.types.TypeDef.{TypeDef}
-use Rattle.nim_types.specs.Types.{Ty}
+use Rattle.nim_types.specs.Types.{Ty, same_text}
 use Rattle.nim_types.specs.Table.{type_at, types_in, facts_in}
 use Rattle.nim_types.specs.Forms.{hooked, form_of}
 use Rattle.nim_program.specs.declared.program.TheConstants.{ACTIVE_CALLS}
@@ -24,6 +25,7 @@ use Rattle.flat_code.specs.Fits.{if_type_of, Signature, signatures}
 use Rattle.flat_code.specs.Fits.{all_fit, start_places, result_at}
 use Rattle.flat_code.specs.Running.{before_last, from_label as line_from}
 use Rattle.flat_code.specs.Codes.{block_plain, block_label}
+use Rattle.flat_code.specs.Sizes.{lines_texts, code_texts}
 use Rattle.word_lowering.specs.declared.homes.TheConstants.{OWN_FROM}
 use Rattle.word_lowering.specs.declared.homes.Alias.TheVariants as alias
 use Rattle.word_lowering.specs.declared.homes.Home.{Home}
@@ -36,7 +38,7 @@ use Rattle.word_lowering.specs.Stored.{entry_at, count_in, element_bytes, part_a
 use Rattle.word_lowering.specs.Aliases.{texts_of, is_among, addressed, alias_for}
 use Rattle.word_lowering.specs.Layouts.{result_in, is_empty, found, is_address}
 use Rattle.word_lowering.specs.MayLower.{lines_may}
-use Rattle.word_lowering.specs.Texts.{names_at, literals_at, texts_in}
+use Rattle.word_lowering.specs.Texts.{names_at, texts_at, texts_in}
 use Rattle.word_lowering.specs.LineCode.{Around}
 use Rattle.word_lowering.specs.Lowered.{all_layouts, start_layout, globals_end, word_proc, lowered}
 use Rattle.word_lowering.proofs.ShapeFacts.{nth_shape, shape_bytes, of_numbers}
@@ -124,6 +126,7 @@ module _ (table : List TypeDef) (blocks : Code BlockLine) where
   abbrev pub around : Body → Around
   around b = record {
     table = table;
+    procs = blocks.procs;
     layouts = all_layouts table blocks.procs;
     own = b.own;
     globals = (start_layout table blocks.procs).all;
@@ -131,6 +134,7 @@ module _ (table : List TypeDef) (blocks : Code BlockLine) where
       start = b.start;
       ends = data_end;
       names = names_at table data_end;
+      texts = texts_at table data_end;
       literals = b.literals;
     };
   }
@@ -177,7 +181,9 @@ module _ (table : List TypeDef) (blocks : Code BlockLine) where
     pub behind : List ℕ
     pub others : List ℕ
     pub whole : texts_in blocks.procs ≡ behind ++ (texts_of (lines_of b) ++ others)
-    pub at : b.literals ≡ literals_at table data_end + length behind
+    pub at : b.literals ≡ length behind
+    pub among : (text : List ℕ) → is_member same_text (lines_texts (lines_of b)) text ≡ true →
+        is_member same_text (code_texts block_plain blocks.procs) text ≡ true
 
   -- a declared place that a line names
   abbrev pub place_among : Body → ℕ → (global : Bool) → Option FlatPlace

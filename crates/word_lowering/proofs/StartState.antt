@@ -21,12 +21,11 @@ use Rattle.flat_code.specs.Running.{Proc, no_proc as no_run_proc, last_of, start
 use Rattle.word_code.proofs.ForCallers.{Runs}
 use Rattle.word_lowering.specs.declared.homes.Layout.{Layout}
 use Rattle.word_lowering.specs.Layouts.{result_in}
-use Rattle.word_lowering.specs.Texts.{literals_at}
 use Rattle.word_lowering.specs.Lowered.{no_proc, start_layout, lowered}
 use Rattle.word_lowering.specs.Lowers.{IsFitting}
 use Rattle.word_lowering.specs.MayLower.{may_lower}
 use Rattle.word_lowering.specs.Stored.{HaveForms}
-use Rattle.word_lowering.proofs.Sites.{Body, data_end, globals_of, ResultIs, IsBody}
+use Rattle.word_lowering.proofs.Sites.{Body, globals_of, ResultIs, IsBody}
 use Rattle.word_lowering.proofs.Related.{Both, low, high, MemoryGood, Good}
 use Rattle.word_lowering.proofs.FirstMemory.{first_memory}
 use Rattle.word_lowering.proofs.ProcCodes.{start_laid, start_places, start_is_body}
@@ -52,7 +51,7 @@ module _ (table : List TypeDef) (blocks : Code BlockLine) (runtime : WordCode) (
   start_body = record {
     own = start_layout table blocks.procs;
     start = true;
-    literals = literals_at table (data_end table blocks);
+    literals = 0;
     number = 0;
     proc = last_of no_proc blocks.procs;
   }
@@ -71,7 +70,7 @@ module _ (table : List TypeDef) (blocks : Code BlockLine) (runtime : WordCode) (
         subst (λ (own : Layout). IsBody table blocks (record {
           own = own;
           start = true;
-          literals = literals_at table (data_end table blocks);
+          literals = 0;
           number = 0;
           proc = last_of no_proc blocks.procs;
         })) (sym (start_laid table blocks p ps some))

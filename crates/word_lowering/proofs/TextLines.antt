@@ -1,9 +1,12 @@
 -- Code that writes texts which are in memory from the beginning.
-use Rattle.std.proofs.Common.{◌≡◌, ℕ, ◌+◌, ◌^◌, ◌<◌, ◌≤◌, List, [], ◌∷◌, ◌++◌, length, Some, ap, ap₂, ◌∙◌, arith}
+use Rattle.std.proofs.Common.{◌≡◌, ℕ, ◌+◌, ◌^◌, ◌<◌, ◌≤◌, List, [], ◌∷◌, ◌++◌, length, Some, true, ap, ap₂, ◌∙◌, arith}
+use Rattle.std.specs.Set.{is_member}
 use Rattle.arc_base.specs.Event.{writes}
 use Rattle.arc_base.specs.declared.outside.Stream.TheVariants.{Out}
 use Rattle.arc_base.specs.Simulation.{Steps}
+use Rattle.nim_types.specs.Types.{same_text}
 use Rattle.flat_code.specs.declared.block.BlockLine.{BlockLine}
+use Rattle.flat_code.specs.Sizes.{lines_texts}
 use Rattle.word_code.specs.declared.word.WordInstr.{WordInstr}
 use Rattle.word_code.specs.declared.word.WordInstr.TheVariants.{Constant}
 use Rattle.word_code.specs.Memory.{Memory, bytes_at, own_data_at}
@@ -12,11 +15,11 @@ use Rattle.word_code.proofs.ForCallers.{at, got, on, one, run_constant, run_datu
 use Rattle.word_lowering.specs.declared.homes.TheConstants.{FIRST, SECOND}
 use Rattle.word_lowering.specs.declared.texts.TheConstants.{FIXED_BYTES, LINE_END_AT}
 use Rattle.word_lowering.specs.Aliases.{texts_of}
-use Rattle.word_lowering.specs.LineCode.{text_code, write_code}
+use Rattle.word_lowering.specs.LineCode.{text_code, write_code, literal_at}
 use Rattle.word_lowering.proofs.Lines.{Basis, IsGood, all_procs, lower, starts}
 use Rattle.word_lowering.proofs.Moves.{same_first, same_more, same_second}
 use Rattle.word_lowering.proofs.Related.{Both, IsText, within}
-use Rattle.word_lowering.proofs.Sites.{Body, IsBody, data_end, lines_of}
+use Rattle.word_lowering.proofs.Sites.{Body, IsBody, around, data_end, lines_of}
 use Rattle.word_lowering.proofs.Told.{Tells, none_tells, told_none}
 
 -- a text in the data at the start, beside all places
@@ -29,7 +32,7 @@ pub record TextAt (x : Basis) (from : ℕ) (text : List ℕ) : Type 0 where
 pub record LiteralsThere (x : Basis) : Type 0 where
   pub line_end : TextAt x LINE_END_AT (10 ∷ [])
   pub literal : (b : Body) → IsBody x.table x.blocks b → (before text after : List ℕ) → texts_of (lines_of b) ≡ before ++ (text ++ after)
-      → TextAt x (b.literals + length before) text
+      → is_member same_text (lines_texts (lines_of b)) text ≡ true → TextAt x (literal_at (around x.table x.blocks b) (length before) (length text)) text
 
 module _ (x : Basis) (least : FIXED_BYTES ≤ data_end x.table x.blocks) (g : Both) (line : BlockLine) (rest : List BlockLine)
     (y : IsGood x (starts g line rest)) where

@@ -71,7 +71,7 @@ module _ (table : List TypeDef) (blocks : Code BlockLine) where
   }
 
   abbrev made_of : List Layout → Layout → CodeProc BlockLine → WordCode
-  made_of all own start = made own start (around_start table all own)
+  made_of all own start = made own start (around_start table blocks.procs all own)
 
   abbrev last_start : CodeProc BlockLine
   last_start = last_of no_proc blocks.procs
@@ -83,7 +83,7 @@ module _ (table : List TypeDef) (blocks : Code BlockLine) where
   both procs statics = record { procs = procs; statics = statics }
 
   pub whole : (all : List Layout) (own : Layout) (start : CodeProc BlockLine) (x : Around) (procs : List WordProc) (statics : List ℕ)
-      → all ≡ all_layouts table blocks.procs → last_of no_layout all ≡ own → last_start ≡ start → x ≡ around_start table all own
+      → all ≡ all_layouts table blocks.procs → last_of no_layout all ≡ own → last_start ≡ start → x ≡ around_start table blocks.procs all own
       → procs ≡ word_proc x 0 start ∷ word_procs x 0 x.layouts blocks.procs
       → statics ≡ padded (data_in table own.free.datum blocks.procs)
       → ◌≡◌ {A = WordCode} (record { procs = procs; statics = statics }) (lowered table blocks)
@@ -99,14 +99,14 @@ module _ (table : List TypeDef) (blocks : Code BlockLine) where
       (procs : List WordProc) (statics : List ℕ)
       → slice ≡ blocks.procs → slices ≡ all_layouts table blocks.procs
       → slice_get slices (length slices - 1) ≡ Some own → slice_get slice (length slice - 1) ≡ Some start
-      → x ≡ around_start table slices own → procs ≡ word_proc x 0 start ∷ word_procs x 0 x.layouts slice
+      → x ≡ around_start table slice slices own → procs ≡ word_proc x 0 start ∷ word_procs x 0 x.layouts slice
       → statics ≡ padded (data_in table own.free.datum slice)
       → may_lower table blocks ≡ true
       → IsLowered table blocks (both procs statics)
   whole_by slice slices own start x procs statics s there o f around h d may =
       let is : ◌≡◌ {A = WordCode} (both procs statics) (lowered table blocks) =
       whole slices own start x procs statics there (last_is no_layout slices own o)
-      (ap (λ ps. last_of no_proc ps) (sym s) ∙ last_is no_proc slice start f) around
+      (ap (λ ps. last_of no_proc ps) (sym s) ∙ last_is no_proc slice start f) (around ∙ ap (λ ps. around_start table ps slices own) s)
       (h ∙ ap (λ ps. word_proc x 0 start ∷ word_procs x 0 x.layouts ps) s)
       (d ∙ ap (λ ps. padded (data_in table own.free.datum ps)) s) in
       record { is = is; may = may }

@@ -17,7 +17,7 @@ use Rattle.flat_code.specs.Shapes.{Shape, block, has_shape, number, shape_of}
 use Rattle.word_code.specs.declared.word.WordInstr.{WordInstr}
 use Rattle.word_lowering.specs.declared.homes.Alias.TheVariants as alias
 use Rattle.word_lowering.specs.declared.texts.TheConstants.{FIXED_BYTES}
-use Rattle.word_lowering.specs.LineCode.{bool_code, char_code, literal_code, name_code, text_code, typed_code, value, variable_of, written_code}
+use Rattle.word_lowering.specs.LineCode.{literal_at, bool_code, char_code, literal_code, name_code, text_code, typed_code, value, variable_of, written_code}
 use Rattle.word_lowering.specs.Operations.{word}
 use Rattle.word_lowering.specs.Stored.{base_at, entry_at}
 use Rattle.word_lowering.specs.Texts.{members_of, names_at, names_before}
@@ -161,16 +161,19 @@ module _ (x : Basis) (said : Writing x) (g : Both) (line : BlockLine) (rest : Li
     literal : IsLiteral (body_of g) textual.behind textual.bytes v
     literal = y.hold.0.texts t textual.behind textual.bytes v named textual.is e
 
-    a_text : Writes (literal_code (body_of g).literals (house g.call.site (of_value t)).alias k) (text_in v)
+    abbrev place : (behind bytes : ℕ) → ℕ
+    place = literal_at (around x.table x.blocks (body_of g))
+
+    a_text : Writes (literal_code (literal_at (around x.table x.blocks (body_of g))) (house g.call.site (of_value t)).alias k) (text_in v)
     a_text =
         let l = literal in
         let s = textual in
-        let code : text_code ((body_of g).literals + length l.before) (length l.text) k
-        ≡ literal_code (body_of g).literals (house g.call.site (of_value t)).alias k
-        = ap₂ (λ n m. text_code ((body_of g).literals + n) m k) l.at l.size ∙ sym (ap (λ a. literal_code (body_of g).literals a k) s.is) in
-        subst (λ c. Writes c (text_in v)) code (subst (Writes (text_code ((body_of g).literals + length l.before) (length l.text) k)) (sym (ap text_in l.is))
-        (text_tells x said.least g line rest y ((body_of g).literals + length l.before) l.text k
-        (said.literals.literal (body_of g) y.linked.0 l.before l.text l.after l.whole)))
+        let code : text_code (place (length l.before) (length l.text)) (length l.text) k
+        ≡ literal_code place (house g.call.site (of_value t)).alias k
+        = ap₂ (λ n m. text_code (place n m) m k) l.at l.size ∙ sym (ap (λ a. literal_code place a k) s.is) in
+        subst (λ c. Writes c (text_in v)) code (subst (Writes (text_code (place (length l.before) (length l.text)) (length l.text) k)) (sym (ap text_in l.is))
+        (text_tells x said.least g line rest y (place (length l.before) (length l.text)) l.text k
+        (said.literals.literal (body_of g) y.linked.0 l.before l.text l.after l.whole l.among)))
 
   -- ---- each
 

@@ -8,6 +8,7 @@ pub mod Emission
 pub mod Spots
 pub mod Operations
 pub mod Texts
+pub mod LaidTexts
 pub mod LineCode
 pub mod Scope
 pub mod Lowered

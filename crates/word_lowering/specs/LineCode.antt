@@ -13,6 +13,8 @@ use Rattle.nim_program.specs.declared.program.TheConstants.{ACTIVE_CALLS}
 use Rattle.nim_program.specs.Traps.{IndexOutOfBounds, LengthChanged, CallDepth}
 use Rattle.rv32_isa.specs.declared.micro_op.Size.TheVariants.{Byte, Word as whole}
 use Rattle.rv32_isa.specs.Values.{subtracted}
+use Rattle.flat_code.specs.declared.block.BlockLine.{BlockLine}
+use Rattle.flat_code.specs.declared.code.CodeProc.{CodeProc}
 use Rattle.flat_code.specs.declared.line.From.{From}
 use Rattle.flat_code.specs.declared.line.From.TheVariants as F
 use Rattle.flat_code.specs.declared.line.Line.{Line}
@@ -43,7 +45,7 @@ use Rattle.word_lowering.specs.Spots.{spot_of, shifted, address, moved, moves, p
 use Rattle.word_lowering.specs.Operations.{word, trap_label, binary_code, unary_code, compare_code, narrow_code, unless_code, if_code, fits_code}
 use Rattle.word_lowering.specs.Operations.{beyond_code, turn_code}
 use Rattle.word_lowering.specs.Aliases.{text_in}
-use Rattle.word_lowering.specs.Texts.{names_before}
+use Rattle.word_lowering.specs.Texts.{names_before, place_of}
 
 -- ---- labels: those of traps are below 8, those of the lines are even, and those that code of a line has are odd
 
@@ -224,9 +226,9 @@ text_code at zero k = k
 text_code at (suc n) k = Datum FIRST at ∷ Constant SECOND (suc n) ∷ write_code k
 
 -- a text that a temporary is another name for
-abbrev pub literal_code : (literals : ℕ) → Alias → List WordInstr → List WordInstr
-literal_code literals (alias.Text behind bytes) k = text_code (literals + behind) bytes k
-literal_code literals other k = k
+abbrev pub literal_code : (place : (behind bytes : ℕ) → ℕ) → Alias → List WordInstr → List WordInstr
+literal_code place (alias.Text behind bytes) k = text_code (place behind bytes) bytes k
+literal_code place other k = k
 
 abbrev pub exit_code : List WordInstr → List WordInstr
 exit_code k = Constant FIRST 0 ∷ Exit FIRST ∷ k
@@ -267,9 +269,10 @@ parts_code to (h ∷ hs) k = moved h.is_word h.bytes (Lies to) (spot_of h) (part
 
 -- ---- lines of a procedure
 
--- what is around them: the table of types, the layouts of all procedures and the procedure's own, the globals, and where its data is
+-- what is around them: the table of types, all procedures, their layouts and the procedure's own, the globals, and where its data is
 pub record Around : Type 0 where
   pub table : List TypeDef
+  pub procs : List (CodeProc BlockLine)
   pub layouts : List Layout
   pub own : Layout
   pub globals : List Housed
@@ -377,13 +380,17 @@ module _ (x : Around) where
 
   -- ---- writing
 
+  -- where a literal of the procedure is laid out: so many bytes, behind so many of its literals
+  abbrev pub literal_at : (behind bytes : ℕ) → ℕ
+  literal_at behind bytes = x.setting.texts + place_of x.procs (x.setting.literals + behind) bytes
+
   -- The text of an operand by what its type is; `enum` is the type's number. What the table lacks is an int.
   abbrev pub written_code : Option TypeDef → (enum : ℕ) → Housed → List WordInstr → List WordInstr
   written_code None enum from k = number_code (variable_of from) k
   written_code (Some D.Int) enum from k = number_code (variable_of from) k
   written_code (Some D.Bool) enum from k = bool_code (variable_of from) k
   written_code (Some D.Char) enum from k = char_code (variable_of from) k
-  written_code (Some D.Text) enum from k = literal_code x.setting.literals from.alias k
+  written_code (Some D.Text) enum from k = literal_code literal_at from.alias k
   written_code (Some (D.Enum name at members)) enum from k =
       name_code (x.setting.ends + 4 * names_before x.table enum) x.setting.names (variable_of from) k
   written_code _ enum from k = k

@@ -25,7 +25,7 @@ use Rattle.word_lowering.specs.declared.texts.TheConstants.{FIXED_BYTES}
 use Rattle.word_lowering.specs.Layouts.{is_empty, layouts, params_in, result_in, kept_in}
 use Rattle.word_lowering.specs.Spots.{clears}
 use Rattle.word_lowering.specs.Operations.{trap_label}
-use Rattle.word_lowering.specs.Texts.{padded, names_at, literals_at, texts_in, data_in}
+use Rattle.word_lowering.specs.Texts.{padded, names_at, texts_at, texts_in, data_in}
 use Rattle.word_lowering.specs.LineCode.{Around, no_layout, lines_code, proc_number}
 
 -- ---- procedures
@@ -117,9 +117,10 @@ abbrev pub globals_end : List TypeDef → List (CodeProc BlockLine) → ℕ
 globals_end table procs = (start_layout table procs).free.datum
 
 -- what is around the start code, which has this layout
-abbrev pub around_start : List TypeDef → List Layout → Layout → Around
-around_start table all own = record {
+abbrev pub around_start : List TypeDef → List (CodeProc BlockLine) → List Layout → Layout → Around
+around_start table procs all own = record {
   table = table;
+  procs = procs;
   layouts = all;
   own = own;
   globals = own.all;
@@ -127,12 +128,13 @@ around_start table all own = record {
     start = true;
     ends = own.free.datum;
     names = names_at table own.free.datum;
-    literals = literals_at table own.free.datum;
+    texts = texts_at table own.free.datum;
+    literals = 0;
   };
 }
 
 abbrev pub start_around : List TypeDef → List (CodeProc BlockLine) → Around
-start_around table procs = around_start table (all_layouts table procs) (start_layout table procs)
+start_around table procs = around_start table procs (all_layouts table procs) (start_layout table procs)
 
 abbrev pub lowered_procs : Around → List (CodeProc BlockLine) → List WordProc
 lowered_procs x procs = word_proc x 0 (last_of no_proc procs) ∷ word_procs x 0 x.layouts procs

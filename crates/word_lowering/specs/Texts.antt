@@ -1,6 +1,7 @@
--- The data of word code: what each program has, then globals, then the names of enums with where each ends, then the texts of literals.
+-- The data of word code: what each program has, then globals, then the names of enums with where each ends, then the distinct texts of constants.
 -- Each procedure's data is all of it. No public contract speaks of it.
-use Rattle.std.specs.Prelude.{ℕ, suc, ◌+◌, ◌*◌, ◌-◌, ◌%◌, List, [], ◌∷◌, ◌++◌, length, map, take, replicate, codes}
+use Rattle.std.specs.Prelude.{ℕ, suc, ◌+◌, ◌*◌, ◌-◌, ◌%◌, if◌then◌else◌, List, [], ◌∷◌, ◌++◌, length, map, take, drop, replicate, codes, Option, Some, None}
+use Rattle.nim_types.specs.Types.{same_text}
 use Rattle.nim_types.specs.declared.types.TypeDef.{TypeDef}
 use Rattle.nim_types.specs.declared.types.TypeDef.TheVariants as D
 use Rattle.nim_types.specs.declared.types.TheConstants.{WORD_BYTES}
@@ -8,6 +9,7 @@ use Rattle.rv32_isa.specs.Words.{word_bytes}
 use Rattle.flat_code.specs.declared.block.BlockLine.{BlockLine}
 use Rattle.flat_code.specs.declared.code.CodeProc.{CodeProc}
 use Rattle.flat_code.specs.Codes.{block_plain}
+use Rattle.flat_code.specs.Sizes.{distinct_texts}
 use Rattle.word_lowering.specs.declared.texts.TheConstants.{FIXED_BYTES}
 pub use Rattle.word_lowering.specs.Aliases.{text_of, texts_of}
 
@@ -50,22 +52,44 @@ starts_from n (name ∷ names) k = word_bytes n ++ starts_from (n + length name)
 abbrev pub ends_from : ℕ → List (List ℕ) → List ℕ
 ends_from n names = starts_from n names (word_bytes (n + length (joined_all names)))
 
--- ---- literals: those of the last procedure come first
+-- ---- literals as they stand in the code: those of the last procedure come first
 
 abbrev pub texts_in : List (CodeProc BlockLine) → List ℕ
 texts_in [] = []
 texts_in (p ∷ procs) = texts_in procs ++ texts_of (map block_plain p.lines)
 
+-- ---- texts as they are laid out: the last one comes first
+
+abbrev pub laid : List (List ℕ) → List ℕ
+laid [] = []
+laid (text ∷ texts) = laid texts ++ text
+
+-- where a text begins
+abbrev pub place_among : List (List ℕ) → (text : List ℕ) → Option ℕ
+place_among [] text = None
+place_among (other ∷ texts) text = if same_text text other then Some (length (laid texts)) else place_among texts text
+
+abbrev pub or_zero : Option ℕ → ℕ
+or_zero None = 0
+or_zero (Some n) = n
+
+abbrev pub laid_texts : List (CodeProc BlockLine) → List ℕ
+laid_texts procs = laid (distinct_texts block_plain procs)
+
+-- where the literal of so many bytes is laid out that stands at this offset in the code
+abbrev pub place_of : List (CodeProc BlockLine) → (offset bytes : ℕ) → ℕ
+place_of procs offset bytes = or_zero (place_among (distinct_texts block_plain procs) (take bytes (drop offset (texts_in procs))))
+
 -- ---- all of it
 
--- where the names stand, and the literals; globals end at a byte, and the ends of names come first
+-- where the names stand, and the texts; globals end at a byte, and the ends of names come first
 abbrev pub names_at : List TypeDef → ℕ → ℕ
 names_at table globals_end = globals_end + WORD_BYTES * suc (length (all_names table))
 
-abbrev pub literals_at : List TypeDef → ℕ → ℕ
-literals_at table globals_end = names_at table globals_end + length (joined_all (all_names table))
+abbrev pub texts_at : List TypeDef → ℕ → ℕ
+texts_at table globals_end = names_at table globals_end + length (joined_all (all_names table))
 
 abbrev pub data_in : List TypeDef → (globals_end : ℕ) → List (CodeProc BlockLine) → List ℕ
 data_in table globals_end procs =
     replicate WORD_BYTES 0 ++ (fixed_texts ++ (replicate (globals_end - FIXED_BYTES) 0
-    ++ (ends_from 0 (all_names table) ++ (joined_all (all_names table) ++ texts_in procs))))
+    ++ (ends_from 0 (all_names table) ++ (joined_all (all_names table) ++ laid_texts procs))))

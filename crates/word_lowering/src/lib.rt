@@ -5,6 +5,7 @@ mod addresses;
 mod aliases;
 mod calls;
 mod homes;
+mod laid_texts;
 mod layouts;
 mod line_code;
 mod locations;
@@ -25,6 +26,7 @@ mod writing;
 
 pub use aliases::Names;
 pub use homes::{Alias, Free, Home, Housed, Layout, Sort};
+pub use laid_texts::{LaidTexts, Laying, Places};
 pub use lowering::{MORE_DATA, MOST_HEAP, START_WEIGHT, WORD_PACE, words};
 pub use may_lower::{MOST_DATA, MOST_ROOM, MOST_VARS};
 pub use place_table::PlaceTable;

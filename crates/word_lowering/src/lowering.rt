@@ -12,6 +12,7 @@ ghost use Rattle.word_lowering.specs.Stored.{HaveForms};
 
 use crate::calls::proc_number;
 use crate::homes::{Housed, Layout, OWN_FROM};
+use crate::laid_texts::{LaidTexts, laid_texts};
 use crate::layouts::{kept_in, layouts, result_in};
 use crate::line_code::emit_lines;
 use crate::may_lower::have_names;
@@ -19,7 +20,7 @@ use crate::scope::Scope;
 use crate::setting::Setting;
 use crate::spots::{emit_clears, sum};
 use crate::tails::emit_last;
-use crate::texts::{FIXED_BYTES, data, literals_at, names_at, text_bytes, texts_bytes};
+use crate::texts::{FIXED_BYTES, data, names_at, text_bytes, texts_at, texts_bytes};
 use arc_base::{Items, Memory};
 use flat_code::{BlockLine, Blocks, CodeProc};
 use nim_program::HookOf;
@@ -191,20 +192,24 @@ fn all_procs(
 // What is around the start code.
 fn start_scope<'a>(
     types: &'a TypeTable,
+    texts: &'a LaidTexts<'a>,
     layouts: &'a [Layout],
     own: &'a Layout,
 ) -> Result<Scope<'a>, Memory>
-    ensures { IfOk result (λ x. around_of x ≡ around_start types.now layouts.now own.now) }
+    ensures { IfOk result (λ x. around_of x
+        ≡ around_start types.now texts.now layouts.now own.now) }
 {
     let ends = own.free.datum;
     let setting = Setting {
         start: true,
         ends,
         names: names_at(types, ends)?,
-        literals: literals_at(types, ends)?,
+        texts: texts_at(types, ends)?,
+        literals: 0,
     };
     Ok(Scope {
         types,
+        texts,
         layouts,
         own,
         globals: &own.all,
@@ -236,8 +241,9 @@ fn words_of(
     if !have_names(types) {
         return Err(Memory);
     }
-    let statics = data(alloc, types, own.free.datum, procs)?;
-    let x = start_scope(types, layouts, own)?;
+    let texts = laid_texts(alloc, procs)?;
+    let statics = data(alloc, types, own.free.datum, &texts)?;
+    let x = start_scope(types, &texts, layouts, own)?;
     let procs = all_procs(alloc, &x, start, procs)?;
     Ok(WordCode { procs, statics })
 }

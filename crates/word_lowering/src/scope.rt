@@ -6,10 +6,12 @@ ghost use Rattle.word_lowering.specs.LineCode.{own_label, arguments_of, labels_i
 ghost use Rattle.word_lowering.specs.LineCode.{value, location_by, location, own_place, place};
 ghost use Rattle.word_lowering.specs.LineCode.{operand, operands, operand_at, held, led};
 ghost use Rattle.word_lowering.specs.LineCode.{layout_at, variable_of, count_at, bytes_each};
+ghost use Rattle.word_lowering.specs.LineCode.{literal_at};
 ghost use Rattle.word_lowering.specs.Scope.{around_of};
 ghost use Rattle.word_lowering.specs.Stored.{HaveForms};
 
 use crate::homes::{Alias, FIRST, Home, Housed, Layout, Sort};
+use crate::laid_texts::LaidTexts;
 use crate::layouts::nowhere;
 use crate::place_table::PlaceTable;
 use crate::setting::Setting;
@@ -23,6 +25,7 @@ use nim_types::TypeTable;
 #[derive(Clone, Copy)]
 pub struct Scope<'a> {
     pub types: &'a TypeTable,
+    pub texts: &'a LaidTexts<'a>,
     /// The layouts of all procedures, the start code's as the last one.
     pub layouts: &'a [Layout],
     /// The procedure's own layout.
@@ -124,6 +127,14 @@ impl Scope<'_> {
             Some(layout) => layout.runs,
             None => false,
         }
+    }
+
+    /// Where a literal of the procedure is laid out: so many bytes, behind so many of its literals.
+    pub fn literal_at(&self, behind: u32, bytes: u32) -> Result<u32, Memory>
+        ensures { IfOk result (λ at. at ≡ literal_at (around_of self.now) behind bytes) }
+    {
+        let offset = sum(self.setting.literals, behind)?;
+        sum(self.setting.texts, self.texts.place_of(offset, bytes)?)
     }
 
     /// The variable of an ordinal.

@@ -9,6 +9,9 @@ pub struct Setting {
     pub ends: u32,
     /// Where these names stand.
     pub names: u32,
-    /// Where the texts of its literals stand, those of its last line first.
+    /// Where the texts of literals are laid out.
+    pub texts: u32,
+    /// How many bytes of literals stand before its own, those of the last procedure first and in each
+    /// those of the last line.
     pub literals: u32,
 }

@@ -5,9 +5,10 @@ ghost use Rattle.rv32_isa.specs.Words.{word_bytes};
 ghost use Rattle.word_lowering.specs.Emission.{Puts};
 ghost use Rattle.word_lowering.specs.Texts.{texts_of, texts_in, all_names};
 ghost use Rattle.word_lowering.specs.Texts.{joined_all, starts_from, names_before, members_of};
-ghost use Rattle.word_lowering.specs.Texts.{ends_from, names_at, literals_at, data_in, padded};
+ghost use Rattle.word_lowering.specs.Texts.{ends_from, names_at, texts_at, data_in, padded};
 
 use crate::aliases::text_of;
+use crate::laid_texts::LaidTexts;
 use crate::spots::{more, sum};
 use arc_base::{Bytes, Memory};
 use flat_code::{BlockLine, CodeProc};
@@ -53,8 +54,8 @@ fn push_texts_of(bytes: &mut Bytes, lines: &[BlockLine]) -> Result<(), Memory>
     Ok(())
 }
 
-// Those of the last procedure come first.
-fn push_texts_in(bytes: &mut Bytes, procs: &[CodeProc<BlockLine>]) -> Result<(), Memory>
+/// The texts of all literals, those of the last procedure first.
+pub fn push_texts_in(bytes: &mut Bytes, procs: &[CodeProc<BlockLine>]) -> Result<(), Memory>
     ensures { OnOk result (bytes.new ≡ bytes.old ++ texts_in procs.now) }
 {
     let mut i = procs.len();
@@ -189,9 +190,9 @@ fn name_bytes(n: u32, names: &[Bytes]) -> Result<u32, Memory>
     Ok(n)
 }
 
-/// Where the literals stand.
-pub fn literals_at(types: &TypeTable, globals_end: u32) -> Result<u32, Memory>
-    ensures { IfOk result (λ at. at ≡ literals_at types.now globals_end) }
+/// Where the texts of literals are laid out.
+pub fn texts_at(types: &TypeTable, globals_end: u32) -> Result<u32, Memory>
+    ensures { IfOk result (λ at. at ≡ texts_at types.now globals_end) }
 {
     let mut at = names_at(types, globals_end)?;
     for id in 0..types.count() {
@@ -205,9 +206,9 @@ pub fn data(
     alloc: Global,
     types: &TypeTable,
     globals_end: u32,
-    procs: &[CodeProc<BlockLine>],
+    texts: &LaidTexts,
 ) -> Result<Bytes, Memory>
-    ensures { IfOk result (λ bytes. bytes ≡ padded (data_in types.now globals_end procs.now)) }
+    ensures { IfOk result (λ bytes. bytes ≡ padded (data_in types.now globals_end texts.now)) }
 {
     let mut bytes = Bytes::new(alloc);
     push_zeros(&mut bytes, LETTER_BYTES)?;
@@ -215,7 +216,7 @@ pub fn data(
     push_zeros(&mut bytes, globals_end.saturating_sub(FIXED_BYTES) as usize)?;
     push_ends(&mut bytes, types)?;
     push_names(&mut bytes, types)?;
-    push_texts_in(&mut bytes, procs)?;
+    bytes.append(texts.bytes())?;
     let missing = (4 - bytes.as_slice().len() % 4) % 4;
     push_zeros(&mut bytes, missing)?;
     Ok(bytes)

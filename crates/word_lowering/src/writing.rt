@@ -2,7 +2,8 @@
 ghost use Rattle.std.specs.Prelude.{◌≡◌, ◌+◌, ◌*◌, IfOk, OnOk};
 ghost use Rattle.word_lowering.specs.Emission.{Puts};
 ghost use Rattle.word_lowering.specs.LineCode.{number_code, bool_code, char_code, name_code};
-ghost use Rattle.word_lowering.specs.LineCode.{text_code, literal_code, written_code, typed_code};
+ghost use Rattle.word_lowering.specs.LineCode.{text_code, literal_at, literal_code, written_code};
+ghost use Rattle.word_lowering.specs.LineCode.{typed_code};
 ghost use Rattle.word_lowering.specs.LineCode.{texts_code, operands, variable_of};
 ghost use Rattle.word_lowering.specs.Scope.{around_of};
 ghost use Rattle.word_lowering.specs.Stored.{entry_at, base_at};
@@ -110,12 +111,13 @@ pub fn emit_text(code: &mut Items<WordInstr>, at: u32, bytes: u32) -> Result<(),
 }
 
 // A text that a temporary is another name for.
-fn emit_literal(code: &mut Items<WordInstr>, literals: u32, alias: Alias) -> Result<(), Memory>
-    ensures { OnOk result (Puts code.old code.new (literal_code literals alias)) }
+fn emit_literal(code: &mut Items<WordInstr>, x: &Scope, alias: Alias) -> Result<(), Memory>
+    ensures { OnOk result (Puts code.old code.new
+        (literal_code (literal_at (around_of x.now)) alias)) }
 {
     match alias {
         Alias::Text { behind, bytes } => {
-            let at = sum(literals, behind)?;
+            let at = x.literal_at(behind, bytes)?;
             emit_text(code, at, bytes)
         }
         _ => Ok(()),
@@ -136,7 +138,7 @@ fn emit_written(
         None | Some(TypeDef::Int) => emit_number(code, variable_of(from)),
         Some(TypeDef::Bool) => emit_bool(code, variable_of(from)),
         Some(TypeDef::Char) => emit_char(code, variable_of(from)),
-        Some(TypeDef::Text) => emit_literal(code, x.setting.literals, from.alias),
+        Some(TypeDef::Text) => emit_literal(code, x, from.alias),
         Some(TypeDef::Enum { .. }) => {
             let ends = ends_of(x, ty)?;
             emit_name(code, ends, x.setting.names, variable_of(from))

@@ -1,4 +1,5 @@
-use Rattle.std.proofs.Common.{◌+◌, drop, subst, arith}
+use Rattle.std.proofs.Common.{◌+◌, ◌<◌, length, drop, refl, subst, ◌∙◌, arith}
+use Rattle.std.specs.Prelude.{IfSome}
 use Rattle.expr_parts.proofs.ForCallers.{grown_same, next_item, none_left}
 use Rattle.decl_types.proofs.ForCallers.{kept_grown, kept_on}
 use Rattle.decl_sections.proofs.Growing.{IsNext, KnowsLeft, knows_end, knows_first, knows_none, knows_step}
@@ -7,6 +8,7 @@ use Rattle.decl_sections.proofs.knowing.know_all.Goals as goal
 pub loop-definition-init : goal.loop-definition-init
 loop-definition-init c = record {
   kept = kept_grown c.args.types.now c.args.types.now (grown_same c.args.types.now);
+  count = refl;
   ready = λ r. r;
   left = knows_first c.args.types.now c.args.scope.now c.args.names.now c.args.known.now.items c.args.read.now;
 }
@@ -23,13 +25,15 @@ loop-definition-preserved c =
     let first = c.args.known.now.items in
     let known = at.known.items in
     let e = next_item read i x c._definition-item.is c.loop-definition-test.true in
-    let next = subst (IsNext known read) c.in-Some.is (subst (λ ks. IsNext ks read c.in_ok-number.field-0) c.as_slice.ensures.value c.in_ok-number.ensures) in
+    let next = subst (IsNext known read) c.in-Some.is (subst (λ ks. IsNext ks read c.in_ok-number.field-0) c.as_slice.ensures.value c.in_ok-number.ensures.next) in
     let left = subst (KnowsLeft from at.types before at.scope names first known read) e at.invariant.left in
+    let found = subst (λ o. IfSome o (λ n. n < length read)) c.in-Some.is c.in_ok-number.ensures.within in
     record {
       kept = kept_on from at.types c.know.new.types at.invariant.kept c.know.ensures.kept;
+      count = c.in_ok-know-in-Some.ensures.count ∙ at.invariant.count;
       ready = λ r. c.in_ok-know-in-Some.ensures.ready (at.invariant.ready r);
       left = knows_step from at.types c.know.new.types before at.scope c.know.new.scope names first known c.know.new.known.items read (drop (i + 1) read) x
-          c.in-Some.number left c.know.ensures.kept next c.in_ok-know-in-Some.ensures.found c.in_ok-know-in-Some.ensures.knows;
+          c.in-Some.number left c.know.ensures.kept next found c.in_ok-know-in-Some.ensures.knows;
     }
 
 pub returns-in_err-number-clause-kept : goal.returns-in_err-number-clause-kept
@@ -57,7 +61,7 @@ returns-in-None-clause-knows c =
     let first = c.args.known.now.items in
     let known = at.known.items in
     let e = next_item read i x c._definition-item.is c.loop-definition-test.true in
-    let next = subst (IsNext known read) c.in-None.is (subst (λ ks. IsNext ks read c.in_ok-number.field-0) c.as_slice.ensures.value c.in_ok-number.ensures) in
+    let next = subst (IsNext known read) c.in-None.is (subst (λ ks. IsNext ks read c.in_ok-number.field-0) c.as_slice.ensures.value c.in_ok-number.ensures.next) in
     let left = subst (KnowsLeft from at.types before at.scope names first known read) e at.invariant.left in
     knows_none from at.types before at.scope names first known read (drop (i + 1) read) x left next
 
@@ -75,3 +79,17 @@ returns-clause-knows c =
     knows_end c.args.types.now at.types c.args.scope.now at.scope c.args.names.now c.args.known.now.items at.known.items read
     (subst (KnowsLeft c.args.types.now at.types c.args.scope.now at.scope c.args.names.now c.args.known.now.items at.known.items read) none
     at.invariant.left)
+
+pub returns-in-None-clause-count : goal.returns-in-None-clause-count
+returns-in-None-clause-count c = c.loop-definition.invariant.count
+
+pub returns-clause-count : goal.returns-clause-count
+returns-clause-count c = c.loop-definition.invariant.count
+
+pub know-requires-clause-found : goal.know-requires-clause-found
+know-requires-clause-found c = subst (λ o. IfSome o (λ n. n < length c.args.read.now)) c.in-Some.is c.in_ok-number.ensures.within
+
+pub know-requires-clause-room : goal.know-requires-clause-room
+know-requires-clause-room c =
+    let found = subst (λ o. IfSome o (λ n. n < length c.args.read.now)) c.in-Some.is c.in_ok-number.ensures.within in
+    omega (arith, found, c.requires, c.loop-definition.invariant.count)

@@ -86,7 +86,7 @@ pub returns-clause-ready : goal.returns-clause-ready
 returns-clause-ready c =
     on_one c.take_members.result c.take_members.ensures.decls (λ m.
     ready_further c.take_up.new.types c.take_up.new.scope c.take_members.new.scope m.0 m.1 c.take_members.ensures.kinds m.2
-    (c.in_ok-take_up.ensures.ready (ready_more c.read_definition.ensures.grown c.requires)))
+    (c.in_ok-take_up.ensures.ready (ready_more c.read_definition.ensures.grown c.requires.ready)))
 
 pub returns-clause-count : goal.returns-clause-count
 returns-clause-count c =
@@ -138,3 +138,11 @@ returns-clause-leads c = λ ts st all old s rest u f e g.
     reading.declared.seen now.declared.seen reading.known.items now.known.items reading.read.items def ms m.0 u f.fixed g
     (grown.under ts (facts_in mid) v).said e c.in-Ok-read_definition.ensures.key c.in_ok-take_up.ensures.sound knows named members m.1
     c.take_members.ensures.home shown) outside start read))
+
+pub returns-clause-known : goal.returns-clause-known
+returns-clause-known c = on_any c.take_members.result c.in_ok-take_up.ensures.count
+
+pub take_members-requires : goal.take_members-requires
+take_members-requires c =
+    let l = ap length c.in_ok-take_up.ensures.read in
+    record { read = omega (arith, l, length-append c.args.reading.now.read.items (c.in-Ok-read_definition.definition ∷ [])) }

@@ -13,7 +13,8 @@ use Rattle.decl_sections.proofs.reading.read_all.Goals as goal
 pub loop-def-init : goal.loop-def-init
 loop-def-init c = record {
   kept = kept_grown c.args.types.now c.args.types.now (grown_same c.args.types.now);
-  ready = c.requires;
+  ready = c.requires.ready;
+  room = c.requires.room;
   count = λ empty. ap length empty;
   left = λ ts st old u f empty g. (none_read, g, refl);
 }
@@ -47,6 +48,11 @@ loop-def-preserved c =
     record {
       kept = kept_on c.args.types.now at.types c.read.new.types at.invariant.kept c.read.ensures.kept;
       ready = c.in-Ok.ensures.ready;
+      room =
+          let n = c.in-Ok.ensures.count in
+          let m = c.in-Ok.ensures.known in
+          let l = ap length e in
+          omega (arith, at.invariant.room, n, m, l);
       count = λ empty. let n = at.invariant.count empty in let m = c.in-Ok.ensures.count in omega (arith, n, m);
       left = λ ts st old u f empty g.
           let all = map declaration_of defs in
@@ -75,3 +81,9 @@ returns-clause-count c = λ empty.
     let n = c.loop-def.invariant.count empty in
     let b = c.loop-def.auto.def-index-end in
     omega (arith, n, b, c.loop-def-test.false)
+
+pub read-requires-clause-room : goal.read-requires-clause-room
+read-requires-clause-room c =
+    let at = c.loop-def in
+    let l = ap length (next_item c.args.defs.now at.def-index c.def-item.result c.def-item.is c.loop-def-test.true) in
+    omega (arith, at.invariant.room, l)

@@ -1,4 +1,4 @@
-use Rattle.std.proofs.Common.{◌≡◌, List, [], drop, length}
+use Rattle.std.proofs.Common.{◌≡◌, ◌≤◌, ◌+◌, List, [], drop, length}
 use Rattle.std.specs.Prelude.{map}
 use Rattle.nim_tree.specs.Types.{declaration_of}
 use Rattle.nim_types.specs.Types.{Ty}
@@ -16,6 +16,7 @@ abbrev pub invariant-loop-def : goal.invariant-loop-def
 invariant-loop-def l = record {
   kept : Kept l.fn.types l.types;
   ready : IsReady l.types l.scope;
+  room : length l.reading.read.items + length (drop l.def-index l.defs) ≤ length l.reading.known.items;
   count : l.fn.reading.read.items ≡ [] → length l.reading.read.items ≡ l.def-index;
   left : (ts : List Ty) (st : State) (old : List Decl) → Under l.types ts (facts_in l.types)
       → Framed ts st (map declaration_of l.defs) old l.frame → l.fn.reading.read.items ≡ []

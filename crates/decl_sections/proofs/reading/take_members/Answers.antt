@@ -1,4 +1,5 @@
-use Rattle.std.proofs.Common.{[], length, refl, sym, ap, ◌∙◌, append-nil}
+use Rattle.std.proofs.Common.{◌≡◌, ◌-◌, [], length, refl, sym, ap, ◌∙◌, append-nil, arith, Some}
+use Rattle.std.specs.Prelude.{slice_get}
 use Rattle.nim_types.specs.Types as type
 use Rattle.decl_rules.specs.Sections.{seen_members}
 use Rattle.decl_written.proofs.ForCallers.{empty_is}
@@ -19,6 +20,9 @@ returns-then-is_empty-clause-decls c =
 
 pub returns-clause-decls : goal.returns-clause-decls
 returns-clause-decls c =
+    let read = c.as_slice-read.result.now in
+    let definition = c.definition_at-definition.result.now in
+    let last : Some definition ≡ slice_get read (length read - 1) = sym c.definition_at-definition.ensures in
     on_one c.declare_members.result c.declare_members.ensures.decls (λ s. (
       s.0,
       s.1,
@@ -28,5 +32,10 @@ returns-clause-decls c =
           ∙ ap (λ t. seen_members section (member_entries t 0 c.args.members.now))
           (c.in_ok-ty.ensures.means ts facts u
           ∙ ap (λ (z : Definition). type.enum (key_by z))
-          (last_is c.deref.result.now before d c.in-Some.definition.now c.in-Some.ensures.value (c.deref.ensures.value ∙ e))),
+          (last_is read before d definition last (c.as_slice-read.ensures.value ∙ e))),
     ))
+
+pub definition_at-definition-requires : goal.definition_at-definition-requires
+definition_at-definition-requires c =
+    let l = ap length c.as_slice-read.ensures.value in
+    omega (arith, l, c.requires.read)

@@ -1,7 +1,7 @@
-use Rattle.std.proofs.Common.{◌≡◌, sym, ap, subst, ◌∙◌}
+use Rattle.std.proofs.Common.{◌≡◌, length, sym, ap, subst, ◌∙◌}
 use Rattle.std.specs.Prelude.{Ok, Err, map}
 use Rattle.arc_base.specs.Refusal.{and_then, Answers}
-use Rattle.nim_types.specs.Table.{type_at}
+use Rattle.nim_types.specs.Table.{type_at, AllBelow}
 use Rattle.expr_parts.proofs.ForCallers.{answers_as, stops}
 use Rattle.decl_rules.specs.Meanings.{renamed}
 use Rattle.decl_rules.specs.Sections.{formed_within, meant_within}
@@ -41,3 +41,14 @@ returns-clause-answers c = λ n m ts facts keys k u sound known same.
     answers_as (λ (_ : Unit {0}). tt) (and_then (formed_within facts k (formed_nodes ts keys nodes)) (λ _. rest))
     (and_then (nodes_sized facts nodes us) (λ _. rest)) (Err c.in-Err.stop) (ap (λ z. and_then z (λ _. rest)) sized)
     (stops (λ (_ : Unit {0}). tt) (λ (_ : Unit {0}). tt) (nodes_sized facts nodes us) (λ _. rest) c.in-Err.stop stopped)
+
+pub check_nodes-requires-clause-formed : goal.check_nodes-requires-clause-formed
+check_nodes-requires-clause-formed c = c.types_of.ensures.grown.formed c.requires
+
+pub check_nodes-requires-clause-within : goal.check_nodes-requires-clause-within
+check_nodes-requires-clause-within c =
+    subst (AllBelow (length c.types_of.new.types)) (sym c.as_slice-3.ensures.value) c.in_ok-ids.ensures.within
+
+pub check_nodes-requires-clause-count : goal.check_nodes-requires-clause-count
+check_nodes-requires-clause-count c =
+    ap length c.as_slice-3.ensures.value ∙ c.in_ok-ids.ensures.count ∙ ap length (c.as_slice.ensures.value ∙ sym c.as_slice-2.ensures.value)

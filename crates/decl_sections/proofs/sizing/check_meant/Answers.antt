@@ -18,3 +18,6 @@ returns-in_ok-id-in-Object c = λ ts facts keys u.
     c.check_size.result
     (ap (λ m. meant_within facts (key_by d) (meant_of done m)) c.in-Object.is ∙ ap (within_size facts d.at) (sym ty))
     (c.check_size.ensures ts facts u)
+
+pub check_size-requires-clause-within : goal.check_size-requires-clause-within
+check_size-requires-clause-within c = c.in_ok-id-in-Object.ensures.within

@@ -1,10 +1,10 @@
-use Rattle.std.proofs.Common.{◌≡◌, ℕ, ◌+◌, drop, ap, ap₂, subst, ◌∙◌}
+use Rattle.std.proofs.Common.{◌≡◌, ℕ, ◌+◌, drop, length, ap, ap₂, subst, ◌∙◌, arith}
 use Rattle.std.specs.Prelude.{Some, map, slice_get, Err}
 use Rattle.arc_base.specs.Refusal.{and_then}
 use Rattle.nim_types.specs.Table.{type_at}
 use Rattle.expr_parts.proofs.ForCallers.{answers_as, next_item, stops}
 use Rattle.decl_sections.specs.ViewSized.{node_sized, nodes_sized}
-use Rattle.decl_sections.proofs.Outcomes.{get_read}
+use Rattle.decl_types.proofs.ForCallers.{below_at}
 use Rattle.decl_sections.proofs.Sizes.{types_drop}
 use Rattle.decl_sections.proofs.sizing.check_nodes.Goals as goal
 
@@ -15,9 +15,8 @@ returns-in-Err c = λ ts facts u.
     let ids = c.args.ids.now in
     let i = at.node-index in
     let x = c.node-item.result in
-    let id = c.in-Some.id.now in
-    let get = subst (λ (k : ℕ). slice_get ids k ≡ Some id) at.invariant.number
-    (get_read ids at.number id c.in-Some.ensures.lookup.3.0 c.in-Some.ensures.lookup.1) in
+    let id = c.id_at.result in
+    let get = subst (λ (k : ℕ). slice_get ids k ≡ Some id) at.invariant.number c.id_at.ensures in
     let e = next_item nodes i x c.node-item.is c.loop-node-test.true in
     let behind = nodes_sized facts (drop (i + 1) nodes) (drop (i + 1) (map (type_at ts) ids)) in
     answers_as (λ (_ : Unit {0}). tt) (nodes_sized facts nodes (map (type_at ts) ids))
@@ -32,9 +31,8 @@ loop-node-preserved c =
     let ids = c.args.ids.now in
     let i = at.node-index in
     let x = c.node-item.result in
-    let id = c.in-Some.id.now in
-    let get = subst (λ (k : ℕ). slice_get ids k ≡ Some id) at.invariant.number
-    (get_read ids at.number id c.in-Some.ensures.lookup.3.0 c.in-Some.ensures.lookup.1) in
+    let id = c.id_at.result in
+    let get = subst (λ (k : ℕ). slice_get ids k ≡ Some id) at.invariant.number c.id_at.ensures in
     let e = next_item nodes i x c.node-item.is c.loop-node-test.true in
     record {
       number = ap (λ (k : ℕ). k + 1) at.invariant.number;
@@ -43,3 +41,12 @@ loop-node-preserved c =
           at.invariant.left ts facts u ∙ ap₂ (nodes_sized facts) e (types_drop ts ids i id get)
           ∙ ap (λ z. and_then z (λ _. behind)) (c.in-Ok.ensures ts facts u);
     }
+
+pub id_at-requires : goal.id_at-requires
+id_at-requires c =
+    let n = c.loop-node.invariant.number in
+    omega (arith, n, c.requires.count, c.loop-node-test.true)
+
+pub check_node-requires-clause-within : goal.check_node-requires-clause-within
+check_node-requires-clause-within c =
+    below_at (length c.args.types.now) c.args.ids.now c.loop-node.number c.id_at.result c.requires.within c.id_at.ensures

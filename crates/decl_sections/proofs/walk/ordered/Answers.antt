@@ -1,15 +1,16 @@
-use Rattle.std.proofs.Common.{[], refl, sym, append-nil}
+use Rattle.std.proofs.Common.{[], length, refl, sym, ap, append-nil, arith}
+use Rattle.std.proofs.lemmas.List.{length-map}
 use Rattle.std.specs.Prelude.{map}
 use Rattle.nim_tree.specs.Types.{declaration_of}
 use Rattle.nim_types.specs.Table.{facts_in, types_in}
 use Rattle.expr_parts.specs.View.{Under, env_of}
 use Rattle.decl_rules.specs.State.{State}
 use Rattle.decl_sections.proofs.Readying.{ready_begun}
-use Rattle.decl_sections.proofs.Starts.{begun_frame, begun_stage}
+use Rattle.decl_sections.proofs.Starts.{begun_frame, begun_stage, none_count}
 use Rattle.decl_sections.proofs.walk.ordered.Goals as goal
 
-pub walk-requires : goal.walk-requires
-walk-requires c =
+pub walk-requires-clause-ready : goal.walk-requires-clause-ready
+walk-requires-clause-ready c =
     ready_begun c.args.types.now c.args.scope.now c.begin.new.scope c.args.outside (map declaration_of c.args.defs.now) c.in_ok-frame.frame
     c.in_ok-frame.reading c.in_ok-frame.ensures.begins c.requires.ready
 
@@ -63,3 +64,11 @@ returns-clause-answers c = λ ts st u e o.
     let f = begun_frame ts st ds old c.begin.new.scope c.args.outside c.args.home c.args.last all frame reading (facts_in ds) b c.requires.outside
     c.requires.ascends c.requires.far v e o in
     c.in-Err.ensures.answers ts st old.decls u f b.read (begun_stage ts st ds old c.begin.new.scope c.args.outside all frame reading b e o)
+
+pub walk-requires-clause-room : goal.walk-requires-clause-room
+walk-requires-clause-room c =
+    let b = c.in_ok-frame.ensures.begins in
+    let r = ap length b.read in
+    let k = ap length b.known in
+    let all = map declaration_of c.args.defs.now in
+    omega (arith, r, k, none_count all, length-map c.args.defs.now declaration_of)

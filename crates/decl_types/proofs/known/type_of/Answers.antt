@@ -1,10 +1,12 @@
-use Rattle.std.proofs.Common.{length, sym, subst, ap, ◌∙◌}
-use Rattle.nim_types.specs.Table.{type_at}
+use Rattle.std.proofs.Common.{length, sym, subst, ap, ap₂, ◌∙◌}
+use Rattle.std.specs.Prelude.{map}
+use Rattle.nim_types.specs.Types as type
+use Rattle.nim_types.specs.Table.{type_at, types_at}
 use Rattle.expr_parts.proofs.ForCallers.{if_ok}
 use Rattle.decl_rules.specs.Meanings.{renamed}
 use Rattle.decl_types.specs.ViewNodes.{node_type}
 use Rattle.decl_types.specs.ViewKnown.{NodeIn}
-use Rattle.decl_types.proofs.Knowing.{renamed_node}
+use Rattle.decl_types.proofs.Knowing.{renamed_sequence, renamed_array, renamed_tuple}
 use Rattle.decl_types.proofs.known.type_of.Goals as goal
 
 pub returns-in-Known-clause-means : goal.returns-in-Known-clause-means
@@ -19,10 +21,32 @@ returns-in_ok-known_at-in-Named-clause-means c =
     ∙ ap (λ node. renamed by (node_type ts keys done node)) (sym c.in-Named.is))
 
 pub add-requires-clause-within : goal.add-requires-clause-within
-add-requires-clause-within c = c.in_ok-built-in-Sequence.ensures.within (length c.args.types.now) c.requires
+add-requires-clause-within c = c.in_ok-sequence_of-in-Sequence.ensures.within (length c.args.types.now) c.requires
 
-pub returns-in_ok-built-in-Sequence-clause-means : goal.returns-in_ok-built-in-Sequence-clause-means
-returns-in_ok-built-in-Sequence-clause-means c = if_ok c.add.result c.add.ensures.means (λ id is n m w ts facts u keys by done known stays e.
-    let node = c.args.node.now in
-    let built = c.in_ok-built-in-Sequence.ensures in
-    is ts facts u ∙ built.means ts keys ∙ ap (λ types. node_type ts keys types node) e ∙ renamed_node ts keys by done node built.made)
+pub add-requires-in-Array-clause-within : goal.add-requires-in-Array-clause-within
+add-requires-in-Array-clause-within c = c.in_ok-array_of-in-Array.ensures.within (length c.args.types.now) c.requires
+
+pub add-requires-in-Tuple-clause-within : goal.add-requires-in-Tuple-clause-within
+add-requires-in-Tuple-clause-within c = c.in_ok-tuple_of-in-Tuple.ensures.within (length c.args.types.now) c.requires
+
+pub returns-in_ok-sequence_of-in-Sequence-clause-means : goal.returns-in_ok-sequence_of-in-Sequence-clause-means
+returns-in_ok-sequence_of-in-Sequence-clause-means c =
+    if_ok c.add.result c.add.ensures.means (λ id is n m w ts facts u keys by done known stays e.
+    is ts facts u ∙ c.in_ok-sequence_of-in-Sequence.ensures.means ts
+    ∙ ap (λ types. type.sequence (type_at types c.in-Sequence.of)) e ∙ renamed_sequence by done c.in-Sequence.of
+    ∙ ap (λ node. renamed by (node_type ts keys done node)) (sym c.in-Sequence.is))
+
+pub returns-in_ok-array_of-in-Array-clause-means : goal.returns-in_ok-array_of-in-Array-clause-means
+returns-in_ok-array_of-in-Array-clause-means c =
+    if_ok c.add-in-Array.result c.add-in-Array.ensures.means (λ id is n m w ts facts u keys by done known stays e.
+    is ts facts u ∙ c.in_ok-array_of-in-Array.ensures.means ts
+    ∙ ap (λ types. type.array c.in-Array.len (type_at types c.in-Array.of)) e ∙ renamed_array by done c.in-Array.len c.in-Array.of
+    ∙ ap (λ node. renamed by (node_type ts keys done node)) (sym c.in-Array.is))
+
+pub returns-in_ok-tuple_of-in-Tuple-clause-means : goal.returns-in_ok-tuple_of-in-Tuple-clause-means
+returns-in_ok-tuple_of-in-Tuple-clause-means c =
+    if_ok c.add-in-Tuple.result c.add-in-Tuple.ensures.means (λ id is n m w ts facts u keys by done known stays e.
+    is ts facts u ∙ c.in_ok-tuple_of-in-Tuple.ensures.means ts
+    ∙ ap₂ (λ names parts. type.tuple names (types_at (map (type_at ts) c.args.ids.now) parts)) c.as_slice.ensures c.as_slice-in-Tuple.ensures
+    ∙ ap (λ types. type.tuple c.in-Tuple.names (types_at types c.in-Tuple.parts)) e ∙ renamed_tuple by done c.in-Tuple.names c.in-Tuple.parts
+    ∙ ap (λ node. renamed by (node_type ts keys done node)) (sym c.in-Tuple.is))

@@ -1,9 +1,9 @@
-use Rattle.std.proofs.Common.{◌+◌, ◌∷◌, ◌++◌, [], length, drop, take, sym, ap, ap₂, subst, ◌∙◌, arith}
+use Rattle.std.proofs.Common.{◌+◌, ◌∷◌, ◌++◌, [], length, drop, take, sym, ap, ap₂, subst, ◌∙◌, arith, length-append}
 use Rattle.std.proofs.lemmas.List.{map-append}
 use Rattle.std.specs.Prelude.{map}
 use Rattle.nim_types.specs.Table.{type_at, AllBelow}
 use Rattle.nim_types.proofs.ForCallers.{all_more}
-use Rattle.expr_parts.proofs.ForCallers.{grown_on, grown_same, next_item, take_all}
+use Rattle.expr_parts.proofs.ForCallers.{grown_on, grown_same, next_item, none_left, take_all}
 use Rattle.decl_rules.specs.Meanings.{renamed}
 use Rattle.decl_written.proofs.ForCallers.{below_last}
 use Rattle.decl_types.specs.ViewNodes.{node_type, node_types}
@@ -14,6 +14,7 @@ pub loop-node-init : goal.loop-node-init
 loop-node-init c = record {
   grown = grown_same c.args.types.now;
   within = subst (AllBelow (length c.args.types.now)) (sym c.new-ids.ensures.items) tt;
+  count = let l = ap length c.new-ids.ensures.items in omega (arith, l);
   means = λ n m w ts facts u keys by known same. ap (map (type_at ts)) c.new-ids.ensures.items;
 }
 
@@ -30,6 +31,10 @@ loop-node-preserved c =
       grown = grown_on at.invariant.grown g;
       within = subst (AllBelow new) (sym pushed)
           (below_last new c.in-Ok.id at.ids.items (all_more (length at.types) new at.ids.items g.length at.invariant.within) c.in-Ok.ensures.within);
+      count =
+          let k = ap length pushed in
+          let l = ap length e in
+          omega (arith, at.invariant.count, k, l, length-append at.ids.items (c.in-Ok.id ∷ []));
       means = λ n m w ts facts u keys by known same.
           let done = node_types ts keys (take at.node-index c.args.nodes.now) in
           let before = at.invariant.means n m w ts facts (g.under ts facts u) keys by known same in
@@ -47,6 +52,12 @@ returns-in_err-push-in-Ok-clause-grown c = grown_on c.loop-node.invariant.grown 
 
 pub returns-in-Err-clause-grown : goal.returns-in-Err-clause-grown
 returns-in-Err-clause-grown c = grown_on c.loop-node.invariant.grown c.type_of.ensures.grown
+
+pub returns-clause-count : goal.returns-clause-count
+returns-clause-count c =
+    let at = c.loop-node in
+    let l = ap length (none_left c.args.nodes.now at.node-index (omega (arith, c.loop-node-test.false))) in
+    omega (arith, at.invariant.count, l)
 
 pub returns-clause-means : goal.returns-clause-means
 returns-clause-means c = λ n m w ts facts u keys by known same.

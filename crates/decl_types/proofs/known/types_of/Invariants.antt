@@ -1,4 +1,4 @@
-use Rattle.std.proofs.Common.{◌≡◌, ℕ, List, length, take}
+use Rattle.std.proofs.Common.{◌≡◌, ℕ, ◌+◌, List, length, take, drop}
 use Rattle.std.specs.Prelude.{map}
 use Rattle.nim_types.specs.Types.{Ty, Key, Facts}
 use Rattle.nim_types.specs.Table.{type_at, AllBelow}
@@ -12,6 +12,7 @@ abbrev pub invariant-loop-node : goal.invariant-loop-node
 invariant-loop-node l = record {
   grown : Grown l.fn.types l.types;
   within : AllBelow (length l.types) l.ids.items;
+  count : length l.ids.items + length (drop l.node-index l.nodes) ≡ length l.nodes;
   means : (n m : ℕ) → NodesIn n m l.nodes → (ts : List Ty) (facts : Facts) → Under l.types ts facts
       → (keys : List Key) (by : Key → Ty) → KnownAs ts keys l.known by → Untouched ts n by
       → map (type_at ts) l.ids.items ≡ map (renamed by) (node_types ts keys (take l.node-index l.nodes));

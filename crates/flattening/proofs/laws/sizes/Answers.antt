@@ -1,9 +1,13 @@
-use Rattle.flattening.proofs.DataSizes.{data_most}
+use Rattle.flattening.proofs.DataSizes.{start_most}
+use Rattle.flattening.proofs.Texts.{times_most}
 use Rattle.flattening.proofs.Weights.{weighs}
 use Rattle.flattening.proofs.laws.sizes.Goals as goal
 
 pub returns-clause-weight : goal.returns-clause-weight
 returns-clause-weight c = λ program plan. weighs program plan
 
-pub returns-clause-data : goal.returns-clause-data
-returns-clause-data c = λ table program plan is typed numbered. data_most table program plan is typed numbered
+pub returns-clause-globals : goal.returns-clause-globals
+returns-clause-globals c = λ program plan typed numbered. start_most program plan typed numbered
+
+pub returns-clause-texts : goal.returns-clause-texts
+returns-clause-texts c = λ program plan text. times_most text program plan

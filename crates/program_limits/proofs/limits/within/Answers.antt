@@ -21,14 +21,14 @@ returns-in-Some-2 c =
     ∙ (sym c.in_ok-at.ensures ∙ c.in-Some-2.is) in
     said_by (program_in p) None (Some c.in-Some-2.at) _ left fault refl
 
-pub returns-then-not-data_fits : goal.returns-then-not-data_fits
-returns-then-not-data_fits c =
+pub returns-then-not-fits : goal.returns-then-not-fits
+returns-then-not-fits c =
     let p = c.args.program.now in
     let left = ap (λ (ds : List TypeDef). first_left_out (program_under (types_in ds) (facts_in ds) p)) (sym c.in_ok-known.ensures)
     ∙ (sym c.first_left_out.ensures ∙ c.in_default.is) in
     let fault = ap (λ (ds : List TypeDef). frame_fault (program_under (types_in ds) (facts_in ds) p)) (sym c.in_ok-known.ensures)
     ∙ (sym c.in_ok-at.ensures ∙ c.in_default-2.is) in
-    said_by (program_in p) None None false left fault (sym c.data_fits.ensures ∙ c.if-not-data_fits.true)
+    said_by (program_in p) None None false left fault (sym c.in_ok-fits.ensures ∙ c.if-not-fits.true)
 
 pub returns : goal.returns
 returns c =
@@ -37,4 +37,4 @@ returns c =
     ∙ (sym c.first_left_out.ensures ∙ c.in_default.is) in
     let fault = ap (λ (ds : List TypeDef). frame_fault (program_under (types_in ds) (facts_in ds) p)) (sym c.in_ok-known.ensures)
     ∙ (sym c.in_ok-at.ensures ∙ c.in_default-2.is) in
-    said_by (program_in p) None None true left fault (sym c.data_fits.ensures ∙ c.if-not-data_fits.false)
+    said_by (program_in p) None None true left fault (sym c.in_ok-fits.ensures ∙ c.if-not-fits.false)

@@ -1,7 +1,9 @@
-use Rattle.std.proofs.Common.{sym, ap, subst}
+use Rattle.std.proofs.Common.{◌∙◌, sym, ap, subst}
 use Rattle.word_lowering.specs.LineCode.{Around}
+use Rattle.word_lowering.specs.Lowered.{around_start}
 use Rattle.word_lowering.specs.Scope.{around_of}
 use Rattle.word_lowering.specs.Stored.{HaveForms}
+use Rattle.word_lowering.specs.Texts.{padded, data_in}
 use Rattle.word_lowering.proofs.BlocksFollowed.{lowers_given}
 use Rattle.word_lowering.proofs.WholeCode.{both, whole_by}
 use Rattle.word_lowering.proofs.lowering.words_of.Goals as goal
@@ -23,5 +25,7 @@ returns c =
     (whole_by c.args.types.now c.args.blocks.now c.as_slice-procs.result.now c.args.layouts.now
     c.in-Some.own.now c.in-Some-last.start.now (around_of c.in_ok-x.x) c.in_ok-procs.procs c.in_ok-statics.statics
     c.as_slice-procs.ensures c.requires.layouts (sym c.in-Some.ensures.value) (sym c.in-Some-last.ensures.value)
-    c.in_ok-x.ensures c.in_ok-procs.ensures c.in_ok-statics.ensures
+    (c.in_ok-x.ensures ∙ ap (λ ps. around_start c.args.types.now ps c.args.layouts.now c.in-Some.own.now) c.in_ok-texts.ensures)
+    c.in_ok-procs.ensures
+    (c.in_ok-statics.ensures ∙ ap (λ ps. padded (data_in c.args.types.now c.in-Some.own.now.free.datum ps)) c.in_ok-texts.ensures)
     (c.requires.may (c.have_names.ensures c.if-not-have_names.false)))

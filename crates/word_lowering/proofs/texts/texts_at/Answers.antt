@@ -1,7 +1,7 @@
 use Rattle.std.proofs.Common.{suc, length, drop, ap, arith, add-one, length-append}
 use Rattle.word_lowering.specs.Texts.{all_names, members_of, joined_all}
 use Rattle.word_lowering.proofs.EntryNames.{names_from, joined_append}
-use Rattle.word_lowering.proofs.texts.literals_at.Goals as goal
+use Rattle.word_lowering.proofs.texts.texts_at.Goals as goal
 
 pub loop-id-preserved : goal.loop-id-preserved
 loop-id-preserved c =

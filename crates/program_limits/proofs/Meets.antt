@@ -1,0 +1,140 @@
+-- Texts that are met from the last one to the first, and those of the whole program.
+use Rattle.std.proofs.Common.{◌≡◌, ◌∙◌, ℕ, ◌+◌, Bool, true, false, List, [], ◌∷◌, ◌++◌, Option, Some, None, refl, sym, ap, ap₂, append_assoc, append-nil, arith}
+use Rattle.std.specs.Prelude.{◌||◌, if◌then◌else◌}
+use Rattle.std.specs.HashSet.{contains}
+use Rattle.std.specs.Set.{is_member, unique_keys}
+use Rattle.std.specs.List.{list_any}
+use Rattle.std.proofs.lemmas.Bool.{cond-true, cond-false, both_ways}
+use Rattle.std.proofs.lemmas.Cmp.{nat_list_eq_equiv}
+use Rattle.nim_types.specs.Types.{same_text}
+use Rattle.nim_program.specs.declared.text_sizes.TheConstants.{MOST_DATA}
+use Rattle.nim_program.specs.Program.{Literal, Literals, Number, Characters, NoObject, PartsOf, ElementsOf, NoLiteral, ALiteral, Giving, Doing, Building}
+use Rattle.nim_program.specs.Program.{Calling, Stmts, Body, Proc, Program}
+use Rattle.nim_program.specs.Folds.{Seen, AtApply, AtEarly, AtChoose, AtPath, AtStmt, AtDeclare, AtLoop, AtHandler, lists, total_of, capped}
+use Rattle.nim_program.specs.TextSizes.{text_bytes, all_bytes}
+use Rattle.nim_meaning.proofs.ForCallers.{Relates, related_of}
+use Rattle.program_limits.specs.Data.{literal_texts, all_texts, own_texts, texts_if, procs_texts, program_texts, texts_size}
+use Rattle.program_limits.specs.Meeting.{Met, Before, before, literal_before, all_before, own_before, if_before, procs_before}
+use Rattle.program_limits.specs.declared.texts.Texts.{Texts}
+
+-- ---- one text
+
+pub any_same : {A : Type 0} (f g : A → Bool) → ((x : A) → f x ≡ g x) → (xs : List A) → list_any f xs ≡ list_any g xs
+any_same f g same [] = refl
+any_same f g same (x ∷ xs) = ap₂ (λ a b. a || b) (same x) (any_same f g same xs)
+
+-- one more that is equal to one that was met
+pub met_again : (met : List (List ℕ)) (text other : List ℕ) → is_member same_text met text ≡ true →
+    is_member same_text (text ∷ met) other ≡ is_member same_text met other
+met_again met text other is = by (same_text other text) refl
+  where
+    by : (b : Bool) → same_text other text ≡ b → (same_text other text || is_member same_text met other) ≡ is_member same_text met other
+    by false e = ap (λ b. b || is_member same_text met other) e
+    by true e =
+        ap (λ b. b || is_member same_text met other) e
+        ∙ sym (any_same (same_text other) (same_text text) (λ z. nat_list_eq_equiv.congr other text z e) met ∙ is)
+
+pub none_met : (texts : Texts) → texts.kept.keys ≡ [] → texts.bytes ≡ 0 → Met texts []
+none_met texts none zero = record {
+  kept = λ e text. ap (list_any (same_text text)) none;
+  size = λ e. zero;
+}
+
+pub keeps_old : (old : Texts) (met : List (List ℕ)) (text : List ℕ) → contains same_text old.kept text ≡ true → Met old met → Met old (text ∷ met)
+keeps_old old met text is h = record {
+  kept = λ e other. h.kept e other ∙ sym (met_again met text other (among e));
+  size = λ e.
+      h.size e ∙ ap (λ texts. capped MOST_DATA (all_bytes texts)) (sym (cond-true (is_member same_text met text) (unique_keys same_text met) _ (among e)));
+}
+  where
+    among : old.lost ≡ false → is_member same_text met text ≡ true
+    among e = sym (h.kept e text) ∙ is
+
+either : (a b : Bool) → (a || b) ≡ (if a then true else b)
+either true b = refl
+either false b = refl
+
+pub keeps_new : (old new : Texts) (met : List (List ℕ)) (text : List ℕ) (bytes : ℕ) → contains same_text old.kept text ≡ false → new.lost ≡ old.lost →
+    ((other : List ℕ) → contains same_text new.kept other ≡ (if same_text text other then true else contains same_text old.kept other)) →
+    bytes ≡ capped MOST_DATA (text_bytes text) → new.bytes ≡ capped MOST_DATA (old.bytes + bytes) → Met old met → Met new (text ∷ met)
+keeps_new old new met text bytes is same put few sum h = record {
+  kept = λ e other.
+      put other
+      ∙ ap (λ b. if same_text text other then true else b) (h.kept (sym same ∙ e) other)
+      ∙ sym (either (same_text text other) (is_member same_text met other))
+      ∙ ap (λ b. b || is_member same_text met other) (nat_list_eq_equiv.symm text other);
+  size = λ e.
+      let among : is_member same_text met text ≡ false = sym (h.kept (sym same ∙ e) text) ∙ is in
+      let texts : List (List ℕ) = unique_keys same_text met in
+      let before = h.size (sym same ∙ e) in
+      let whole : new.bytes ≡ capped MOST_DATA (all_bytes (text ∷ texts)) = omega (arith, few, sum, before) in
+      whole ∙ ap (λ ts. capped MOST_DATA (all_bytes ts)) (sym (cond-false (is_member same_text met text) texts (text ∷ texts) among));
+}
+
+pub all_lost : (new : Texts) (met : List (List ℕ)) → new.lost ≡ true → Met new met
+all_lost new met lost = record {
+  kept = λ e. absurd (both_ways new.lost e lost);
+  size = λ e. absurd (both_ways new.lost e lost);
+}
+
+-- ---- the list of a tree
+
+mutual
+  literal_is : (l : Literal) (met : List (List ℕ)) → literal_before l met ≡ literal_texts l ++ met
+  literal_is (Number z) met = refl
+  literal_is (Characters text) met = refl
+  literal_is NoObject met = refl
+  literal_is (PartsOf all) met = all_is all met
+  literal_is (ElementsOf all) met = all_is all met
+
+  all_is : (all : Literals) (met : List (List ℕ)) → all_before all met ≡ all_texts all ++ met
+  all_is NoLiteral met = refl
+  all_is (ALiteral first rest) met =
+      literal_is first (all_before rest met) ∙ ap (λ ts. literal_texts first ++ ts) (all_is rest met)
+      ∙ sym (append_assoc (literal_texts first) (all_texts rest) met)
+
+abbrev Puts : List (List ℕ) → Before → Type 0
+Puts texts puts = (met : List (List ℕ)) → puts met ≡ texts ++ met
+
+own_puts : (seen : Seen) → Puts (own_texts seen) (own_before seen)
+own_puts (AtApply node ty (Giving literal)) met = literal_is literal met
+own_puts (AtApply node ty (Doing operation)) met = refl
+own_puts (AtApply node ty (Building fields)) met = refl
+own_puts (AtApply node ty (Calling proc of)) met = refl
+own_puts (AtEarly node ty short) met = refl
+own_puts (AtChoose node ty chooser) met = refl
+own_puts (AtPath read node ty step) met = refl
+own_puts (AtStmt node) met = refl
+own_puts (AtDeclare node place cursor) met = refl
+own_puts (AtLoop node kind) met = refl
+own_puts (AtHandler name) met = refl
+
+puts : Relates lists before own_texts own_before Puts
+puts = record {
+  none = λ met. refl;
+  plus = λ xs ys f g h k met. h (g met) ∙ ap (λ ts. xs ++ ts) (k met) ∙ sym (append_assoc xs ys met);
+  own = own_puts;
+}
+
+block_is : (block : Stmts) (met : List (List ℕ)) → total_of before own_before block met ≡ total_of lists own_texts block ++ met
+block_is block = related_of lists before own_texts own_before Puts puts block
+
+procs_are : (procs : List Proc) (met : List (List ℕ)) → procs_before procs met ≡ procs_texts procs ++ met
+procs_are [] met = refl
+procs_are (p ∷ procs) met =
+    by p.body (procs_before procs met) ∙ ap (λ ts. texts_if p.body ++ ts) (procs_are procs met)
+    ∙ sym (append_assoc (texts_if p.body) (procs_texts procs) met)
+  where
+    by : (body : Option Body) (met : List (List ℕ)) → if_before body met ≡ texts_if body ++ met
+    by None met = refl
+    by (Some body) met = block_is body.stmts met
+
+-- the procedures before the start code
+pub all_met : (texts : Texts) (program : Program) → texts.lost ≡ false →
+    Met texts (procs_before program.procs (total_of before own_before program.start.stmts [])) →
+    texts.bytes ≡ capped MOST_DATA (texts_size (program_texts program))
+all_met texts program kept h =
+    h.size kept ∙ ap (λ ts. capped MOST_DATA (texts_size ts))
+    (procs_are program.procs (total_of before own_before program.start.stmts [])
+    ∙ ap (λ ts. procs_texts program.procs ++ ts)
+    (block_is program.start.stmts [] ∙ append-nil (total_of lists own_texts program.start.stmts)))

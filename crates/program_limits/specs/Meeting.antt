@@ -1,0 +1,45 @@
+-- The texts of a tree as they are met from the last one to the first: before those that were met. No public contract speaks of it.
+use Rattle.std.specs.Prelude.{◌≡◌, ℕ, false, List, [], ◌∷◌, Option, Some, None}
+use Rattle.std.specs.HashSet.{contains}
+use Rattle.std.specs.Set.{is_member}
+use Rattle.nim_types.specs.Types.{same_text}
+use Rattle.nim_program.specs.declared.text_sizes.TheConstants.{MOST_DATA}
+use Rattle.nim_program.specs.Program.{Literal, Literals, Number, Characters, NoObject, PartsOf, ElementsOf, NoLiteral, ALiteral, Giving, Body, Proc}
+use Rattle.nim_program.specs.Folds.{Seen, AtApply, Sum, total_of, capped}
+use Rattle.program_limits.specs.declared.texts.Texts.{Texts}
+use Rattle.program_limits.specs.Data.{texts_size}
+
+-- these were met: unless one was lost, each of them is kept, nothing else is, and so many bytes count
+pub record Met (texts : Texts) (met : List (List ℕ)) : Type 0 where
+  pub kept : texts.lost ≡ false → (text : List ℕ) → contains same_text texts.kept text ≡ is_member same_text met text
+  pub size : texts.lost ≡ false → texts.bytes ≡ capped MOST_DATA (texts_size met)
+
+abbrev pub Before : Type 0
+Before = List (List ℕ) → List (List ℕ)
+
+abbrev pub before : Sum Before
+before = record { none = λ met. met; plus = λ first second met. first (second met) }
+
+abbrev mutual
+  pub literal_before : Literal → Before
+  literal_before (Number value) met = met
+  literal_before (Characters text) met = text ∷ met
+  literal_before NoObject met = met
+  literal_before (PartsOf all) met = all_before all met
+  literal_before (ElementsOf all) met = all_before all met
+
+  pub all_before : Literals → Before
+  all_before NoLiteral met = met
+  all_before (ALiteral first rest) met = literal_before first (all_before rest met)
+
+abbrev pub own_before : Seen → Before
+own_before (AtApply node ty (Giving literal)) = literal_before literal
+own_before _ = λ met. met
+
+abbrev pub if_before : Option Body → Before
+if_before None met = met
+if_before (Some body) met = total_of before own_before body.stmts met
+
+abbrev pub procs_before : List Proc → Before
+procs_before [] met = met
+procs_before (p ∷ procs) met = if_before p.body (procs_before procs met)

@@ -1,0 +1,207 @@
+// The texts of a program's constants and literals, each distinct one once. They are met from the
+// last one to the first, since a part is put before all that stands behind it.
+ghost use Rattle.std.specs.Prelude.{◌≡◌, ◌∷◌, [], ℕ, Bool, true, List, option_map};
+ghost use Rattle.std.specs.Prelude.{if◌then◌else◌, OnOk};
+ghost use Rattle.std.specs.HashSet.{contains};
+ghost use Rattle.nim_types.specs.Types.{Ty, same_text};
+ghost use Rattle.nim_program.specs.Folds.{total, total_at, totals};
+ghost use Rattle.nim_program.specs.Program.{Args};
+ghost use Rattle.nim_program.specs.View.{literal_of, literals_of, expr_of, path_of};
+ghost use Rattle.nim_program.specs.View.{operand_before, operands_of, choices_of, picks_of};
+ghost use Rattle.nim_program.specs.View.{if_value};
+ghost use Rattle.program_limits.specs.Meeting.{Met, before, own_before};
+ghost use Rattle.program_limits.specs.Meeting.{literal_before, all_before};
+
+use crate::data::plus;
+use arc_base::{Bytes, Memory};
+use nim_program::{Choice, Expr, Literal, Operand, Path, Pick, text_bytes};
+use std::alloc::Global;
+use std::collections::HashSet;
+
+/// The texts that were met, and their bytes, as far as they matter.
+#[derive(Drop)]
+pub struct Texts {
+    pub kept: HashSet<Bytes>,
+    pub bytes: u32,
+    /// Whether there was no memory for one.
+    pub lost: bool,
+}
+
+/// None yet.
+pub fn no_texts(alloc: Global) -> Texts
+    ensures { Met result [] }
+{
+    Texts {
+        kept: HashSet::new(alloc),
+        bytes: 0,
+        lost: false,
+    }
+}
+
+fn put(alloc: Global, kept: &mut HashSet<Bytes>, text: &Bytes) -> Result<(), Memory>
+    ensures { OnOk result ((other : List ℕ) → contains same_text kept.new other
+        ≡ (if same_text text.now other then true else contains same_text kept.old other)) }
+{
+    let copy = Bytes::from_slice(alloc, text.as_slice())?;
+    kept.insert(copy)?;
+    Ok(())
+}
+
+fn keep(alloc: Global, texts: &mut Texts, text: &Bytes)
+    ensures { (met : List (List ℕ)) → Met texts.old met → Met texts.new (text.now ∷ met) }
+{
+    if texts.kept.contains(text) {
+        return;
+    }
+    match put(alloc, &mut texts.kept, text) {
+        Ok(()) => texts.bytes = plus(texts.bytes, text_bytes(text)),
+        Err(_) => texts.lost = true,
+    }
+}
+
+#[cycle(literals)]
+fn of_literal(alloc: Global, texts: &mut Texts, literal: &Literal)
+    ensures { (met : List (List ℕ)) → Met texts.old met
+        → Met texts.new (literal_before (literal_of literal.now) met) }
+{
+    match literal {
+        Literal::Ordinal(_) | Literal::Nil => {}
+        Literal::Text(text) => keep(alloc, texts, text),
+        Literal::Parts(all) => of_literals(alloc, texts, all),
+        Literal::Elements(all) => of_literals(alloc, texts, all),
+    }
+}
+
+#[cycle(literals)]
+fn of_literals(alloc: Global, texts: &mut Texts, all: &Vec<Literal>)
+    ensures { (met : List (List ℕ)) → Met texts.old met
+        → Met texts.new (all_before (literals_of all.now.items) met) }
+{
+    let mut i = all.len();
+    while i > 0 {
+        i -= 1;
+        of_literal(alloc, texts, &all[i]);
+    }
+}
+
+/// Those of an expression.
+#[cycle(exprs)]
+pub fn of_expr(alloc: Global, texts: &mut Texts, expr: &Expr)
+    ensures { (ts : List Ty) (met : List (List ℕ)) → Met texts.old met
+        → Met texts.new (total before own_before (expr_of ts expr.now) met) }
+{
+    match expr {
+        Expr::Apply { operands, .. } => of_operands(alloc, texts, operands),
+        Expr::Call { operands, .. } => of_operands(alloc, texts, operands),
+        Expr::Construct { operands, .. } => of_operands(alloc, texts, operands),
+        Expr::Constant { value, .. } => of_literal(alloc, texts, value),
+        Expr::Read { path } => of_path(alloc, texts, path),
+        Expr::Early { left, right, .. } => {
+            of_expr(alloc, texts, &**right);
+            of_expr(alloc, texts, &**left)
+        }
+        Expr::If {
+            branches,
+            otherwise,
+            ..
+        } => {
+            of_expr(alloc, texts, &**otherwise);
+            of_choices(alloc, texts, branches)
+        }
+        Expr::Case {
+            selector,
+            branches,
+            otherwise,
+            ..
+        } => {
+            of_else(alloc, texts, otherwise);
+            of_picks(alloc, texts, branches);
+            of_operand(alloc, texts, &**selector)
+        }
+    }
+}
+
+/// Those of a path.
+#[cycle(exprs)]
+pub fn of_path(alloc: Global, texts: &mut Texts, path: &Path)
+    ensures { (ts : List Ty) (read : Bool) (met : List (List ℕ)) → Met texts.old met
+        → Met texts.new (total_at before own_before read (path_of ts path.now) met) }
+{
+    match path {
+        Path::Variable { .. } => {}
+        Path::Fresh { value } => of_expr(alloc, texts, &**value),
+        Path::Field { base, .. } => of_path(alloc, texts, &**base),
+        Path::Element { base, index, .. } => {
+            of_expr(alloc, texts, &**index);
+            of_path(alloc, texts, &**base)
+        }
+        Path::Deref { base, .. } => of_path(alloc, texts, &**base),
+    }
+}
+
+/// Those of an operand before others.
+#[cycle(exprs)]
+pub fn of_operand(alloc: Global, texts: &mut Texts, operand: &Operand)
+    ensures { (ts : List Ty) (rest : Args) (met : List (List ℕ))
+        → Met texts.old (totals before own_before rest met)
+        → Met texts.new (totals before own_before (operand_before ts operand.now rest) met) }
+{
+    match operand {
+        Operand::Value(value) => of_expr(alloc, texts, value),
+        Operand::At(path) => of_path(alloc, texts, path),
+    }
+}
+
+/// Those of operands.
+#[cycle(exprs)]
+pub fn of_operands(alloc: Global, texts: &mut Texts, operands: &Vec<Operand>)
+    ensures { (ts : List Ty) (met : List (List ℕ)) → Met texts.old met
+        → Met texts.new (totals before own_before (operands_of ts operands.now.items) met) }
+{
+    let mut i = operands.len();
+    while i > 0 {
+        i -= 1;
+        of_operand(alloc, texts, &operands[i]);
+    }
+}
+
+#[cycle(exprs)]
+fn of_choices(alloc: Global, texts: &mut Texts, choices: &Vec<Choice>)
+    ensures { (ts : List Ty) (rest : Args) (met : List (List ℕ))
+        → Met texts.old (totals before own_before rest met)
+        → Met texts.new (totals before own_before (choices_of ts choices.now.items rest) met) }
+{
+    let mut i = choices.len();
+    while i > 0 {
+        i -= 1;
+        let choice = &choices[i];
+        of_expr(alloc, texts, &choice.value);
+        of_expr(alloc, texts, &choice.condition);
+    }
+}
+
+#[cycle(exprs)]
+fn of_picks(alloc: Global, texts: &mut Texts, picks: &Vec<Pick>)
+    ensures { (ts : List Ty) (rest : Args) (met : List (List ℕ))
+        → Met texts.old (totals before own_before rest met)
+        → Met texts.new (totals before own_before (picks_of ts picks.now.items rest) met) }
+{
+    let mut i = picks.len();
+    while i > 0 {
+        i -= 1;
+        of_expr(alloc, texts, &picks[i].value);
+    }
+}
+
+// Those of the value of `else`, where there is one.
+#[cycle(exprs)]
+fn of_else(alloc: Global, texts: &mut Texts, otherwise: &Option<Box<Expr>>)
+    ensures { (ts : List Ty) (met : List (List ℕ)) → Met texts.old met
+        → Met texts.new (totals before own_before
+        (if_value ts (option_map (λ e. e.value) otherwise.now)) met) }
+{
+    match otherwise {
+        None => {}
+        Some(value) => of_expr(alloc, texts, &**value),
+    }
+}
